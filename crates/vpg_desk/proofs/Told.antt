@@ -1,0 +1,132 @@
+-- What a page whose tables are below every progress table says of the game.
+use Rattle.std.proofs.Common.{refl, ◌≡◌, ℕ, ◌<◌, ◌≤◌, ◌⊎◌, inl, inr, Bool, List, length, slice_index, sym, ◌∙◌, subst, arith}
+use Rattle.std.proofs.lemmas.Bool.{cases_lt}
+use Rattle.std.proofs.lemmas.List.Elements.{All-from_get_or}
+use Rattle.vpg_measure.specs.Lifts.{IsTableOf}
+use Rattle.vpg_game.specs.declared.player.Player.{Player}
+use Rattle.vpg_guards.specs.declared.tri.Tri.{Tri}
+use Rattle.vpg_hope.specs.Hope.{IsFull}
+use Rattle.vpg_measure.specs.NumberLaws.{IsBelowAllSettled}
+use Rattle.vpg_measure.proofs.NumberGuards.{hopeless_number, sure_number, possible_number, unsure_number, not_both_numbers}
+use Rattle.vpg_trail.specs.Page.{Which, Hopeful, Dual, Entry, choices_of, value_at, table_of}
+use Rattle.vpg_desk.specs.Book.{IsSettledPage}
+use Rattle.vpg_desk.specs.Lawful.{PageIsBelow}
+use Rattle.vpg_trail.proofs.Entries.{length-table_of, table_of-at}
+use Rattle.vpg_desk.proofs.Below.{settled_is_least}
+use Rattle.vpg_guards.specs.Formula.{Formula, truth}
+use Rattle.vpg_guards.specs.Known.{kleene, AreAllKnown}
+use Rattle.vpg_diagram.specs.FeatureDiagram.{feature_count}
+use Rattle.vpg_partial.specs.KnownLaws.{IsRemaining}
+use Rattle.vpg_partial.specs.TableLaws.{IsKnownTable}
+use Rattle.vpg_desk.specs.Setting.{Setting, HasConflict}
+use Rattle.vpg_desk.proofs.Sound.{IsSound}
+use Rattle.vpg_measure.specs.TwoGames.{levels_for, arena_for, top_for, IsProgressOf}
+use Rattle.vpg_desk.specs.Desk.{IsProgressUnder, family_of, IsLeastUnder}
+use Rattle.vpg_desk.specs.Headline.{IsTopAt, NeverWins, Determines, Tells}
+use Rattle.vpg_measure.proofs.TwoGames.{arena_length, arena_closed, tops, tops_progress, top_bounds}
+use Rattle.vpg_measure.proofs.TwoGames.{progress_earlier}
+
+module _ (setting : Setting) (sound : IsSound setting) (page : List Entry) (fine : ¬ (HasConflict setting (choices_of page))) (below : PageIsBelow (family_of setting) page) where
+  module _ (known : List Tri) (is_known : IsKnownTable setting.lines (choices_of page) known) where
+    numbers : Which → List ℕ
+    numbers which = table_of which page (length setting.game)
+
+    at : (which : Which) (v : ℕ) → v < length setting.game → slice_index (table_of which page (length setting.game)) v ≡ value_at which v page
+    at which v l = table_of-at which page (length setting.game) v l
+
+    under_top : (which : Which) (v : ℕ) → v < length setting.game → value_at which v page ≤ top_for which setting.game
+    under_top which v l = of (below which v (tops Formula (kleene known) which setting.game) (known, (is_known, tops_progress Formula (kleene known) which setting.game))) (top_bounds Formula (kleene known) which setting.game v l)
+      where
+        of : value_at which v page ≤ slice_index (tops Formula (kleene known) which setting.game) v → slice_index (tops Formula (kleene known) which setting.game) v ≤ top_for which setting.game → value_at which v page ≤ top_for which setting.game
+        of a b = omega arith
+
+    count : (which : Which) → length (table_of which page (length setting.game)) ≡ length (arena_for (kleene known) which setting.game)
+    count which = length-table_of which page (length setting.game) ∙ sym (arena_length Formula (kleene known) which setting.game)
+
+    is_table : (which : Which) → IsTableOf (levels_for which setting.game) (arena_for (kleene known) which setting.game) (table_of which page (length setting.game))
+    is_table which = record {
+      len = count which;
+      within = All-from_get_or (λ n. n ≤ top_for which setting.game) (table_of which page (length setting.game)) 0
+          (λ v l. within v (subst (λ n. v < n) (length-table_of which page (length setting.game)) l));
+    }
+      where
+        within : (v : ℕ) → v < length setting.game → slice_index (table_of which page (length setting.game)) v ≤ top_for which setting.game
+        within v l = subst (λ n. n ≤ top_for which setting.game) (sym (at which v l)) (under_top which v l)
+
+    below_all : (which : Which) → IsBelowAllSettled (levels_for which setting.game) (arena_for (kleene known) which setting.game) (table_of which page (length setting.game))
+    below_all which other table settled = (
+      count which ∙ sym table.len,
+      λ v l. of v (subst (λ n. v < n) (length-table_of which page (length setting.game)) l),
+    )
+      where
+        of : (v : ℕ) → v < length setting.game → slice_index (table_of which page (length setting.game)) v ≤ slice_index other v
+        of v l = subst (λ n. n ≤ slice_index other v) (sym (at which v l)) (below which v other (known, (is_known, record { is_table = table; settled = settled })))
+
+    inside : (which : Which) (v : ℕ) → v < length setting.game → v < length (arena_for (kleene known) which setting.game)
+    inside which v l = subst (λ n. v < n) (sym (arena_length Formula (kleene known) which setting.game)) l
+
+    high : (which : Which) (v : ℕ) → v < length setting.game → IsTopAt setting page which v → slice_index (table_of which page (length setting.game)) v ≡ top_for which setting.game
+    high which v l t = at which v l ∙ t
+
+    low : (which : Which) (v : ℕ) → v < length setting.game → ¬ (IsTopAt setting page which v) → slice_index (table_of which page (length setting.game)) v < top_for which setting.game
+    low which v l t = subst (λ n. n < top_for which setting.game) (sym (at which v l)) (split (cases_lt (value_at which v page) (top_for which setting.game)))
+      where
+        split : (value_at which v page < top_for which setting.game) ⊎ (top_for which setting.game ≤ value_at which v page) → value_at which v page < top_for which setting.game
+        split (inl k) = k
+        split (inr k) = absurd (t (omega (arith, under_top which v l)))
+
+    settled_table : (which : Which) → IsProgressUnder setting (choices_of page) which (table_of which page (length setting.game)) →
+        IsProgressOf (kleene known) which setting.game (table_of which page (length setting.game))
+    settled_table which p = progress_earlier Formula (kleene p.0) (kleene known) setting.game which (table_of which page (length setting.game))
+        (sound.grows (choices_of page) (choices_of page) known p.0 (λ c s. s) is_known p.1.0) p.1.1
+
+    pub never_even : (v : ℕ) → v < length setting.game → IsTopAt setting page Hopeful v → NeverWins setting page Player.Even v
+    never_even v l t set remaining strategy wins =
+        hopeless_number Formula (kleene known) setting.game (arena_for (kleene known) Hopeful setting.game) (table_of Hopeful page (length setting.game))
+        refl (arena_closed Formula (kleene known) Hopeful setting.game sound.is_setting.closed) (is_table Hopeful) (below_all Hopeful)
+        v (inside Hopeful v l) (high Hopeful v l t) (truth set) (sound.agrees (choices_of page) known set is_known remaining) strategy wins
+
+    pub never_odd : (v : ℕ) → v < length setting.game → IsTopAt setting page Dual v → NeverWins setting page Player.Odd v
+    never_odd v l t set remaining strategy wins =
+        sure_number Formula (kleene known) setting.game (arena_for (kleene known) Dual setting.game) (table_of Dual page (length setting.game))
+        refl (arena_closed Formula (kleene known) Dual setting.game sound.is_setting.closed) sound.is_setting.closed (is_table Dual) (below_all Dual)
+        v (inside Dual v l) (high Dual v l t) (truth set) (sound.agrees (choices_of page) known set is_known remaining) strategy wins
+
+    pub decided : AreAllKnown (feature_count setting.lines) known → IsSettledPage (family_of setting) page → (set : List Bool) × Determines setting page known set
+    decided full settled = of (sound.full (choices_of page) known fine is_known full)
+      where
+        of : (set : List Bool) × IsRemaining setting.lines (choices_of page) set × IsFull (kleene known) (truth set) setting.game × ((other : List Bool) → IsRemaining setting.lines (choices_of page) other → other ≡ set) →
+            (set : List Bool) × Determines setting page known set
+        of s = (
+          s.0,
+          record {
+            remaining = s.1;
+            only = s.3;
+            possible = λ choices are v l t. possible_number Formula (kleene known) (truth s.0) setting.game s.2 (levels_for Hopeful setting.game) (arena_for (kleene known) Hopeful setting.game)
+                (table_of Hopeful page (length setting.game)) choices refl (arena_closed Formula (kleene known) Hopeful setting.game sound.is_setting.closed)
+                (is_table Hopeful) (settled_table Hopeful (settled Hopeful)).settled are v (inside Hopeful v l) (low Hopeful v l t);
+            unsure = λ choices are v l t. unsure_number Formula (kleene known) (truth s.0) setting.game s.2 (levels_for Dual setting.game) (arena_for (kleene known) Dual setting.game)
+                (table_of Dual page (length setting.game)) choices refl (arena_closed Formula (kleene known) Dual setting.game sound.is_setting.closed) sound.is_setting.closed
+                (is_table Dual) (settled_table Dual (settled Dual)).settled are v (inside Dual v l) (low Dual v l t);
+            not_both = λ v l t u. not_both_numbers Formula (kleene known) (truth s.0) setting.game s.2 sound.is_setting.closed (levels_for Hopeful setting.game) (levels_for Dual setting.game)
+                (arena_for (kleene known) Hopeful setting.game) (arena_for (kleene known) Dual setting.game) (table_of Hopeful page (length setting.game)) (table_of Dual page (length setting.game))
+                refl refl
+                (is_table Hopeful) (settled_table Hopeful (settled Hopeful)).settled (is_table Dual) (settled_table Dual (settled Dual)).settled v l (low Hopeful v l t) (low Dual v l u);
+          },
+        )
+
+  pub page_tells : Tells setting page
+  page_tells = record {
+    consistent = fine;
+    below = below;
+    tables = λ known is_known which. record { is_table = is_table known is_known which; below = below_all known is_known which };
+    settled = λ s which. least which (settled_is_least (family_of setting) page below s which);
+    hopeless = λ v l t. never_even (sound.exists (choices_of page) fine).0 (sound.exists (choices_of page) fine).1 v l t;
+    sure = λ v l t. never_odd (sound.exists (choices_of page) fine).0 (sound.exists (choices_of page) fine).1 v l t;
+    full = λ known is_known full settled. decided known is_known full settled;
+  }
+    where
+      least : (which : Which) → IsProgressUnder setting (choices_of page) which (table_of which page (length setting.game))
+          × ((other : List ℕ) → IsProgressUnder setting (choices_of page) which other → (v : ℕ) → v < length setting.game → slice_index (table_of which page (length setting.game)) v ≤ slice_index other v) →
+          IsLeastUnder setting (choices_of page) which (table_of which page (length setting.game))
+      least which p = record { progress = p.0; below = p.1 }

@@ -1,0 +1,101 @@
+-- The headline, for every setting.
+use Rattle.std.proofs.Common.{◌≡◌, ℕ, ◌<◌, ◌==◌, Bool, Option, Some, None, IsTrue, List, [], ◌∷◌, ◌++◌, length, refl, sym, ap, ◌∙◌, subst, eqb-true}
+use Rattle.std.specs.List.{AllByRecursion}
+use Rattle.std.specs.Bool.{Decides}
+use Rattle.vpg_game.specs.declared.player.Player.{Player}
+use Rattle.vpg_diagram.proofs.Lists.{All-front}
+use Rattle.vpg_trail.specs.Page.{Hopeful, Dual, Entry, choices_of, value_at}
+use Rattle.vpg_desk.specs.Book.{Family, Book, Kept, opened, IsSettledPage, Refusal, Verdict, VerdictIs, Settled, IsSettled, IsReply, Told}
+use Rattle.vpg_desk.specs.History.{Event, IsLegal, book_after, page_after, undo_of, redo_of}
+use Rattle.vpg_desk.specs.Lawful.{EachPage, PageIsBelow, IsMonotone, IsLawful, HandsIn, AllHandIn}
+use Rattle.vpg_desk.proofs.UndoRedo.{legal_parts, undo_restores, redo_restores, beginning_is_legal}
+use Rattle.vpg_desk.proofs.Below.{pages_are_below, no_page_has_conflict, settled_are_equal}
+use Rattle.vpg_desk.specs.Setting.{Setting, HasConflict}
+use Rattle.vpg_desk.proofs.Sound.{sound_of}
+use Rattle.vpg_measure.specs.TwoGames.{top_for}
+use Rattle.vpg_desk.specs.Desk.{family_of}
+use Rattle.vpg_desk.specs.Headline.{NeverWins, Tells, HeadlineHolds, verdict_of, settled_of}
+use Rattle.vpg_desk.proofs.Family.{family_is_monotone}
+use Rattle.vpg_desk.proofs.Told.{page_tells}
+
+all_from : {X : Type 0} (P Q R : X → Type 0) → ((x : X) → P x → Q x → R x) → (xs : List X) → AllByRecursion P xs → AllByRecursion Q xs → AllByRecursion R xs
+all_from P Q R h [] p q = tt
+all_from P Q R h (x ∷ xs) p q = (h x p.0 q.0, all_from P Q R h xs p.1 q.1)
+
+each_from : (P Q R : List Entry → Type 0) → ((page : List Entry) → P page → Q page → R page) → (book : Book) → EachPage P book → EachPage Q book → EachPage R book
+each_from P Q R h book p q = record {
+  present = h book.present p.present q.present;
+  past = all_from (λ (k : Kept). P k.page) (λ k. Q k.page) (λ k. R k.page) (λ k. h k.page) book.past p.past q.past;
+  future = all_from (λ (k : Kept). P k.page) (λ k. Q k.page) (λ k. R k.page) (λ k. h k.page) book.future p.future q.future;
+}
+
+cons_append : {X : Type 0} (xs ys : List X) (x : X) → (xs ++ x ∷ []) ++ ys ≡ xs ++ x ∷ ys
+cons_append [] ys x = refl
+cons_append (z ∷ xs) ys x = ap (λ zs. z ∷ zs) (cons_append xs ys x)
+
+-- a legal history up to one of its events is legal
+legal_front : (family : Family) (history front rest : List Event) (e : Event) → IsLegal family history → history ≡ front ++ e ∷ rest → IsLegal family (front ++ e ∷ [])
+legal_front family history front rest e legal split = beginning_is_legal family (front ++ e ∷ []) rest (subst (IsLegal family) (split ∙ sym (cons_append front rest e)) legal)
+
+-- the reply of an event is the one that the book gives there
+reply_at : (family : Family) (history front rest : List Event) (e : Event) → IsLegal family history → history ≡ front ++ e ∷ rest → IsReply family (book_after family opened front) e.call e.reply
+reply_at family history front rest e legal split = (legal_parts family opened front (e ∷ rest) (subst (IsLegal family) split legal)).1.0
+
+refused_none_verdict : (family : Family) (book : Book) (v : ℕ) (hopeless sure : Bool) → IsReply family book (Verdict v) (VerdictIs hopeless sure) →
+    (hopeless ≡ (value_at Hopeful v book.present == family.top Hopeful)) × (sure ≡ (value_at Dual v book.present == family.top Dual))
+refused_none_verdict family book v hopeless sure i = of i.0 i.1.0 i.1.1
+  where
+    of : (r : Option Refusal) → r ≡ None → Told family book (Verdict v) (VerdictIs hopeless sure) r →
+        (hopeless ≡ (value_at Hopeful v book.present == family.top Hopeful)) × (sure ≡ (value_at Dual v book.present == family.top Dual))
+    of None e t = (cc, cc)
+    of (Some r) e t = absurd (cc)
+
+settled_tells : (family : Family) (book : Book) (b : Bool) → IsReply family book Settled (IsSettled b) → Decides b (IsSettledPage family book.present)
+settled_tells family book b i = of i.0 i.1.0 i.1.1
+  where
+    same : (a : Bool) → IsSettled b ≡ IsSettled a → Decides a (IsSettledPage family book.present) → Decides b (IsSettledPage family book.present)
+    same a e d = let f : b ≡ a = cc in subst (λ (x : Bool). Decides x (IsSettledPage family book.present)) (sym f) d
+
+    of : (r : Option Refusal) → r ≡ None → Told family book Settled (IsSettled b) r → Decides b (IsSettledPage family book.present)
+    of None e t = same t.0 t.1.1 t.1.0
+    of (Some r) e t = absurd (cc)
+
+verdict_tells : (setting : Setting) {page : List Entry} → Tells setting page → (v : ℕ) → v < length setting.game → (hopeless sure : Bool) →
+    (hopeless ≡ (value_at Hopeful v page == top_for Hopeful setting.game)) × (sure ≡ (value_at Dual v page == top_for Dual setting.game)) →
+    (IsTrue hopeless → NeverWins setting page Player.Even v) × (IsTrue sure → NeverWins setting page Player.Odd v)
+verdict_tells setting {page} tells v inside hopeless sure e = (
+  (λ h. tells.hopeless v inside (eqb-true (value_at Hopeful v page) (top_for Hopeful setting.game) (sym e.0 ∙ h))),
+  (λ h. tells.sure v inside (eqb-true (value_at Dual v page) (top_for Dual setting.game) (sym e.1 ∙ h))),
+)
+
+pub headline : HeadlineHolds
+headline setting history is_setting legal lawful = record {
+  undo = λ front rest session s split. undo_restores family front session s (legal_front family history front rest (undo_of session s) legal split);
+  redo = λ front rest session s split. redo_restores family front session s (legal_front family history front rest (redo_of session s) legal split);
+  pages = each_from (PageIsBelow family) (λ page. ¬ (HasConflict setting (choices_of page))) (Tells setting) (λ page below fine. page_tells setting (sound_of setting is_setting) page fine below)
+      (book_after family opened history) (pages_are_below family history monotone legal lawful) (no_page_has_conflict family history monotone legal);
+  verdicts = λ front rest session v hopeless sure split inside. verdict_tells setting (front_page front rest (verdict_of session v hopeless sure) split) v inside hopeless sure
+      (refused_none_verdict family (book_after family opened front) v hopeless sure (reply_at family history front rest (verdict_of session v hopeless sure) legal split));
+  settled = λ front rest session b split. settled_tells family (book_after family opened front) b (reply_at family history front rest (settled_of session b) legal split);
+  alone = λ other other_legal other_lawful there back settled other_settled.
+      settled_are_equal family (page_after family history) (page_after family other) monotone
+      (pages_are_below family history monotone legal lawful).present (pages_are_below family other monotone other_legal other_lawful).present
+      (no_page_has_conflict family history monotone legal).present (no_page_has_conflict family other monotone other_legal).present
+      there back settled other_settled;
+}
+  where
+    family : Family
+    family = family_of setting
+
+    front_page : (front rest : List Event) (e : Event) → history ≡ front ++ e ∷ rest → Tells setting (page_after (family_of setting) front)
+    front_page front rest e split = page_tells setting (sound_of setting is_setting) (page_after (family_of setting) front)
+        (no_page_has_conflict (family_of setting) front (family_is_monotone setting is_setting) l).present (pages_are_below (family_of setting) front (family_is_monotone setting is_setting) l h).present
+      where
+        l : IsLegal (family_of setting) front
+        l = beginning_is_legal (family_of setting) front (e ∷ rest) (subst (IsLegal (family_of setting)) split legal)
+
+        h : AllHandIn (IsLawful (family_of setting)) front
+        h = All-front (λ (x : Event). HandsIn (IsLawful (family_of setting)) x.call) front (e ∷ rest) (subst (AllHandIn (IsLawful (family_of setting))) split lawful)
+
+    monotone : IsMonotone (family_of setting)
+    monotone = family_is_monotone setting is_setting

@@ -1,0 +1,104 @@
+-- What holds of every legal history of a desk.
+use Rattle.std.specs.Prelude.{◌≡◌, ℕ, ◌<◌, Bool, Option, List, [], ◌∷◌, ◌++◌, length, map, IsTrue}
+use Rattle.std.specs.Bool.{Decides}
+use Rattle.vpg_measure.specs.Lifts.{AreChoices}
+use Rattle.vpg_game.specs.declared.player.Player.{Player}
+use Rattle.vpg_guards.specs.declared.tri.Tri.{Tri}
+use Rattle.vpg_hope.specs.Strategies.{Strategy, Wins}
+use Rattle.vpg_hope.specs.Hope.{product_game}
+use Rattle.vpg_measure.specs.Views.{strategy_of}
+use Rattle.vpg_guards.specs.Formula.{truth}
+use Rattle.vpg_guards.specs.Known.{kleene, AreAllKnown}
+use Rattle.vpg_diagram.specs.FeatureDiagram.{feature_count}
+use Rattle.vpg_partial.specs.KnownLaws.{IsRemaining}
+use Rattle.vpg_partial.specs.TableLaws.{IsKnownTable}
+use Rattle.vpg_trail.specs.Page.{Which, Hopeful, Dual, Entry, choice_of, choices_of, AllStand, value_at, table_of}
+use Rattle.vpg_desk.specs.Book.{Harvest, opened, IsSettledPage, Verdict, VerdictIs, Settled, IsSettled}
+use Rattle.vpg_desk.specs.History.{Event, IsLegal, book_after, page_after, IsBeforeLast, gives_undo, gives_redo, undo_of, redo_of}
+use Rattle.vpg_desk.specs.Lawful.{EachPage, PageIsBelow, IsLawful, harvested, AllHandIn, IsMonotone}
+use Rattle.vpg_desk.specs.Setting.{Setting, IsSetting, HasConflict}
+use Rattle.vpg_measure.specs.TwoGames.{IsTableBelow, top_for, levels_for, arena_for}
+use Rattle.vpg_desk.specs.Desk.{family_of, IsLeastUnder}
+
+-- the value is the top
+abbrev pub IsTopAt : Setting → List Entry → Which → ℕ → Type 0
+IsTopAt setting page which v = value_at which v page ≡ top_for which setting.game
+
+-- a positional strategy of the player wins from the vertex in the game of the product
+abbrev pub WinsIn : Setting → List Bool → Player → Strategy → ℕ → Type 0
+WinsIn setting set player strategy v = Wins (product_game (truth set) setting.game) player strategy v
+
+-- no positional strategy of the player wins from the vertex in any product that agrees with the page's decisions
+abbrev pub NeverWins : Setting → List Entry → Player → ℕ → Type 0
+NeverWins setting page player v = (set : List Bool) → IsRemaining setting.lines (choices_of page) set → (strategy : Strategy) → WinsIn setting set player strategy v → ⊥
+
+-- the choices made at the page's table
+abbrev pub AreChoicesAt : Setting → List Tri → List Entry → Which → List (Option ℕ) → Type 0
+AreChoicesAt setting known page which choices =
+    AreChoices (levels_for which setting.game) (arena_for (kleene known) which setting.game) (table_of which page (length setting.game)) choices
+
+-- what a full and settled page says of its one product
+pub record Determines (setting : Setting) (page : List Entry) (known : List Tri) (set : List Bool) : Type 0 where
+  pub remaining : IsRemaining setting.lines (choices_of page) set
+  pub only : (other : List Bool) → IsRemaining setting.lines (choices_of page) other → other ≡ set
+  -- Even wins from each possible vertex, by the choices of the first table
+  pub possible : (choices : List (Option ℕ)) → AreChoicesAt setting known page Hopeful choices →
+      (v : ℕ) → v < length setting.game → ¬ (IsTopAt setting page Hopeful v) → WinsIn setting set Player.Even (strategy_of choices) v
+  -- Odd wins from each unsure one, by those of the second
+  pub unsure : (choices : List (Option ℕ)) → AreChoicesAt setting known page Dual choices →
+      (v : ℕ) → v < length setting.game → ¬ (IsTopAt setting page Dual v) → WinsIn setting set Player.Odd (strategy_of choices) v
+  -- so none is both
+  pub not_both : (v : ℕ) → v < length setting.game → ¬ (IsTopAt setting page Hopeful v) → ¬ (IsTopAt setting page Dual v) → ⊥
+
+-- what a page says of the game
+pub record Tells (setting : Setting) (page : List Entry) : Type 0 where
+  pub consistent : ¬ (HasConflict setting (choices_of page))
+  pub below : PageIsBelow (family_of setting) page
+  -- its tables, which an order takes along, are below every progress table of its two games
+  pub tables : (known : List Tri) → IsKnownTable setting.lines (choices_of page) known → (which : Which) →
+      IsTableBelow (kleene known) which setting.game (table_of which page (length setting.game))
+  pub settled : IsSettledPage (family_of setting) page → (which : Which) → IsLeastUnder setting (choices_of page) which (table_of which page (length setting.game))
+  pub hopeless : (v : ℕ) → v < length setting.game → IsTopAt setting page Hopeful v → NeverWins setting page Player.Even v
+  pub sure : (v : ℕ) → v < length setting.game → IsTopAt setting page Dual v → NeverWins setting page Player.Odd v
+  pub full : (known : List Tri) → IsKnownTable setting.lines (choices_of page) known → AreAllKnown (feature_count setting.lines) known → IsSettledPage (family_of setting) page →
+      (set : List Bool) × Determines setting page known set
+
+abbrev pub verdict_of : ℕ → ℕ → Bool → Bool → Event
+verdict_of session v hopeless sure = record { session = session; call = Verdict v; reply = VerdictIs hopeless sure }
+
+abbrev pub settled_of : ℕ → Bool → Event
+settled_of session b = record { session = session; call = Settled; reply = IsSettled b }
+
+-- The headline of a legal history.
+pub record Headline (setting : Setting) (history : List Event) : Type 0 where
+  -- each accepted undo of serial s leaves the page just before the last accepted decide, retract or redo of s
+  pub undo : (front rest : List Event) (session s : ℕ) → history ≡ front ++ undo_of session s ∷ rest →
+      (before : List Event) × (IsBeforeLast (gives_undo s) before front × (page_after (family_of setting) (front ++ undo_of session s ∷ []) ≡ page_after (family_of setting) before))
+  -- each accepted redo of serial s leaves the page just before the last accepted undo of s
+  pub redo : (front rest : List Event) (session s : ℕ) → history ≡ front ++ redo_of session s ∷ rest →
+      (before : List Event) × (IsBeforeLast (gives_redo s) before front × (page_after (family_of setting) (front ++ redo_of session s ∷ []) ≡ page_after (family_of setting) before))
+  -- the tables and verdicts of the present and of each past and future page say what they mean
+  pub pages : EachPage (Tells setting) (book_after (family_of setting) opened history)
+  -- so each verdict that was answered is true of the page that it was asked of, and `settled` says whether the page is settled
+  pub verdicts : (front rest : List Event) (session v : ℕ) (hopeless sure : Bool) → history ≡ front ++ verdict_of session v hopeless sure ∷ rest → v < length setting.game →
+      (IsTrue hopeless → NeverWins setting (page_after (family_of setting) front) Player.Even v) × (IsTrue sure → NeverWins setting (page_after (family_of setting) front) Player.Odd v)
+  pub settled : (front rest : List Event) (session : ℕ) (b : Bool) → history ≡ front ++ settled_of session b ∷ rest → Decides b (IsSettledPage (family_of setting) (page_after (family_of setting) front))
+  -- settled tables are those of the surviving decisions alone: whatever history led to the same choices, they are equal
+  pub alone : (other : List Event) → IsLegal (family_of setting) other → AllHandIn (IsLawful (family_of setting)) other →
+      AllStand (choices_of (page_after (family_of setting) history)) (choices_of (page_after (family_of setting) other)) →
+      AllStand (choices_of (page_after (family_of setting) other)) (choices_of (page_after (family_of setting) history)) →
+      IsSettledPage (family_of setting) (page_after (family_of setting) history) → IsSettledPage (family_of setting) (page_after (family_of setting) other) →
+      (which : Which) → table_of which (page_after (family_of setting) history) (length setting.game) ≡ table_of which (page_after (family_of setting) other) (length setting.game)
+
+-- A harvest is lawful where its tables are below every progress table of the two games that its own decisions give.
+abbrev pub HarvestsAreLawful : Type 0
+HarvestsAreLawful = (setting : Setting) (harvest : Harvest) (known : List Tri) → IsSetting setting → IsKnownTable setting.lines (map choice_of harvest.decisions) known →
+    ((which : Which) → IsTableBelow (kleene known) which setting.game (harvested harvest which)) → IsLawful (family_of setting) harvest
+
+-- It holds of every legal history into which lawful harvests alone are handed.
+abbrev pub HeadlineHolds : Type 0
+HeadlineHolds = (setting : Setting) (history : List Event) → IsSetting setting → IsLegal (family_of setting) history → AllHandIn (IsLawful (family_of setting)) history → Headline setting history
+
+-- A progress table of more decisions is one of fewer.
+abbrev pub FamilyIsMonotone : Type 0
+FamilyIsMonotone = (setting : Setting) → IsSetting setting → IsMonotone (family_of setting)

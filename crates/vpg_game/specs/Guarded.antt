@@ -1,0 +1,31 @@
+-- Guarded games and the dual.
+use Rattle.std.specs.Prelude.{ℕ, suc, ◌<◌, List, length, map, All}
+use Rattle.vpg_game.specs.declared.player.Player.{Player}
+use Rattle.vpg_game.specs.Players.{opponent}
+
+-- an edge under a guard of any kind
+pub record GuardedEdge (Guard : Type 0) : Type 0 where
+  pub to : ℕ
+  pub guard : Guard
+
+pub record GuardedVertex (Guard : Type 0) : Type 0 where
+  pub owner : Player
+  pub priority : ℕ
+  pub edges : List (GuardedEdge Guard)
+
+abbrev pub GuardedGame : Type 0 → Type 0
+GuardedGame Guard = List (GuardedVertex Guard)
+
+abbrev pub guarded_priorities : {Guard : Type 0} → GuardedGame Guard → List ℕ
+guarded_priorities game = map (λ vertex. vertex.priority) game
+
+-- each edge leads to a vertex
+abbrev pub IsClosedGuarded : {Guard : Type 0} → GuardedGame Guard → Type 0
+IsClosedGuarded game = All (λ vertex. All (λ edge. edge.to < length game) vertex.edges) game
+
+-- owners exchanged, priorities plus one
+abbrev pub dual : {Guard : Type 0} → GuardedGame Guard → GuardedGame Guard
+dual game = map (λ vertex. record { owner = opponent vertex.owner; priority = suc vertex.priority; edges = vertex.edges }) game
+
+abbrev pub AllGuards : {Guard : Type 0} → (Guard → Type 0) → GuardedGame Guard → Type 0
+AllGuards P game = All (λ vertex. All (λ edge. P edge.guard) vertex.edges) game

@@ -1,0 +1,13 @@
+pub mod Views
+pub mod Kleene
+pub mod Full
+pub mod Held
+pub mod Blanks
+pub mod Joined
+pub mod Found
+pub mod Again
+pub mod Steps
+pub mod Parsed
+pub mod Written
+pub mod Readable
+pub mod LawProofs

@@ -1,0 +1,47 @@
+//! Laws of the definitions. Each function does nothing: its contract is the law.
+ghost use Rattle.vpg_guards.specs.Laws.{KnownValuesHold, FinerValuesRefine, FullValuesDecide, TextsSpellOneGuard, WritingsSpellTheGuard, SpelledGuardsAreReadable, DisjunctionsAreReadable, JoinedGuardsMeanBoth, PartsDecideTheValue};
+
+/// A value that is known holds in each set that agrees with what is known.
+pub fn known_values_hold()
+    ensures { KnownValuesHold }
+{}
+
+/// Who knows more has the same value, where there was one.
+pub fn finer_values_refine()
+    ensures { FinerValuesRefine }
+{}
+
+/// Where every feature is known, so is the truth of each guard.
+pub fn full_values_decide()
+    ensures { FullValuesDecide }
+{}
+
+/// A text spells one guard at most.
+pub fn texts_spell_one_guard()
+    ensures { TextsSpellOneGuard }
+{}
+
+/// What is written spells the guard.
+pub fn writings_spell_the_guard()
+    ensures { WritingsSpellTheGuard }
+{}
+
+/// What a text spells can be written and read again.
+pub fn spelled_guards_are_readable()
+    ensures { SpelledGuardsAreReadable }
+{}
+
+/// So can the `or` of two such guards.
+pub fn disjunctions_are_readable()
+    ensures { DisjunctionsAreReadable }
+{}
+
+/// The `and` of two guards is true where both are, the `or` where one is; likewise their values.
+pub fn joined_guards_mean_both()
+    ensures { JoinedGuardsMeanBoth }
+{}
+
+/// The value of an `and` and of an `or`, by the values of the parts.
+pub fn parts_decide_the_value()
+    ensures { PartsDecideTheValue }
+{}

@@ -1,0 +1,44 @@
+-- The game of a product, and the hopeful game.
+use Rattle.vpg_game.specs.Guarded.{GuardedGame, AllGuards}
+use Rattle.std.specs.Prelude.{◌≡◌, Bool, true, false, map, filter, if◌then◌else◌}
+use Rattle.vpg_game.specs.declared.player.Player.{Player}
+use Rattle.vpg_game.specs.declared.player.Player.TheVariants.{Even, Odd}
+use Rattle.vpg_guards.specs.declared.tri.Tri.{Tri}
+use Rattle.vpg_guards.specs.declared.tri.Tri.TheVariants.{No, Unknown, Yes}
+use Rattle.vpg_hope.specs.Games.{Game}
+
+-- the plain game with the edges whose guard a test keeps; the test may depend on who moves
+abbrev pub restrict : {Guard : Type 0} → (Player → Guard → Bool) → GuardedGame Guard → Game
+restrict keeps game = map (λ vertex. record {
+  owner = vertex.owner;
+  priority = vertex.priority;
+  successors = map (λ edge. edge.to) (filter (λ edge. keeps vertex.owner edge.guard) vertex.edges);
+}) game
+
+-- the game of a product, by the truth of guards in it
+abbrev pub product_game : {Guard : Type 0} → (Guard → Bool) → GuardedGame Guard → Game
+product_game truth game = restrict (λ mover guard. truth guard) game
+
+-- Even keeps the edges that may be there, Odd those that must
+abbrev pub keeps_in_hope : Player → Tri → Bool
+keeps_in_hope Even No = false
+keeps_in_hope Even Unknown = true
+keeps_in_hope Even Yes = true
+keeps_in_hope Odd No = false
+keeps_in_hope Odd Unknown = false
+keeps_in_hope Odd Yes = true
+
+abbrev pub hopeful_game : {Guard : Type 0} → (Guard → Tri) → GuardedGame Guard → Game
+hopeful_game value game = restrict (λ mover guard. keeps_in_hope mover (value guard)) game
+
+-- what is known of a guard of the game is true of it
+abbrev pub Agrees : {Guard : Type 0} → (Guard → Tri) → (Guard → Bool) → GuardedGame Guard → Type 0
+Agrees value truth game = AllGuards (λ guard. (value guard ≡ Yes → truth guard ≡ true) × (value guard ≡ No → truth guard ≡ false)) game
+
+-- what is known stays known
+abbrev pub Extends : {Guard : Type 0} → (Guard → Tri) → (Guard → Tri) → GuardedGame Guard → Type 0
+Extends later earlier game = AllGuards (λ guard. (earlier guard ≡ Yes → later guard ≡ Yes) × (earlier guard ≡ No → later guard ≡ No)) game
+
+-- the truth of each guard is known
+abbrev pub IsFull : {Guard : Type 0} → (Guard → Tri) → (Guard → Bool) → GuardedGame Guard → Type 0
+IsFull value truth game = AllGuards (λ guard. value guard ≡ (if truth guard then Yes else No)) game

@@ -1,0 +1,5 @@
+//! The hopeful game, the game of a product, and who wins.
+#![tactic(auto)]
+
+pub mod arena;
+pub mod laws;

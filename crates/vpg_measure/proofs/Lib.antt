@@ -1,0 +1,26 @@
+pub mod Above
+pub mod Below
+pub mod Bridge
+pub mod Choices
+pub mod Cycles
+pub mod Easier
+mod Examples
+pub mod Least
+pub mod LevelsShape
+pub mod Lex
+pub mod Lift
+pub mod NumberGuards
+pub mod NumberTables
+pub mod NumberVerdicts
+pub mod Numbers
+pub mod Order
+pub mod Plays
+pub mod Products
+pub mod Prog
+pub mod Progs
+pub mod Rounds
+pub mod Shapes
+pub mod Signature
+pub mod Verdicts
+pub mod Winning
+pub mod TwoGames

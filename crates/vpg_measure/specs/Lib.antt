@@ -1,0 +1,10 @@
+pub mod Below
+pub mod Laws
+pub mod Lifts
+pub mod Measure
+pub mod Measures
+pub mod NumberLaws
+pub mod Tables
+pub mod TheoryLaws
+pub mod Views
+pub mod TwoGames

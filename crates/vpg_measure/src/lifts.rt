@@ -1,0 +1,195 @@
+ghost use Rattle.std.specs.Prelude.{◌≡◌, ◌≢◌, ℕ, ◌+◌, ◌-◌, ◌<◌, ◌≤◌, ◌^◌, ◌↔◌, List, length, map, IfOk, OnOk, All, IsTrue, MatchBool, Err, ◌==◌, slice_index, sum, sum_by};
+ghost use Rattle.std.specs.List.{find};
+ghost use Rattle.vpg_game.specs.Levels.{top_of, prog_of};
+ghost use Rattle.vpg_hope.specs.Arena.{vertex_at};
+ghost use Rattle.vpg_measure.specs.Lifts.{IsTableOf, IsProgress, IsBelowTable, least_of, greatest_of, lift_of, raised, round_of, EndsAs, choice_of, AreChoices};
+
+use crate::shape::{Shape, prog};
+use crate::table::Table;
+use std::alloc::{AllocError, Global};
+use vpg_game::Player;
+use vpg_hope::arena::Arena;
+
+/// How settling ended.
+#[derive(Clone, Copy, Debug, PartialEq, Eq)]
+pub enum Outcome {
+    Settled,
+    RanOut,
+}
+
+/// Why there is no strategy.
+#[derive(Clone, Copy, Debug, PartialEq, Eq)]
+pub enum StrategyFault {
+    NotSettled,
+    Memory,
+}
+
+fn least_value(table: &Table, kept: &[u32], top: u64) -> u64
+    requires { All (λ w. w < length table.now) kept.now }
+    ensures { result ≡ least_of top (map (λ w. slice_index table.now w) kept.now) }
+{
+    let mut least = top;
+    for w in kept {
+        least = least.min(table.get(*w));
+    }
+    least
+}
+
+fn greatest_value(table: &Table, kept: &[u32]) -> u64
+    requires { All (λ w. w < length table.now) kept.now }
+    ensures { result ≡ greatest_of (map (λ w. slice_index table.now w) kept.now) }
+{
+    let mut greatest = 0;
+    for w in kept {
+        greatest = greatest.max(table.get(*w));
+    }
+    greatest
+}
+
+/// The least number that fits at a vertex.
+pub fn lift(shape: &Shape, arena: &Arena, table: &Table, v: u32) -> u64
+    requires vertex { v < length arena.now }
+    requires table { IsTableOf shape.now arena.now table.now }
+    ensures lift { result ≡ lift_of shape.now table.now (vertex_at arena.now v) }
+    ensures within { result ≤ top_of shape.now }
+{
+    let kept = arena.kept(v);
+    match arena.owner(v) {
+        Player::Even => prog(
+            shape,
+            arena.priority(v),
+            least_value(table, kept, shape.top()),
+        ),
+        Player::Odd => {
+            if kept.is_empty() {
+                0
+            } else {
+                prog(shape, arena.priority(v), greatest_value(table, kept))
+            }
+        }
+    }
+}
+
+/// Whether no lift raises the table.
+pub fn is_progress(shape: &Shape, arena: &Arena, table: &Table) -> bool
+    requires { IsTableOf shape.now arena.now table.now }
+    ensures { IsTrue result ↔ IsProgress shape.now arena.now table.now }
+{
+    for v in 0..arena.vertices() {
+        if table.get(v) < lift(shape, arena, table, v) {
+            return false;
+        }
+    }
+    true
+}
+
+/// Lifts one vertex, where that is greater, and says whether its value rose.
+pub fn raise(shape: &Shape, arena: &Arena, table: &mut Table, v: u32) -> bool
+    requires vertex { v < length arena.now }
+    requires table { IsTableOf shape.now arena.now table.old }
+    ensures table { IsTableOf shape.now arena.now table.new }
+    ensures raised { table.new ≡ raised shape.now arena.now table.old v }
+    ensures rose { MatchBool result (sum table.old < sum table.new) (table.new ≡ table.old) }
+{
+    let lifted = lift(shape, arena, table, v);
+    if table.get(v) < lifted {
+        table.set(v, lifted);
+        true
+    } else {
+        false
+    }
+}
+
+// Lifts every vertex once, in file order, and says whether a value rose.
+fn lift_all(shape: &Shape, arena: &Arena, table: &mut Table) -> bool
+    requires { IsTableOf shape.now arena.now table.old }
+    ensures table { IsTableOf shape.now arena.now table.new }
+    ensures round { table.new ≡ round_of shape.now arena.now table.old }
+    ensures rose { MatchBool result (sum table.old < sum table.new) (table.new ≡ table.old) }
+{
+    let mut rose = false;
+    for v in 0..arena.vertices() {
+        if raise(shape, arena, table, v) {
+            rose = true;
+        }
+    }
+    rose
+}
+
+/// Lifts every vertex once a round, until a round raises nothing or the rounds run out.
+pub fn settle_alone(shape: &Shape, arena: &Arena, table: &mut Table, rounds: u64) -> Outcome
+    requires { IsTableOf shape.now arena.now table.old }
+    ensures rounds { EndsAs result shape.now arena.now rounds table.old table.new }
+
+    // RanOut never comes where the rounds exceed what all values lack to the top.
+    ensures bound { result ≡ Outcome.RanOut → rounds ≤ sum_by (λ n. top_of shape.now - n) table.old }
+    ensures progress { result ≡ Outcome.Settled → IsProgress shape.now arena.now table.new }
+    ensures table { IsTableOf shape.now arena.now table.new }
+    ensures above { IsBelowTable table.old table.new }
+    ensures below { (other : List ℕ) → IsTableOf shape.now arena.now other → IsProgress shape.now arena.now other →
+        IsBelowTable table.old other → IsBelowTable table.new other }
+{
+    for done in 0..rounds {
+        if !lift_all(shape, arena, table) {
+            return Outcome::Settled;
+        }
+    }
+    Outcome::RanOut
+}
+
+// The first kept successor with this prog.
+fn first_of(shape: &Shape, table: &Table, kept: &[u32], priority: u32, least: u64) -> Option<u32>
+    requires kept { All (λ w. w < length table.now) kept.now }
+    requires within { All (λ n. n ≤ top_of shape.now) table.now }
+    ensures { result ≡ find (λ w. prog_of shape.now priority (slice_index table.now w) == least) kept.now }
+{
+    for w in kept {
+        if prog(shape, priority, table.get(*w)) == least {
+            return Some(*w);
+        }
+    }
+    None
+}
+
+// What the strategy has at a vertex.
+fn choice(shape: &Shape, arena: &Arena, table: &Table, v: u32) -> Option<u32>
+    requires vertex { v < length arena.now }
+    requires table { IsTableOf shape.now arena.now table.now }
+    ensures { result ≡ choice_of shape.now table.now (vertex_at arena.now v) (slice_index table.now v) }
+{
+    match arena.owner(v) {
+        Player::Even => {
+            if table.get(v) < shape.top() {
+                let least = lift(shape, arena, table, v);
+                first_of(shape, table, arena.kept(v), arena.priority(v), least)
+            } else {
+                None
+            }
+        }
+        Player::Odd => None,
+    }
+}
+
+/// For each vertex of Even below top the first kept successor of least `prog`.
+pub fn strategy(
+    alloc: Global,
+    shape: &Shape,
+    arena: &Arena,
+    table: &Table,
+) -> Result<Vec<Option<u32>>, StrategyFault>
+    requires { IsTableOf shape.now arena.now table.now }
+    ensures settled { OnOk result (IsProgress shape.now arena.now table.now) }
+    ensures not_settled { result ≡ Err StrategyFault.NotSettled → ¬ IsProgress shape.now arena.now table.now }
+    ensures choices { IfOk result (λ choices. AreChoices shape.now arena.now table.now choices.items) }
+{
+    if !is_progress(shape, arena, table) {
+        return Err(StrategyFault::NotSettled);
+    }
+    let mut choices = Vec::new(alloc);
+    for v in 0..arena.vertices() {
+        if choices.push(choice(shape, arena, table, v)).is_err() {
+            return Err(StrategyFault::Memory);
+        }
+    }
+    Ok(choices)
+}
