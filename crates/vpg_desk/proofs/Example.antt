@@ -4,7 +4,7 @@ use Rattle.std.proofs.lemmas.List.Elements.{All-cons, All-nil}
 use Rattle.vpg_guards.specs.Formula.{Formula, IsBelow, always, feature}
 use Rattle.vpg_game.specs.declared.player.Player.TheVariants.{Even, Odd}
 use Rattle.vpg_diagram.specs.FeatureDiagram.{IsDiagram, MeetsLines}
-use Rattle.vpg_diagram.specs.Formula.{clauses_of, counts_of}
+use Rattle.vpg_diagram.specs.Clauses.{clauses_of, counts_of}
 use Rattle.vpg_diagram.proofs.FormulaLemmas.{formula_from_lines}
 use Rattle.vpg_partial.proofs.KnownLemmas.{no_set_with_conflict}
 use Rattle.vpg_game.specs.Guarded.{GuardedVertex, GuardedEdge}
