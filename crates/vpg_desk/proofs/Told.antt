@@ -5,7 +5,7 @@ use Rattle.std.proofs.lemmas.List.Elements.{All-from_get_or}
 use Rattle.vpg_measure.specs.Lifts.{IsTableOf}
 use Rattle.vpg_game.specs.declared.player.Player.{Player}
 use Rattle.vpg_guards.specs.declared.tri.Tri.{Tri}
-use Rattle.vpg_hope.specs.Hope.{IsFull}
+use Rattle.vpg_hope.specs.Hope.{IsFullOf}
 use Rattle.vpg_measure.specs.NumberLaws.{IsBelowAllSettled}
 use Rattle.vpg_measure.proofs.NumberGuards.{hopeless_number, sure_number, possible_number, unsure_number, not_both_numbers}
 use Rattle.vpg_trail.specs.Page.{Which, Hopeful, Dual, Entry, choices_of, value_at, table_of}
@@ -95,7 +95,7 @@ module _ (setting : Setting) (sound : IsSound setting) (page : List Entry) (fine
     pub decided : AreAllKnown (feature_count setting.lines) known → IsSettledPage (family_of setting) page → (set : List Bool) × Determines setting page known set
     decided full settled = of (sound.full (choices_of page) known fine is_known full)
       where
-        of : (set : List Bool) × IsRemaining setting.lines (choices_of page) set × IsFull (kleene known) (truth set) setting.game × ((other : List Bool) → IsRemaining setting.lines (choices_of page) other → other ≡ set) →
+        of : (set : List Bool) × IsRemaining setting.lines (choices_of page) set × IsFullOf (kleene known) (truth set) setting.game × ((other : List Bool) → IsRemaining setting.lines (choices_of page) other → other ≡ set) →
             (set : List Bool) × Determines setting page known set
         of s = (
           s.0,

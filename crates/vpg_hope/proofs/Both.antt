@@ -3,7 +3,7 @@ use Rattle.std.proofs.Common.{◌≡◌, ℕ, zero, suc, ◌*◌, ◌≤◌, ◌
 use Rattle.std.proofs.lemmas.List.Sums.{sum_by-le}
 use Rattle.vpg_game.specs.declared.player.Player.TheVariants.{Even, Odd}
 use Rattle.vpg_hope.specs.Games.{Game, Vertex, isolated, owner_of, priority_of}
-use Rattle.vpg_hope.specs.Strategies.{Strategy, Allows, Reaches, Walk, Wins, here, move, moves}
+use Rattle.vpg_hope.specs.Strategies.{Strategy, AllowsMove, Reaches, Walk, Wins, here, move, moves}
 use Rattle.vpg_hope.proofs.Reach.{cases_player, reaches_move}
 use Rattle.vpg_hope.proofs.Trails.{Way, nowhere, further, Trail, stop, meet, trail_bound}
 use Rattle.vpg_hope.proofs.Edges.{edge_inside}
@@ -14,7 +14,7 @@ module _ (game : Game) (for_even for_odd : Strategy) (start : ℕ) (even_wins : 
 
   -- a move that both strategies allow
   abbrev Step : ℕ → ℕ → Type 0
-  Step v w = AreReached v × Allows game Even for_even v w × Allows game Odd for_odd v w
+  Step v w = AreReached v × AllowsMove game Even for_even v w × AllowsMove game Odd for_odd v w
 
   abbrev Counted : ℕ → Type 0
   Counted v = Unit {0}
@@ -25,14 +25,14 @@ module _ (game : Game) (for_even for_odd : Strategy) (start : ℕ) (even_wins : 
       of : (owner_of game v ≡ Even) ⊎ (owner_of game v ≡ Odd) → (w : ℕ) × Step v w
       of (inl even) = with (even_wins.can_move v r.0 even)
         where
-          with : (w : ℕ) × Allows game Even for_even v w → (w : ℕ) × Step v w
+          with : (w : ℕ) × AllowsMove game Even for_even v w → (w : ℕ) × Step v w
           with w = (w.0, (r, w.1, (w.1.0, λ odd. clash odd)))
             where
               clash : owner_of game v ≡ Odd → for_odd v ≡ Some w.0
               clash odd = cc (even, odd)
       of (inr odd) = with (odd_wins.can_move v r.1 odd)
         where
-          with : (w : ℕ) × Allows game Odd for_odd v w → (w : ℕ) × Step v w
+          with : (w : ℕ) × AllowsMove game Odd for_odd v w → (w : ℕ) × Step v w
           with w = (w.0, (r, (w.1.0, λ even. clash even), w.1))
             where
               clash : owner_of game v ≡ Even → for_even v ≡ Some w.0

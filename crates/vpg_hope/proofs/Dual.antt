@@ -4,7 +4,7 @@ use Rattle.vpg_game.specs.declared.player.Player.{Player}
 use Rattle.vpg_game.specs.declared.player.Player.TheVariants.{Even, Odd}
 use Rattle.vpg_game.specs.Players.{WinsAt, opponent}
 use Rattle.vpg_hope.specs.Games.{Game, HasEdge, owner_of, priority_of, successors_of}
-use Rattle.vpg_hope.specs.Strategies.{Strategy, Allows, Reaches, Walk, Wins, here, onward, move, moves}
+use Rattle.vpg_hope.specs.Strategies.{Strategy, AllowsMove, Reaches, Walk, Wins, here, onward, move, moves}
 use Rattle.vpg_hope.specs.Comparison.{dual_game}
 use Rattle.vpg_hope.proofs.Reach.{reaches_inside}
 use Rattle.vpg_hope.proofs.Edges.{AreEdgesInside, edge_inside}
@@ -49,10 +49,10 @@ module _ (game : Game) (player : Player) (strategy : Strategy) where
   owner_forth : (v : ℕ) → v < length game → owner_of game v ≡ player → owner_of (dual_game game) v ≡ opponent player
   owner_forth v l e = dual_owner game v l ∙ ap opponent e
 
-  to_dual : (v w : ℕ) → Allows game player strategy v w → Allows (dual_game game) (opponent player) strategy v w
+  to_dual : (v w : ℕ) → AllowsMove game player strategy v w → AllowsMove (dual_game game) (opponent player) strategy v w
   to_dual v w a = (to_dual_edge v w a.0, λ e. a.1 (owner_back v (edge_inside game v w a.0) e))
 
-  from_dual : (v w : ℕ) → Allows (dual_game game) (opponent player) strategy v w → Allows game player strategy v w
+  from_dual : (v w : ℕ) → AllowsMove (dual_game game) (opponent player) strategy v w → AllowsMove game player strategy v w
   from_dual v w a = (from_dual_edge v w a.0, λ e. a.1 (owner_forth v (edge_inside game v w (from_dual_edge v w a.0)) e))
 
   reaches_to_dual : {v u : ℕ} → Reaches game player strategy v u → Reaches (dual_game game) (opponent player) strategy v u
@@ -86,10 +86,10 @@ module _ (game : Game) (player : Player) (strategy : Strategy) where
   pub wins_to_dual : (start : ℕ) → AreEdgesInside game → start < length game → Wins game player strategy start → Wins (dual_game game) (opponent player) strategy start
   wins_to_dual start closed inside wins = record { can_move = can_move; cycles = cycles }
     where
-      can_move : (u : ℕ) → Reaches (dual_game game) (opponent player) strategy start u → owner_of (dual_game game) u ≡ opponent player → (w : ℕ) × Allows (dual_game game) (opponent player) strategy u w
+      can_move : (u : ℕ) → Reaches (dual_game game) (opponent player) strategy start u → owner_of (dual_game game) u ≡ opponent player → (w : ℕ) × AllowsMove (dual_game game) (opponent player) strategy u w
       can_move u r e = chosen (wins.can_move u (reaches_from_dual r) (owner_back u (reaches_inside game player strategy closed inside (reaches_from_dual r)) e))
         where
-          chosen : (w : ℕ) × Allows game player strategy u w → (w : ℕ) × Allows (dual_game game) (opponent player) strategy u w
+          chosen : (w : ℕ) × AllowsMove game player strategy u w → (w : ℕ) × AllowsMove (dual_game game) (opponent player) strategy u w
           chosen w = (w.0, to_dual u w.0 w.1)
 
       cycles : (u m : ℕ) → Reaches (dual_game game) (opponent player) strategy start u → Walk (dual_game game) (opponent player) strategy u u m → WinsAt (opponent player) m
@@ -101,8 +101,8 @@ module _ (game : Game) (player : Player) (strategy : Strategy) where
   pub wins_from_dual : (start : ℕ) → AreEdgesInside game → start < length game → Wins (dual_game game) (opponent player) strategy start → Wins game player strategy start
   wins_from_dual start closed inside wins = record { can_move = can_move; cycles = λ u m r q. parity_down player m (wins.cycles u (suc m) (reaches_to_dual r) (walk_to_dual q)) }
     where
-      can_move : (u : ℕ) → Reaches game player strategy start u → owner_of game u ≡ player → (w : ℕ) × Allows game player strategy u w
+      can_move : (u : ℕ) → Reaches game player strategy start u → owner_of game u ≡ player → (w : ℕ) × AllowsMove game player strategy u w
       can_move u r e = chosen (wins.can_move u (reaches_to_dual r) (owner_forth u (reaches_inside game player strategy closed inside r) e))
         where
-          chosen : (w : ℕ) × Allows (dual_game game) (opponent player) strategy u w → (w : ℕ) × Allows game player strategy u w
+          chosen : (w : ℕ) × AllowsMove (dual_game game) (opponent player) strategy u w → (w : ℕ) × AllowsMove game player strategy u w
           chosen w = (w.0, from_dual u w.0 w.1)

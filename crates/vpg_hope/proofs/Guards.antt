@@ -9,7 +9,7 @@ use Rattle.vpg_guards.specs.declared.tri.Tri.TheVariants.{No, Unknown, Yes}
 use Rattle.vpg_game.specs.Players.{opponent}
 use Rattle.vpg_hope.specs.Games.{HasEdge, owner_of, priority_of, priorities}
 use Rattle.vpg_game.specs.Guarded.{GuardedEdge, GuardedGame, guarded_priorities, IsClosedGuarded, AllGuards, dual}
-use Rattle.vpg_hope.specs.Hope.{restrict, product_game, hopeful_game, keeps_in_hope, Agrees, Extends, IsFull}
+use Rattle.vpg_hope.specs.Hope.{restrict, product_game, hopeful_game, keeps_in_hope, AgreesWithTruth, Extends, IsFullOf}
 use Rattle.vpg_hope.specs.Comparison.{IsEasier, dual_game}
 use Rattle.vpg_hope.proofs.Edges.{AreEdgesInside, Contains-cases, Contains-first, Contains-later, not_in_nil}
 
@@ -135,7 +135,7 @@ module _ (Guard : Type 0) where
     hope_odd Unknown h = cc
     hope_odd Yes h = refl
 
-    pub hopeful_easier : (truth : Guard → Bool) (game : GuardedGame Guard) → Agrees value truth game → IsEasier (hopeful_game value game) (product_game truth game)
+    pub hopeful_easier : (truth : Guard → Bool) (game : GuardedGame Guard) → AgreesWithTruth value truth game → IsEasier (hopeful_game value game) (product_game truth game)
     hopeful_easier truth game agrees = record {
       same_count = same_count hope game ∙ sym (same_count holds game);
       same_owner = same_owner hope holds game;
@@ -180,7 +180,7 @@ module _ (Guard : Type 0) where
         must : {guard : Guard} → (value guard ≡ Yes → later guard ≡ Yes) × (value guard ≡ No → later guard ≡ No) → keeps_in_hope Odd (value guard) ≡ true → keeps_in_hope Odd (later guard) ≡ true
         must {guard} h k = rw (h.0 (hope_odd (value guard) k)) refl
 
-    pub full_same : (truth : Guard → Bool) (game : GuardedGame Guard) → IsFull value truth game → hopeful_game value game ≡ product_game truth game
+    pub full_same : (truth : Guard → Bool) (game : GuardedGame Guard) → IsFullOf value truth game → hopeful_game value game ≡ product_game truth game
     full_same truth game full = restrict_same (λ mover guard. keeps_in_hope mover (value guard)) (λ mover guard. truth guard) game (λ i d l j e k mover. same mover (full i d l j e k))
       where
         same_tri : (mover : Player) (b : Bool) → keeps_in_hope mover (cond b Yes No) ≡ b

@@ -4,7 +4,7 @@ use Rattle.vpg_game.specs.declared.player.Player.{Player}
 use Rattle.vpg_game.specs.declared.player.Player.TheVariants.{Even, Odd}
 use Rattle.vpg_game.specs.Players.{opponent}
 use Rattle.vpg_hope.specs.Games.{Game}
-use Rattle.vpg_hope.specs.Strategies.{Strategy, Allows, Reaches}
+use Rattle.vpg_hope.specs.Strategies.{Strategy, AllowsMove, Reaches}
 use Rattle.vpg_hope.specs.Strategies.{here, onward}
 use Rattle.vpg_hope.proofs.Edges.{AreEdgesInside}
 
@@ -25,7 +25,7 @@ module _ (game : Game) (player : Player) (strategy : Strategy) where
   reaches_trans here r = r
   reaches_trans (onward a q) r = onward a (reaches_trans q r)
 
-  pub reaches_move : {u v w : ℕ} → Reaches game player strategy u v → Allows game player strategy v w → Reaches game player strategy u w
+  pub reaches_move : {u v w : ℕ} → Reaches game player strategy u v → AllowsMove game player strategy v w → Reaches game player strategy u w
   reaches_move r a = reaches_trans r (onward a here)
 
   -- what is reached is a vertex

@@ -32,13 +32,13 @@ abbrev pub hopeful_game : {Guard : Type 0} → (Guard → Tri) → GuardedGame G
 hopeful_game value game = restrict (λ mover guard. keeps_in_hope mover (value guard)) game
 
 -- what is known of a guard of the game is true of it
-abbrev pub Agrees : {Guard : Type 0} → (Guard → Tri) → (Guard → Bool) → GuardedGame Guard → Type 0
-Agrees value truth game = AllGuards (λ guard. (value guard ≡ Yes → truth guard ≡ true) × (value guard ≡ No → truth guard ≡ false)) game
+abbrev pub AgreesWithTruth : {Guard : Type 0} → (Guard → Tri) → (Guard → Bool) → GuardedGame Guard → Type 0
+AgreesWithTruth value truth game = AllGuards (λ guard. (value guard ≡ Yes → truth guard ≡ true) × (value guard ≡ No → truth guard ≡ false)) game
 
 -- what is known stays known
 abbrev pub Extends : {Guard : Type 0} → (Guard → Tri) → (Guard → Tri) → GuardedGame Guard → Type 0
 Extends later earlier game = AllGuards (λ guard. (earlier guard ≡ Yes → later guard ≡ Yes) × (earlier guard ≡ No → later guard ≡ No)) game
 
 -- the truth of each guard is known
-abbrev pub IsFull : {Guard : Type 0} → (Guard → Tri) → (Guard → Bool) → GuardedGame Guard → Type 0
-IsFull value truth game = AllGuards (λ guard. value guard ≡ (if truth guard then Yes else No)) game
+abbrev pub IsFullOf : {Guard : Type 0} → (Guard → Tri) → (Guard → Bool) → GuardedGame Guard → Type 0
+IsFullOf value truth game = AllGuards (λ guard. value guard ≡ (if truth guard then Yes else No)) game

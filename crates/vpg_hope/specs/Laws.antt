@@ -8,7 +8,7 @@ use Rattle.vpg_hope.specs.Games.{Game, IsClosed}
 use Rattle.vpg_hope.specs.Strategies.{Strategy, Wins}
 use Rattle.vpg_hope.specs.Comparison.{IsEasier, dual_game}
 use Rattle.vpg_game.specs.Guarded.{GuardedGame, dual}
-use Rattle.vpg_hope.specs.Hope.{product_game, hopeful_game, Agrees, Extends, IsFull}
+use Rattle.vpg_hope.specs.Hope.{product_game, hopeful_game, AgreesWithTruth, Extends, IsFullOf}
 
 abbrev pub NotBothWin : Type 0
 NotBothWin = (game : Game) (for_even for_odd : Strategy) (v : ℕ) → Wins game Even for_even v → Wins game Odd for_odd v → ⊥
@@ -19,7 +19,7 @@ DualExchangesWins = (game : Game) (player : Player) (strategy : Strategy) (v : �
 
 -- the hopeful game favours Even at least as much as the game of each product that agrees with what is known
 abbrev pub HopefulIsEasier : Type 0 → Type 0
-HopefulIsEasier Guard = (value : Guard → Tri) (truth : Guard → Bool) (game : GuardedGame Guard) → Agrees value truth game → IsEasier (hopeful_game value game) (product_game truth game)
+HopefulIsEasier Guard = (value : Guard → Tri) (truth : Guard → Bool) (game : GuardedGame Guard) → AgreesWithTruth value truth game → IsEasier (hopeful_game value game) (product_game truth game)
 
 -- and as much as the hopeful game where more is known
 abbrev pub EarlierIsEasier : Type 0 → Type 0
@@ -27,7 +27,7 @@ EarlierIsEasier Guard = (earlier later : Guard → Tri) (game : GuardedGame Guar
 
 -- where everything is known the hopeful game is that of the product
 abbrev pub FullIsProduct : Type 0 → Type 0
-FullIsProduct Guard = (value : Guard → Tri) (truth : Guard → Bool) (game : GuardedGame Guard) → IsFull value truth game → hopeful_game value game ≡ product_game truth game
+FullIsProduct Guard = (value : Guard → Tri) (truth : Guard → Bool) (game : GuardedGame Guard) → IsFullOf value truth game → hopeful_game value game ≡ product_game truth game
 
 abbrev pub DualOfProduct : Type 0 → Type 0
 DualOfProduct Guard = (truth : Guard → Bool) (game : GuardedGame Guard) → product_game truth (dual game) ≡ dual_game (product_game truth game)

@@ -4,7 +4,7 @@ use Rattle.std.proofs.lemmas.Bool.{cases_eq}
 use Rattle.std.proofs.lemmas.List.Elements.{Contains-get_or, All-tail}
 use Rattle.vpg_game.specs.declared.player.Player.{Player}
 use Rattle.vpg_hope.specs.Games.{Game, priority_of}
-use Rattle.vpg_hope.specs.Strategies.{Strategy, Allows, Reaches, Walk, Path, IsSimpleCycle, here, onward, move, moves, done, step}
+use Rattle.vpg_hope.specs.Strategies.{Strategy, AllowsMove, Reaches, Walk, Path, IsSimpleCycle, here, onward, move, moves, done, step}
 use Rattle.vpg_hope.proofs.Edges.{Contains-first, Contains-later, Contains-cases, not_in_nil}
 use Rattle.vpg_hope.proofs.Finite.{AreDistinct}
 use Rattle.vpg_hope.proofs.Trails.{Way, nowhere, further}
@@ -19,7 +19,7 @@ all_pairs_from_distinct (v ∷ vs) h (suc i) (suc j) d l k = all_pairs_from_dist
 module _ (game : Game) (player : Player) (strategy : Strategy) (m : ℕ) where
   -- a move from a vertex of priority at most m
   abbrev Step : ℕ → ℕ → Type 0
-  Step v w = Allows game player strategy v w × (priority_of game v ≤ m)
+  Step v w = AllowsMove game player strategy v w × (priority_of game v ≤ m)
 
   way_join : {u v w : ℕ} → Way Step u v → Way Step v w → Way Step u w
   way_join nowhere r = r

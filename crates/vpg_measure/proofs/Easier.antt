@@ -3,7 +3,7 @@ use Rattle.std.proofs.Common.{◌≡◌, ℕ, ◌⊎◌, inl, inr, max, refl, sy
 use Rattle.vpg_game.specs.declared.player.Player.{Player}
 use Rattle.vpg_game.specs.declared.player.Player.TheVariants.{Even, Odd}
 use Rattle.vpg_hope.specs.Games.{Game, owner_of, priority_of}
-use Rattle.vpg_hope.specs.Strategies.{Strategy, Allows, Reaches, Walk, Wins, here, onward, move, moves}
+use Rattle.vpg_hope.specs.Strategies.{Strategy, AllowsMove, Reaches, Walk, Wins, here, onward, move, moves}
 use Rattle.vpg_measure.specs.Measures.{Shape, Measure, Fits}
 use Rattle.vpg_measure.specs.Tables.{Table, IsProgress, IsBelowAllAt, IsBelowAllProgress, FitsAt, FitsFor}
 use Rattle.vpg_hope.specs.Comparison.{IsEasier}
@@ -37,18 +37,18 @@ module _ (easy hard : Game) (easier : IsEasier easy hard) where
 
   -- a strategy of Even that wins the harder game wins the easier one
   module _ (strategy : Strategy) (start : ℕ) (wins : Wins hard Even strategy start) where
-    allows_harder : (v w : ℕ) → Reaches hard Even strategy start v → Allows easy Even strategy v w → Allows hard Even strategy v w
+    allows_harder : (v w : ℕ) → Reaches hard Even strategy start v → AllowsMove easy Even strategy v w → AllowsMove hard Even strategy v w
     allows_harder v w r a = of (cases_player (owner_of hard v) Even)
       where
-        of : (owner_of hard v ≡ Even) ⊎ (owner_of hard v ≡ Odd) → Allows hard Even strategy v w
+        of : (owner_of hard v ≡ Even) ⊎ (owner_of hard v ≡ Odd) → AllowsMove hard Even strategy v w
         of (inr odd) = (easier.odd v w odd a.0, λ even. clash even)
           where
             clash : owner_of hard v ≡ Even → strategy v ≡ Some w
             clash even = cc (even, odd)
         of (inl even) = chosen (wins.can_move v r even)
           where
-            chosen : (x : ℕ) × Allows hard Even strategy v x → Allows hard Even strategy v w
-            chosen x = subst (λ y. Allows hard Even strategy v y) same x.1
+            chosen : (x : ℕ) × AllowsMove hard Even strategy v x → AllowsMove hard Even strategy v w
+            chosen x = subst (λ y. AllowsMove hard Even strategy v y) same x.1
               where
                 taken : strategy v ≡ Some w
                 taken = a.1 (rw (easier.same_owner v) even)
@@ -71,11 +71,11 @@ module _ (easy hard : Game) (easier : IsEasier easy hard) where
     pub wins_easier : Wins easy Even strategy start
     wins_easier = record { can_move = can_move; cycles = λ u m r q. wins.cycles u m (reaches_harder here r) (walk_harder (reaches_harder here r) q) }
       where
-        can_move : (u : ℕ) → Reaches easy Even strategy start u → owner_of easy u ≡ Even → (w : ℕ) × Allows easy Even strategy u w
+        can_move : (u : ℕ) → Reaches easy Even strategy start u → owner_of easy u ≡ Even → (w : ℕ) × AllowsMove easy Even strategy u w
         can_move u r even = chosen (wins.can_move u (reaches_harder here r) even_there)
           where
             even_there : owner_of hard u ≡ Even
             even_there = rw (easier.same_owner u) at even
 
-            chosen : (w : ℕ) × Allows hard Even strategy u w → (w : ℕ) × Allows easy Even strategy u w
+            chosen : (w : ℕ) × AllowsMove hard Even strategy u w → (w : ℕ) × AllowsMove easy Even strategy u w
             chosen w = (w.0, (easier.even u w.0 even_there w.1.0, λ e. w.1.1 even_there))

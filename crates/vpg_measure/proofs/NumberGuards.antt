@@ -12,7 +12,7 @@ use Rattle.vpg_hope.specs.Games.{priorities}
 use Rattle.vpg_hope.specs.Strategies.{Strategy, Wins}
 use Rattle.vpg_measure.specs.Tables.{IsProgress}
 use Rattle.vpg_game.specs.Guarded.{GuardedGame, guarded_priorities, IsClosedGuarded, dual}
-use Rattle.vpg_hope.specs.Hope.{product_game, hopeful_game, keeps_in_hope, Agrees, Extends, IsFull}
+use Rattle.vpg_hope.specs.Hope.{product_game, hopeful_game, keeps_in_hope, AgreesWithTruth, Extends, IsFullOf}
 use Rattle.vpg_hope.proofs.Edges.{AreEdgesInside}
 use Rattle.vpg_measure.proofs.Easier.{progress_easier, wins_easier}
 use Rattle.vpg_hope.proofs.Dual.{wins_to_dual, wins_from_dual}
@@ -48,7 +48,7 @@ module _ (Guard : Type 0) where
     hope mover guard = keeps_in_hope mover (value guard)
 
     pub hopeless_number : arena ≡ hopeful_game value game → IsClosedArena arena → IsTableOf (levels_of (guarded_priorities game)) arena table → IsBelowAllSettled (levels_of (guarded_priorities game)) arena table →
-        (v : ℕ) → v < length arena → slice_index table v ≡ top_of (levels_of (guarded_priorities game)) → (truth : Guard → Bool) → Agrees value truth game → (strategy : Strategy) → Wins (product_game truth game) Player.Even strategy v → ⊥
+        (v : ℕ) → v < length arena → slice_index table v ≡ top_of (levels_of (guarded_priorities game)) → (truth : Guard → Bool) → AgreesWithTruth value truth game → (strategy : Strategy) → Wins (product_game truth game) Player.Even strategy v → ⊥
     hopeless_number e closed is_table below v inside high truth agrees strategy wins =
         top_number_refutes arena table closed (subst (λ ps. IsTableOf (levels_of ps) arena table) same is_table) (subst (λ ps. IsBelowAllSettled (levels_of ps) arena table) same below) v inside
         (subst (λ ps. slice_index table v ≡ top_of (levels_of ps)) same high) strategy
@@ -62,7 +62,7 @@ module _ (Guard : Type 0) where
 
   pub sure_number : (value : Guard → Tri) (game : GuardedGame Guard) (arena : List Node) (table : List ℕ) → arena ≡ hopeful_game value (dual game) → IsClosedArena arena → IsClosedGuarded game →
       IsTableOf (levels_of (guarded_priorities (dual game))) arena table → IsBelowAllSettled (levels_of (guarded_priorities (dual game))) arena table →
-      (v : ℕ) → v < length arena → slice_index table v ≡ top_of (levels_of (guarded_priorities (dual game))) → (truth : Guard → Bool) → Agrees value truth game → (strategy : Strategy) → Wins (product_game truth game) Player.Odd strategy v → ⊥
+      (v : ℕ) → v < length arena → slice_index table v ≡ top_of (levels_of (guarded_priorities (dual game))) → (truth : Guard → Bool) → AgreesWithTruth value truth game → (strategy : Strategy) → Wins (product_game truth game) Player.Odd strategy v → ⊥
   sure_number value game arena table e closed closed_guarded is_table below v inside high truth agrees strategy wins =
       hopeless_number value (dual game) arena table e closed is_table below v inside high truth
       (dual_guards Guard (λ guard. (value guard ≡ Yes → truth guard ≡ true) × (value guard ≡ No → truth guard ≡ false)) game agrees) strategy
@@ -89,8 +89,8 @@ module _ (Guard : Type 0) where
       edges : AreEdgesInside (product_game truth game)
       edges = restrict_closed Guard keeps game closed_guarded
 
-  module _ (value : Guard → Tri) (truth : Guard → Bool) (game : GuardedGame Guard) (full : IsFull value truth game) where
-    dual_full : IsFull value truth (dual game)
+  module _ (value : Guard → Tri) (truth : Guard → Bool) (game : GuardedGame Guard) (full : IsFullOf value truth game) where
+    dual_full : IsFullOf value truth (dual game)
     dual_full = dual_guards Guard (λ guard. value guard ≡ cond (truth guard) Yes No) game full
 
     holds : Player → Guard → Bool

@@ -5,7 +5,7 @@ use Rattle.vpg_game.specs.declared.player.Player.{Player}
 use Rattle.vpg_game.specs.declared.player.Player.TheVariants.{Even, Odd}
 use Rattle.vpg_game.specs.Players.{WinsAt}
 use Rattle.vpg_hope.specs.Games.{Game, Vertex, isolated, priority_of, priorities}
-use Rattle.vpg_hope.specs.Strategies.{Strategy, Allows, Reaches, Walk, Wins, IsPlay, IsGreatestRecurring, here, move, moves}
+use Rattle.vpg_hope.specs.Strategies.{Strategy, AllowsMove, Reaches, Walk, Wins, IsPlay, IsGreatestRecurring, here, move, moves}
 use Rattle.vpg_hope.proofs.Edges.{edge_inside}
 use Rattle.vpg_hope.proofs.Reach.{reaches_move}
 use Rattle.vpg_hope.proofs.Trails.{Way, nowhere, further, Trail, stop, meet, pass, trail_bound}
@@ -26,7 +26,7 @@ wins_or_not Odd p = of (cases_parity p)
 module _ (game : Game) (player : Player) (strategy : Strategy) (play : ℕ → ℕ) (is_play : IsPlay game player strategy play) (p : ℕ) where
   -- a move of the play from a vertex of priority at most p
   abbrev Step : ℕ → ℕ → Type 0
-  Step v w = Reaches game player strategy (play 0) v × Allows game player strategy v w × (priority_of game v ≤ p)
+  Step v w = Reaches game player strategy (play 0) v × AllowsMove game player strategy v w × (priority_of game v ≤ p)
 
   abbrev HasPriority : ℕ → Type 0
   HasPriority v = priority_of game v ≡ p

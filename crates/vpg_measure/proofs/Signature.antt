@@ -9,7 +9,7 @@ use Rattle.vpg_game.specs.declared.player.Player.{Player}
 use Rattle.vpg_game.specs.declared.player.Player.TheVariants.{Even, Odd}
 use Rattle.vpg_game.specs.Players.{IsOdd}
 use Rattle.vpg_hope.specs.Games.{Game, Vertex, isolated, owner_of, priority_of, priorities}
-use Rattle.vpg_hope.specs.Strategies.{Strategy, Allows, Reaches, Walk, Wins, here, move, moves}
+use Rattle.vpg_hope.specs.Strategies.{Strategy, AllowsMove, Reaches, Walk, Wins, here, move, moves}
 use Rattle.vpg_game.specs.declared.levels.Level.{Level}
 use Rattle.vpg_measure.specs.Measures.{Shape, IsShape, Measure, IsMeasure, LexBelow, LexAtMost, AtMost, Fits, above, Top, Components}
 use Rattle.vpg_measure.specs.Tables.{Table, IsProgress, IsBelowAllProgress, FitsAt, FitsFor}
@@ -40,7 +40,7 @@ below_all (place ∷ shape) p h q c = of (Contains-cases place.priority (map (λ
 module _ (game : Game) (strategy : Strategy) (start : ℕ) where
   -- a move from a reachable vertex of priority at most p
   abbrev Step : ℕ → ℕ → ℕ → Type 0
-  Step p v w = Reaches game Even strategy start v × Allows game Even strategy v w × (priority_of game v ≤ p)
+  Step p v w = Reaches game Even strategy start v × AllowsMove game Even strategy v w × (priority_of game v ≤ p)
 
   abbrev HasPriority : ℕ → ℕ → Type 0
   HasPriority p v = priority_of game v ≡ p
@@ -71,7 +71,7 @@ module _ (game : Game) (strategy : Strategy) (start : ℕ) where
   count_more p v w c d s e h k = h.most (suc d) (meet e s k.trail)
 
   -- so the tuples of the two ends of a move compare as the edge asks
-  move_at_most : (v w : ℕ) → Reaches game Even strategy start v → Allows game Even strategy v w → (cs ds : List ℕ) (shape : Shape) → AreComponents v cs shape → AreComponents w ds shape → LexAtMost (above shape (priority_of game v) ds) (above shape (priority_of game v) cs)
+  move_at_most : (v w : ℕ) → Reaches game Even strategy start v → AllowsMove game Even strategy v w → (cs ds : List ℕ) (shape : Shape) → AreComponents v cs shape → AreComponents w ds shape → LexAtMost (above shape (priority_of game v) ds) (above shape (priority_of game v) cs)
   move_at_most v w r a [] [] [] h k = inl refl
   move_at_most v w r a (c ∷ cs) ds [] h k = absurd h
   move_at_most v w r a [] (d ∷ ds) [] h k = absurd k
@@ -95,7 +95,7 @@ module _ (game : Game) (strategy : Strategy) (start : ℕ) where
           compared (inr (inr l)) = absurd (omega (arith, at_head))
 
   -- strictly at a place of the priority of the vertex
-  move_below : (v w : ℕ) → Reaches game Even strategy start v → Allows game Even strategy v w → (cs ds : List ℕ) (shape : Shape) → IsFalling shape →
+  move_below : (v w : ℕ) → Reaches game Even strategy start v → AllowsMove game Even strategy v w → (cs ds : List ℕ) (shape : Shape) → IsFalling shape →
       Contains (map (λ place. place.priority) shape) (priority_of game v) → AreComponents v cs shape → AreComponents w ds shape → LexBelow (above shape (priority_of game v) ds) (above shape (priority_of game v) cs)
   move_below v w r a cs ds [] falling has h k = absurd (not_in_nil (priority_of game v) has)
   move_below v w r a [] ds (place ∷ shape) falling has h k = absurd h
@@ -125,7 +125,7 @@ module _ (game : Game) (strategy : Strategy) (start : ℕ) where
           ordered (inr (inl l)) = inl l
           ordered (inr (inr l)) = absurd (omega (arith, at_head))
 
-  move_fits : (v w : ℕ) → Reaches game Even strategy start v → Allows game Even strategy v w → (cs ds : List ℕ) (shape : Shape) → IsShape (priorities game) shape →
+  move_fits : (v w : ℕ) → Reaches game Even strategy start v → AllowsMove game Even strategy v w → (cs ds : List ℕ) (shape : Shape) → IsShape (priorities game) shape →
       AreComponents v cs shape → AreComponents w ds shape → Fits shape (priority_of game v) (Components cs) (Components ds)
   move_fits v w r a cs ds shape is_shape h k =
       (move_at_most v w r a cs ds shape h k, λ odd. move_below v w r a cs ds shape falling (has odd) h k)
@@ -213,7 +213,7 @@ module _ (game : Game) (strategy : Strategy) (start : ℕ) where
           in_range v (inl h) = subst (λ m. IsMeasure shape m) (sym h.1.1) (components_in_range v h.1.0 shape h.1.2)
           in_range v (inr h) = subst (λ m. IsMeasure shape m) (sym h.1) tt
 
-          along : (v w : ℕ) → Reaches game Even strategy start v → Allows game Even strategy v w → (cs : List ℕ) → table v ≡ Components cs → AreComponents v cs shape → Fits shape (priority_of game v) (table v) (table w)
+          along : (v w : ℕ) → Reaches game Even strategy start v → AllowsMove game Even strategy v w → (cs : List ℕ) → table v ≡ Components cs → AreComponents v cs shape → Fits shape (priority_of game v) (table v) (table w)
           along v w r a cs e h = to_value (values w (closed v w a.0))
             where
               to_value : IsValue w (table w) → Fits shape (priority_of game v) (table v) (table w)
@@ -226,7 +226,7 @@ module _ (game : Game) (strategy : Strategy) (start : ℕ) where
               of : (owner_of game v ≡ Even) ⊎ (owner_of game v ≡ Odd) → FitsAt shape game table v (table v)
               of (inl even) = rw even (chosen (wins.can_move v h.0 even))
                 where
-                  chosen : (w : ℕ) × Allows game Even strategy v w → FitsFor Even shape game table v (table v)
+                  chosen : (w : ℕ) × AllowsMove game Even strategy v w → FitsFor Even shape game table v (table v)
                   chosen w = inr (w.0, w.1.0, along v w.0 h.0 w.1 h.1.0 h.1.1 h.1.2)
               of (inr odd) = rw odd all
                 where

@@ -11,7 +11,7 @@ use Rattle.vpg_hope.specs.Strategies.{Strategy, Wins}
 use Rattle.vpg_measure.specs.Measures.{Shape, IsShape, Measure, Fits, Top, Components}
 use Rattle.vpg_measure.specs.Tables.{Table, IsProgress, IsBelowAllProgress, IsLeastProgress, FitsFor, FollowsLeast}
 use Rattle.vpg_game.specs.Guarded.{GuardedGame, guarded_priorities, IsClosedGuarded, dual}
-use Rattle.vpg_hope.specs.Hope.{product_game, hopeful_game, keeps_in_hope, Agrees, IsFull}
+use Rattle.vpg_hope.specs.Hope.{product_game, hopeful_game, keeps_in_hope, AgreesWithTruth, IsFullOf}
 use Rattle.vpg_measure.proofs.Winning.{FollowsFitting, fitting_wins, least_fits}
 use Rattle.vpg_measure.proofs.Signature.{top_refutes}
 use Rattle.vpg_hope.proofs.Both.{not_both}
@@ -78,7 +78,7 @@ least_decides shape game table closed is_shape least v inside =
 
 module _ (Guard : Type 0) (value : Guard → Tri) where
   pub hopeless_loses : (game : GuardedGame Guard) (shape : Shape) (table : Table) → IsClosedGuarded game → IsShape (guarded_priorities game) shape → IsBelowAllProgress shape (hopeful_game value game) table →
-      (v : ℕ) → v < length game → table v ≡ Top → (truth : Guard → Bool) → Agrees value truth game → (strategy : Strategy) → Wins (product_game truth game) Even strategy v → ⊥
+      (v : ℕ) → v < length game → table v ≡ Top → (truth : Guard → Bool) → AgreesWithTruth value truth game → (strategy : Strategy) → Wins (product_game truth game) Even strategy v → ⊥
   hopeless_loses game shape table closed is_shape below v inside e truth agrees strategy wins =
       top_refutes (product_game truth game) strategy v wins (restrict_closed Guard keeps game closed) (rw same_count inside) shape (rw restrict_priorities is_shape) table
       (below_harder (hopeful_game value game) (product_game truth game) (hopeful_easier Guard value truth game agrees) shape table below) e
@@ -87,7 +87,7 @@ module _ (Guard : Type 0) (value : Guard → Tri) where
       keeps mover guard = truth guard
 
   pub sure_wins : (game : GuardedGame Guard) (shape : Shape) (table : Table) → IsClosedGuarded game → IsShape (guarded_priorities (dual game)) shape → IsBelowAllProgress shape (hopeful_game value (dual game)) table →
-      (v : ℕ) → v < length game → table v ≡ Top → (truth : Guard → Bool) → Agrees value truth game → (strategy : Strategy) → Wins (product_game truth game) Odd strategy v → ⊥
+      (v : ℕ) → v < length game → table v ≡ Top → (truth : Guard → Bool) → AgreesWithTruth value truth game → (strategy : Strategy) → Wins (product_game truth game) Odd strategy v → ⊥
   sure_wins game shape table closed is_shape below v inside e truth agrees strategy wins =
       hopeless_loses (dual game) shape table (dual_closed Guard game closed) is_shape below v (rw length-map inside) e truth (dual_guards Guard (λ guard. (value guard ≡ Yes → truth guard ≡ true) × (value guard ≡ No → truth guard ≡ false)) game agrees) strategy
       (subst (λ g. Wins g Even strategy v) (sym (product_dual Guard truth game))
@@ -97,7 +97,7 @@ module _ (Guard : Type 0) (value : Guard → Tri) where
       keeps mover guard = truth guard
 
   module _ (truth : Guard → Bool) where
-    pub possible_wins : (game : GuardedGame Guard) → IsFull value truth game → (shape : Shape) (table : Table) (strategy : Strategy) → IsClosedGuarded game → IsProgress shape (hopeful_game value game) table → FollowsLeast shape (hopeful_game value game) table strategy →
+    pub possible_wins : (game : GuardedGame Guard) → IsFullOf value truth game → (shape : Shape) (table : Table) (strategy : Strategy) → IsClosedGuarded game → IsProgress shape (hopeful_game value game) table → FollowsLeast shape (hopeful_game value game) table strategy →
         (v : ℕ) → v < length game → table v ≢ Top → Wins (product_game truth game) Even strategy v
     possible_wins game full shape table strategy closed progress follows v inside low =
         subst (λ g. Wins g Even strategy v) (full_same Guard value truth game full)
@@ -106,7 +106,7 @@ module _ (Guard : Type 0) (value : Guard → Tri) where
         keeps : Player → Guard → Bool
         keeps mover guard = keeps_in_hope mover (value guard)
 
-    has_win : (game : GuardedGame Guard) → IsFull value truth game → (shape : Shape) (table : Table) → IsClosedGuarded game → IsProgress shape (hopeful_game value game) table →
+    has_win : (game : GuardedGame Guard) → IsFullOf value truth game → (shape : Shape) (table : Table) → IsClosedGuarded game → IsProgress shape (hopeful_game value game) table →
         (v : ℕ) → v < length game → table v ≢ Top → (strategy : Strategy) × Wins (product_game truth game) Even strategy v
     has_win game full shape table closed progress v inside low = of (progress_wins shape (hopeful_game value game) table (restrict_closed Guard keeps game closed) progress)
       where
@@ -119,7 +119,7 @@ module _ (Guard : Type 0) (value : Guard → Tri) where
         of : (strategy : Strategy) × ((v : ℕ) → v < length (hopeful_game value game) → table v ≢ Top → Wins (hopeful_game value game) Even strategy v) → (strategy : Strategy) × Wins (product_game truth game) Even strategy v
         of s = (s.0, subst (λ g. Wins g Even s.0 v) (full_same Guard value truth game full) (s.1 v inside_hope low))
 
-    pub unsure_wins : (game : GuardedGame Guard) → IsFull value truth game → (shape : Shape) (table : Table) → IsClosedGuarded game → IsProgress shape (hopeful_game value (dual game)) table →
+    pub unsure_wins : (game : GuardedGame Guard) → IsFullOf value truth game → (shape : Shape) (table : Table) → IsClosedGuarded game → IsProgress shape (hopeful_game value (dual game)) table →
         (v : ℕ) → v < length game → table v ≢ Top → (strategy : Strategy) × Wins (product_game truth game) Odd strategy v
     unsure_wins game full shape table closed progress v inside low = of (has_win (dual game) (dual_guards Guard (λ guard. value guard ≡ cond (truth guard) Yes No) game full) shape table (dual_closed Guard game closed) progress v (rw length-map inside) low)
       where
@@ -136,7 +136,7 @@ module _ (Guard : Type 0) (value : Guard → Tri) where
               (subst (λ g. Wins g Even s.0 v) (product_dual Guard truth game) s.1),
         )
 
-    pub not_possible_and_unsure : (game : GuardedGame Guard) → IsFull value truth game → (shape dual_shape : Shape) (table dual_table : Table) → IsClosedGuarded game → IsProgress shape (hopeful_game value game) table → IsProgress dual_shape (hopeful_game value (dual game)) dual_table →
+    pub not_possible_and_unsure : (game : GuardedGame Guard) → IsFullOf value truth game → (shape dual_shape : Shape) (table dual_table : Table) → IsClosedGuarded game → IsProgress shape (hopeful_game value game) table → IsProgress dual_shape (hopeful_game value (dual game)) dual_table →
         (v : ℕ) → v < length game → table v ≢ Top → dual_table v ≢ Top → ⊥
     not_possible_and_unsure game full shape dual_shape table dual_table closed progress dual_progress v inside low dual_low =
         clash (has_win game full shape table closed progress v inside low) (unsure_wins game full dual_shape dual_table closed dual_progress v inside dual_low)

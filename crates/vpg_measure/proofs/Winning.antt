@@ -4,7 +4,7 @@ use Rattle.std.proofs.lemmas.Bool.{cases_eq}
 use Rattle.vpg_game.specs.declared.player.Player.TheVariants.{Even, Odd}
 use Rattle.vpg_game.specs.Players.{IsOdd, WinsAt}
 use Rattle.vpg_hope.specs.Games.{Game, HasEdge, owner_of, priority_of}
-use Rattle.vpg_hope.specs.Strategies.{Strategy, Allows, Reaches, Walk, Wins}
+use Rattle.vpg_hope.specs.Strategies.{Strategy, AllowsMove, Reaches, Walk, Wins}
 use Rattle.vpg_hope.specs.Strategies.{here, onward}
 use Rattle.vpg_hope.specs.Strategies.{move, moves}
 use Rattle.vpg_measure.specs.Measures.{Shape, Measure, LexBelow, LexAtMost, AtMost, Fits, above, Top, Components}
@@ -111,7 +111,7 @@ module _ (shape : Shape) (p : ℕ) where
 
 module _ (shape : Shape) (game : Game) (table : Table) (strategy : Strategy) (closed : AreEdgesInside game) (progress : IsProgress shape game table) (follows : FollowsFitting shape game table strategy) where
   -- each move that the strategy allows from below Top goes along an edge over which the value fits
-  move_fits : (v w : ℕ) → table v ≢ Top → Allows game Even strategy v w → Fits shape (priority_of game v) (table v) (table w)
+  move_fits : (v w : ℕ) → table v ≢ Top → AllowsMove game Even strategy v w → Fits shape (priority_of game v) (table v) (table w)
   move_fits v w low a = of (cases_player (owner_of game v) Even)
     where
       inside : v < length game
@@ -130,7 +130,7 @@ module _ (shape : Shape) (game : Game) (table : Table) (strategy : Strategy) (cl
               same : x.0 ≡ w
               same = cc (x.1, taken)
 
-  stays_low : (v w : ℕ) → table v ≢ Top → Allows game Even strategy v w → table w ≢ Top
+  stays_low : (v w : ℕ) → table v ≢ Top → AllowsMove game Even strategy v w → table w ≢ Top
   stays_low v w low a = fits_not_top shape (priority_of game v) (table v) (table w) (move_fits v w low a) low
 
   reached_low : {v u : ℕ} → table v ≢ Top → Reaches game Even strategy v u → table u ≢ Top
@@ -158,10 +158,10 @@ module _ (shape : Shape) (game : Game) (table : Table) (strategy : Strategy) (cl
   pub fitting_wins : (v : ℕ) → v < length game → table v ≢ Top → Wins game Even strategy v
   fitting_wins v inside low = record { can_move = can_move; cycles = cycles }
     where
-      can_move : (u : ℕ) → Reaches game Even strategy v u → owner_of game u ≡ Even → (w : ℕ) × Allows game Even strategy u w
+      can_move : (u : ℕ) → Reaches game Even strategy v u → owner_of game u ≡ Even → (w : ℕ) × AllowsMove game Even strategy u w
       can_move u r even = chosen (follows u (reaches_inside game Even strategy closed inside r) even (reached_low low r))
         where
-          chosen : (x : ℕ) × (strategy u ≡ Some x) × HasEdge game u x × Fits shape (priority_of game u) (table u) (table x) → (w : ℕ) × Allows game Even strategy u w
+          chosen : (x : ℕ) × (strategy u ≡ Some x) × HasEdge game u x × Fits shape (priority_of game u) (table u) (table x) → (w : ℕ) × AllowsMove game Even strategy u w
           chosen x = (x.0, (x.2, λ e. x.1))
 
       cycles : (u m : ℕ) → Reaches game Even strategy v u → Walk game Even strategy u u m → WinsAt Even m

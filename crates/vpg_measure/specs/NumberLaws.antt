@@ -11,7 +11,7 @@ use Rattle.vpg_measure.specs.Measures.{IsShape}
 use Rattle.vpg_measure.specs.Tables.{IsProgress}
 use Rattle.vpg_guards.specs.declared.tri.Tri.{Tri}
 use Rattle.vpg_game.specs.Guarded.{GuardedGame, guarded_priorities, IsClosedGuarded, dual}
-use Rattle.vpg_hope.specs.Hope.{product_game, hopeful_game, Agrees, Extends, IsFull}
+use Rattle.vpg_hope.specs.Hope.{product_game, hopeful_game, AgreesWithTruth, Extends, IsFullOf}
 use Rattle.vpg_measure.specs.Views.{measures_of, strategy_of}
 
 -- the levels of the priorities are their shape
@@ -55,30 +55,30 @@ abbrev pub HopelessNumber : Type 0 → Type 0
 HopelessNumber Guard = (value : Guard → Tri) (game : GuardedGame Guard) (arena : List Node) (table : List ℕ) → arena ≡ hopeful_game value game → IsClosed arena →
     IsTableOf (levels_of (guarded_priorities game)) arena table → IsBelowAllSettled (levels_of (guarded_priorities game)) arena table →
     (v : ℕ) → v < length arena → slice_index table v ≡ top_of (levels_of (guarded_priorities game)) →
-    (truth : Guard → Bool) → Agrees value truth game → (strategy : Strategy) → Wins (product_game truth game) Player.Even strategy v → ⊥
+    (truth : Guard → Bool) → AgreesWithTruth value truth game → (strategy : Strategy) → Wins (product_game truth game) Player.Even strategy v → ⊥
 
 -- a sure vertex has none for Odd
 abbrev pub SureNumber : Type 0 → Type 0
 SureNumber Guard = (value : Guard → Tri) (game : GuardedGame Guard) (arena : List Node) (table : List ℕ) → arena ≡ hopeful_game value (dual game) → IsClosed arena → IsClosedGuarded game →
     IsTableOf (levels_of (guarded_priorities (dual game))) arena table → IsBelowAllSettled (levels_of (guarded_priorities (dual game))) arena table →
     (v : ℕ) → v < length arena → slice_index table v ≡ top_of (levels_of (guarded_priorities (dual game))) →
-    (truth : Guard → Bool) → Agrees value truth game → (strategy : Strategy) → Wins (product_game truth game) Player.Odd strategy v → ⊥
+    (truth : Guard → Bool) → AgreesWithTruth value truth game → (strategy : Strategy) → Wins (product_game truth game) Player.Odd strategy v → ⊥
 
 -- where everything is known the choices win in the product from every possible vertex
 abbrev pub PossibleNumber : Type 0 → Type 0
-PossibleNumber Guard = (value : Guard → Tri) (truth : Guard → Bool) (game : GuardedGame Guard) → IsFull value truth game → (levels : List Level) (arena : List Node) (table : List ℕ) (choices : List (Option ℕ)) →
+PossibleNumber Guard = (value : Guard → Tri) (truth : Guard → Bool) (game : GuardedGame Guard) → IsFullOf value truth game → (levels : List Level) (arena : List Node) (table : List ℕ) (choices : List (Option ℕ)) →
     arena ≡ hopeful_game value game → IsClosed arena → IsTableOf levels arena table → IsSettled levels arena table → AreChoices levels arena table choices →
     (v : ℕ) → v < length arena → slice_index table v < top_of levels → Wins (product_game truth game) Player.Even (strategy_of choices) v
 
 -- those of the dual win there for Odd from every unsure vertex
 abbrev pub UnsureNumber : Type 0 → Type 0
-UnsureNumber Guard = (value : Guard → Tri) (truth : Guard → Bool) (game : GuardedGame Guard) → IsFull value truth game → (levels : List Level) (arena : List Node) (table : List ℕ) (choices : List (Option ℕ)) →
+UnsureNumber Guard = (value : Guard → Tri) (truth : Guard → Bool) (game : GuardedGame Guard) → IsFullOf value truth game → (levels : List Level) (arena : List Node) (table : List ℕ) (choices : List (Option ℕ)) →
     arena ≡ hopeful_game value (dual game) → IsClosed arena → IsClosedGuarded game → IsTableOf levels arena table → IsSettled levels arena table → AreChoices levels arena table choices →
     (v : ℕ) → v < length arena → slice_index table v < top_of levels → Wins (product_game truth game) Player.Odd (strategy_of choices) v
 
 -- so no vertex is both
 abbrev pub NotBothNumbers : Type 0 → Type 0
-NotBothNumbers Guard = (value : Guard → Tri) (truth : Guard → Bool) (game : GuardedGame Guard) → IsFull value truth game → IsClosedGuarded game →
+NotBothNumbers Guard = (value : Guard → Tri) (truth : Guard → Bool) (game : GuardedGame Guard) → IsFullOf value truth game → IsClosedGuarded game →
     (levels dual_levels : List Level) (arena dual_arena : List Node) (table dual_table : List ℕ) → arena ≡ hopeful_game value game → dual_arena ≡ hopeful_game value (dual game) →
     IsTableOf levels arena table → IsSettled levels arena table → IsTableOf dual_levels dual_arena dual_table → IsSettled dual_levels dual_arena dual_table →
     (v : ℕ) → v < length game → slice_index table v < top_of levels → slice_index dual_table v < top_of dual_levels → ⊥

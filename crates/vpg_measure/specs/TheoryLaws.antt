@@ -10,7 +10,7 @@ use Rattle.vpg_measure.specs.Measures.{Shape, IsShape, Measure, IsMeasure, AtMos
 use Rattle.vpg_measure.specs.Tables.{Table, IsTable, zero_table, IsProg, IsLift, IsLeastOfProgs, IsGreatestOfProgs, FitsAt, IsProgress, IsBelow, IsBelowAllAt, IsBelowAllProgress, IsLeastProgress, FollowsLeast}
 use Rattle.vpg_hope.specs.Comparison.{IsEasier}
 use Rattle.vpg_game.specs.Guarded.{GuardedGame, guarded_priorities, IsClosedGuarded, dual}
-use Rattle.vpg_hope.specs.Hope.{product_game, hopeful_game, Agrees, Extends, IsFull}
+use Rattle.vpg_hope.specs.Hope.{product_game, hopeful_game, AgreesWithTruth, Extends, IsFullOf}
 
 abbrev pub AtMostIsTotalOrder : Type 0
 AtMostIsTotalOrder = record {
@@ -137,24 +137,24 @@ ValueStaysWhenMoreIsKnown Guard = (earlier later : Guard → Tri) (game : Guarde
 -- a hopeless vertex has no winning strategy for Even in any product that agrees with what is known
 abbrev pub HopelessLoses : Type 0 → Type 0
 HopelessLoses Guard = (value : Guard → Tri) (game : GuardedGame Guard) (shape : Shape) (table : Table) → IsClosedGuarded game → IsShape (guarded_priorities game) shape → IsBelowAllProgress shape (hopeful_game value game) table →
-    (v : ℕ) → v < length game → table v ≡ Top → (truth : Guard → Bool) → Agrees value truth game → (strategy : Strategy) → Wins (product_game truth game) Even strategy v → ⊥
+    (v : ℕ) → v < length game → table v ≡ Top → (truth : Guard → Bool) → AgreesWithTruth value truth game → (strategy : Strategy) → Wins (product_game truth game) Even strategy v → ⊥
 
 -- a sure vertex has none for Odd
 abbrev pub SureWins : Type 0 → Type 0
 SureWins Guard = (value : Guard → Tri) (game : GuardedGame Guard) (shape : Shape) (table : Table) → IsClosedGuarded game → IsShape (guarded_priorities (dual game)) shape → IsBelowAllProgress shape (hopeful_game value (dual game)) table →
-    (v : ℕ) → v < length game → table v ≡ Top → (truth : Guard → Bool) → Agrees value truth game → (strategy : Strategy) → Wins (product_game truth game) Odd strategy v → ⊥
+    (v : ℕ) → v < length game → table v ≡ Top → (truth : Guard → Bool) → AgreesWithTruth value truth game → (strategy : Strategy) → Wins (product_game truth game) Odd strategy v → ⊥
 
 -- where everything is known, Even wins in the product from each possible vertex, by successors of least prog
 abbrev pub PossibleWins : Type 0 → Type 0
-PossibleWins Guard = (value : Guard → Tri) (truth : Guard → Bool) (game : GuardedGame Guard) → IsFull value truth game → (shape : Shape) (table : Table) (strategy : Strategy) → IsClosedGuarded game →
+PossibleWins Guard = (value : Guard → Tri) (truth : Guard → Bool) (game : GuardedGame Guard) → IsFullOf value truth game → (shape : Shape) (table : Table) (strategy : Strategy) → IsClosedGuarded game →
     IsProgress shape (hopeful_game value game) table → FollowsLeast shape (hopeful_game value game) table strategy → (v : ℕ) → v < length game → table v ≢ Top → Wins (product_game truth game) Even strategy v
 
 -- and Odd from each unsure one
 abbrev pub UnsureLoses : Type 0 → Type 0
-UnsureLoses Guard = (value : Guard → Tri) (truth : Guard → Bool) (game : GuardedGame Guard) → IsFull value truth game → (shape : Shape) (table : Table) → IsClosedGuarded game →
+UnsureLoses Guard = (value : Guard → Tri) (truth : Guard → Bool) (game : GuardedGame Guard) → IsFullOf value truth game → (shape : Shape) (table : Table) → IsClosedGuarded game →
     IsProgress shape (hopeful_game value (dual game)) table → (v : ℕ) → v < length game → table v ≢ Top → (strategy : Strategy) × Wins (product_game truth game) Odd strategy v
 
 -- so no vertex is both
 abbrev pub NotPossibleAndUnsure : Type 0 → Type 0
-NotPossibleAndUnsure Guard = (value : Guard → Tri) (truth : Guard → Bool) (game : GuardedGame Guard) → IsFull value truth game → (shape dual_shape : Shape) (table dual_table : Table) → IsClosedGuarded game →
+NotPossibleAndUnsure Guard = (value : Guard → Tri) (truth : Guard → Bool) (game : GuardedGame Guard) → IsFullOf value truth game → (shape dual_shape : Shape) (table dual_table : Table) → IsClosedGuarded game →
     IsProgress shape (hopeful_game value game) table → IsProgress dual_shape (hopeful_game value (dual game)) dual_table → (v : ℕ) → v < length game → table v ≢ Top → dual_table v ≢ Top → ⊥
