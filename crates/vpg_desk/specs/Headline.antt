@@ -12,7 +12,7 @@ use Rattle.vpg_guards.specs.Known.{kleene, AreAllKnown}
 use Rattle.vpg_diagram.specs.FeatureDiagram.{feature_count}
 use Rattle.vpg_partial.specs.KnownLaws.{IsRemaining}
 use Rattle.vpg_partial.specs.TableLaws.{IsKnownTable}
-use Rattle.vpg_trail.specs.Page.{Which, Hopeful, Dual, Entry, choice_of, choices_of, AllStand, value_at, table_of}
+use Rattle.vpg_trail.specs.Page.{Which, Hopeful, Dual, Entry, literal_of, choices_of, AllStand, value_at, table_of}
 use Rattle.vpg_desk.specs.Book.{Harvest, opened, IsSettledPage, Verdict, VerdictIs, Settled, IsSettled}
 use Rattle.vpg_desk.specs.History.{Event, IsLegal, book_after, page_after, IsBeforeLast, gives_undo, gives_redo, undo_of, redo_of}
 use Rattle.vpg_desk.specs.Lawful.{EachPage, PageIsBelow, IsLawful, harvested, AllHandIn, IsMonotone}
@@ -92,7 +92,7 @@ pub record Headline (setting : Setting) (history : List Event) : Type 0 where
 
 -- A harvest is lawful where its tables are below every progress table of the two games that its own decisions give.
 abbrev pub HarvestsAreLawful : Type 0
-HarvestsAreLawful = (setting : Setting) (harvest : Harvest) (known : List Tri) → IsSetting setting → IsKnownTable setting.lines (map choice_of harvest.decisions) known →
+HarvestsAreLawful = (setting : Setting) (harvest : Harvest) (known : List Tri) → IsSetting setting → IsKnownTable setting.lines (map literal_of harvest.decisions) known →
     ((which : Which) → IsTableBelow (kleene known) which setting.game (harvested harvest which)) → IsLawful (family_of setting) harvest
 
 -- It holds of every legal history into which lawful harvests alone are handed.
