@@ -6,7 +6,7 @@ use Rattle.vpg_measure.specs.Lifts.{IsTableOf}
 use Rattle.vpg_game.specs.declared.player.Player.{Player}
 use Rattle.vpg_guards.specs.declared.tri.Tri.{Tri}
 use Rattle.vpg_hope.specs.Hope.{IsFullOf}
-use Rattle.vpg_measure.specs.NumberLaws.{IsBelowAllSettled}
+use Rattle.vpg_measure.specs.Least.{IsBelowProgressTables}
 use Rattle.vpg_measure.proofs.NumberGuards.{hopeless_number, sure_number, possible_number, unsure_number, not_both_numbers}
 use Rattle.vpg_trail.specs.Page.{Which, Hopeful, Dual, Entry, choices_of, value_at, table_of}
 use Rattle.vpg_desk.specs.Book.{IsSettledPage}
@@ -53,7 +53,7 @@ module _ (setting : Setting) (sound : IsSound setting) (page : List Entry) (fine
         within : (v : ℕ) → v < length setting.game → slice_index (table_of which page (length setting.game)) v ≤ top_for which setting.game
         within v l = subst (λ n. n ≤ top_for which setting.game) (sym (at which v l)) (under_top which v l)
 
-    below_all : (which : Which) → IsBelowAllSettled (levels_for which setting.game) (arena_for (kleene known) which setting.game) (table_of which page (length setting.game))
+    below_all : (which : Which) → IsBelowProgressTables (levels_for which setting.game) (arena_for (kleene known) which setting.game) (table_of which page (length setting.game))
     below_all which other table settled = (
       count which ∙ sym table.len,
       λ v l. of v (subst (λ n. v < n) (length-table_of which page (length setting.game)) l),

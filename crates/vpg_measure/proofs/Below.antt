@@ -6,23 +6,23 @@ use Rattle.std.proofs.lemmas.List.Elements.{All-replicate}
 use Rattle.vpg_game.specs.declared.levels.Level.{Level}
 use Rattle.vpg_game.specs.Levels.{levels_of, top_of}
 use Rattle.vpg_hope.specs.Arena.{Vertex as Node, IsClosed as IsClosedArena, vertex_at}
-use Rattle.vpg_measure.specs.Measure.{Measure as Value, IsMeasure as IsValue, IsBelow as IsBelowValue, number_of, measure_of, Top, Components}
-use Rattle.vpg_measure.specs.Lifts.{IsTableOf, IsProgress as IsSettled, lift_of}
+use Rattle.vpg_measure.specs.Numbers.{number_of, measure_of}
+use Rattle.vpg_measure.specs.Lifts.{IsTableOf, IsProgressTable, lift_of}
 use Rattle.vpg_measure.proofs.Numbers.{numbers_are_measures, order_is_numeric}
 use Rattle.vpg_measure.proofs.Rounds.{lift_stays_below}
 use Rattle.vpg_game.specs.declared.player.Player.{Player}
 use Rattle.vpg_hope.specs.Games.{priorities}
 use Rattle.vpg_hope.specs.Strategies.{Strategy, Wins}
-use Rattle.vpg_measure.specs.Measures.{Measure, AtMost, Top, Components}
-use Rattle.vpg_measure.specs.Tables.{Table, IsProgress, IsLeastProgress}
+use Rattle.vpg_measure.specs.Measures.{IsMeasure, AtMost, Top}
+use Rattle.vpg_measure.specs.Tables.{Table, IsProgressMeasure, IsLeastProgress}
 use Rattle.vpg_hope.specs.Comparison.{dual_game}
 use Rattle.vpg_hope.proofs.Edges.{AreEdgesInside, edges_inside}
 use Rattle.vpg_measure.proofs.Least.{least_exists, win_gives_progress}
 use Rattle.vpg_hope.proofs.Dual.{wins_to_dual}
 use Rattle.vpg_measure.specs.Views.{measures_of}
-use Rattle.vpg_measure.specs.NumberLaws.{IsBelowAllSettled}
-use Rattle.vpg_measure.specs.Below.{IsValueBelow, IsLeastTable, BelowIsByValue, ZerosAreBelow, LiftIsBelow, RaiseIsBelow, LeastOfNumbers, LeastTableExists, LeastNumberDecides, WinGivesNumbers, DualTopRefutes}
-use Rattle.vpg_measure.proofs.Bridge.{below_to, below_from}
+use Rattle.vpg_measure.specs.Least.{IsBelowProgressTables}
+use Rattle.vpg_measure.specs.Least.{IsValueBelow, IsLeastTable}
+use Rattle.vpg_measure.specs.TableLaws.{BelowIsByValue, ZerosAreBelow, LiftIsBelow, RaiseIsBelow, LeastOfNumbers, LeastTableExists, LeastNumberDecides, WinGivesNumbers, DualTopRefutes}
 use Rattle.vpg_measure.proofs.NumberTables.{value_within, progress_to, progress_from}
 use Rattle.vpg_measure.proofs.LevelsShape.{levels_shape}
 use Rattle.vpg_measure.proofs.NumberVerdicts.{arena_closed, numbers, numbers_table, numbers_settled, same_values, top_number_refutes}
@@ -30,10 +30,10 @@ use Rattle.vpg_measure.proofs.NumberVerdicts.{arena_closed, numbers, numbers_tab
 pub below_is_by_value : BelowIsByValue
 below_is_by_value levels arena table is_table = (to, from)
   where
-    to : IsBelowAllSettled levels arena table → (v : ℕ) → v < length arena → IsValueBelow levels arena v (slice_index table v)
+    to : IsBelowProgressTables levels arena table → (v : ℕ) → v < length arena → IsValueBelow levels arena v (slice_index table v)
     to below v l other t s = (below other t s).1 v (subst (λ n. v < n) (sym is_table.len) l)
 
-    from : ((v : ℕ) → v < length arena → IsValueBelow levels arena v (slice_index table v)) → IsBelowAllSettled levels arena table
+    from : ((v : ℕ) → v < length arena → IsValueBelow levels arena v (slice_index table v)) → IsBelowProgressTables levels arena table
     from below other t s = (is_table.len ∙ sym t.len, λ v l. below v (subst (λ n. v < n) is_table.len l) other t s)
 
 pub zeros_are_below : ZerosAreBelow
@@ -68,49 +68,21 @@ raise_is_below levels arena table seen v is_table below seen_table seen_below in
 
 -- ---- the order of numbers is that of measures
 
-at_most_self : (m : Measure) → AtMost m m
-at_most_self Top = tt
-at_most_self (Components a) = inl refl
-
-at_most_from_below : (m n : Value) → IsBelowValue m n → AtMost (m) (n)
-at_most_from_below Top Top h = tt
-at_most_from_below Top (Components ys) h = absurd h
-at_most_from_below (Components xs) Top h = tt
-at_most_from_below (Components xs) (Components ys) h = inr (below_to xs ys h)
-
-below_from_at_most : (m n : Value) → AtMost (m) (n) → (m ≡ n) ⊎ IsBelowValue m n
-below_from_at_most Top Top h = inl refl
-below_from_at_most Top (Components ys) h = absurd h
-below_from_at_most (Components xs) Top h = inr tt
-below_from_at_most (Components xs) (Components ys) (inl e) = inl (ap Components e)
-below_from_at_most (Components xs) (Components ys) (inr h) = inr (below_from xs ys h)
-
 module _ (levels : List Level) (m n : ℕ) (low : m ≤ top_of levels) (high : n ≤ top_of levels) where
-  first : IsValue levels (measure_of levels m) × (number_of levels (measure_of levels m) ≡ m)
+  first : IsMeasure levels (measure_of levels m) × (number_of levels (measure_of levels m) ≡ m)
   first = numbers_are_measures levels m low
 
-  second : IsValue levels (measure_of levels n) × (number_of levels (measure_of levels n) ≡ n)
+  second : IsMeasure levels (measure_of levels n) × (number_of levels (measure_of levels n) ≡ n)
   second = numbers_are_measures levels n high
 
-  order : IsBelowValue (measure_of levels m) (measure_of levels n) ↔ (number_of levels (measure_of levels m) < number_of levels (measure_of levels n))
+  order : AtMost (measure_of levels m) (measure_of levels n) ↔ (number_of levels (measure_of levels m) ≤ number_of levels (measure_of levels n))
   order = order_is_numeric levels (measure_of levels m) (measure_of levels n) first.0 second.0
 
-  pub at_most_of_number : m ≤ n → AtMost ((measure_of levels m)) ((measure_of levels n))
-  at_most_of_number h = split (cases_lt m n)
-    where
-      split : (m < n) ⊎ (n ≤ m) → AtMost ((measure_of levels m)) ((measure_of levels n))
-      split (inl l) = at_most_from_below (measure_of levels m) (measure_of levels n) (order.1 (omega (arith, first.1, second.1)))
-      split (inr l) = subst (λ k. AtMost ((measure_of levels m)) ((measure_of levels k))) same (at_most_self ((measure_of levels m)))
-        where
-          same : m ≡ n
-          same = omega arith
+  pub at_most_of_number : m ≤ n → AtMost (measure_of levels m) (measure_of levels n)
+  at_most_of_number h = order.1 (omega (arith, first.1, second.1))
 
-  pub number_of_at_most : AtMost ((measure_of levels m)) ((measure_of levels n)) → m ≤ n
-  number_of_at_most h = split (below_from_at_most (measure_of levels m) (measure_of levels n) h)
-    where
-      split : (measure_of levels m ≡ measure_of levels n) ⊎ IsBelowValue (measure_of levels m) (measure_of levels n) → m ≤ n
-      split (inl e) = omega (arith, first.1, second.1, ap (λ k. number_of levels k) e)
-      split (inr b) = omega (arith, first.1, second.1, order.0 b)
+  pub number_of_at_most : AtMost (measure_of levels m) (measure_of levels n) → m ≤ n
+  number_of_at_most h = omega (arith, first.1, second.1, order.0 h)
 
 -- ---- the least table
 
@@ -128,7 +100,7 @@ module _ (levels : List Level) (arena : List Node) (closed : IsClosedArena arena
     below = λ v l t progress. below v (subst (λ n. v < n) count l) l t progress;
   }
     where
-      below : (v : ℕ) → v < length arena → v < length arena → (t : Table) → IsProgress levels arena t → AtMost (measures_of levels table v) (t v)
+      below : (v : ℕ) → v < length arena → v < length arena → (t : Table) → IsProgressMeasure levels arena t → AtMost (measures_of levels table v) (t v)
       below v l k t progress = subst (λ m. AtMost (measures_of levels table v) m) (sym (same_values levels arena t edges progress v k))
           (at_most_of_number levels (slice_index table v) (slice_index (numbers levels arena t edges progress) v)
           (value_within levels arena table least.is_table v) (value_within levels arena (numbers levels arena t edges progress) (numbers_table levels arena t edges progress) v)
@@ -174,8 +146,8 @@ win_gives_numbers arena strategy v closed inside wins = of (win_gives_progress l
     inner : AreEdgesInside arena
     inner = edges_inside arena (arena_closed arena closed)
 
-    of : (t : Table) × IsProgress levels arena t × (t v ≡ Top → ⊥) →
-        (table : List ℕ) × IsTableOf levels arena table × IsSettled levels arena table × (slice_index table v < top_of levels)
+    of : (t : Table) × IsProgressMeasure levels arena t × (t v ≡ Top → ⊥) →
+        (table : List ℕ) × IsTableOf levels arena table × IsProgressTable levels arena table × (slice_index table v < top_of levels)
     of t = (numbers levels arena t.0 inner t.1, numbers_table levels arena t.0 inner t.1, numbers_settled levels arena t.0 inner t.1, low (cases_lt (slice_index (numbers levels arena t.0 inner t.1) v) (top_of levels)))
       where
         low : (slice_index (numbers levels arena t.0 inner t.1) v < top_of levels) ⊎ (top_of levels ≤ slice_index (numbers levels arena t.0 inner t.1) v) → slice_index (numbers levels arena t.0 inner t.1) v < top_of levels

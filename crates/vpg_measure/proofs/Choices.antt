@@ -6,7 +6,7 @@ use Rattle.std.proofs.lemmas.Bool.{cases_lt, cases_Bool, cond-true, cond-false, 
 use Rattle.vpg_game.specs.Levels.{top_of, prog_of}
 use Rattle.vpg_hope.specs.Arena.{vertex_at}
 use Rattle.vpg_measure.specs.Lifts.{least_of, best_for, lift_of, is_even}
-use Rattle.vpg_measure.specs.Laws.{ChoiceFits}
+use Rattle.vpg_measure.specs.NumberLaws.{ChoiceFits}
 use Rattle.vpg_measure.proofs.Numbers.{prog_is_least_fit}
 use Rattle.vpg_measure.proofs.Progs.{slice_index-le}
 use Rattle.vpg_measure.proofs.Rounds.{progress_at}

@@ -5,7 +5,7 @@ use Rattle.vpg_game.specs.declared.player.Player.TheVariants.{Even, Odd}
 use Rattle.vpg_hope.specs.Games.{Game, owner_of, priority_of}
 use Rattle.vpg_hope.specs.Strategies.{Strategy, AllowsMove, Reaches, Walk, Wins, here, onward, move, moves}
 use Rattle.vpg_measure.specs.Measures.{Shape, Measure, Fits}
-use Rattle.vpg_measure.specs.Tables.{Table, IsProgress, IsBelowAllAt, IsBelowAllProgress, FitsAt, FitsFor}
+use Rattle.vpg_measure.specs.Tables.{Table, IsProgressMeasure, IsBelowAllAt, IsBelowAllProgress, FitsAt, FitsFor}
 use Rattle.vpg_hope.specs.Comparison.{IsEasier}
 use Rattle.vpg_hope.proofs.Reach.{cases_player, reaches_move}
 
@@ -22,7 +22,7 @@ module _ (easy hard : Game) (easier : IsEasier easy hard) where
       of Odd e g = λ w c. over w (g w (easier.odd v w e c))
 
   -- a progress table of the harder game is one of the easier game
-  pub progress_easier : (shape : Shape) (table : Table) → IsProgress shape hard table → IsProgress shape easy table
+  pub progress_easier : (shape : Shape) (table : Table) → IsProgressMeasure shape hard table → IsProgressMeasure shape easy table
   progress_easier shape table h = record {
     in_range = λ v l. h.in_range v (rw easier.same_count at l);
     fits = λ v l. fits_easier shape table v (table v) (h.fits v (rw easier.same_count at l));

@@ -6,7 +6,7 @@ use Rattle.vpg_guards.specs.declared.tri.Tri.{Tri}
 use Rattle.vpg_guards.specs.declared.tri.Tri.TheVariants.{No, Unknown, Yes}
 use Rattle.vpg_hope.specs.Games.{Game, IsClosed}
 use Rattle.vpg_measure.specs.Measures.{Shape, Measure, IsMeasure, AtMost, LexBelow, LexAtMost, Fits, above, Top, Components}
-use Rattle.vpg_measure.specs.Tables.{Table, IsProg, IsLift, IsProgress, IsLeastProgress, IsTable, zero_table, FitsAt}
+use Rattle.vpg_measure.specs.Tables.{Table, IsProg, IsLift, IsProgressMeasure, IsLeastProgress, IsTable, zero_table, FitsAt}
 use Rattle.vpg_game.specs.Guarded.{GuardedGame}
 use Rattle.vpg_hope.specs.Hope.{hopeful_game}
 use Rattle.vpg_hope.proofs.Edges.{Contains-first, Contains-cases, not_in_nil, edges_inside}
@@ -73,7 +73,7 @@ closed (suc zero) d l zero e k = omega arith
 closed (suc zero) d l (suc j) e k = absurd (omega arith)
 closed (suc (suc i)) d l j e k = absurd (omega arith)
 
-is_progress : IsProgress shape open_game least_table
+is_progress : IsProgressMeasure shape open_game least_table
 is_progress = record { in_range = in_range; fits = fits }
   where
     in_range : IsTable shape open_game least_table
@@ -100,6 +100,6 @@ is_least = record { progress = is_progress; below = below }
     first_lift = even_lift shape open_game (zero_table shape) 0 (Components (1 ∷ [])) (edges_inside open_game closed) (λ v l. zeros_in_range shape) refl
         record { attained = inr (1, Contains-first 1 (0 ∷ []), prog_over_zero); least = λ w n c h. prog_over_zero.least n h.in_range h.fits }
 
-    below : (v : ℕ) → v < 2 → (progress : Table) → IsProgress shape open_game progress → AtMost (least_table v) (progress v)
+    below : (v : ℕ) → v < 2 → (progress : Table) → IsProgressMeasure shape open_game progress → AtMost (least_table v) (progress v)
     below zero l progress p = lift_below_all shape open_game (zero_table shape) 0 (Components (1 ∷ [])) (edges_inside open_game closed) l (zero_below shape open_game) first_lift progress p
     below (suc v) l progress p = zero_least shape (progress (suc v)) (p.in_range (suc v) l)

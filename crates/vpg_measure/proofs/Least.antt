@@ -5,7 +5,7 @@ use Rattle.vpg_game.specs.declared.player.Player.TheVariants.{Even}
 use Rattle.vpg_hope.specs.Games.{Game, priorities}
 use Rattle.vpg_hope.specs.Strategies.{Strategy, Wins}
 use Rattle.vpg_measure.specs.Measures.{Shape, IsShape, Measure, IsMeasure, LexBelow, LexAtMost, AtMost, Top, Components}
-use Rattle.vpg_measure.specs.Tables.{Table, IsTable, IsLift, IsProgress, IsBelowAllProgress, IsLeastProgress, zero_table, FitsAt}
+use Rattle.vpg_measure.specs.Tables.{Table, IsTable, IsLift, IsProgressMeasure, IsBelowAllProgress, IsLeastProgress, zero_table, FitsAt}
 use Rattle.vpg_measure.proofs.Order.{AtMost-total}
 use Rattle.vpg_measure.proofs.Prog.{zeros_in_range}
 use Rattle.vpg_measure.proofs.Lift.{lift_exists, lift_below, fits_raised, zero_below}
@@ -166,7 +166,7 @@ module _ (shape : Shape) (game : Game) (closed : AreEdgesInside game) where
           raised_range : IsTable shape game raised
           raised_range u l = in_range u l (cases_eq u r.0)
 
-          stays : (other : Table) → IsProgress shape game other → (u : ℕ) → u < length game → (d : (u ≡ r.0) ⊎ (u ≡ r.0 → ⊥)) → AtMost (value_at u d) (other u)
+          stays : (other : Table) → IsProgressMeasure shape game other → (u : ℕ) → u < length game → (d : (u ≡ r.0) ⊎ (u ≡ r.0 → ⊥)) → AtMost (value_at u d) (other u)
           stays other p u l (inl e) = subst (λ x. AtMost r.2.lifted (other x)) (sym e) (lift_below shape game table other r.0 r.2.lifted closed r.1 p (λ w k. below w k other p) r.2.is_lift)
           stays other p u l (inr e) = below u l other p
 
@@ -198,8 +198,8 @@ module _ (shape : Shape) (game : Game) (closed : AreEdgesInside game) where
 
 -- a winning strategy gives a progress table below Top
 pub win_gives_progress : (shape : Shape) (game : Game) (strategy : Strategy) (v : ℕ) → AreEdgesInside game → IsShape (priorities game) shape → v < length game → Wins game Even strategy v →
-    (table : Table) × IsProgress shape game table × (table v ≢ Top)
+    (table : Table) × IsProgressMeasure shape game table × (table v ≢ Top)
 win_gives_progress shape game strategy v closed is_shape inside wins = of (least_exists shape game closed)
   where
-    of : (least : Table) × IsLeastProgress shape game least → (table : Table) × IsProgress shape game table × (table v ≢ Top)
+    of : (least : Table) × IsLeastProgress shape game least → (table : Table) × IsProgressMeasure shape game table × (table v ≢ Top)
     of t = (t.0, t.1.progress, λ e. top_refutes game strategy v wins closed inside shape is_shape t.0 t.1.below e)

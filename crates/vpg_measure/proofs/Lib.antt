@@ -1,6 +1,5 @@
 pub mod Above
 pub mod Below
-pub mod Bridge
 pub mod Choices
 pub mod Cycles
 pub mod Easier

@@ -4,7 +4,7 @@ use Rattle.vpg_game.specs.declared.player.Player.{Player}
 use Rattle.vpg_game.specs.declared.player.Player.TheVariants.{Even, Odd}
 use Rattle.vpg_hope.specs.Games.{Game, HasEdge, owner_of, priority_of, successors_of}
 use Rattle.vpg_measure.specs.Measures.{Shape, Measure, IsMeasure, AtMost, Fits, zero_measure, Top, Components}
-use Rattle.vpg_measure.specs.Tables.{Table, IsTable, zero_table, IsProg, IsLift, IsProgress, IsBelow, IsBelowAllAt, IsBelowAllProgress, IsLeastProgress, FitsFor, FitsAt, IsLeastOfProgs, IsGreatestOfProgs}
+use Rattle.vpg_measure.specs.Tables.{Table, IsTable, zero_table, IsProg, IsLift, IsProgressMeasure, IsBelow, IsBelowAllAt, IsBelowAllProgress, IsLeastProgress, FitsFor, FitsAt, IsLeastOfProgs, IsGreatestOfProgs}
 use Rattle.vpg_measure.proofs.Order.{AtMost-trans, AtMost-antisym, AtMost-Top, AtMost-total, Fits-up, Fits-down}
 use Rattle.vpg_measure.proofs.Prog.{prog_exists, zeros_in_range, zeros_least}
 use Rattle.vpg_hope.proofs.Edges.{AreEdgesInside, Contains-cases, Contains-first, Contains-later, not_in_nil}
@@ -170,7 +170,7 @@ lift_monotone shape game low high v m n closed below h k = h.least n k.in_range 
 
 -- the lift of a table below a progress table is below it
 pub lift_below : (shape : Shape) (game : Game) (table progress : Table) (v : ℕ) (m : Measure) → AreEdgesInside game → v < length game →
-    IsProgress shape game progress → IsBelow game table progress → IsLift shape game table v m → AtMost m (progress v)
+    IsProgressMeasure shape game progress → IsBelow game table progress → IsLift shape game table v m → AtMost m (progress v)
 lift_below shape game table progress v m closed inside p below h =
     h.least (progress v) (p.in_range v inside) (fits_lower shape game table progress v (progress v) closed below (p.fits v inside))
 
@@ -190,7 +190,7 @@ lift_below_all shape game table v m closed inside below h progress p = lift_belo
 
 -- a progress table is one that no lift raises
 pub progress_iff_no_rise : (shape : Shape) (game : Game) (table : Table) → AreEdgesInside game → IsTable shape game table →
-    IsProgress shape game table ↔ ((v : ℕ) (m : Measure) → v < length game → IsLift shape game table v m → AtMost m (table v))
+    IsProgressMeasure shape game table ↔ ((v : ℕ) (m : Measure) → v < length game → IsLift shape game table v m → AtMost m (table v))
 progress_iff_no_rise shape game table closed range = (λ h v m inside l. l.least (table v) (range v inside) (h.fits v inside), λ h. record { in_range = range; fits = λ v inside. settled v inside (λ m. h v m inside) (lift_exists shape game table v closed range) })
   where
     settled : (v : ℕ) → v < length game → ((m : Measure) → IsLift shape game table v m → AtMost m (table v)) → (m : Measure) × IsLift shape game table v m → FitsAt shape game table v (table v)

@@ -7,14 +7,13 @@ use Rattle.vpg_game.specs.declared.player.Player.{Player}
 use Rattle.vpg_game.specs.declared.levels.Level.{Level}
 use Rattle.vpg_game.specs.Levels.{top_of}
 use Rattle.vpg_hope.specs.Arena.{Vertex as Node, vertex_at}
-use Rattle.vpg_measure.specs.Measure.{measure_of, digits_of, Top, Components}
-use Rattle.vpg_measure.specs.Lifts.{IsTableOf, FitsEdge, FitsEdges, IsProgress as IsSettled, IsBelowTable}
+use Rattle.vpg_measure.specs.Numbers.{measure_of, digits_of}
+use Rattle.vpg_measure.specs.Lifts.{IsTableOf, NumberFitsEdge, FitsEdges, IsProgressTable, IsBelowTable}
 use Rattle.vpg_measure.proofs.Numbers.{numbers_are_measures}
 use Rattle.vpg_hope.specs.Games.{owner_of, priority_of, successors_of}
 use Rattle.vpg_measure.specs.Measures.{Measure, Fits, Top, Components}
-use Rattle.vpg_measure.specs.Tables.{IsTable, IsProgress, FitsAt, FitsFor}
+use Rattle.vpg_measure.specs.Tables.{IsTable, IsProgressMeasure, FitsAt, FitsFor}
 use Rattle.vpg_measure.specs.Views.{measures_of}
-use Rattle.vpg_measure.proofs.Bridge.{measure_to, fits_to, fits_from}
 
 -- the measure of a number is Top exactly at the Top
 pub measure_at_top : (ls : List Level) (n : ℕ) → n ≡ top_of ls → measure_of ls n ≡ Top
@@ -65,10 +64,10 @@ module _ (ls : List Level) (arena : List Node) (table : List ℕ) (is_table : Is
       of (inr l) = rw (get_or_past table v 0 l) (omega arith)
 
   pub measures_in_range : IsTable ls arena (measures_of ls table)
-  measures_in_range v inside = measure_to ls (measure_of ls (slice_index table v)) (numbers_are_measures ls (slice_index table v) (value_within v)).0
+  measures_in_range v inside = (numbers_are_measures ls (slice_index table v) (value_within v)).0
 
   -- what fits at a vertex on one side fits on the other
-  fits_over : (v n : ℕ) → n ≤ top_of ls → (owner : Player) (p : ℕ) (ws : List ℕ) → (n ≡ top_of ls) ⊎ FitsEdges owner (λ w. FitsEdge ls p n (slice_index table w)) ws →
+  fits_over : (v n : ℕ) → n ≤ top_of ls → (owner : Player) (p : ℕ) (ws : List ℕ) → (n ≡ top_of ls) ⊎ FitsEdges owner (λ w. NumberFitsEdge ls p n (slice_index table w)) ws →
       (owner ≡ Player.Even → ((measure_of ls n) ≡ Top) ⊎ ((w : ℕ) × Contains ws w × Fits ls p ((measure_of ls n)) (measures_of ls table w))) ×
       (owner ≡ Player.Odd → (w : ℕ) → Contains ws w → Fits ls p ((measure_of ls n)) (measures_of ls table w))
   fits_over v n l owner p ws h = (λ e. for_even owner e h, λ e. for_odd owner e h)
@@ -76,35 +75,35 @@ module _ (ls : List Level) (arena : List Node) (table : List ℕ) (is_table : Is
       at_top : n ≡ top_of ls → (measure_of ls n) ≡ Top
       at_top e = (measure_at_top ls n e)
 
-      for_even : (owner : Player) → owner ≡ Player.Even → (n ≡ top_of ls) ⊎ FitsEdges owner (λ w. FitsEdge ls p n (slice_index table w)) ws →
+      for_even : (owner : Player) → owner ≡ Player.Even → (n ≡ top_of ls) ⊎ FitsEdges owner (λ w. NumberFitsEdge ls p n (slice_index table w)) ws →
           ((measure_of ls n) ≡ Top) ⊎ ((w : ℕ) × Contains ws w × Fits ls p ((measure_of ls n)) (measures_of ls table w))
       for_even owner e (inl t) = inl (at_top t)
-      for_even Player.Even e (inr a) = inr (a.1, (a.0, a.2, a.3), fits_to ls p (measure_of ls n) (measure_of ls (slice_index table a.1)) a.4)
+      for_even Player.Even e (inr a) = inr (a.1, (a.0, a.2, a.3), a.4)
       for_even Player.Odd e (inr a) = cc
 
       top_fits : (m : Measure) → Fits ls p Top m
       top_fits Top = tt
       top_fits (Components b) = tt
 
-      for_odd : (owner : Player) → owner ≡ Player.Odd → (n ≡ top_of ls) ⊎ FitsEdges owner (λ w. FitsEdge ls p n (slice_index table w)) ws →
+      for_odd : (owner : Player) → owner ≡ Player.Odd → (n ≡ top_of ls) ⊎ FitsEdges owner (λ w. NumberFitsEdge ls p n (slice_index table w)) ws →
           (w : ℕ) → Contains ws w → Fits ls p ((measure_of ls n)) (measures_of ls table w)
       for_odd owner e (inl t) w c = rw (at_top t) (top_fits (measures_of ls table w))
       for_odd Player.Even e (inr a) w c = cc
-      for_odd Player.Odd e (inr a) w c = fits_to ls p (measure_of ls n) (measure_of ls (slice_index table w)) (All-contains (λ u. FitsEdge ls p n (slice_index table u)) ws w a c)
+      for_odd Player.Odd e (inr a) w c = All-contains (λ u. NumberFitsEdge ls p n (slice_index table u)) ws w a c
 
   fits_under : (n : ℕ) → n ≤ top_of ls → (owner : Player) (p : ℕ) (ws : List ℕ) →
       (owner ≡ Player.Even → ((measure_of ls n) ≡ Top) ⊎ ((w : ℕ) × Contains ws w × Fits ls p ((measure_of ls n)) (measures_of ls table w))) →
       (owner ≡ Player.Odd → (w : ℕ) → Contains ws w → Fits ls p ((measure_of ls n)) (measures_of ls table w)) →
-      (n ≡ top_of ls) ⊎ FitsEdges owner (λ w. FitsEdge ls p n (slice_index table w)) ws
+      (n ≡ top_of ls) ⊎ FitsEdges owner (λ w. NumberFitsEdge ls p n (slice_index table w)) ws
   fits_under n l Player.Even p ws even odd = of (even refl)
     where
-      of : ((measure_of ls n) ≡ Top) ⊎ ((w : ℕ) × Contains ws w × Fits ls p ((measure_of ls n)) (measures_of ls table w)) → (n ≡ top_of ls) ⊎ Any (λ w. FitsEdge ls p n (slice_index table w)) ws
+      of : ((measure_of ls n) ≡ Top) ⊎ ((w : ℕ) × Contains ws w × Fits ls p ((measure_of ls n)) (measures_of ls table w)) → (n ≡ top_of ls) ⊎ Any (λ w. NumberFitsEdge ls p n (slice_index table w)) ws
       of (inl t) = inl (top_from_measure ls n l t)
-      of (inr w) = inr (w.1.0, w.0, w.1.1, w.1.2, fits_from ls p (measure_of ls n) (measure_of ls (slice_index table w.0)) w.2)
-  fits_under n l Player.Odd p ws even odd = inr (λ k d i. fits_from ls p (measure_of ls n) (measure_of ls (slice_index table (get_or ws k d))) (odd refl (get_or ws k d) (Contains-get_or ws k d i)))
+      of (inr w) = inr (w.1.0, w.0, w.1.1, w.1.2, w.2)
+  fits_under n l Player.Odd p ws even odd = inr (λ k d i. odd refl (get_or ws k d) (Contains-get_or ws k d i))
 
   -- so the two notions of a progress table agree
-  pub progress_to : IsSettled ls arena table → IsProgress ls arena (measures_of ls table)
+  pub progress_to : IsProgressTable ls arena table → IsProgressMeasure ls arena (measures_of ls table)
   progress_to h = record { in_range = measures_in_range; fits = λ v inside. at v inside }
     where
       at : (v : ℕ) → v < length arena → FitsAt ls arena (measures_of ls table) v (measures_of ls table v)
@@ -126,7 +125,7 @@ module _ (ls : List Level) (arena : List Node) (table : List ℕ) (is_table : Is
           of Player.Even k = rw (priority_there arena v inside, successors_there arena v inside) (k.0 refl)
           of Player.Odd k = rw (priority_there arena v inside, successors_there arena v inside) (k.1 refl)
 
-  pub progress_from : IsProgress ls arena (measures_of ls table) → IsSettled ls arena table
+  pub progress_from : IsProgressMeasure ls arena (measures_of ls table) → IsProgressTable ls arena table
   progress_from h v inside = fits_under (slice_index table v) (value_within v) (vertex_at arena v).owner (vertex_at arena v).priority (vertex_at arena v).successors
       (λ e. rw (← priority_there arena v inside, ← successors_there arena v inside) (even (owner_there arena v inside ∙ e)))
       (λ e. rw (← priority_there arena v inside, ← successors_there arena v inside) (odd (owner_there arena v inside ∙ e)))

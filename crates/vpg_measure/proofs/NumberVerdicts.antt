@@ -8,21 +8,20 @@ use Rattle.vpg_game.specs.declared.player.Player.{Player}
 use Rattle.vpg_game.specs.declared.levels.Level.{Level}
 use Rattle.vpg_game.specs.Levels.{top_of, levels_of}
 use Rattle.vpg_hope.specs.Arena.{Vertex as Node, vertex_at, IsClosed as IsClosedArena}
-use Rattle.vpg_measure.specs.Measure.{Measure as Value, IsMeasure as IsValue, number_of, measure_of, Top, Components}
-use Rattle.vpg_measure.specs.Lifts.{IsTableOf, FitsEdge, IsProgress as IsSettled, choice_of, AreChoices}
+use Rattle.vpg_measure.specs.Numbers.{number_of, measure_of}
+use Rattle.vpg_measure.specs.Lifts.{IsTableOf, NumberFitsEdge, IsProgressTable, choice_of, AreChoices}
 use Rattle.vpg_measure.proofs.Numbers.{measures_have_numbers}
 use Rattle.vpg_measure.proofs.Choices.{choice_fits}
 use Rattle.vpg_hope.specs.Games.{Game, HasEdge, IsClosed, owner_of, priority_of, priorities}
 use Rattle.vpg_hope.specs.Strategies.{Strategy, Wins}
-use Rattle.vpg_measure.specs.Measures.{Shape, Measure, IsMeasure, Fits, Top, Components}
-use Rattle.vpg_measure.specs.Tables.{Table, IsProgress, IsLeastProgress, FitsAt, FitsFor}
+use Rattle.vpg_measure.specs.Measures.{Shape, Measure, IsMeasure, Fits, Top}
+use Rattle.vpg_measure.specs.Tables.{Table, IsProgressMeasure, IsLeastProgress, FitsAt, FitsFor}
 use Rattle.vpg_hope.proofs.Edges.{AreEdgesInside, edges_inside}
 use Rattle.vpg_measure.proofs.Winning.{FollowsFitting, fitting_wins}
 use Rattle.vpg_measure.proofs.Signature.{top_refutes}
 use Rattle.vpg_measure.proofs.Least.{least_exists}
 use Rattle.vpg_measure.specs.Views.{measures_of, strategy_of}
-use Rattle.vpg_measure.specs.NumberLaws.{IsBelowAllSettled}
-use Rattle.vpg_measure.proofs.Bridge.{within_from, fits_to}
+use Rattle.vpg_measure.specs.Least.{IsBelowProgressTables}
 use Rattle.vpg_measure.proofs.NumberTables.{number_not_top, measure_at_top, owner_there, priority_there, successors_there, value_within, progress_to, progress_from}
 use Rattle.vpg_measure.proofs.LevelsShape.{levels_shape}
 
@@ -39,7 +38,7 @@ even_back : (owner : Player) → owner ≡ Player.Even → owner ≡ Player.Even
 even_back Player.Even e = refl
 even_back Player.Odd e = cc
 
-module _ (ls : List Level) (arena : List Node) (table : List ℕ) (choices : List (Option ℕ)) (is_table : IsTableOf ls arena table) (settled : IsSettled ls arena table) (are_choices : AreChoices ls arena table choices) where
+module _ (ls : List Level) (arena : List Node) (table : List ℕ) (choices : List (Option ℕ)) (is_table : IsTableOf ls arena table) (settled : IsProgressTable ls arena table) (are_choices : AreChoices ls arena table choices) where
   -- the choices go along edges over which the value fits
   follows : FollowsFitting ls arena (measures_of ls table) (strategy_of choices)
   follows v inside even low = of (choice_fits ls arena table v is_table settled there (even_back (vertex_at arena v).owner (sym (owner_there arena v there) ∙ even)) below)
@@ -57,9 +56,9 @@ module _ (ls : List Level) (arena : List Node) (table : List ℕ) (choices : Lis
               same : slice_index table v ≡ top_of ls
               same = omega (arith, value_within ls arena table is_table v)
 
-      of : (w : ℕ) × (choice_of ls table (vertex_at arena v) (slice_index table v) ≡ Some w) × Contains (vertex_at arena v).successors w × FitsEdge ls (vertex_at arena v).priority (slice_index table v) (slice_index table w) →
+      of : (w : ℕ) × (choice_of ls table (vertex_at arena v) (slice_index table v) ≡ Some w) × Contains (vertex_at arena v).successors w × NumberFitsEdge ls (vertex_at arena v).priority (slice_index table v) (slice_index table w) →
           (w : ℕ) × (strategy_of choices v ≡ Some w) × HasEdge arena v w × Fits ls (priority_of arena v) (measures_of ls table v) (measures_of ls table w)
-      of w = (w.0, chosen, rw (successors_there arena v there) w.2, rw (priority_there arena v there) (fits_to ls (vertex_at arena v).priority (measure_of ls (slice_index table v)) (measure_of ls (slice_index table w.0)) w.3))
+      of w = (w.0, chosen, rw (successors_there arena v there) w.2, rw (priority_there arena v there) (w.3))
         where
           chosen : strategy_of choices v ≡ Some w.0
           chosen = slice_get-some choices v (choice_of ls table (vertex_at arena v) (slice_index table v)) (are_choices.1 v there) ∙ w.1
@@ -69,7 +68,7 @@ module _ (ls : List Level) (arena : List Node) (table : List ℕ) (choices : Lis
       (progress_to ls arena table is_table settled) follows v inside (number_not_top ls (slice_index table v) below)
 
 -- a progress table may be replaced by one with the same values
-pub progress_same : (shape : Shape) (game : Game) (s t : Table) → AreEdgesInside game → ((v : ℕ) → v < length game → s v ≡ t v) → IsProgress shape game s → IsProgress shape game t
+pub progress_same : (shape : Shape) (game : Game) (s t : Table) → AreEdgesInside game → ((v : ℕ) → v < length game → s v ≡ t v) → IsProgressMeasure shape game s → IsProgressMeasure shape game t
 progress_same shape game s t closed same h = record {
   in_range = λ v l. subst (λ m. IsMeasure shape m) (same v l) (h.in_range v l);
   fits = λ v l. subst (λ m. FitsAt shape game t v m) (same v l) (of (owner_of game v) v (s v) (h.fits v l));
@@ -83,23 +82,9 @@ progress_same shape game s t closed same h = record {
     of Player.Even v m (inr w) = inr (w.0, w.1, over v w.0 m w.1 w.2)
     of Player.Odd v m f = λ w e. over v w m e (f w e)
 
-pub value_from : Measure → Value
-value_from Top = Top
-value_from (Components components) = Components components
-
-pub value_back : (m : Measure) → (value_from m) ≡ m
-unfolding value_from
-value_back Top = refl
-value_back (Components components) = refl
-
-pub value_in_range : (ls : List Level) (m : Measure) → IsMeasure ls m → IsValue ls (value_from m)
-unfolding value_from
-value_in_range ls Top h = tt
-value_in_range ls (Components components) h = within_from ls components h
-
-module _ (ls : List Level) (arena : List Node) (t : Table) (closed : AreEdgesInside arena) (progress : IsProgress ls arena t) where
+module _ (ls : List Level) (arena : List Node) (t : Table) (closed : AreEdgesInside arena) (progress : IsProgressMeasure ls arena t) where
   pub number_at : ℕ → ℕ
-  number_at v = number_of ls (value_from (t v))
+  number_at v = number_of ls (t v)
 
   pub numbers : List ℕ
   numbers = map number_at (range_with_len 0 (length arena))
@@ -108,12 +93,12 @@ module _ (ls : List Level) (arena : List Node) (t : Table) (closed : AreEdgesIns
   unfolding numbers
   numbers_length = length-map-range_with_len number_at 0 (length arena)
 
-  pub numbers_at : (v : ℕ) → v < length arena → slice_index numbers v ≡ number_of ls (value_from (t v))
+  pub numbers_at : (v : ℕ) → v < length arena → slice_index numbers v ≡ number_of ls (t v)
   unfolding numbers number_at
   numbers_at v inside = get_or-map-range_with_len number_at 0 (length arena) v v 0 inside (omega arith)
 
-  pub known : (v : ℕ) → v < length arena → (number_of ls (value_from (t v)) ≤ top_of ls) × (measure_of ls (number_of ls (value_from (t v))) ≡ value_from (t v))
-  known v inside = measures_have_numbers ls (value_from (t v)) (value_in_range ls (t v) (progress.in_range v inside))
+  pub known : (v : ℕ) → v < length arena → (number_of ls (t v) ≤ top_of ls) × (measure_of ls (number_of ls (t v)) ≡ t v)
+  known v inside = measures_have_numbers ls (t v) (progress.in_range v inside)
 
   pub numbers_table : IsTableOf ls arena numbers
   numbers_table = record { len = numbers_length; within = All-from_get_or (λ n. n ≤ top_of ls) numbers 0 (λ v l. bounded v (subst (λ n. v < n) numbers_length l)) }
@@ -122,12 +107,12 @@ module _ (ls : List Level) (arena : List Node) (t : Table) (closed : AreEdgesIns
       bounded v inside = subst (λ n. n ≤ top_of ls) (sym (numbers_at v inside)) (known v inside).0
 
   pub same_values : (v : ℕ) → v < length arena → t v ≡ measures_of ls numbers v
-  same_values v there = sym (ap (λ n. (measure_of ls n)) (numbers_at v inside) ∙ (known v inside).1 ∙ value_back (t v))
+  same_values v there = sym (ap (λ n. (measure_of ls n)) (numbers_at v inside) ∙ (known v inside).1)
     where
       inside : v < length arena
       inside = there
 
-  pub numbers_settled : IsSettled ls arena numbers
+  pub numbers_settled : IsProgressTable ls arena numbers
   numbers_settled = progress_from ls arena numbers numbers_table (progress_same ls arena t (measures_of ls numbers) closed same_values progress)
 
   pub at_top : (v : ℕ) → v < length arena → top_of ls ≤ slice_index numbers v → t v ≡ Top
@@ -137,7 +122,7 @@ module _ (ls : List Level) (arena : List Node) (t : Table) (closed : AreEdgesIns
       exact h = omega arith
 
 pub top_number_refutes : (arena : List Node) (table : List ℕ) → IsClosedArena arena → IsTableOf (levels_of (priorities arena)) arena table →
-    IsBelowAllSettled (levels_of (priorities arena)) arena table → (v : ℕ) → v < length arena → slice_index table v ≡ top_of (levels_of (priorities arena)) →
+    IsBelowProgressTables (levels_of (priorities arena)) arena table → (v : ℕ) → v < length arena → slice_index table v ≡ top_of (levels_of (priorities arena)) →
     (strategy : Strategy) → Wins arena Player.Even strategy v → ⊥
 top_number_refutes arena table closed is_table below v inside e strategy wins = of (least_exists levels arena edges)
   where

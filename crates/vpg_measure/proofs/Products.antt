@@ -6,7 +6,7 @@ use Rattle.std.proofs.Math.Nat.{mul-le-mul_right, div-lt_iff_lt-mul}
 use Rattle.std.proofs.lemmas.List.{get_or_append_left, get_or_push, length_push, reverse-append}
 use Rattle.vpg_game.specs.declared.levels.Level.{Level}
 use Rattle.vpg_game.specs.Levels.{is_odd, count_of, levels_below, bound_of, levels_of, top_of, lower_levels, product_below, AreWeights, AreOddCounts}
-use Rattle.vpg_measure.specs.Laws.{WeightsAreProducts}
+use Rattle.vpg_measure.specs.NumberLaws.{WeightsAreProducts}
 use Rattle.vpg_measure.proofs.Numbers.{top_pos}
 
 -- the product of the levels below p is over all odd priorities below p

@@ -10,8 +10,8 @@ use Rattle.vpg_game.specs.declared.player.Player.{Player}
 use Rattle.vpg_game.specs.declared.player.Player.TheVariants.{Even, Odd}
 use Rattle.vpg_game.specs.Levels.{is_odd, top_of, weight_of, prog_of}
 use Rattle.vpg_hope.specs.Arena.{Vertex}
-use Rattle.vpg_measure.specs.Lifts.{IsBelowTable, FitsEdge, FitsEdges, least_of, greatest_of, best_for, lift_of}
-use Rattle.vpg_measure.specs.Laws.{LiftIsLeast, LiftGrows}
+use Rattle.vpg_measure.specs.Lifts.{IsBelowTable, NumberFitsEdge, FitsEdges, least_of, greatest_of, best_for, lift_of}
+use Rattle.vpg_measure.specs.NumberLaws.{LiftIsLeast, LiftGrows}
 use Rattle.vpg_measure.proofs.Numbers.{weight_pos, prog-top, prog-odd, prog-even, prog_at_most, prog_is_least_fit}
 
 div_mono : (a b k : ℕ) → 0 < k → a ≤ b → a / k ≤ b / k
@@ -128,10 +128,10 @@ lift_is_least ls table x n within small = step x.owner
     g : ℕ → ℕ
     g w = prog_of ls x.priority (slice_index table w)
 
-    edge : (w : ℕ) → FitsEdge ls x.priority n (slice_index table w) ↔ (prog_of ls x.priority (slice_index table w) ≤ n)
+    edge : (w : ℕ) → NumberFitsEdge ls x.priority n (slice_index table w) ↔ (prog_of ls x.priority (slice_index table w) ≤ n)
     edge w = prog_is_least_fit ls x.priority (slice_index table w) n (slice_index-le (top_of ls) table within w) small
 
-    step : (o : Player) → ((n ≡ top_of ls) ⊎ FitsEdges o (λ w. FitsEdge ls x.priority n (slice_index table w)) x.successors) ↔
+    step : (o : Player) → ((n ≡ top_of ls) ⊎ FitsEdges o (λ w. NumberFitsEdge ls x.priority n (slice_index table w)) x.successors) ↔
         (best_for o (top_of ls) (map (λ w. prog_of ls x.priority (slice_index table w)) x.successors) ≤ n)
     step Even = (
       λ h. elim h [

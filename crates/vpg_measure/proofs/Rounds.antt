@@ -8,8 +8,8 @@ use Rattle.std.proofs.lemmas.List.Sums.{sum_by-cons}
 use Rattle.vpg_game.specs.declared.levels.Level.{Level}
 use Rattle.vpg_game.specs.Levels.{top_of}
 use Rattle.vpg_hope.specs.Arena.{Vertex, vertex_at}
-use Rattle.vpg_measure.specs.Lifts.{IsTableOf, IsProgress, IsBelowTable, lift_of, raised, raised_before, round_of, after_rounds}
-use Rattle.vpg_measure.specs.Laws.{LiftStaysBelow, RoundsRise, RoundsStayBelow, RoundsStop}
+use Rattle.vpg_measure.specs.Lifts.{IsTableOf, IsProgressTable, IsBelowTable, lift_of, raised, raised_before, round_of, after_rounds}
+use Rattle.vpg_measure.specs.NumberLaws.{LiftStaysBelow, RoundsRise, RoundsStayBelow, RoundsStop}
 use Rattle.vpg_measure.proofs.Progs.{lift_at_most, lift_is_least, lift_grows, slice_index-le, below_anywhere}
 
 -- ---- one lift
@@ -29,11 +29,11 @@ table_set ls arena table v y h le = record {
 -- ---- progress tables
 
 pub progress_from : (ls : List Level) (arena : List Vertex) (table : List ℕ) → IsTableOf ls arena table →
-    ((v : ℕ) → v < length arena → lift_of ls table (vertex_at arena v) ≤ slice_index table v) → IsProgress ls arena table
+    ((v : ℕ) → v < length arena → lift_of ls table (vertex_at arena v) ≤ slice_index table v) → IsProgressTable ls arena table
 progress_from ls arena table t h =
     λ v less. (lift_is_least ls table (vertex_at arena v) (slice_index table v) t.within (slice_index-le (top_of ls) table t.within v)).1 (h v less)
 
-pub progress_at : (ls : List Level) (arena : List Vertex) (table : List ℕ) → IsTableOf ls arena table → IsProgress ls arena table →
+pub progress_at : (ls : List Level) (arena : List Vertex) (table : List ℕ) → IsTableOf ls arena table → IsProgressTable ls arena table →
     (v : ℕ) → v < length arena → lift_of ls table (vertex_at arena v) ≤ slice_index table v
 progress_at ls arena table t h v less =
     (lift_is_least ls table (vertex_at arena v) (slice_index table v) t.within (slice_index-le (top_of ls) table t.within v)).0 (h v less)
@@ -80,7 +80,7 @@ raised_above : (ls : List Level) (arena : List Vertex) (table : List ℕ) (v : �
 raised_above ls arena table v = set_above table v _ (omega arith)
 
 raised_stays : (ls : List Level) (arena : List Vertex) (table other : List ℕ) (v : ℕ) → IsTableOf ls arena table → IsTableOf ls arena other →
-    IsProgress ls arena other → v < length arena → IsBelowTable table other → IsBelowTable (raised ls arena table v) other
+    IsProgressTable ls arena other → v < length arena → IsBelowTable table other → IsBelowTable (raised ls arena table v) other
 raised_stays ls arena table other v t o p less h =
     set_below table other v _ h
     (omega (arith, below_anywhere table other h v, lift_grows ls arena table other (vertex_at arena v) t o h, progress_at ls arena other o p v less))
@@ -91,7 +91,7 @@ before_above ls arena (suc v) table =
     below_trans table (raised_before ls arena v table) _ (before_above ls arena v table) (raised_above ls arena (raised_before ls arena v table) v)
 
 before_stays : (ls : List Level) (arena : List Vertex) (v : ℕ) (table other : List ℕ) → IsTableOf ls arena table → IsTableOf ls arena other →
-    IsProgress ls arena other → v ≤ length arena → IsBelowTable table other → IsBelowTable (raised_before ls arena v table) other
+    IsProgressTable ls arena other → v ≤ length arena → IsBelowTable table other → IsBelowTable (raised_before ls arena v table) other
 before_stays ls arena zero table other t o p le h = h
 before_stays ls arena (suc v) table other t o p le h =
     raised_stays ls arena (raised_before ls arena v table) other v (before_table ls arena v table t) o p (omega arith)
@@ -115,7 +115,7 @@ before_grows ls arena v (suc k) table le = elim (cases_lt k v) [
   | inr less ↦ below_trans _ (raised_before ls arena k table) _ (before_grows ls arena v k table less) (raised_above ls arena (raised_before ls arena k table) k)
 ]
 
-before_same : (ls : List Level) (arena : List Vertex) (table : List ℕ) → IsTableOf ls arena table → IsProgress ls arena table →
+before_same : (ls : List Level) (arena : List Vertex) (table : List ℕ) → IsTableOf ls arena table → IsProgressTable ls arena table →
     (v : ℕ) → v ≤ length arena → raised_before ls arena v table ≡ table
 before_same ls arena table t p zero le = refl
 before_same ls arena table t p (suc v) le =
@@ -153,7 +153,7 @@ after_above ls arena (suc k) table =
     below_trans table _ _ (after_above ls arena k table) (before_above ls arena (length arena) (after_rounds ls arena k table))
 
 pub after_stays : (ls : List Level) (arena : List Vertex) (k : ℕ) (table other : List ℕ) → IsTableOf ls arena table → IsTableOf ls arena other →
-    IsProgress ls arena other → IsBelowTable table other → IsBelowTable (after_rounds ls arena k table) other
+    IsProgressTable ls arena other → IsBelowTable table other → IsBelowTable (after_rounds ls arena k table) other
 after_stays ls arena zero table other t o p h = h
 after_stays ls arena (suc k) table other t o p h =
     rounds_stay_below ls arena (after_rounds ls arena k table) other (after_table ls arena k table t) o p (after_stays ls arena k table other t o p h)

@@ -12,7 +12,7 @@ use Rattle.vpg_hope.specs.Games.{Game, Vertex, isolated, owner_of, priority_of, 
 use Rattle.vpg_hope.specs.Strategies.{Strategy, AllowsMove, Reaches, Walk, Wins, here, move, moves}
 use Rattle.vpg_game.specs.declared.levels.Level.{Level}
 use Rattle.vpg_measure.specs.Measures.{Shape, IsShape, Measure, IsMeasure, LexBelow, LexAtMost, AtMost, Fits, above, Top, Components}
-use Rattle.vpg_measure.specs.Tables.{Table, IsProgress, IsBelowAllProgress, FitsAt, FitsFor}
+use Rattle.vpg_measure.specs.Tables.{Table, IsProgressMeasure, IsBelowAllProgress, FitsAt, FitsFor}
 use Rattle.vpg_measure.proofs.Lex.{at_most_cons}
 use Rattle.vpg_measure.proofs.Above.{above-more, above-none}
 use Rattle.vpg_hope.proofs.Reach.{cases_player, reaches_move}
@@ -206,7 +206,7 @@ module _ (game : Game) (strategy : Strategy) (start : ℕ) where
           split (inr n) = refuted (Top, inr (n, refl))
 
       -- a table with these values is a progress table
-      values_progress : (table : Table) → ((v : ℕ) → v < length game → IsValue v (table v)) → IsProgress shape game table
+      values_progress : (table : Table) → ((v : ℕ) → v < length game → IsValue v (table v)) → IsProgressMeasure shape game table
       values_progress table values = record { in_range = λ v l. in_range v (values v l); fits = λ v l. fits v (values v l) }
         where
           in_range : (v : ℕ) → IsValue v (table v) → IsMeasure shape (table v)
@@ -246,7 +246,7 @@ module _ (game : Game) (strategy : Strategy) (start : ℕ) where
                   over (Components b) = tt
 
       -- there is a progress table below Top at the start
-      pub progress_below_top : Classically ((table : Table) × IsProgress shape game table × (table start ≢ Top))
+      pub progress_below_top : Classically ((table : Table) × IsProgressMeasure shape game table × (table start ≢ Top))
       progress_below_top refuted = all_below (length game) (λ v. (m : Measure) × IsValue v m) (λ v l. value_exists v) chosen
         where
           chosen : ((v : ℕ) → v < length game → (m : Measure) × IsValue v m) → ⊥

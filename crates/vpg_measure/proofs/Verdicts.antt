@@ -9,7 +9,7 @@ use Rattle.vpg_guards.specs.declared.tri.Tri.TheVariants.{No, Yes}
 use Rattle.vpg_hope.specs.Games.{Game, HasEdge, owner_of, priority_of, priorities}
 use Rattle.vpg_hope.specs.Strategies.{Strategy, Wins}
 use Rattle.vpg_measure.specs.Measures.{Shape, IsShape, Measure, Fits, Top, Components}
-use Rattle.vpg_measure.specs.Tables.{Table, IsProgress, IsBelowAllProgress, IsLeastProgress, FitsFor, FollowsLeast}
+use Rattle.vpg_measure.specs.Tables.{Table, IsProgressMeasure, IsBelowAllProgress, IsLeastProgress, FitsFor, FollowsLeast}
 use Rattle.vpg_game.specs.Guarded.{GuardedGame, guarded_priorities, IsClosedGuarded, dual}
 use Rattle.vpg_hope.specs.Hope.{product_game, hopeful_game, keeps_in_hope, AgreesWithTruth, IsFullOf}
 use Rattle.vpg_measure.proofs.Winning.{FollowsFitting, fitting_wins, least_fits}
@@ -21,7 +21,7 @@ use Rattle.vpg_hope.proofs.Guards.{dual_guards, hopeful_easier, full_same, restr
 use Rattle.vpg_hope.proofs.Edges.{AreEdgesInside}
 
 -- a progress table has a strategy that follows it
-module _ (shape : Shape) (game : Game) (table : Table) (progress : IsProgress shape game table) where
+module _ (shape : Shape) (game : Game) (table : Table) (progress : IsProgressMeasure shape game table) where
   choice : (player : Player) (v : ℕ) → FitsFor player shape game table v (table v) → Option ℕ
   choice Even v (inl e) = None
   choice Even v (inr w) = Some w.0
@@ -50,14 +50,14 @@ module _ (shape : Shape) (game : Game) (table : Table) (progress : IsProgress sh
       found v inside even low (inr l) = absurd (omega arith)
 
 -- below Top in a progress table Even has a winning strategy
-pub progress_wins : (shape : Shape) (game : Game) (table : Table) → AreEdgesInside game → IsProgress shape game table → (strategy : Strategy) × ((v : ℕ) → v < length game → table v ≢ Top → Wins game Even strategy v)
+pub progress_wins : (shape : Shape) (game : Game) (table : Table) → AreEdgesInside game → IsProgressMeasure shape game table → (strategy : Strategy) × ((v : ℕ) → v < length game → table v ≢ Top → Wins game Even strategy v)
 progress_wins shape game table closed progress = of (fitting_strategy shape game table progress)
   where
     of : (strategy : Strategy) × FollowsFitting shape game table strategy → (strategy : Strategy) × ((v : ℕ) → v < length game → table v ≢ Top → Wins game Even strategy v)
     of s = (s.0, λ v inside low. fitting_wins shape game table s.0 closed progress s.1 v inside low)
 
 -- a strategy that takes successors of least prog wins below Top
-pub least_prog_wins : (shape : Shape) (game : Game) (table : Table) (strategy : Strategy) → AreEdgesInside game → IsProgress shape game table → FollowsLeast shape game table strategy → (v : ℕ) → v < length game → table v ≢ Top → Wins game Even strategy v
+pub least_prog_wins : (shape : Shape) (game : Game) (table : Table) (strategy : Strategy) → AreEdgesInside game → IsProgressMeasure shape game table → FollowsLeast shape game table strategy → (v : ℕ) → v < length game → table v ≢ Top → Wins game Even strategy v
 least_prog_wins shape game table strategy closed progress follows v inside low = fitting_wins shape game table strategy closed progress (least_fits shape game table strategy closed progress follows) v inside low
 
 -- the least progress table is Top exactly where Even has no winning strategy
@@ -97,7 +97,7 @@ module _ (Guard : Type 0) (value : Guard → Tri) where
       keeps mover guard = truth guard
 
   module _ (truth : Guard → Bool) where
-    pub possible_wins : (game : GuardedGame Guard) → IsFullOf value truth game → (shape : Shape) (table : Table) (strategy : Strategy) → IsClosedGuarded game → IsProgress shape (hopeful_game value game) table → FollowsLeast shape (hopeful_game value game) table strategy →
+    pub possible_wins : (game : GuardedGame Guard) → IsFullOf value truth game → (shape : Shape) (table : Table) (strategy : Strategy) → IsClosedGuarded game → IsProgressMeasure shape (hopeful_game value game) table → FollowsLeast shape (hopeful_game value game) table strategy →
         (v : ℕ) → v < length game → table v ≢ Top → Wins (product_game truth game) Even strategy v
     possible_wins game full shape table strategy closed progress follows v inside low =
         subst (λ g. Wins g Even strategy v) (full_same Guard value truth game full)
@@ -106,7 +106,7 @@ module _ (Guard : Type 0) (value : Guard → Tri) where
         keeps : Player → Guard → Bool
         keeps mover guard = keeps_in_hope mover (value guard)
 
-    has_win : (game : GuardedGame Guard) → IsFullOf value truth game → (shape : Shape) (table : Table) → IsClosedGuarded game → IsProgress shape (hopeful_game value game) table →
+    has_win : (game : GuardedGame Guard) → IsFullOf value truth game → (shape : Shape) (table : Table) → IsClosedGuarded game → IsProgressMeasure shape (hopeful_game value game) table →
         (v : ℕ) → v < length game → table v ≢ Top → (strategy : Strategy) × Wins (product_game truth game) Even strategy v
     has_win game full shape table closed progress v inside low = of (progress_wins shape (hopeful_game value game) table (restrict_closed Guard keeps game closed) progress)
       where
@@ -119,7 +119,7 @@ module _ (Guard : Type 0) (value : Guard → Tri) where
         of : (strategy : Strategy) × ((v : ℕ) → v < length (hopeful_game value game) → table v ≢ Top → Wins (hopeful_game value game) Even strategy v) → (strategy : Strategy) × Wins (product_game truth game) Even strategy v
         of s = (s.0, subst (λ g. Wins g Even s.0 v) (full_same Guard value truth game full) (s.1 v inside_hope low))
 
-    pub unsure_wins : (game : GuardedGame Guard) → IsFullOf value truth game → (shape : Shape) (table : Table) → IsClosedGuarded game → IsProgress shape (hopeful_game value (dual game)) table →
+    pub unsure_wins : (game : GuardedGame Guard) → IsFullOf value truth game → (shape : Shape) (table : Table) → IsClosedGuarded game → IsProgressMeasure shape (hopeful_game value (dual game)) table →
         (v : ℕ) → v < length game → table v ≢ Top → (strategy : Strategy) × Wins (product_game truth game) Odd strategy v
     unsure_wins game full shape table closed progress v inside low = of (has_win (dual game) (dual_guards Guard (λ guard. value guard ≡ cond (truth guard) Yes No) game full) shape table (dual_closed Guard game closed) progress v (rw length-map inside) low)
       where
@@ -136,7 +136,7 @@ module _ (Guard : Type 0) (value : Guard → Tri) where
               (subst (λ g. Wins g Even s.0 v) (product_dual Guard truth game) s.1),
         )
 
-    pub not_possible_and_unsure : (game : GuardedGame Guard) → IsFullOf value truth game → (shape dual_shape : Shape) (table dual_table : Table) → IsClosedGuarded game → IsProgress shape (hopeful_game value game) table → IsProgress dual_shape (hopeful_game value (dual game)) dual_table →
+    pub not_possible_and_unsure : (game : GuardedGame Guard) → IsFullOf value truth game → (shape dual_shape : Shape) (table dual_table : Table) → IsClosedGuarded game → IsProgressMeasure shape (hopeful_game value game) table → IsProgressMeasure dual_shape (hopeful_game value (dual game)) dual_table →
         (v : ℕ) → v < length game → table v ≢ Top → dual_table v ≢ Top → ⊥
     not_possible_and_unsure game full shape dual_shape table dual_table closed progress dual_progress v inside low dual_low =
         clash (has_win game full shape table closed progress v inside low) (unsure_wins game full dual_shape dual_table closed dual_progress v inside dual_low)

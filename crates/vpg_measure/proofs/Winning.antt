@@ -8,7 +8,7 @@ use Rattle.vpg_hope.specs.Strategies.{Strategy, AllowsMove, Reaches, Walk, Wins}
 use Rattle.vpg_hope.specs.Strategies.{here, onward}
 use Rattle.vpg_hope.specs.Strategies.{move, moves}
 use Rattle.vpg_measure.specs.Measures.{Shape, Measure, LexBelow, LexAtMost, AtMost, Fits, above, Top, Components}
-use Rattle.vpg_measure.specs.Tables.{Table, IsProg, IsProgress, FitsFor, IsLeastSuccessor, FollowsLeast}
+use Rattle.vpg_measure.specs.Tables.{Table, IsProg, IsProgressMeasure, FitsFor, IsLeastSuccessor, FollowsLeast}
 use Rattle.vpg_measure.proofs.Lex.{below_irrefl, at_most_trans, below_at_most, at_most_below}
 use Rattle.vpg_measure.proofs.Above.{higher_at_most}
 use Rattle.vpg_measure.proofs.Order.{Fits-up, AtMost-trans}
@@ -34,7 +34,7 @@ fits_not_top shape p (Components a) Top f h e = f
 fits_not_top shape p (Components a) (Components b) f h e = cc
 
 -- a successor of least prog is one over which the value of the vertex fits
-pub least_fits : (shape : Shape) (game : Game) (table : Table) (strategy : Strategy) → AreEdgesInside game → IsProgress shape game table → FollowsLeast shape game table strategy → FollowsFitting shape game table strategy
+pub least_fits : (shape : Shape) (game : Game) (table : Table) (strategy : Strategy) → AreEdgesInside game → IsProgressMeasure shape game table → FollowsLeast shape game table strategy → FollowsFitting shape game table strategy
 least_fits shape game table strategy closed progress follows v inside mover low = chosen (follows v inside mover low) (rw mover at (progress.fits v inside))
   where
     p : ℕ
@@ -109,7 +109,7 @@ module _ (shape : Shape) (p : ℕ) where
   fits_above (Components a) Top odd n f = absurd f
   fits_above (Components a) (Components b) odd n f = record { high = a; low = b; high_is = refl; low_is = refl; below = f.1 odd }
 
-module _ (shape : Shape) (game : Game) (table : Table) (strategy : Strategy) (closed : AreEdgesInside game) (progress : IsProgress shape game table) (follows : FollowsFitting shape game table strategy) where
+module _ (shape : Shape) (game : Game) (table : Table) (strategy : Strategy) (closed : AreEdgesInside game) (progress : IsProgressMeasure shape game table) (follows : FollowsFitting shape game table strategy) where
   -- each move that the strategy allows from below Top goes along an edge over which the value fits
   move_fits : (v w : ℕ) → table v ≢ Top → AllowsMove game Even strategy v w → Fits shape (priority_of game v) (table v) (table w)
   move_fits v w low a = of (cases_player (owner_of game v) Even)

@@ -1,10 +1,10 @@
-pub mod Below
-pub mod Laws
+pub mod Least
 pub mod Lifts
-pub mod Measure
+pub mod MeasureLaws
 pub mod Measures
 pub mod NumberLaws
+pub mod Numbers
+pub mod TableLaws
 pub mod Tables
-pub mod TheoryLaws
-pub mod Views
 pub mod TwoGames
+pub mod Views

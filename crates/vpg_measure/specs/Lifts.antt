@@ -7,7 +7,8 @@ use Rattle.vpg_game.specs.declared.player.Player.TheVariants.{Even, Odd}
 use Rattle.vpg_measure.specs.declared.lifts.Outcome.{Outcome}
 use Rattle.vpg_measure.specs.declared.lifts.Outcome.TheVariants.{Settled, RanOut}
 use Rattle.vpg_game.specs.Levels.{top_of, prog_of}
-use Rattle.vpg_measure.specs.Measure.{Fits, measure_of}
+use Rattle.vpg_measure.specs.Measures.{Fits}
+use Rattle.vpg_measure.specs.Numbers.{measure_of}
 use Rattle.vpg_hope.specs.Arena.{Vertex, vertex_at}
 
 -- one number up to the top for each vertex
@@ -18,20 +19,20 @@ pub record IsTableOf (ls : List Level) (arena : List Vertex) (table : List ℕ) 
 -- ---- what fits
 
 -- a number fits an edge from priority p to a value where its measure does
-abbrev pub FitsEdge : List Level → ℕ → ℕ → ℕ → Type 0
-FitsEdge ls p n r = Fits ls p (measure_of ls n) (measure_of ls r)
+abbrev pub NumberFitsEdge : List Level → ℕ → ℕ → ℕ → Type 0
+NumberFitsEdge ls p n r = Fits ls p (measure_of ls n) (measure_of ls r)
 
 -- at Even's vertex some edge, at Odd's every edge
 abbrev pub FitsEdges : Player → (ℕ → Type 0) → List ℕ → Type 0
 FitsEdges Even P successors = Any P successors
 FitsEdges Odd P successors = All P successors
 
-abbrev pub FitsAt : List Level → List ℕ → Vertex → ℕ → Type 0
-FitsAt ls table x n = (n ≡ top_of ls) ⊎ FitsEdges x.owner (λ w. FitsEdge ls x.priority n (slice_index table w)) x.successors
+abbrev pub NumberFitsAt : List Level → List ℕ → Vertex → ℕ → Type 0
+NumberFitsAt ls table x n = (n ≡ top_of ls) ⊎ FitsEdges x.owner (λ w. NumberFitsEdge ls x.priority n (slice_index table w)) x.successors
 
 -- every value fits
-abbrev pub IsProgress : List Level → List Vertex → List ℕ → Type 0
-IsProgress ls arena table = (v : ℕ) → v < length arena → FitsAt ls table (vertex_at arena v) (slice_index table v)
+abbrev pub IsProgressTable : List Level → List Vertex → List ℕ → Type 0
+IsProgressTable ls arena table = (v : ℕ) → v < length arena → NumberFitsAt ls table (vertex_at arena v) (slice_index table v)
 
 -- ---- lifts
 

@@ -1,84 +1,84 @@
--- The laws, as statements.
-use Rattle.std.specs.Prelude.{Bool, ◌≡◌, ℕ, ◌<◌, ◌↔◌, List, length, Option, slice_index}
+-- The laws of measures and numbers.
+use Rattle.std.specs.Prelude.{ℕ, ◌≡◌, ◌/◌, ◌<◌, ◌≤◌, ◌↔◌, List, length, All, Contains, Some, slice_index}
 use Rattle.vpg_game.specs.declared.levels.Level.{Level}
-use Rattle.vpg_game.specs.Levels.{levels_of, top_of}
-use Rattle.vpg_hope.specs.Arena.{Vertex as Node, IsClosed}
-use Rattle.vpg_measure.specs.Lifts.{IsTableOf, IsProgress as IsSettled, IsBelowTable, AreChoices}
-use Rattle.vpg_game.specs.declared.player.Player.{Player}
-use Rattle.vpg_hope.specs.Games.{priorities}
-use Rattle.vpg_hope.specs.Strategies.{Strategy, Wins}
-use Rattle.vpg_measure.specs.Measures.{IsShape}
-use Rattle.vpg_measure.specs.Tables.{IsProgress}
-use Rattle.vpg_guards.specs.declared.tri.Tri.{Tri}
-use Rattle.vpg_game.specs.Guarded.{GuardedGame, guarded_priorities, IsClosedGuarded, dual}
-use Rattle.vpg_hope.specs.Hope.{product_game, hopeful_game, AgreesWithTruth, Extends, IsFullOf}
-use Rattle.vpg_measure.specs.Views.{measures_of, strategy_of}
+use Rattle.vpg_game.specs.Levels.{top_of, weight_of, levels_of, product_below, prog_of}
+use Rattle.vpg_measure.specs.Measures.{Measure, Components, IsMeasure, AtMost, LexBelow, above, Fits}
+use Rattle.vpg_measure.specs.Numbers.{value_of, number_of, measure_of}
+use Rattle.vpg_measure.specs.Tables.{IsProg}
+use Rattle.vpg_hope.specs.Arena.{Vertex, vertex_at}
+use Rattle.vpg_measure.specs.Lifts.{IsTableOf, IsProgressTable, IsBelowTable, NumberFitsAt, NumberFitsEdge, lift_of, round_of, choice_of}
+use Rattle.vpg_game.specs.declared.player.Player.TheVariants.{Even}
 
--- the levels of the priorities are their shape
-abbrev pub LevelsAreShape : Type 0
-LevelsAreShape = (vertex_priorities : List ℕ) → IsShape vertex_priorities ((levels_of vertex_priorities))
+-- a measure has a number up to the top, and is the measure of that number
+abbrev pub MeasuresHaveNumbers : Type 0
+MeasuresHaveNumbers = (ls : List Level) (m : Measure) → IsMeasure ls m → (number_of ls m ≤ top_of ls) × (measure_of ls (number_of ls m) ≡ m)
 
--- a table of numbers is a progress table where its measures are
-abbrev pub ProgressOfNumbers : Type 0
-ProgressOfNumbers = (levels : List Level) (arena : List Node) (table : List ℕ) → IsTableOf levels arena table →
-    IsSettled levels arena table ↔ IsProgress levels arena (measures_of levels table)
+-- a number up to the top has a measure, and is the number of that measure
+abbrev pub NumbersAreMeasures : Type 0
+NumbersAreMeasures = (ls : List Level) (n : ℕ) → n ≤ top_of ls → IsMeasure ls (measure_of ls n) × (number_of ls (measure_of ls n) ≡ n)
 
--- below every progress table of numbers
-abbrev pub IsBelowAllSettled : List Level → List Node → List ℕ → Type 0
-IsBelowAllSettled levels arena table = (other : List ℕ) → IsTableOf levels arena other → IsSettled levels arena other → IsBelowTable table other
+abbrev pub OrderIsNumeric : Type 0
+OrderIsNumeric = (ls : List Level) (m n : Measure) → IsMeasure ls m → IsMeasure ls n → AtMost m n ↔ (number_of ls m ≤ number_of ls n)
 
--- the choices made at a settled table win from every vertex below the Top
-abbrev pub ChoicesWin : Type 0
-ChoicesWin = (levels : List Level) (arena : List Node) (table : List ℕ) (choices : List (Option ℕ)) → IsClosed arena → IsTableOf levels arena table → IsSettled levels arena table →
-    AreChoices levels arena table choices → (v : ℕ) → v < length arena → slice_index table v < top_of levels → Wins arena Player.Even (strategy_of choices) v
+-- on the priorities p and above, the numbers compare as their quotients by the weight of p
+abbrev pub TruncatedOrderIsQuotient : Type 0
+TruncatedOrderIsQuotient =
+    (ls : List Level) (p : ℕ) (xs ys : List ℕ) → IsMeasure ls (Components xs) → IsMeasure ls (Components ys) →
+    LexBelow (above ls p xs) (above ls p ys) ↔ (value_of ls xs / weight_of p ls < value_of ls ys / weight_of p ls)
 
--- the Top in a table below every progress table refutes every winning strategy
-abbrev pub TopNumberRefutes : Type 0
-TopNumberRefutes = (arena : List Node) (table : List ℕ) → IsClosed arena → IsTableOf (levels_of (priorities arena)) arena table →
-    IsBelowAllSettled (levels_of (priorities arena)) arena table → (v : ℕ) → v < length arena → slice_index table v ≡ top_of (levels_of (priorities arena)) →
-    (strategy : Strategy) → Wins arena Player.Even strategy v → ⊥
+-- the numbers whose measure fits the edge are those from `prog_of` on
+abbrev pub ProgIsLeastFit : Type 0
+ProgIsLeastFit =
+    (ls : List Level) (p r n : ℕ) → r ≤ top_of ls → n ≤ top_of ls → Fits ls p (measure_of ls n) (measure_of ls r) ↔ (prog_of ls p r ≤ n)
 
--- two settled tables below every progress table are equal
-abbrev pub SettledIsUnique : Type 0
-SettledIsUnique = (levels : List Level) (arena : List Node) (s t : List ℕ) → IsTableOf levels arena s → IsTableOf levels arena t → IsSettled levels arena s → IsSettled levels arena t →
-    IsBelowAllSettled levels arena s → IsBelowAllSettled levels arena t → s ≡ t
+-- in a game with these priorities: the weight of p is the product over all odd priorities below p
+abbrev pub WeightsAreProducts : Type 0
+WeightsAreProducts = (priorities : List ℕ) (p : ℕ) → weight_of p (levels_of priorities) ≡ product_below p priorities
 
--- Guards: the arena is that of the hopeful game, or of the hopeful game of the dual
+-- the numbers that fit at a vertex are those from its lift on
+abbrev pub LiftIsLeast : Type 0
+LiftIsLeast =
+    (ls : List Level) (table : List ℕ) (x : Vertex) (n : ℕ) → All (λ r. r ≤ top_of ls) table → n ≤ top_of ls →
+    NumberFitsAt ls table x n ↔ (lift_of ls table x ≤ n)
 
--- a progress table where more is known is one where less is known
-abbrev pub SettledInEarlier : Type 0 → Type 0
-SettledInEarlier Guard = (earlier later : Guard → Tri) (game : GuardedGame Guard) → Extends later earlier game → (levels : List Level) (before after : List Node) (table : List ℕ) →
-    before ≡ hopeful_game earlier game → after ≡ hopeful_game later game → IsTableOf levels after table → IsSettled levels after table → IsSettled levels before table
+-- a lift grows with the table
+abbrev pub LiftGrows : Type 0
+LiftGrows =
+    (ls : List Level) (arena : List Vertex) (table other : List ℕ) (x : Vertex) → IsTableOf ls arena table → IsTableOf ls arena other →
+    IsBelowTable table other → lift_of ls table x ≤ lift_of ls other x
 
--- a hopeless vertex has no winning strategy for Even in any product that agrees with what is known
-abbrev pub HopelessNumber : Type 0 → Type 0
-HopelessNumber Guard = (value : Guard → Tri) (game : GuardedGame Guard) (arena : List Node) (table : List ℕ) → arena ≡ hopeful_game value game → IsClosed arena →
-    IsTableOf (levels_of (guarded_priorities game)) arena table → IsBelowAllSettled (levels_of (guarded_priorities game)) arena table →
-    (v : ℕ) → v < length arena → slice_index table v ≡ top_of (levels_of (guarded_priorities game)) →
-    (truth : Guard → Bool) → AgreesWithTruth value truth game → (strategy : Strategy) → Wins (product_game truth game) Player.Even strategy v → ⊥
+-- no value falls in a round
+abbrev pub RoundsRise : Type 0
+RoundsRise = (ls : List Level) (arena : List Vertex) (table : List ℕ) → IsTableOf ls arena table → IsBelowTable table (round_of ls arena table)
 
--- a sure vertex has none for Odd
-abbrev pub SureNumber : Type 0 → Type 0
-SureNumber Guard = (value : Guard → Tri) (game : GuardedGame Guard) (arena : List Node) (table : List ℕ) → arena ≡ hopeful_game value (dual game) → IsClosed arena → IsClosedGuarded game →
-    IsTableOf (levels_of (guarded_priorities (dual game))) arena table → IsBelowAllSettled (levels_of (guarded_priorities (dual game))) arena table →
-    (v : ℕ) → v < length arena → slice_index table v ≡ top_of (levels_of (guarded_priorities (dual game))) →
-    (truth : Guard → Bool) → AgreesWithTruth value truth game → (strategy : Strategy) → Wins (product_game truth game) Player.Odd strategy v → ⊥
+-- a round stays below each progress table that the table is below
+abbrev pub RoundsStayBelow : Type 0
+RoundsStayBelow =
+    (ls : List Level) (arena : List Vertex) (table other : List ℕ) → IsTableOf ls arena table → IsTableOf ls arena other →
+    IsProgressTable ls arena other → IsBelowTable table other → IsBelowTable (round_of ls arena table) other
 
--- where everything is known the choices win in the product from every possible vertex
-abbrev pub PossibleNumber : Type 0 → Type 0
-PossibleNumber Guard = (value : Guard → Tri) (truth : Guard → Bool) (game : GuardedGame Guard) → IsFullOf value truth game → (levels : List Level) (arena : List Node) (table : List ℕ) (choices : List (Option ℕ)) →
-    arena ≡ hopeful_game value game → IsClosed arena → IsTableOf levels arena table → IsSettled levels arena table → AreChoices levels arena table choices →
-    (v : ℕ) → v < length arena → slice_index table v < top_of levels → Wins (product_game truth game) Player.Even (strategy_of choices) v
+-- a round raises nothing exactly at a progress table
+abbrev pub RoundsStop : Type 0
+RoundsStop =
+    (ls : List Level) (arena : List Vertex) (table : List ℕ) → IsTableOf ls arena table →
+    (round_of ls arena table ≡ table) ↔ IsProgressTable ls arena table
 
--- those of the dual win there for Odd from every unsure vertex
-abbrev pub UnsureNumber : Type 0 → Type 0
-UnsureNumber Guard = (value : Guard → Tri) (truth : Guard → Bool) (game : GuardedGame Guard) → IsFullOf value truth game → (levels : List Level) (arena : List Node) (table : List ℕ) (choices : List (Option ℕ)) →
-    arena ≡ hopeful_game value (dual game) → IsClosed arena → IsClosedGuarded game → IsTableOf levels arena table → IsSettled levels arena table → AreChoices levels arena table choices →
-    (v : ℕ) → v < length arena → slice_index table v < top_of levels → Wins (product_game truth game) Player.Odd (strategy_of choices) v
+-- `prog_of` in the words of measures
+abbrev pub ProgIsLeastMeasure : Type 0
+ProgIsLeastMeasure =
+    (ls : List Level) (p : ℕ) (n : Measure) → IsMeasure ls n → IsProg ls p n (measure_of ls (prog_of ls p (number_of ls n)))
 
--- so no vertex is both
-abbrev pub NotBothNumbers : Type 0 → Type 0
-NotBothNumbers Guard = (value : Guard → Tri) (truth : Guard → Bool) (game : GuardedGame Guard) → IsFullOf value truth game → IsClosedGuarded game →
-    (levels dual_levels : List Level) (arena dual_arena : List Node) (table dual_table : List ℕ) → arena ≡ hopeful_game value game → dual_arena ≡ hopeful_game value (dual game) →
-    IsTableOf levels arena table → IsSettled levels arena table → IsTableOf dual_levels dual_arena dual_table → IsSettled dual_levels dual_arena dual_table →
-    (v : ℕ) → v < length game → slice_index table v < top_of levels → slice_index dual_table v < top_of dual_levels → ⊥
+-- below a progress table, a lift stays below it
+abbrev pub LiftStaysBelow : Type 0
+LiftStaysBelow =
+    (ls : List Level) (arena : List Vertex) (table other : List ℕ) (v : ℕ) → IsTableOf ls arena table → IsTableOf ls arena other →
+    IsProgressTable ls arena other → IsBelowTable table other → v < length arena → lift_of ls table (vertex_at arena v) ≤ slice_index other v
+
+-- at a progress table, Even's vertices below top have a choice, and the value fits the chosen edge
+abbrev pub ChoiceFits : Type 0
+ChoiceFits =
+    (ls : List Level) (arena : List Vertex) (table : List ℕ) (v : ℕ) → IsTableOf ls arena table → IsProgressTable ls arena table → v < length arena →
+    let x = vertex_at arena v in
+    let n = slice_index table v in
+    x.owner ≡ Even → n < top_of ls →
+    (w : ℕ) × (choice_of ls table x n ≡ Some w) × Contains x.successors w × NumberFitsEdge ls x.priority n (slice_index table w)

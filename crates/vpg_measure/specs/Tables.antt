@@ -46,7 +46,7 @@ abbrev pub IsTable : Shape → Game → Table → Type 0
 IsTable shape game table = (v : ℕ) → v < length game → IsMeasure shape (table v)
 
 -- each value fits at its vertex
-pub record IsProgress (shape : Shape) (game : Game) (table : Table) : Type 0 where
+pub record IsProgressMeasure (shape : Shape) (game : Game) (table : Table) : Type 0 where
   pub in_range : IsTable shape game table
   pub fits : (v : ℕ) → v < length game → FitsAt shape game table v (table v)
 
@@ -55,13 +55,13 @@ IsBelow game lower upper = (v : ℕ) → v < length game → AtMost (lower v) (u
 
 -- at most the value of every progress table at the vertex
 abbrev pub IsBelowAllAt : Shape → Game → ℕ → Measure → Type 0
-IsBelowAllAt shape game v m = (progress : Table) → IsProgress shape game progress → AtMost m (progress v)
+IsBelowAllAt shape game v m = (progress : Table) → IsProgressMeasure shape game progress → AtMost m (progress v)
 
 abbrev pub IsBelowAllProgress : Shape → Game → Table → Type 0
 IsBelowAllProgress shape game table = (v : ℕ) → v < length game → IsBelowAllAt shape game v (table v)
 
 pub record IsLeastProgress (shape : Shape) (game : Game) (table : Table) : Type 0 where
-  pub progress : IsProgress shape game table
+  pub progress : IsProgressMeasure shape game table
   pub below : IsBelowAllProgress shape game table
 
 -- an edge whose prog is no greater than that of any other

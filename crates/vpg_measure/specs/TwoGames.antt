@@ -8,8 +8,8 @@ use Rattle.vpg_hope.specs.Games.{Game}
 use Rattle.vpg_hope.specs.Hope.{hopeful_game}
 use Rattle.vpg_measure.specs.declared.which.Which.{Which}
 use Rattle.vpg_measure.specs.declared.which.Which.TheVariants.{Hopeful, Dual}
-use Rattle.vpg_measure.specs.Lifts.{IsTableOf, IsProgress}
-use Rattle.vpg_measure.specs.NumberLaws.{IsBelowAllSettled}
+use Rattle.vpg_measure.specs.Lifts.{IsTableOf, IsProgressTable}
+use Rattle.vpg_measure.specs.Least.{IsBelowProgressTables}
 
 -- the guarded game whose hopeful game the table is of
 abbrev pub game_for : {Guard : Type 0} → Which → GuardedGame Guard → GuardedGame Guard
@@ -28,9 +28,9 @@ arena_for value which game = hopeful_game value (game_for which game)
 
 pub record IsProgressOf {Guard : Type 0} (value : Guard → Tri) (which : Which) (game : GuardedGame Guard) (numbers : List ℕ) : Type 0 where
   pub is_table : IsTableOf (levels_for which game) (arena_for value which game) numbers
-  pub settled : IsProgress (levels_for which game) (arena_for value which game) numbers
+  pub settled : IsProgressTable (levels_for which game) (arena_for value which game) numbers
 
 -- a table below every progress table of its game: what an order, a harvest and the words of a board hold
 pub record IsTableBelow {Guard : Type 0} (value : Guard → Tri) (which : Which) (game : GuardedGame Guard) (numbers : List ℕ) : Type 0 where
   pub is_table : IsTableOf (levels_for which game) (arena_for value which game) numbers
-  pub below : IsBelowAllSettled (levels_for which game) (arena_for value which game) numbers
+  pub below : IsBelowProgressTables (levels_for which game) (arena_for value which game) numbers

@@ -1,6 +1,6 @@
 -- A table of numbers as a table of measures, and what a list of choices chooses.
 use Rattle.std.specs.Prelude.{ℕ, List, Option, None, slice_index, slice_index_or}
-use Rattle.vpg_measure.specs.Measure.{measure_of}
+use Rattle.vpg_measure.specs.Numbers.{measure_of}
 use Rattle.vpg_game.specs.declared.levels.Level.{Level}
 use Rattle.vpg_hope.specs.Strategies.{Strategy}
 use Rattle.vpg_measure.specs.Tables.{Table}

@@ -3,8 +3,6 @@
 
 pub mod laws;
 pub mod lifts;
-pub mod number_laws;
 pub mod shape;
 pub mod table;
-pub mod theory;
 pub mod which;

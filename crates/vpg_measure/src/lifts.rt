@@ -2,7 +2,7 @@ ghost use Rattle.std.specs.Prelude.{◌≡◌, ◌≢◌, ℕ, ◌+◌, ◌-◌,
 ghost use Rattle.std.specs.List.{find};
 ghost use Rattle.vpg_game.specs.Levels.{top_of, prog_of};
 ghost use Rattle.vpg_hope.specs.Arena.{vertex_at};
-ghost use Rattle.vpg_measure.specs.Lifts.{IsTableOf, IsProgress, IsBelowTable, least_of, greatest_of, lift_of, raised, round_of, EndsAs, choice_of, AreChoices};
+ghost use Rattle.vpg_measure.specs.Lifts.{IsTableOf, IsProgressTable, IsBelowTable, least_of, greatest_of, lift_of, raised, round_of, EndsAs, choice_of, AreChoices};
 
 use crate::shape::{Shape, prog};
 use crate::table::Table;
@@ -73,7 +73,7 @@ pub fn lift(shape: &Shape, arena: &Arena, table: &Table, v: u32) -> u64
 /// Whether no lift raises the table.
 pub fn is_progress(shape: &Shape, arena: &Arena, table: &Table) -> bool
     requires { IsTableOf shape.now arena.now table.now }
-    ensures { IsTrue result ↔ IsProgress shape.now arena.now table.now }
+    ensures { IsTrue result ↔ IsProgressTable shape.now arena.now table.now }
 {
     for v in 0..arena.vertices() {
         if table.get(v) < lift(shape, arena, table, v) {
@@ -123,10 +123,10 @@ pub fn settle_alone(shape: &Shape, arena: &Arena, table: &mut Table, rounds: u64
 
     // RanOut never comes where the rounds exceed what all values lack to the top.
     ensures bound { result ≡ Outcome.RanOut → rounds ≤ sum_by (λ n. top_of shape.now - n) table.old }
-    ensures progress { result ≡ Outcome.Settled → IsProgress shape.now arena.now table.new }
+    ensures progress { result ≡ Outcome.Settled → IsProgressTable shape.now arena.now table.new }
     ensures table { IsTableOf shape.now arena.now table.new }
     ensures above { IsBelowTable table.old table.new }
-    ensures below { (other : List ℕ) → IsTableOf shape.now arena.now other → IsProgress shape.now arena.now other →
+    ensures below { (other : List ℕ) → IsTableOf shape.now arena.now other → IsProgressTable shape.now arena.now other →
         IsBelowTable table.old other → IsBelowTable table.new other }
 {
     for done in 0..rounds {
@@ -178,8 +178,8 @@ pub fn strategy(
     table: &Table,
 ) -> Result<Vec<Option<u32>>, StrategyFault>
     requires { IsTableOf shape.now arena.now table.now }
-    ensures settled { OnOk result (IsProgress shape.now arena.now table.now) }
-    ensures not_settled { result ≡ Err StrategyFault.NotSettled → ¬ IsProgress shape.now arena.now table.now }
+    ensures settled { OnOk result (IsProgressTable shape.now arena.now table.now) }
+    ensures not_settled { result ≡ Err StrategyFault.NotSettled → ¬ IsProgressTable shape.now arena.now table.now }
     ensures choices { IfOk result (λ choices. AreChoices shape.now arena.now table.now choices.items) }
 {
     if !is_progress(shape, arena, table) {

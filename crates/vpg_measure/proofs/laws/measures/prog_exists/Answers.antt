@@ -1,0 +1,5 @@
+use Rattle.vpg_measure.proofs.Prog.{prog_exists}
+use Rattle.vpg_measure.proofs.laws.measures.prog_exists.Goals as goal
+
+pub returns : goal.returns
+returns c = prog_exists
