@@ -1,5 +1,5 @@
 -- The levels of a game: its odd priorities that occur, greatest first. Each gives a measure one component.
-use Rattle.std.specs.Prelude.{ℕ, zero, suc, ◌≡◌, ◌+◌, ◌*◌, ◌/◌, ◌%◌, ◌^◌, ◌<◌, ◌≤◌, ◌==◌, nat_lt, nat_le, Bool, ◌&&◌, if◌then◌else◌, max, List, [], ◌∷◌, length, slice_index, count_by}
+use Rattle.std.specs.Prelude.{ℕ, zero, suc, ◌≡◌, ◌+◌, ◌*◌, ◌/◌, ◌%◌, ◌^◌, ◌<◌, ◌≤◌, ◌==◌, nat_lt, nat_le, Bool, ◌&&◌, if◌then◌else◌, max, List, [], ◌∷◌, length, map, slice_index, count_by}
 use Rattle.vpg_game.specs.declared.levels.Level.{Level}
 
 abbrev pub is_odd : ℕ → Bool
@@ -67,3 +67,7 @@ pub record AreWeights (ls : List Level) (weights : List ℕ) (top : ℕ) : Type 
   pub limit : top_of ls ≤ 2 ^ 62
   pub each : (p : ℕ) → p < length weights → slice_index weights p ≡ weight_of p ls
   pub beyond : (p : ℕ) → length weights ≤ p → weight_of p ls ≡ top_of ls
+
+-- exchanging the players twice gives the same top
+abbrev pub DualOfDualHasTop : Type 0
+DualOfDualHasTop = (priorities : List ℕ) → top_of (levels_of (map (λ p. p + 1) (map (λ p. p + 1) priorities))) ≡ top_of (levels_of priorities)

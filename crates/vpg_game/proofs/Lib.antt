@@ -1,0 +1,11 @@
+pub mod Fronts
+pub mod Products
+pub mod Duals
+pub mod Steps
+pub mod Parts
+pub mod Whole
+pub mod ReadAgain
+pub mod Build
+pub mod Made
+pub mod Answered
+pub mod Graphs

@@ -1,0 +1,35 @@
+-- Laws of the definitions.
+use Rattle.std.specs.Prelude.{◌≡◌, ℕ, ◌≤◌, ◌^◌, List, length}
+use Rattle.vpg_guards.specs.Formula.{Formula, IsBelow}
+use Rattle.vpg_guards.specs.Names.{AreNames}
+use Rattle.vpg_guards.specs.Writing.{IsReadable}
+use Rattle.vpg_game.specs.Guarded.{GuardedGame, IsClosedGuarded, AllGuards, guarded_priorities, dual}
+use Rattle.vpg_game.specs.Levels.{levels_of, top_of}
+use Rattle.vpg_game.specs.Game.{NamedGame, IsGame, SpellsGame, graph_of, dual_of, priorities_of}
+
+-- a text spells one game at most
+abbrev pub TextsSpellOneGame : Type 0
+TextsSpellOneGame = (names : List (List ℕ)) (text : List ℕ) (g h : NamedGame) → AreNames names → SpellsGame names text g → SpellsGame names text h → g ≡ h
+
+-- what the graph of every game keeps
+pub record IsGraph (features : ℕ) (graph : GuardedGame Formula) : Type 0 where
+  -- each edge leads to a vertex
+  pub closed : IsClosedGuarded graph
+  -- guards name features of the game, and can be written and read again
+  pub named : AllGuards (IsBelow features) graph
+  pub readable : AllGuards (IsReadable features) graph
+  -- both tops are within the limit
+  pub top : top_of (levels_of (guarded_priorities graph)) ≤ 2 ^ 62
+  pub dual_top : top_of (levels_of (guarded_priorities (dual graph))) ≤ 2 ^ 62
+
+abbrev pub GamesHaveGraphs : Type 0
+GamesHaveGraphs = (game : NamedGame) → IsGame game → IsGraph game.features (graph_of game)
+
+-- the graph has the vertices of the game, and the graph of the dual is the dual of the graph
+pub record GraphAgrees (game : NamedGame) : Type 0 where
+  pub count : length (graph_of game) ≡ length game.vertices
+  pub priorities : guarded_priorities (graph_of game) ≡ priorities_of game.vertices
+  pub of_dual : graph_of (dual_of game) ≡ dual (graph_of game)
+
+abbrev pub GraphsAgree : Type 0
+GraphsAgree = (game : NamedGame) → GraphAgrees game

@@ -1,0 +1,49 @@
+-- The one writing of a guarded game.
+use Rattle.std.specs.Prelude.{ℕ, max, List, [], ◌∷◌, ◌++◌, codes, decimal, slice_index_or}
+use Rattle.vpg_game.specs.declared.player.Player.{Player}
+use Rattle.vpg_game.specs.declared.player.Player.TheVariants.{Even, Odd}
+use Rattle.vpg_guards.specs.Formula.{Formula, always}
+use Rattle.vpg_guards.specs.Writing.{guard_text}
+use Rattle.vpg_game.specs.Guarded.{GuardedEdge}
+use Rattle.vpg_game.specs.Game.{NamedVertex, NamedGame, vertex_ids, no_vertex}
+
+-- brackets round a guard other than `true`
+abbrev pub guard_part : List (List ℕ) → Formula → List ℕ
+guard_part names always = []
+guard_part names g = 91 ∷ (guard_text names g ++ 93 ∷ [])
+
+abbrev pub target_id : List NamedVertex → GuardedEdge Formula → ℕ
+target_id vs e = (slice_index_or vs e.to no_vertex).id
+
+abbrev pub edge_text : List (List ℕ) → List NamedVertex → GuardedEdge Formula → List ℕ
+edge_text names vs e = decimal (target_id vs e) ++ guard_part names e.guard
+
+-- joined by `,`
+abbrev pub edges_text : List (List ℕ) → List NamedVertex → List (GuardedEdge Formula) → List ℕ
+edges_text names vs [] = []
+edges_text names vs (e ∷ []) = edge_text names vs e
+edges_text names vs (e ∷ f ∷ es) = edge_text names vs e ++ 44 ∷ edges_text names vs (f ∷ es)
+
+-- a blank before the successors, where there are any
+abbrev pub edges_part : List (List ℕ) → List NamedVertex → List (GuardedEdge Formula) → List ℕ
+edges_part names vs [] = []
+edges_part names vs (e ∷ es) = 32 ∷ edges_text names vs (e ∷ es)
+
+abbrev pub owner_digit : Player → ℕ
+owner_digit Even = 48
+owner_digit Odd = 49
+
+abbrev pub vertex_text : List (List ℕ) → List NamedVertex → NamedVertex → List ℕ
+vertex_text names vs v = decimal v.id ++ 32 ∷ (decimal v.priority ++ 32 ∷ (owner_digit v.owner ∷ (edges_part names vs v.edges ++ codes ";\n")))
+
+abbrev pub vertices_text : List (List ℕ) → List NamedVertex → List NamedVertex → List ℕ
+vertices_text names vs [] = []
+vertices_text names vs (w ∷ ws) = vertex_text names vs w ++ vertices_text names vs ws
+
+abbrev pub greatest : List ℕ → ℕ
+greatest [] = 0
+greatest (n ∷ ns) = max n (greatest ns)
+
+-- `parity`, the greatest identifier, and a line for each vertex
+abbrev pub game_text : List (List ℕ) → NamedGame → List ℕ
+game_text names game = codes "parity " ++ decimal (greatest (vertex_ids game.vertices)) ++ codes ";\n" ++ vertices_text names game.vertices game.vertices

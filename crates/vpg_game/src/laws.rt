@@ -1,0 +1,17 @@
+//! Laws of the definitions. Each function does nothing: its contract is the law.
+ghost use Rattle.vpg_game.specs.Laws.{TextsSpellOneGame, GamesHaveGraphs, GraphsAgree};
+
+/// A text spells one game at most.
+pub fn texts_spell_one_game()
+    ensures { TextsSpellOneGame }
+{}
+
+/// In the graph of a game each edge leads to a vertex, each guard names features of the game, and both tops are within the limit.
+pub fn games_have_graphs()
+    ensures { GamesHaveGraphs }
+{}
+
+/// The graph of a game has its vertices in their order, and the graph of the dual game is the dual of the graph.
+pub fn graphs_agree()
+    ensures { GraphsAgree }
+{}
