@@ -6,3 +6,4 @@ pub mod Guards
 pub mod Reach
 pub mod Trails
 pub mod Rows
+pub mod Selected

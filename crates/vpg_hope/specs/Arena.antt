@@ -3,16 +3,12 @@ use Rattle.std.specs.Prelude.{ℕ, ◌<◌, ◌≤◌, ◌^◌, List, length, ma
 use Rattle.std.specs.List.{All}
 pub use Rattle.vpg_hope.specs.Games.{Vertex, IsClosed}
 use Rattle.vpg_hope.specs.Games.{isolated}
-use Rattle.vpg_hope.specs.declared.arena.Node.{Node}
 use Rattle.vpg_hope.specs.declared.arena.Row.{Row}
 
 abbrev pub vertex_at : List Vertex → ℕ → Vertex
 vertex_at arena v = slice_index_or arena v isolated
 
--- ---- how an arena is made and kept
-
-abbrev pub vertex_from : Node → Vertex
-vertex_from node = record { owner = node.owner; priority = node.priority; successors = node.successors.items }
+-- ---- how an arena is kept
 
 abbrev pub row_vertex : List ℕ → Row → Vertex
 row_vertex successors row =

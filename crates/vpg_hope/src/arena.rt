@@ -1,18 +1,19 @@
-ghost use Rattle.std.specs.Prelude.{◌≡◌, ℕ, ◌<◌, ◌≤◌, ◌^◌, List, length, map, IfOk, All, sum_by, vec_len};
-ghost use Rattle.vpg_hope.specs.Arena.{vertex_at, vertex_from, IsClosed};
+//! Plain games kept for look-ups: what measures are lifted over.
+ghost use Rattle.std.specs.Prelude.{◌≡◌, ℕ, ◌<◌, length, map, IfOk, All};
+ghost use Rattle.vpg_guards.specs.Known.{kleene};
+ghost use Rattle.vpg_game.specs.Game.{graph_of};
+ghost use Rattle.vpg_game.specs.Guarded.{dual};
+ghost use Rattle.vpg_hope.specs.Arena.{vertex_at};
+ghost use Rattle.vpg_hope.specs.Hope.{hopeful_game};
+ghost use Rattle.vpg_hope.specs.Selection.{features_under, vertex_under};
 
+use crate::selection::Selection;
 use std::alloc::{AllocError, Global};
 use std::marker::Model;
-use vpg_game::Player;
+use vpg_game::{GuardedGame, Player};
+use vpg_partial::Partial;
 
-/// A vertex as it is handed in.
-#[derive(Drop)]
-pub struct Node {
-    pub owner: Player,
-    pub priority: u32,
-    pub successors: Vec<u32>,
-}
-
+/// A vertex: its successors are those from `start` up to `end` in the arena's one list.
 #[derive(Clone, Copy, Debug)]
 struct Row {
     owner: Player,
@@ -21,7 +22,9 @@ struct Row {
     end: u32,
 }
 
-/// Vertices with their kept successors.
+/// A plain game: vertices in file order, each with its kept successors.
+///
+/// Clauses see it as a list of vertices, which is a game of `specs/Games`.
 #[derive(Drop)]
 pub struct Arena {
     rows: Vec<Row>,
@@ -41,20 +44,47 @@ impl Model for Arena {
 }
 
 impl Arena {
-    pub fn of(alloc: Global, nodes: &[Node]) -> Result<Arena, AllocError>
-        requires vertices { length nodes.now < 2 ^ 32 }
-        requires edges { sum_by (λ node. vec_len node.successors) nodes.now < 2 ^ 32 }
-        requires closed { IsClosed (map vertex_from nodes.now) }
-        ensures { IfOk result (λ arena. arena ≡ map vertex_from nodes.now) }
+    /// The hopeful game: Even's vertices keep the edges whose guard isn't known false, Odd's keep those whose guard is known true.
+    /// Each guard is looked at once. `specs/Hope` defines it, after FASE 2020 and strong Kleene logic.
+    pub fn hopeful(alloc: Global, game: &GuardedGame, known: &Partial) -> Result<Arena, AllocError>
+        requires { length known.now ≡ game.now.features }
+        ensures { IfOk result (λ arena. arena ≡ hopeful_game (kleene known.now) (graph_of game.now)) }
     {
-        let mut rows = Vec::with_capacity(alloc, nodes.len())?;
+        Arena::selected(alloc, game, Selection::Hopeful(known.values()))
+    }
+
+    /// The hopeful game of the dual, in which owners are exchanged and priorities are one greater.
+    /// It is made from the game itself: no dual is built.
+    pub fn hopeful_of_dual(
+        alloc: Global,
+        game: &GuardedGame,
+        known: &Partial,
+    ) -> Result<Arena, AllocError>
+        requires { length known.now ≡ game.now.features }
+        ensures { IfOk result (λ arena. arena ≡ hopeful_game (kleene known.now) (dual (graph_of game.now))) }
+    {
+        Arena::selected(alloc, game, Selection::HopefulOfDual(known.values()))
+    }
+
+    /// What is selected of a game, in one pass over its edges.
+    pub(crate) fn selected(
+        alloc: Global,
+        game: &GuardedGame,
+        selection: Selection<'_>,
+    ) -> Result<Arena, AllocError>
+        requires { features_under selection ≡ game.now.features }
+        ensures { IfOk result (λ arena. arena ≡ map (vertex_under selection.entry) (graph_of game.now)) }
+    {
+        let vertices = game.vertices();
+        let mut rows = Vec::with_capacity(alloc, vertices)?;
         let mut successors = Vec::new(alloc);
-        for node in nodes {
+        for v in 0..vertices as u32 {
+            let owner = game.owner(v);
             let start = successors.len() as u32;
-            successors.extend_from_slice(node.successors.as_slice())?;
+            selection.push_kept(&mut successors, owner, game.edges(v))?;
             rows.push(Row {
-                owner: node.owner,
-                priority: node.priority,
+                owner: selection.owner(owner),
+                priority: selection.priority(game.priority(v)),
                 start,
                 end: successors.len() as u32,
             })?;
@@ -62,12 +92,14 @@ impl Arena {
         Ok(Arena { rows, successors })
     }
 
+    /// How many vertices it has.
     pub fn vertices(&self) -> u32
         ensures { result ≡ length self.now }
     {
         self.rows.len() as u32
     }
 
+    /// Who moves at a vertex.
     pub fn owner(&self, v: u32) -> Player
         requires { v < length self.now }
         ensures { result ≡ (vertex_at self.now v).owner }
@@ -75,6 +107,7 @@ impl Arena {
         self.rows[v as usize].owner
     }
 
+    /// The priority of a vertex.
     pub fn priority(&self, v: u32) -> u32
         requires { v < length self.now }
         ensures { result ≡ (vertex_at self.now v).priority }
@@ -82,7 +115,7 @@ impl Arena {
         self.rows[v as usize].priority
     }
 
-    /// The kept successors of a vertex, in the order named.
+    /// The kept successors of a vertex, in the order named. Each is a vertex of the arena.
     pub fn kept(&self, v: u32) -> &[u32]
         requires { v < length self.now }
         ensures kept { result.now ≡ (vertex_at self.now v).successors }

@@ -3,3 +3,6 @@
 
 pub mod arena;
 pub mod laws;
+mod selection;
+
+pub use arena::Arena;

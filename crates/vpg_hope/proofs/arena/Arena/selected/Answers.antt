@@ -1,0 +1,59 @@
+use Rattle.std.proofs.Common.{◌≡◌, ℕ, ◌+◌, ◌<◌, List, ◌++◌, length, length-append, refl, sym, ap, ap₂, ◌∙◌, subst, All, arith}
+use Rattle.std.proofs.lemmas.List.{length_push}
+use Rattle.std.proofs.lemmas.List.Elements.{All-push}
+use Rattle.vpg_guards.specs.Formula.{Formula, IsBelow}
+use Rattle.vpg_game.specs.declared.player.Player.{Player}
+use Rattle.vpg_game.specs.Guarded.{GuardedEdge}
+use Rattle.vpg_game.specs.Game.{graph_of, vertex_in}
+use Rattle.vpg_game.proofs.Graphs.{same_count}
+use Rattle.vpg_hope.specs.Selection.{features_under, kept_under, owner_under, priority_under}
+use Rattle.vpg_hope.proofs.Rows.{InRange, ranges_grow}
+use Rattle.vpg_hope.proofs.Selected.{guards_named, priority_fits, few_more, kept_closed, vertex_made}
+use Rattle.vpg_hope.proofs.arena.Arena.selected.Goals as goal
+
+pub push_kept-requires : goal.push_kept-requires
+push_kept-requires c =
+    subst (λ (es : List (GuardedEdge Formula)). All (λ edge. IsBelow (features_under c.args.selection) edge.guard) es) (sym c.edges.ensures.graph)
+    (guards_named c.args.game.now (features_under c.args.selection) c.loop-v.v c.vertices-vertices.ensures.game c.requires (omega (arith, c.loop-v-test.true, c.vertices-vertices.ensures.count)))
+
+pub priority-requires-in-loop-v : goal.priority-requires-in-loop-v
+priority-requires-in-loop-v c =
+    let less : c.loop-v.v < length c.args.game.now.vertices = omega (arith, c.loop-v-test.true, c.vertices-vertices.ensures.count) in
+    omega (arith, c.priority.ensures.value, priority_fits c.args.game.now c.loop-v.v c.vertices-vertices.ensures.game less)
+
+pub overflow_cast-len : goal.overflow_cast-len
+overflow_cast-len c =
+    let less : c.loop-v.v < length c.args.game.now.vertices = omega (arith, c.loop-v-test.true, c.vertices-vertices.ensures.count) in
+    let more = kept_under c.args.selection c.owner-owner.result c.edges.result.now in
+    let same = ap (λ (es : List (GuardedEdge Formula)). kept_under c.args.selection c.owner-owner.result es) c.edges.ensures.value in
+    let few = few_more c.args.selection c.owner-owner.result c.args.game.now.vertices c.loop-v.successors.items more c.loop-v.v less same c.loop-v.invariant.few in
+    omega (arith, c.len.ensures, c.push_kept.new.successors.ok.0, ap length c.in_ok-push_kept.ensures, few, c.vertices-vertices.ensures.game.few_edges)
+
+pub loop-v-preserved : goal.loop-v-preserved
+loop-v-preserved c =
+    let game = c.args.game.now in
+    let v = c.loop-v.v in
+    let ss = c.loop-v.successors.items in
+    let less : v < length game.vertices = omega (arith, c.loop-v-test.true, c.vertices-vertices.ensures.count) in
+    let graph_less : v < length (graph_of game) = omega (arith, same_count game) in
+    let more = kept_under c.args.selection (vertex_in (graph_of game) v).owner (vertex_in (graph_of game) v).edges in
+    let pushed = c.in_ok-push.ensures.items in
+    let same : kept_under c.args.selection c.owner-owner.result c.edges.result.now ≡ more =
+    ap₂ (λ (owner : Player) (es : List (GuardedEdge Formula)). kept_under c.args.selection owner es) c.owner-owner.ensures.graph c.edges.ensures.graph in
+    let extended : c.push_kept.new.successors.items ≡ ss ++ more = c.in_ok-push_kept.ensures ∙ ap (λ (xs : List ℕ). ss ++ xs) same in
+    let whole = ap length extended ∙ length-append ss more in
+    let start : c.len-start.result ≡ length ss = omega (arith, c.len-start.ensures, c.loop-v.successors.ok.0) in
+    let last : c.len.result ≡ length ss + length more = omega (arith, c.len.ensures, c.push_kept.new.successors.ok.0, whole) in
+    record {
+      rows = ap length pushed ∙ length_push c.loop-v.rows.items _ ∙ ap (λ n. n + 1) c.loop-v.invariant.rows;
+      made = rw (pushed, extended) (vertex_made c.args.selection (graph_of game) c.loop-v.rows.items ss more v c.len-start.result c.len.result c.owner.result c.priority-in-loop-v.result
+          c.loop-v.invariant.ranges c.loop-v.invariant.made graph_less
+          (c.owner.ensures ∙ ap (λ (owner : Player). owner_under c.args.selection owner) c.owner-owner.ensures.graph)
+          (c.priority-in-loop-v.ensures ∙ ap (λ (priority : ℕ). priority_under c.args.selection priority) c.priority.ensures.graph)
+          refl start last);
+      ranges = rw pushed (All-push (InRange (length c.push_kept.new.successors.items)) c.loop-v.rows.items _
+          (ranges_grow c.loop-v.rows.items (length ss) _ (omega (arith, whole)) c.loop-v.invariant.ranges) (omega arith, omega (arith, whole)));
+      closed = rw extended (kept_closed c.args.selection (vertex_in (graph_of game) v).owner game ss v c.vertices-vertices.ensures.game less c.loop-v.invariant.closed);
+      few = rw extended (few_more c.args.selection (vertex_in (graph_of game) v).owner game.vertices ss more v less
+          (ap (λ (es : List (GuardedEdge Formula)). kept_under c.args.selection (vertex_in (graph_of game) v).owner es) (sym c.edges.ensures.graph ∙ c.edges.ensures.value)) c.loop-v.invariant.few);
+    }
