@@ -1,0 +1,132 @@
+//! The clauses and counts of the lines of a diagram.
+
+ghost use Rattle.std.specs.Prelude.{◌≡◌, ◌++◌, ◌∷◌, [], map, filter_map, IfOk};
+ghost use Rattle.vpg_diagram.specs.Clauses.{feature_in, feature_out, parent_clauses, pair_clauses, line_clauses, clauses_of, counts_of};
+ghost use Rattle.vpg_diagram.specs.LineView.{line_of, lines_of};
+
+use crate::clause::{Clause, Count};
+use crate::line::Line;
+use std::alloc::{AllocError, Global};
+
+/// Adds what keeps members below their parent.
+fn push_parents(
+    alloc: Global,
+    clauses: &mut Vec<Clause>,
+    parent: u16,
+    members: &[u16],
+) -> Result<(), AllocError>
+    ensures { IfOk result (λ _. clauses.new.items ≡ clauses.old.items ++ parent_clauses parent members.now) }
+{
+    for member in members {
+        clauses.push(Clause::implies(alloc, *member, parent))?;
+    }
+    Ok(())
+}
+
+/// Adds what keeps a feature apart from each of the others.
+fn push_pairs_of(
+    alloc: Global,
+    clauses: &mut Vec<Clause>,
+    feature: u16,
+    others: &[u16],
+) -> Result<(), AllocError>
+    ensures { IfOk result (λ _. clauses.new.items ≡ clauses.old.items ++ map (λ d. feature_out feature ∷ feature_out d ∷ []) others.now) }
+{
+    for other in others {
+        clauses.push(Clause::not_both(alloc, feature, *other))?;
+    }
+    Ok(())
+}
+
+/// Adds what keeps members apart from one another.
+fn push_pairs(alloc: Global, clauses: &mut Vec<Clause>, members: &[u16]) -> Result<(), AllocError>
+    ensures { IfOk result (λ _. clauses.new.items ≡ clauses.old.items ++ pair_clauses members.now) }
+{
+    for i in 0..members.len() {
+        push_pairs_of(alloc, clauses, members[i], &members[i + 1..])?;
+    }
+    Ok(())
+}
+
+/// Adds the clauses of an alternative group.
+fn push_alternative(
+    alloc: Global,
+    clauses: &mut Vec<Clause>,
+    parent: u16,
+    members: &[u16],
+) -> Result<(), AllocError>
+    ensures { IfOk result (λ _. clauses.new.items ≡ clauses.old.items ++ (feature_out parent ∷ map feature_in members.now) ∷ (parent_clauses parent members.now ++ pair_clauses members.now)) }
+{
+    clauses.push(Clause::some_member(alloc, parent, members)?)?;
+    push_parents(alloc, clauses, parent, members)?;
+    push_pairs(alloc, clauses, members)
+}
+
+/// Adds the clauses of a line.
+fn push_line(alloc: Global, clauses: &mut Vec<Clause>, line: Line) -> Result<(), AllocError>
+    ensures { IfOk result (λ _. clauses.new.items ≡ clauses.old.items ++ line_clauses (line_of line)) }
+{
+    match line {
+        Line::Mandatory { parent, child } => {
+            clauses.push(Clause::implies(alloc, child, parent))?;
+            clauses.push(Clause::implies(alloc, parent, child))?;
+        }
+        Line::Optional { parent, child } => clauses.push(Clause::implies(alloc, child, parent))?,
+        Line::Alternative { parent, members } => push_alternative(
+            alloc,
+            clauses,
+            parent,
+            &members.list(alloc)?,
+        )?,
+        Line::Or { parent, members }
+        | Line::Group {
+            parent,
+            members,
+            ..
+        } => push_parents(alloc, clauses, parent, &members.list(alloc)?)?,
+        Line::Requires { feature, needed } => clauses.push(Clause::implies(
+            alloc, feature, needed,
+        ))?,
+        Line::Excludes { feature, other } => clauses.push(Clause::not_both(alloc, feature, other))?,
+    }
+    Ok(())
+}
+
+/// The clauses of a diagram.
+pub(crate) fn clauses_of(alloc: Global, lines: &[Line]) -> Result<Vec<Clause>, AllocError>
+    ensures { IfOk result (λ clauses. clauses.items ≡ clauses_of (lines_of lines.now)) }
+{
+    let mut clauses = Vec::new(alloc);
+    clauses.push(Clause::always(alloc, 0)?)?;
+    for line in lines {
+        push_line(alloc, &mut clauses, *line)?;
+    }
+    Ok(clauses)
+}
+
+/// The counts of a diagram.
+pub(crate) fn counts_of(alloc: Global, lines: &[Line]) -> Result<Vec<Count>, AllocError>
+    ensures { IfOk result (λ counts. counts.items ≡ counts_of (lines_of lines.now)) }
+{
+    let mut counts = Vec::new(alloc);
+    for line in lines {
+        match *line {
+            Line::Or { parent, members } => {
+                let members = members.list(alloc)?;
+                let high = members.len();
+                counts.push(Count::new(parent, members, 1, high))?;
+            }
+            Line::Group {
+                parent,
+                low,
+                high,
+                members,
+            } => {
+                let members = members.list(alloc)?;
+                counts.push(Count::new(parent, members, low as usize, high as usize))?;
+            }
+            _ => {}
+        }
+    }
+    Ok(counts)
+}

@@ -1,0 +1,95 @@
+//! A feature diagram with the names of its features.
+
+ghost use Rattle.std.specs.Prelude.{◌≡◌, ◌↔◌, length, map, IsTrue, IfOk};
+ghost use Rattle.std.specs.List.{AllByRecursion};
+ghost use Rattle.vpg_diagram.specs.Clauses.{clauses_of, counts_of, IsClauseBelow, IsCountBelow};
+ghost use Rattle.vpg_diagram.specs.DiagramText.{IsNamedDiagram};
+ghost use Rattle.vpg_diagram.specs.FeatureDiagram.{feature_count, IsDiagram, IsProduct};
+
+use crate::clause::{Clause, Count};
+use crate::line::Line;
+use crate::{building, product};
+use std::alloc::{AllocError, Global};
+use std::marker::Model;
+use vpg_guards::Names;
+
+/// A feature diagram: the names of its features, in order, and the lines below its root line.
+#[derive(Drop)]
+pub struct Diagram {
+    names: Names,
+    lines: Vec<Line>,
+    clauses: Vec<Clause>,
+    counts: Vec<Count>,
+}
+
+impl Model for Diagram {
+    ghost use Rattle.vpg_diagram.specs.DiagramText.{NamedDiagram};
+
+    ghost Value = { NamedDiagram };
+
+    ghost use Rattle.vpg_diagram.specs.Kept.{IsKept};
+    ghost use Rattle.vpg_diagram.specs.LineView.{lines_of};
+
+    ghost view = { λ d. record { names = d.names; lines = lines_of d.lines.items } };
+
+    ghost invariant = { λ d. IsKept (record { names = d.names; lines = lines_of d.lines.items }) d.clauses.items d.counts.items };
+}
+
+impl Diagram {
+    ghost use Rattle.vpg_diagram.specs.LineView.{lines_of};
+
+    /// The diagram of these names and lines.
+    fn of(alloc: Global, names: Names, lines: Vec<Line>) -> Result<Diagram, AllocError>
+        requires { IsNamedDiagram (record { names = names; lines = lines_of lines.items }) }
+        ensures { IfOk result (λ d. d ≡ record { names = names; lines = lines_of lines.items }) }
+    {
+        let clauses = building::clauses_of(alloc, &lines)?;
+        let counts = building::counts_of(alloc, &lines)?;
+        Ok(Diagram {
+            names,
+            lines,
+            clauses,
+            counts,
+        })
+    }
+
+    /// The names of the features, in order. The root is the first.
+    pub fn names(&self) -> &Names
+        ensures names { result.now ≡ self.now.names }
+        ensures diagram { IsNamedDiagram self.now }
+    {
+        &self.names
+    }
+
+    /// How many features there are.
+    pub fn features(&self) -> usize
+        ensures count { result ≡ feature_count self.now.lines }
+        ensures diagram { IsNamedDiagram self.now }
+    {
+        self.names.len()
+    }
+
+    /// Whether a set of features, one value for each feature, is a product.
+    pub fn is_product(&self, features: &[bool]) -> bool
+        requires { length features.now ≡ feature_count self.now.lines }
+        ensures { IsTrue result ↔ IsProduct self.now.lines features.now }
+    {
+        product::is_product(&self.clauses, &self.counts, features)
+    }
+
+    /// The clauses: a set of features is a product where it meets each clause and each count.
+    pub fn clauses(&self) -> &[Clause]
+        ensures clauses { result.now ≡ clauses_of self.now.lines }
+        ensures below { AllByRecursion (IsClauseBelow (feature_count self.now.lines)) result.now }
+    {
+        &self.clauses
+    }
+
+    /// The counts of the or-groups and of the groups with a cardinality.
+    pub fn counts(&self) -> &[Count]
+        ensures counts { result.now ≡ counts_of self.now.lines }
+        ensures below { AllByRecursion (IsCountBelow (feature_count self.now.lines)) result.now }
+    {
+        &self.counts
+    }
+}
