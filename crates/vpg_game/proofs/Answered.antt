@@ -44,7 +44,7 @@ module _ (names : List (List ℕ)) (text : List ℕ) (are : AreNames names) wher
 
 -- ---- sound entries have none of the faults
 
-got_take : (ids : List ℕ) (n i id : ℕ) → slice_get (take n ids) i ≡ Some id → (i < n) × (slice_get ids i ≡ Some id)
+pub got_take : (ids : List ℕ) (n i id : ℕ) → slice_get (take n ids) i ≡ Some id → (i < n) × (slice_get ids i ≡ Some id)
 got_take ids zero i id e = absurd cc
 got_take [] (suc n) i id e = absurd cc
 got_take (k ∷ ids) (suc n) zero id e = (omega arith, e)

@@ -8,4 +8,5 @@ pub mod ReadAgain
 pub mod Build
 pub mod Made
 pub mod Answered
+pub mod DualGames
 pub mod Graphs

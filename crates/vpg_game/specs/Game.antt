@@ -1,5 +1,5 @@
 -- Guarded games, and the game that entries spell.
-use Rattle.std.specs.Prelude.{◌≡◌, ℕ, ◌+◌, ◌<◌, ◌≤◌, ◌^◌, List, [], ◌∷◌, length, map, take, ◌==◌, if◌then◌else◌, Some, slice_get, slice_index_or}
+use Rattle.std.specs.Prelude.{◌≡◌, ℕ, ◌+◌, ◌<◌, ◌≤◌, ◌^◌, List, [], ◌∷◌, length, map, take, ◌==◌, if◌then◌else◌, Some, slice_get, slice_index_or, Contains}
 use Rattle.std.specs.List.{position_or_len}
 use Rattle.vpg_game.specs.declared.player.Player.{Player}
 use Rattle.vpg_game.specs.declared.player.Player.TheVariants.{Even}
@@ -172,3 +172,7 @@ pub record IsGame (game : NamedGame) : Type 0 where
   pub each : AreVertices (length game.vertices) game.features game.vertices
   pub distinct : AreDistinct (vertex_ids game.vertices)
   pub narrow : IsNarrow (priorities_of game.vertices)
+
+-- some priority is as high as priorities get: only a dual has one, and has no dual
+abbrev pub IsAtLimit : NamedGame → Type 0
+IsAtLimit game = Contains (priorities_of game.vertices) 65536

@@ -2,7 +2,7 @@ use Rattle.std.proofs.Common.{◌≡◌, ◌+◌, ◌<◌, ℕ, List, length, ma
 use Rattle.vpg_game.specs.Spelled.{SpelledEntry}
 use Rattle.vpg_game.specs.Game.{NamedVertex, IsGame, vertex_of, vertex_ids, entry_ids, entry_priorities, priorities_of, top_in, dual_top_in, IsNarrow}
 use Rattle.vpg_game.proofs.Made.{limited_at, is_made, same_ids, same_priorities, top_found, made_sound}
-use Rattle.vpg_game.proofs.game.make.Goals as goal
+use Rattle.vpg_game.proofs.making.make.Goals as goal
 
 pub priorities-requires : goal.priorities-requires
 priorities-requires c i e lt is =

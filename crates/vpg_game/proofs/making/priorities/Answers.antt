@@ -3,7 +3,7 @@ use Rattle.std.proofs.lemmas.List.{map-append}
 use Rattle.vpg_game.specs.Spelled.{SpelledEntry}
 use Rattle.vpg_game.specs.Game.{entry_priorities}
 use Rattle.vpg_game.proofs.Made.{priority_at}
-use Rattle.vpg_game.proofs.game.priorities.Goals as goal
+use Rattle.vpg_game.proofs.making.priorities.Goals as goal
 
 pub loop-entry-preserved : goal.loop-entry-preserved
 loop-entry-preserved c =

@@ -1,7 +1,7 @@
 use Rattle.std.proofs.Common.{◌≡◌, ◌++◌, []}
 use Rattle.vpg_game.specs.Game.{joined_edges, AllHeld}
 use Rattle.vpg_game.specs.Building.{ArePlaces}
-use Rattle.vpg_game.proofs.game.joined.Given as goal
+use Rattle.vpg_game.proofs.making.joined.Given as goal
 
 abbrev pub invariant-loop-successor : goal.invariant-loop-successor
 invariant-loop-successor l =

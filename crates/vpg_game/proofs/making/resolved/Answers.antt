@@ -3,7 +3,7 @@ use Rattle.std.proofs.lemmas.Result.{err_from_is_err_and}
 use Rattle.vpg_game.specs.Spelled.{SpelledEntry}
 use Rattle.vpg_game.specs.Game.{AllHeld}
 use Rattle.vpg_game.proofs.Build.{joining_fault, found_snoc, vertices_more}
-use Rattle.vpg_game.proofs.game.resolved.Goals as goal
+use Rattle.vpg_game.proofs.making.resolved.Goals as goal
 
 pub returns-in_err-edges-clause-err : goal.returns-in_err-edges-clause-err
 returns-in_err-edges-clause-err c =

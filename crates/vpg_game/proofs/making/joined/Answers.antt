@@ -1,7 +1,7 @@
 use Rattle.std.proofs.Common.{List, ◌++◌, ◌∷◌, [], sym, ap, ◌∙◌, append_assoc}
 use Rattle.vpg_game.specs.Spelled.{SpelledSuccessor}
 use Rattle.vpg_game.proofs.Build.{first_not_held, one_more_edge, one_more_held}
-use Rattle.vpg_game.proofs.game.joined.Goals as goal
+use Rattle.vpg_game.proofs.making.joined.Goals as goal
 
 pub returns-in_default-clause-err : goal.returns-in_default-clause-err
 returns-in_default-clause-err c =

@@ -2,7 +2,7 @@ use Rattle.std.proofs.Common.{ℕ, List, Some, sym, ap, subst, ◌∙◌}
 use Rattle.vpg_game.specs.Spelled.{SpelledEntry}
 use Rattle.vpg_game.specs.Game.{AreDistinct, Holds}
 use Rattle.vpg_game.proofs.Build.{not_false, not_true, any_held, id_got, keys_more, keys_new}
-use Rattle.vpg_game.proofs.game.numbered.Goals as goal
+use Rattle.vpg_game.proofs.making.numbered.Goals as goal
 
 pub returns-in-Ok-false-clause-err : goal.returns-in-Ok-false-clause-err
 returns-in-Ok-false-clause-err c =

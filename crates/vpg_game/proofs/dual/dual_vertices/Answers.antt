@@ -1,0 +1,5 @@
+use Rattle.vpg_game.proofs.DualGames.{priority_below}
+use Rattle.vpg_game.proofs.dual.dual_vertices.Goals as goal
+
+pub dual-requires : goal.dual-requires
+dual-requires c = priority_below c.args.vertices.now c.loop-vertex.vertex-index c.vertex-item.result c.requires c.loop-vertex-test.true c.vertex-item.is

@@ -1,0 +1,26 @@
+use Rattle.std.proofs.Common.{◌≡◌, List, ◌<◌, All, Contains, IsTrue, length, map, sym, ap, subst, ◌∙◌}
+use Rattle.vpg_game.specs.Game.{NamedVertex, IsGame, IsAtLimit, dual_vertex, vertex_ids, priorities_of, top_in, dual_top_in}
+use Rattle.vpg_game.proofs.DualGames.{all_below, is_dual, dual_ids, dual_top, dual_of_dual_top}
+use Rattle.vpg_game.proofs.game.GuardedGame.dual.Goals as goal
+
+none : (c : goal.After-deref) → Contains (priorities_of c.self.inside.vertices.items) 65536 → ⊥
+none c has = let yes = subst IsTrue c.if-is_at_limit.false (c.is_at_limit.ensures.1 (subst IsAtLimit c.self.view_is has)) in absurd cc
+
+pub dual_vertices-requires : goal.dual_vertices-requires
+dual_vertices-requires c =
+    let vs : List NamedVertex = c.self.inside.vertices.items in
+    subst (λ (xs : List NamedVertex). All (λ p. p < 65536) (priorities_of xs)) (sym c.deref.ensures.value)
+    (all_below (length vs) c.self.inside.features vs c.self.invariant.0.each (none c))
+
+pub invariant_of-result : goal.invariant_of-result
+invariant_of-result c =
+    let vs : List NamedVertex = c.self.inside.vertices.items in
+    let are : c.in-Ok.vertices.items ≡ map dual_vertex vs = c.in-Ok.ensures ∙ ap (map dual_vertex) c.deref.ensures.value in
+    let has : Contains (priorities_of vs) 65536 → ⊥ = λ h. let yes = subst IsTrue c.if-is_at_limit.false (c.is_at_limit.ensures.1 (subst IsAtLimit c.self.view_is h)) in absurd cc in
+    let ids = c.in-Ok-identifiers.ensures ∙ ap vertex_ids c.deref-2.ensures.value ∙ sym (dual_ids vs) ∙ sym (ap vertex_ids are) in (
+      subst (λ (xs : List NamedVertex). IsGame (record { vertices = xs; features = c.self.inside.features })) (sym are)
+          (is_dual (record { vertices = vs; features = c.self.inside.features }) c.self.invariant.0 has),
+      ids,
+      c.self.invariant.3 ∙ sym (dual_top vs) ∙ ap (λ (xs : List NamedVertex). top_in (priorities_of xs)) (sym are),
+      c.self.invariant.2 ∙ sym (dual_of_dual_top vs) ∙ ap (λ (xs : List NamedVertex). dual_top_in (priorities_of xs)) (sym are),
+    )

@@ -1,0 +1,183 @@
+//! The game that entries spell.
+ghost use Rattle.std.specs.Prelude.{◌≡◌, ◌+◌, ◌<◌, ◌≤◌, ◌^◌, ℕ, [], length, map, IfOk, IfErr, slice_index_or};
+ghost use Rattle.vpg_guards.specs.View.{formula_of};
+ghost use Rattle.vpg_game.specs.Spelled.{SpelledEntry};
+ghost use Rattle.vpg_game.specs.Game.{entry_ids, entry_priorities, AreDistinct, joined_edges, join_edge, AllHeld, AllFound, vertex_of, game_of, AreSound};
+ghost use Rattle.vpg_game.specs.Building.{IsNumberingFault, IsJoiningFault, IsResolvingFault, IsMakingFault, IsLimited, ArePlaces};
+
+use crate::entry::{Entry, Successor};
+use crate::fault::GameFault;
+use crate::game::GuardedGame;
+use crate::levels::top_within_limit;
+use crate::vertex::{Edge, Vertex};
+use indexmap::IndexSet;
+use std::alloc::{AllocError, Global};
+use std::mem;
+use vpg_guards::Guard;
+
+/// The identifiers of entries, in order.
+fn numbered(alloc: Global, entries: &[Entry]) -> Result<IndexSet<u32>, GameFault>
+    ensures ok { IfOk result (λ ids. (ids.keys ≡ entry_ids entries.now) × AreDistinct ids.keys) }
+    ensures err { IfErr result (IsNumberingFault (entry_ids entries.now)) }
+{
+    let Ok(mut ids) = IndexSet::with_capacity(alloc, entries.len()) else {
+        return Err(GameFault::Memory);
+    };
+    for entry in entries {
+        match ids.insert(entry.id) {
+            Ok(true) => {}
+            Ok(false) => return Err(GameFault::DoubleVertex { id: entry.id }),
+            Err(_) => return Err(GameFault::Memory),
+        }
+    }
+    Ok(ids)
+}
+
+/// The edges that the successors of an entry name. `places` is room for one number per vertex.
+fn joined(
+    alloc: Global,
+    ids: &IndexSet<u32>,
+    successors: Vec<Successor>,
+    places: &mut [usize],
+) -> Result<Vec<Edge>, GameFault>
+    requires same { length places.old ≡ length ids.now.keys }
+    requires small { length places.old ≤ 2 ^ 32 }
+    ensures ok { IfOk result (λ edges. edges.items ≡ joined_edges ids.now.keys [] successors.items) }
+    ensures found { IfOk result (λ edges. AllHeld ids.now.keys successors.items) }
+    ensures err { IfErr result (IsJoiningFault ids.now.keys successors.items) }
+{
+    let mut edges = Vec::new(alloc);
+    for successor in successors {
+        let Successor { id, guard } = successor;
+        let Some(to) = ids.get_index_of(&id) else {
+            return Err(GameFault::MissingVertex { id });
+        };
+        let Ok(_) = join(alloc, &mut edges, places, to, guard) else {
+            return Err(GameFault::Memory);
+        };
+    }
+    Ok(edges)
+}
+
+/// Adds an edge, or joins its guard to the edge that has its target. `places` has the place of each edge, by target.
+fn join(
+    alloc: Global,
+    edges: &mut Vec<Edge>,
+    places: &mut [usize],
+    to: usize,
+    guard: Guard,
+) -> Result<(), AllocError>
+    requires within { to < length places.old }
+    requires places { ArePlaces places.old edges.old.items }
+    requires small { length places.old ≤ 2 ^ 32 }
+    ensures edges { IfOk result (λ _. edges.new.items ≡ join_edge edges.old.items (record { to = to; guard = formula_of guard })) }
+    ensures places { IfOk result (λ _. ArePlaces places.new edges.new.items) }
+{
+    let at = places[to];
+    let to_vertex = to as u32;
+    if at < edges.len() && edges[at].to == to_vertex {
+        let edge = mem::replace(
+            &mut edges[at],
+            Edge {
+                to: to_vertex,
+                guard: Guard::Never,
+            },
+        );
+        edges[at] = edge.joined(alloc, guard)?;
+        return Ok(());
+    }
+    places[to] = edges.len();
+    edges.push(Edge {
+        to: to_vertex,
+        guard,
+    })?;
+    Ok(())
+}
+
+/// The vertices that entries spell, their targets looked up.
+fn resolved(
+    alloc: Global,
+    ids: &IndexSet<u32>,
+    entries: Vec<Entry>,
+) -> Result<Vec<Vertex>, GameFault>
+    requires { length ids.now.keys ≤ 2 ^ 32 }
+    ensures ok { IfOk result (λ vertices. vertices.items ≡ map (vertex_of ids.now.keys) entries.items) }
+    ensures found { IfOk result (λ _. AllFound ids.now.keys entries.items) }
+    ensures err { IfErr result (IsResolvingFault ids.now.keys entries.items) }
+{
+    let Ok(mut places) = vec![in alloc; 0usize; ids.len()] else {
+        return Err(GameFault::Memory);
+    };
+    let Ok(mut vertices) = Vec::with_capacity(alloc, entries.len()) else {
+        return Err(GameFault::Memory);
+    };
+    for entry in entries {
+        let Entry {
+            id,
+            priority,
+            owner,
+            successors,
+        } = entry;
+        let edges = joined(alloc, ids, successors, &mut places)?;
+        let Ok(_) = vertices.push(Vertex {
+            id,
+            owner,
+            priority,
+            edges,
+        }) else {
+            return Err(GameFault::Memory);
+        };
+    }
+    Ok(vertices)
+}
+
+/// The priorities of entries, and those of the dual game.
+fn priorities(alloc: Global, entries: &[Entry]) -> Result<(Vec<u32>, Vec<u32>), AllocError>
+    requires { (i : ℕ) → (e : SpelledEntry) → i < length entries.now → e ≡ slice_index_or entries.now i e → e.priority < 65536 }
+    ensures own { IfOk result (λ v. v.0.items ≡ entry_priorities entries.now) }
+    ensures dual { IfOk result (λ v. v.1.items ≡ map (λ p. p + 1) (entry_priorities entries.now)) }
+{
+    let mut own = Vec::with_capacity(alloc, entries.len())?;
+    let mut dual = Vec::with_capacity(alloc, entries.len())?;
+    for entry in entries {
+        own.push(entry.priority)?;
+        dual.push(entry.priority + 1)?;
+    }
+    Ok((own, dual))
+}
+
+/// The game that entries spell.
+pub(crate) fn make(
+    alloc: Global,
+    entries: Vec<Entry>,
+    features: usize,
+) -> Result<GuardedGame, GameFault>
+    requires { IsLimited features entries.items }
+    ensures ok { IfOk result (λ game. game ≡ game_of features entries.items) }
+    ensures sound { IfOk result (λ _. AreSound entries.items) }
+    ensures err { IfErr result (IsMakingFault entries.items) }
+{
+    let ids = numbered(alloc, &entries)?;
+    let Ok((own, dual)) = priorities(alloc, &entries) else {
+        return Err(GameFault::Memory);
+    };
+    let vertices = resolved(alloc, &ids, entries)?;
+    let Ok(top) = top_within_limit(alloc, &own) else {
+        return Err(GameFault::Memory);
+    };
+    let Ok(dual_top) = top_within_limit(alloc, &dual) else {
+        return Err(GameFault::Memory);
+    };
+    let Some(top) = top else {
+        return Err(GameFault::TooWide);
+    };
+    let Some(dual_top) = dual_top else {
+        return Err(GameFault::TooWide);
+    };
+    Ok(GuardedGame {
+        ids,
+        vertices,
+        features,
+        tops: (top, dual_top),
+    })
+}
