@@ -14,6 +14,7 @@ pub mod NumberVerdicts
 pub mod Numbers
 pub mod Order
 pub mod Plays
+pub mod Priorities
 pub mod Products
 pub mod Prog
 pub mod Progs

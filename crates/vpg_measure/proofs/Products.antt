@@ -7,24 +7,7 @@ use Rattle.std.proofs.lemmas.List.{get_or_append_left, get_or_push, length_push,
 use Rattle.vpg_game.specs.declared.levels.Level.{Level}
 use Rattle.vpg_game.specs.Levels.{is_odd, count_of, levels_below, bound_of, levels_of, top_of, lower_levels, product_below, AreWeights, AreOddCounts}
 use Rattle.vpg_measure.specs.NumberLaws.{WeightsAreProducts}
-use Rattle.vpg_measure.proofs.Numbers.{top_pos}
-
--- the product of the levels below p is over all odd priorities below p
-pub top-levels_below : (p : ℕ) (ps : List ℕ) → top_of (levels_below p ps) ≡ product_below p ps
-top-levels_below zero ps = refl
-top-levels_below (suc p) ps = step (is_odd p) (nat_lt 0 (count_of p ps)) refl (top-levels_below p ps)
-  where
-    step : (odd some : Bool) → nat_lt 0 (count_of p ps) ≡ some → top_of (levels_below p ps) ≡ product_below p ps →
-        top_of (cond (odd && some) (record { priority = p; count = count_of p ps } ∷ levels_below p ps) (levels_below p ps)) ≡
-        cond odd ((count_of p ps + 1) * product_below p ps) (product_below p ps)
-    step true true e h = ap (λ t. (count_of p ps + 1) * t) h
-    step true false e h =
-        let none : count_of p ps ≡ 0 = omega (arith, ltb-false 0 (count_of p ps) e) in
-        rw none (h ∙ omega arith)
-    step false some e h = h
-
-pub product_pos : (p : ℕ) (ps : List ℕ) → 0 < product_below p ps
-product_pos p ps = subst (λ t. 0 < t) (top-levels_below p ps) (top_pos (levels_below p ps))
+use Rattle.vpg_game.proofs.Products.{top-levels_below, product-beyond, top-levels, product_more}
 
 -- the levels below p of those below b
 lower-above : (p b : ℕ) (ps : List ℕ) → b ≤ p → lower_levels p (levels_below b ps) ≡ levels_below b ps
@@ -49,76 +32,13 @@ lower-below p (suc b) ps h = elim (cases_lt b p) [
     step true less e = cond-true (nat_le p b) (lower_levels p (levels_below b ps)) _ (le-leb p b less) ∙ e
     step false less e = e
 
--- no priority occurs from the bound on
-count-beyond : (p : ℕ) (ps : List ℕ) → bound_of ps ≤ p → count_of p ps ≡ 0
-count-beyond p [] h = refl
-count-beyond p (q ∷ ps) h =
-    sum_by-cons (λ x. cond (x == p) 1 0) q ps
-    ∙ ap (λ b. cond b 1 0 + count_of p ps) (ne_eqb q p (λ e. omega arith))
-    ∙ zero-add (count_of p ps)
-    ∙ count-beyond p ps (omega arith)
-
-product-step : (p : ℕ) (ps : List ℕ) → count_of p ps ≡ 0 → product_below (suc p) ps ≡ product_below p ps
-product-step p ps none = step (is_odd p)
-  where
-    step : (odd : Bool) → cond odd ((count_of p ps + 1) * product_below p ps) (product_below p ps) ≡ product_below p ps
-    step true = rw none (omega arith)
-    step false = refl
-
--- and so products stay the same from the bound on
-pub product-beyond : (p : ℕ) (ps : List ℕ) → bound_of ps ≤ p → product_below p ps ≡ product_below (bound_of ps) ps
-product-beyond zero ps h = (let e : bound_of ps ≡ 0 = omega arith in rw e refl)
-product-beyond (suc p) ps h = elim (cases_lt p (bound_of ps)) [
-  | inl less ↦ (let e : suc p ≡ bound_of ps = omega arith in ap (λ b. product_below b ps) e)
-  | inr more ↦ product-step p ps (count-beyond p ps more) ∙ product-beyond p ps more
-]
-
-pub top-levels : (ps : List ℕ) → top_of (levels_of ps) ≡ product_below (bound_of ps) ps
-top-levels ps = top-levels_below (bound_of ps) ps
-
 pub weights_are_products : WeightsAreProducts
 weights_are_products ps p = elim (cases_lt p (bound_of ps)) [
   | inl less ↦ ap top_of (lower-below p (bound_of ps) ps (omega arith)) ∙ top-levels_below p ps
   | inr more ↦ ap top_of (lower-above p (bound_of ps) ps more) ∙ top-levels ps ∙ sym (product-beyond p ps more)
 ]
 
--- products grow
-pub product_step_le : (p : ℕ) (ps : List ℕ) → product_below p ps ≤ product_below (suc p) ps
-product_step_le p ps = step (is_odd p)
-  where
-    step : (odd : Bool) → product_below p ps ≤ cond odd ((count_of p ps + 1) * product_below p ps) (product_below p ps)
-    step true = omega (arith, mul-le-mul_right {m = 1} {n = count_of p ps + 1} (product_below p ps) (omega arith))
-    step false = omega arith
-
-pub product_le : (p b : ℕ) (ps : List ℕ) → p ≤ b → product_below p ps ≤ product_below b ps
-product_le p zero ps h = (let e : p ≡ 0 = omega arith in rw e (omega arith))
-product_le p (suc b) ps h = elim (cases_lt b p) [
-  | inl more ↦ (let e : p ≡ suc b = omega arith in rw e (omega arith))
-  | inr less ↦ omega (arith, product_le p b ps less, product_step_le b ps)
-]
-
 -- ---- steps of the loops that count and multiply
-
--- each priority is below the bound
-pub get_or-lt-bound : (ps : List ℕ) (i : ℕ) → i < length ps → get_or ps i 0 < bound_of ps
-get_or-lt-bound [] i h = absurd (omega arith)
-get_or-lt-bound (p ∷ ps) zero h = omega arith
-get_or-lt-bound (p ∷ ps) (suc i) h = omega (arith, get_or-lt-bound ps i (omega arith))
-
-pub odd_count-le : (p i x : ℕ) (ps : List ℕ) → x ≡ cond (is_odd p) (count_of p (take i ps)) 0 → x ≤ i
-odd_count-le p i x ps e = step (is_odd p) e
-  where
-    step : (odd : Bool) → x ≡ cond odd (count_of p (take i ps)) 0 → x ≤ i
-    step true e = omega (arith, count_by-le-length (λ q. q == p) (take i ps), length-take i ps)
-    step false e = omega arith
-
-pub product_more : (p x : ℕ) (ps : List ℕ) → x ≡ cond (is_odd p) (count_of p ps) 0 → product_below (p + 1) ps ≡ (x + 1) * product_below p ps
-product_more p x ps e = rw add-one (step (is_odd p) e)
-  where
-    step : (odd : Bool) → x ≡ cond odd (count_of p ps) 0 →
-        cond odd ((count_of p ps + 1) * product_below p ps) (product_below p ps) ≡ (x + 1) * product_below p ps
-    step true e = rw e refl
-    step false e = rw e (omega arith)
 
 -- a priority whose odd count is positive is a level, and one whose odd count is zero is none
 pub levels_more : (p x : ℕ) (ps : List ℕ) → x ≡ cond (is_odd p) (count_of p ps) 0 → 0 < x →
@@ -149,25 +69,6 @@ weights_made ps ls ws top made small greatest len each = rw made (record {
   each = λ p h. each p h ∙ sym (weights_are_products ps p);
   beyond = λ p h. weights_are_products ps p ∙ product-beyond p ps (omega arith) ∙ sym (top-levels ps);
 })
-
--- the next product, by the counts
-pub product_next : (ps counts : List ℕ) (i : ℕ) → AreOddCounts ps counts → i < length counts →
-    product_below (i + 1) ps ≡ (get_or counts i 0 + 1) * product_below i ps
-product_next ps counts i h within = product_more i (get_or counts i 0) ps (h.each i within)
-
-pub product_within : (ps counts : List ℕ) (i : ℕ) → AreOddCounts ps counts → i < length counts →
-    (get_or counts i 0 + 1) * product_below i ps ≤ top_of (levels_of ps)
-product_within ps counts i h within =
-    omega (arith, product_next ps counts i h within, product_le (i + 1) (bound_of ps) ps (omega (arith, h.len)), top-levels ps)
-
--- a quotient of the limit that is no more than the count shows that the top is above the limit
-pub too_wide : (ps counts : List ℕ) (i top limit : ℕ) → AreOddCounts ps counts → i < length counts → top ≡ product_below i ps →
-    limit / top ≤ get_or counts i 0 → top_of (levels_of ps) ≤ limit → ⊥
-too_wide ps counts i top limit h within e more small =
-    let pos : 0 < top = rw e (product_pos i ps) in
-    let above = (div-lt_iff_lt-mul {k = top} {x = limit} {y = get_or counts i 0 + 1} pos).0 (omega arith) in
-    let most = product_within ps counts i h within in
-    absurd (omega (arith, rw (← e) at most))
 
 -- what a push on the weights leaves
 pub pushed_weight : (ps ws : List ℕ) (i x : ℕ) → length ws ≡ i + 1 → x ≡ product_below (i + 1) ps →

@@ -1,12 +1,15 @@
-ghost use Rattle.std.specs.Prelude.{◌≡◌, ℕ, ◌+◌, ◌*◌, ◌/◌, ◌%◌, ◌^◌, ◌<◌, ◌≤◌, List, length, IfOk, SomeIff, vec_len};
-ghost use Rattle.vpg_game.specs.Levels.{top_of, weight_of, levels_of, prog_of, bound_of, AreOddCounts};
+//! Shapes: the odd priorities of a game, and the numbers of its measures.
 
+ghost use Rattle.std.specs.Prelude.{◌≡◌, ◌+◌, ◌≤◌, IfOk, map};
+ghost use Rattle.vpg_game.specs.Game.{graph_of};
+ghost use Rattle.vpg_game.specs.Guarded.{guarded_priorities};
+ghost use Rattle.vpg_game.specs.Levels.{top_of, weight_of, levels_of, prog_of};
+ghost use Rattle.vpg_measure.specs.TwoGames.{levels_for};
+
+use crate::which::Which;
 use std::alloc::{AllocError, Global};
 use std::marker::Model;
-use vpg_game::Level;
-
-/// The greatest number of a top measure.
-pub const TOP_LIMIT: u64 = 4_611_686_018_427_387_904;
+use vpg_game::{GuardedGame, Level, TOP_LIMIT, odd_counts};
 
 /// The levels of a game, greatest priority first.
 #[derive(Drop)]
@@ -30,50 +33,39 @@ impl Model for Shape {
     ghost invariant = { λ s. AreWeights (reverse s.levels.items) s.weights.items s.top };
 }
 
-// One more than the greatest.
-fn bound(priorities: &[u32]) -> usize
-    ensures bound { result ≡ bound_of priorities.now }
-    ensures limit { result ≤ 2 ^ 32 }
+// The priorities of a game, each raised by the same number.
+fn priorities(alloc: Global, game: &GuardedGame, raise: u32) -> Result<Vec<u32>, AllocError>
+    requires { raise ≤ 1 }
+    ensures priorities { IfOk result (λ priorities. priorities.items ≡ map (λ p. p + raise) (guarded_priorities (graph_of game.now))) }
+    ensures limit { IfOk result (λ priorities. top_of (levels_of priorities.items) ≤ TOP_LIMIT) }
 {
-    let mut bound = 0;
-    for p in priorities {
-        bound = bound.max(*p as usize + 1);
+    let vertices = game.vertices();
+    let mut priorities = Vec::with_capacity(alloc, vertices)?;
+    for v in 0..vertices as u32 {
+        priorities.push(game.priority(v) + raise)?;
     }
-    bound
-}
-
-// How often each odd priority occurs, by priority.
-fn odd_counts(alloc: Global, priorities: &[u32]) -> Result<Vec<u64>, AllocError>
-    ensures counts { IfOk result (λ counts. AreOddCounts priorities.now counts.items) }
-    ensures limit { IfOk result (λ counts. vec_len counts ≤ 2 ^ 32) }
-{
-    let mut counts = vec![in alloc; 0u64; bound(priorities)]?;
-    for p in priorities {
-        if *p % 2 == 1 {
-            counts[*p as usize] += 1;
-        }
-    }
-    Ok(counts)
-}
-
-/// The number of the top measure over these priorities, where it is within the limit.
-pub fn top_within_limit(alloc: Global, priorities: &[u32]) -> Result<Option<u64>, AllocError>
-    ensures { IfOk result (λ top. SomeIff top (top_of (levels_of priorities.now) ≤ TOP_LIMIT) (top_of (levels_of priorities.now))) }
-{
-    let counts = odd_counts(alloc, priorities)?;
-    let mut top = 1;
-    for count in &counts {
-        if TOP_LIMIT / top <= *count {
-            return Ok(None);
-        }
-        top *= *count + 1;
-    }
-    Ok(Some(top))
+    Ok(priorities)
 }
 
 impl Shape {
-    /// The levels of a game whose vertices have these priorities.
-    pub fn of(alloc: Global, priorities: &[u32]) -> Result<Shape, AllocError>
+    /// The shape of the measures of a game.
+    pub fn of(alloc: Global, game: &GuardedGame) -> Result<Shape, AllocError>
+        ensures { IfOk result (λ shape. shape ≡ levels_for Which.Hopeful (graph_of game.now)) }
+    {
+        let priorities = priorities(alloc, game, 0)?;
+        Shape::over(alloc, &priorities)
+    }
+
+    /// The shape of the measures of its dual, which is not built.
+    pub fn of_dual(alloc: Global, game: &GuardedGame) -> Result<Shape, AllocError>
+        ensures { IfOk result (λ shape. shape ≡ levels_for Which.Dual (graph_of game.now)) }
+    {
+        let priorities = priorities(alloc, game, 1)?;
+        Shape::over(alloc, &priorities)
+    }
+
+    /// The shape over the priorities of some vertices.
+    pub(crate) fn over(alloc: Global, priorities: &[u32]) -> Result<Shape, AllocError>
         requires { top_of (levels_of priorities.now) ≤ TOP_LIMIT }
         ensures { IfOk result (λ shape. shape ≡ levels_of priorities.now) }
     {
