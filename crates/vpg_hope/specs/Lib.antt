@@ -3,5 +3,7 @@ pub mod Comparison
 pub mod Games
 pub mod Hope
 pub mod Laws
+pub mod Plain
+pub mod PlainParts
 pub mod Selection
 pub mod Strategies

@@ -3,6 +3,8 @@
 
 pub mod arena;
 pub mod laws;
+mod plain;
 mod selection;
 
 pub use arena::Arena;
+pub use plain::PlainGame;
