@@ -1,11 +1,19 @@
 -- The text of a plain game, part by part.
-use Rattle.std.proofs.Common.{ℕ, zero, suc, ◌≡◌, ◌+◌, ◌<◌, ◌≤◌, List, [], ◌∷◌, ◌++◌, length, get_or, drop, map, refl, sym, ap, ◌∙◌, append_assoc, append-nil, codes, decimal, arith}
-use Rattle.std.proofs.lemmas.List.{drop_more, drop_all}
+use Rattle.std.proofs.Common.{ℕ, zero, suc, ◌≡◌, ◌+◌, ◌<◌, ◌≤◌, List, [], ◌∷◌, ◌++◌, length, get_or, slice_get, Some, take, drop, map, refl, sym, ap, ap₂, ◌∙◌, append_assoc, append-nil, codes, decimal, arith}
+use Rattle.std.proofs.lemmas.List.{take_more, drop_more, drop_all}
+use Rattle.std.proofs.lemmas.Option.{slice_get_within, get_or_from_slice_get}
 use Rattle.vpg_game.specs.Game.{NamedVertex, vertex_ids, no_vertex}
 use Rattle.vpg_game.specs.Writing.{edges_part, edges_text, owner_digit, vertex_text, vertices_text, greatest}
 use Rattle.vpg_hope.specs.Games.{Game, owner_of, priority_of, successors_of}
 use Rattle.vpg_hope.specs.Plain.{IdentifiedGame, unguarded, unguarded_edge, plain_text}
 use Rattle.vpg_hope.specs.PlainParts.{marked_text, line_text}
+
+-- one more identifier
+pub ids_more : (ids old new : List ℕ) (v id : ℕ) → old ≡ take v ids → slice_get ids v ≡ Some id → new ≡ old ++ id ∷ [] → new ≡ take (v + 1) ids
+ids_more ids old new v id are here is =
+    is
+    ∙ ap₂ (λ (xs : List ℕ) (x : ℕ). xs ++ x ∷ []) are (sym (get_or_from_slice_get ids v id 0 here))
+    ∙ sym (take_more ids v 0 (slice_get_within ids v id here))
 
 -- ---- the vertices of the guarded game that is written
 

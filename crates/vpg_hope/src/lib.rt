@@ -4,7 +4,9 @@
 pub mod arena;
 pub mod laws;
 mod plain;
+mod projection;
 mod selection;
 
 pub use arena::Arena;
 pub use plain::PlainGame;
+pub use projection::{ProjectFault, project};
