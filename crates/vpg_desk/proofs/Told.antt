@@ -11,7 +11,7 @@ use Rattle.vpg_measure.proofs.NumberGuards.{hopeless_number, sure_number, possib
 use Rattle.vpg_trail.specs.Page.{Which, Hopeful, Dual, Entry, choices_of, value_at, table_of}
 use Rattle.vpg_desk.specs.Book.{IsSettledPage}
 use Rattle.vpg_desk.specs.Lawful.{PageIsBelow}
-use Rattle.vpg_trail.proofs.Entries.{length-table_of, table_of-at}
+use Rattle.vpg_trail.proofs.PageLemmas.{length-table_of, table_of-at}
 use Rattle.vpg_desk.proofs.Below.{settled_is_least}
 use Rattle.vpg_guards.specs.Formula.{Formula, truth}
 use Rattle.vpg_guards.specs.Known.{kleene, AreAllKnown}

@@ -1,0 +1,46 @@
+-- What contracts see of entries, and tables entry by entry.
+use Rattle.std.specs.Prelude.{ℕ, ◌≡◌, ◌<◌, max, slice_index, slice_set, if◌then◌else◌, List, [], ◌∷◌, All, ⊤}
+use Rattle.vpg_measure.specs.declared.which.Which.{Which}
+use Rattle.vpg_measure.specs.declared.which.Which.TheVariants.{Hopeful, Dual}
+use Rattle.vpg_trail.specs.Page.{assumes, same_table, table_of, Entry as Step, Decided, Lifted}
+use Rattle.vpg_trail.specs.declared.entry.Entry.{Entry}
+use Rattle.vpg_trail.specs.declared.entry.Entry.TheVariants.{Decide, Lift}
+
+-- an entry of the code, with the list of what a lift assumed
+abbrev pub entry_of : Entry → Step
+entry_of (Decide d) = Decided d
+entry_of (Lift table vertex old new under) = Lifted (record { table = table; vertex = vertex; old = old; new = new; under = under.value })
+
+-- a lift's vertex is below n
+abbrev pub VertexBelow : ℕ → Step → Type 0
+VertexBelow n (Decided d) = ⊤
+VertexBelow n (Lifted l) = l.vertex < n
+
+-- the entries of a page over that many vertices
+pub record Track : Type 0 where
+  pub vertices : ℕ
+  pub entries : List Step
+
+-- ---- tables with one entry more
+
+abbrev pub after_entry : Which → List ℕ → Step → List ℕ
+after_entry table values (Decided d) = values
+after_entry table values (Lifted l) = if same_table table l.table then slice_set values l.vertex (max (slice_index values l.vertex) l.new) else values
+
+abbrev pub picked : Which → List ℕ → List ℕ → List ℕ
+picked Hopeful hopeful dual = hopeful
+picked Dual hopeful dual = dual
+
+-- the entry with the old value that the tables give, unless it assumed f
+abbrev pub with_old : List ℕ → List ℕ → Step → Step
+with_old hopeful dual (Decided d) = Decided d
+with_old hopeful dual (Lifted l) = Lifted (record l { old = slice_index (picked l.table hopeful dual) l.vertex })
+
+abbrev pub what_stays : ℕ → List ℕ → List ℕ → Step → List Step
+what_stays f hopeful dual e = if assumes f e then [] else with_old hopeful dual e ∷ []
+
+-- the tables are those of the entries
+pub record IsTracked (vertices : ℕ) (entries : List Step) (hopeful dual : List ℕ) : Type 0 where
+  pub below : All (VertexBelow vertices) entries
+  pub hopeful_is : hopeful ≡ table_of Hopeful entries vertices
+  pub dual_is : dual ≡ table_of Dual entries vertices

@@ -1,0 +1,152 @@
+//! What the entries of a page give, and a page by itself.
+ghost use Rattle.std.specs.Prelude.{◌≡◌, ◌+◌, ◌<◌, length, map, take, drop, is_some, IfOk, IfSome};
+ghost use Rattle.vpg_trail.specs.Page.{decisions_of, decision_on, has_decided, before_decision, after_decision};
+
+use crate::entry::Entry;
+use std::alloc::{AllocError, Global};
+use std::marker::Model;
+use vpg_measure::table::Table;
+use vpg_partial::Decision;
+
+/// Decisions in their order.
+#[derive(Drop)]
+pub struct Decisions {
+    items: Vec<Decision>,
+}
+
+impl Model for Decisions {
+    ghost use Rattle.std.specs.Prelude.{List};
+    ghost use Rattle.vpg_partial.specs.declared.decision.Decision.{Decision};
+
+    ghost Value = { List Decision };
+
+    ghost view = { λ d. d.items.items };
+}
+
+impl Decisions {
+    /// Made from a list, without memory.
+    pub fn new(items: Vec<Decision>) -> Decisions
+        ensures { result ≡ items.items }
+    {
+        Decisions { items }
+    }
+
+    /// The list itself.
+    pub fn into_vec(self) -> Vec<Decision>
+        ensures { result.items ≡ self }
+    {
+        self.items
+    }
+
+    pub fn as_slice(&self) -> &[Decision]
+        ensures { result.now ≡ self.now }
+    {
+        self.items.as_slice()
+    }
+}
+
+/// Entries in their order; contracts see what they assume as lists.
+#[derive(Drop)]
+pub struct Entries {
+    items: Vec<Entry>,
+}
+
+impl Model for Entries {
+    ghost use Rattle.std.specs.Prelude.{List, map};
+    ghost use Rattle.vpg_trail.specs.Page.{Entry as Step};
+    ghost use Rattle.vpg_trail.specs.Shown.{entry_of};
+
+    ghost Value = { List Step };
+
+    ghost view = { λ e. map entry_of e.items.items };
+}
+
+impl Entries {
+    ghost use Rattle.vpg_trail.specs.Shown.{entry_of};
+
+    /// Made from a list, without memory.
+    pub fn new(items: Vec<Entry>) -> Entries
+        ensures { result ≡ map entry_of items.items }
+    {
+        Entries { items }
+    }
+
+    /// The list itself.
+    pub fn into_vec(self) -> Vec<Entry>
+        ensures { map entry_of result.items ≡ self }
+    {
+        self.items
+    }
+
+    pub fn as_slice(&self) -> &[Entry]
+        ensures { map entry_of result.now ≡ self.now }
+    {
+        self.items.as_slice()
+    }
+
+    /// The same entries; what they assume is shared.
+    pub fn copy_of(alloc: Global, entries: &[Entry]) -> Result<Entries, AllocError>
+        ensures { IfOk result (λ copy. copy ≡ map entry_of entries.now) }
+    {
+        let mut items = Vec::with_capacity(alloc, entries.len())?;
+        for entry in entries {
+            items.push(entry.copy()?)?;
+        }
+        Ok(Entries { items })
+    }
+}
+
+/// A page by itself: its decisions, its two tables, and the entries that give them.
+#[derive(Drop)]
+pub struct Page {
+    pub decisions: Decisions,
+    pub hopeful: Table,
+    pub dual: Table,
+    pub entries: Entries,
+}
+
+ghost use Rattle.vpg_trail.specs.Shown.{entry_of};
+
+/// The decisions among the entries, in their order.
+pub fn decisions_among(alloc: Global, entries: &[Entry]) -> Result<Vec<Decision>, AllocError>
+    ensures { IfOk result (λ ds. ds.items ≡ decisions_of (map entry_of entries.now)) }
+{
+    let mut decisions = Vec::new(alloc);
+    for entry in entries {
+        if let Entry::Decide(decision) = entry {
+            decisions.push(*decision)?;
+        }
+    }
+    Ok(decisions)
+}
+
+/// The decision on a feature.
+pub fn decided(entries: &[Entry], feature: u16) -> Option<Decision>
+    ensures { result ≡ decision_on feature (map entry_of entries.now) }
+{
+    for entry in entries {
+        if let Entry::Decide(decision) = entry {
+            if decision.feature == feature {
+                return Some(*decision);
+            }
+        }
+    }
+    None
+}
+
+/// The place of the decision on a feature.
+pub fn place_of(entries: &[Entry], feature: u16) -> Option<usize>
+    ensures decided { is_some result ≡ has_decided feature (map entry_of entries.now) }
+    ensures place { IfSome result (λ place. place < length entries.now) }
+    ensures before { IfSome result (λ place. map entry_of (take place entries.now) ≡ before_decision feature (map entry_of entries.now)) }
+    ensures after { IfSome result (λ place. map entry_of (drop (place + 1) entries.now) ≡ after_decision feature (map entry_of entries.now)) }
+{
+    for place in 0..entries.len() {
+        if let Entry::Decide(decision) = &entries[place] {
+            if decision.feature == feature {
+                return Some(place);
+            }
+        }
+    }
+    None
+}

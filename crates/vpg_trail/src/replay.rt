@@ -1,0 +1,65 @@
+//! The tables that entries give.
+ghost use Rattle.std.specs.Prelude.{List, ◌≡◌, ◌++◌, ◌<◌, max, length, map, replicate, slice_index, slice_set, All, IfOk};
+ghost use Rattle.vpg_trail.specs.Page.{Hopeful, Dual, table_of, Entry as Step};
+ghost use Rattle.vpg_trail.specs.Shown.{entry_of, VertexBelow, after_entry};
+
+use crate::entry::Entry;
+use std::alloc::{AllocError, Global};
+use vpg_measure::table::Table;
+use vpg_measure::which::Which;
+
+/// Raises a value.
+fn raise(values: &mut Table, vertex: u32, new: u64)
+    requires { vertex < length values.old }
+    ensures { values.new ≡ slice_set values.old vertex (max (slice_index values.old vertex) new) }
+{
+    let old = values.get(vertex);
+    values.set(vertex, old.max(new));
+}
+
+/// The two tables after one entry more.
+pub(crate) fn take_in(hopeful: &mut Table, dual: &mut Table, entry: &Entry)
+    requires hopeful { VertexBelow (length hopeful.old) (entry_of entry.now) }
+    requires dual { VertexBelow (length dual.old) (entry_of entry.now) }
+    ensures hopeful { hopeful.new ≡ after_entry Hopeful hopeful.old (entry_of entry.now) }
+    ensures dual { dual.new ≡ after_entry Dual dual.old (entry_of entry.now) }
+    ensures hopeful_len { length hopeful.new ≡ length hopeful.old }
+    ensures dual_len { length dual.new ≡ length dual.old }
+{
+    match entry {
+        Entry::Decide(_) => {}
+        Entry::Lift {
+            table,
+            vertex,
+            new,
+            ..
+        } => match table {
+            Which::Hopeful => raise(hopeful, *vertex, *new),
+            Which::Dual => raise(dual, *vertex, *new),
+        },
+    }
+}
+
+/// The two tables of a page after further entries.
+pub(crate) fn take_all(entries: &[Entry], hopeful: &mut Table, dual: &mut Table, vertices: u32)
+    requires below { All (λ e. VertexBelow vertices (entry_of e)) entries.now }
+    requires hopeful_len { length hopeful.old ≡ vertices }
+    requires dual_len { length dual.old ≡ vertices }
+    ensures hopeful { (page : List Step) → hopeful.old ≡ table_of Hopeful page vertices → hopeful.new ≡ table_of Hopeful (page ++ map entry_of entries.now) vertices }
+    ensures dual { (page : List Step) → dual.old ≡ table_of Dual page vertices → dual.new ≡ table_of Dual (page ++ map entry_of entries.now) vertices }
+{
+    for entry in entries {
+        take_in(hopeful, dual, entry);
+    }
+}
+
+/// The two tables that entries give, over tables of zeros.
+pub(crate) fn replay(entries: &[Entry], hopeful: &mut Table, dual: &mut Table, vertices: u32)
+    requires below { All (λ e. VertexBelow vertices (entry_of e)) entries.now }
+    requires hopeful_zeros { hopeful.old ≡ replicate vertices 0 }
+    requires dual_zeros { dual.old ≡ replicate vertices 0 }
+    ensures hopeful { hopeful.new ≡ table_of Hopeful (map entry_of entries.now) vertices }
+    ensures dual { dual.new ≡ table_of Dual (map entry_of entries.now) vertices }
+{
+    take_all(entries, hopeful, dual, vertices);
+}

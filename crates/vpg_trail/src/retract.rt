@@ -1,0 +1,78 @@
+//! What stays of a page once a decision is retracted.
+ghost use Rattle.std.specs.Prelude.{◌≡◌, ◌+◌, ◌<◌, length, map, filter, not, take, drop, replicate, All, option_to_list, IfOk, IfSome};
+ghost use Rattle.vpg_trail.specs.Page.{Hopeful, Dual, assumes as assumes_of, reset_all};
+ghost use Rattle.vpg_trail.specs.Shown.{entry_of, VertexBelow, what_stays};
+
+use crate::entry::Entry;
+use crate::replay::{replay, take_in};
+use std::alloc::{AllocError, Global};
+use vpg_measure::table::Table;
+use vpg_measure::which::Which;
+
+/// What stays of an entry: nothing of a lift that assumed the feature, else the entry with the old value that the tables
+/// give.
+fn reset_entry(
+    entry: &Entry,
+    feature: u16,
+    hopeful: &Table,
+    dual: &Table,
+) -> Result<Option<Entry>, AllocError>
+    requires hopeful { VertexBelow (length hopeful.now) (entry_of entry.now) }
+    requires dual { VertexBelow (length dual.now) (entry_of entry.now) }
+    ensures stays { IfOk result (λ stays. map entry_of (option_to_list stays) ≡ what_stays feature hopeful.now dual.now (entry_of entry.now)) }
+    ensures hopeful { IfOk result (λ stays. IfSome stays (λ e. VertexBelow (length hopeful.now) (entry_of e))) }
+    ensures dual { IfOk result (λ stays. IfSome stays (λ e. VertexBelow (length dual.now) (entry_of e))) }
+{
+    match entry {
+        Entry::Decide(decision) => Ok(Some(Entry::Decide(*decision))),
+        Entry::Lift {
+            table,
+            vertex,
+            new,
+            under,
+            ..
+        } => {
+            if under.has(feature) {
+                return Ok(None);
+            }
+            let old = match table {
+                Which::Hopeful => hopeful.get(*vertex),
+                Which::Dual => dual.get(*vertex),
+            };
+            Ok(Some(Entry::Lift {
+                table: *table,
+                vertex: *vertex,
+                old,
+                new: *new,
+                under: under.clone()?,
+            }))
+        }
+    }
+}
+
+/// What stands after the decision at `place`, on this feature, once it is retracted: the later entries in their order,
+/// without each lift that assumed the feature, with the old values that the entries now before them give.
+pub fn kept_after(
+    alloc: Global,
+    entries: &[Entry],
+    place: usize,
+    feature: u16,
+    vertices: u32,
+) -> Result<Vec<Entry>, AllocError>
+    requires place { place < length entries.now }
+    requires vertices { All (λ e. VertexBelow vertices (entry_of e)) entries.now }
+    ensures kept { IfOk result (λ kept. map entry_of kept.items ≡ reset_all (map entry_of (take place entries.now)) (filter (λ e. not (assumes_of feature e)) (map entry_of (drop (place + 1) entries.now)))) }
+    ensures vertices { IfOk result (λ kept. All (λ e. VertexBelow vertices (entry_of e)) kept.items) }
+{
+    let mut hopeful = Table::zero(alloc, vertices)?;
+    let mut dual = Table::zero(alloc, vertices)?;
+    replay(&entries[..place], &mut hopeful, &mut dual, vertices);
+    let mut kept = Vec::new(alloc);
+    for entry in &entries[place + 1..] {
+        if let Some(stays) = reset_entry(entry, feature, &hopeful, &dual)? {
+            take_in(&mut hopeful, &mut dual, &stays);
+            kept.push(stays)?;
+        }
+    }
+    Ok(kept)
+}
