@@ -10,3 +10,4 @@ pub mod Made
 pub mod Answered
 pub mod DualGames
 pub mod Graphs
+pub mod Written

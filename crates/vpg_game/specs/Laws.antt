@@ -5,11 +5,16 @@ use Rattle.vpg_guards.specs.Names.{AreNames}
 use Rattle.vpg_guards.specs.Writing.{IsReadable}
 use Rattle.vpg_game.specs.Guarded.{GuardedGame, IsClosedGuarded, AllGuards, guarded_priorities, dual}
 use Rattle.vpg_game.specs.Levels.{levels_of, top_of}
-use Rattle.vpg_game.specs.Game.{NamedGame, IsGame, SpellsGame, graph_of, dual_of, priorities_of}
+use Rattle.vpg_game.specs.Game.{NamedGame, IsGame, IsAtLimit, SpellsGame, graph_of, dual_of, priorities_of}
+use Rattle.vpg_game.specs.Writing.{game_text}
 
 -- a text spells one game at most
 abbrev pub TextsSpellOneGame : Type 0
 TextsSpellOneGame = (names : List (List ℕ)) (text : List ℕ) (g h : NamedGame) → AreNames names → SpellsGame names text g → SpellsGame names text h → g ≡ h
+
+-- what is written spells the game, where no priority is at the limit
+abbrev pub WritingsSpellTheGame : Type 0
+WritingsSpellTheGame = (names : List (List ℕ)) (game : NamedGame) → AreNames names → length names ≡ game.features → IsGame game → ¬ IsAtLimit game → SpellsGame names (game_text names game) game
 
 -- what the graph of every game keeps
 pub record IsGraph (features : ℕ) (graph : GuardedGame Formula) : Type 0 where

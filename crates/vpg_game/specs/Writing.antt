@@ -18,23 +18,18 @@ target_id vs e = (slice_index_or vs e.to no_vertex).id
 abbrev pub edge_text : List (List ℕ) → List NamedVertex → GuardedEdge Formula → List ℕ
 edge_text names vs e = decimal (target_id vs e) ++ guard_part names e.guard
 
--- joined by `,`
-abbrev pub edges_text : List (List ℕ) → List NamedVertex → List (GuardedEdge Formula) → List ℕ
-edges_text names vs [] = []
-edges_text names vs (e ∷ []) = edge_text names vs e
-edges_text names vs (e ∷ f ∷ es) = edge_text names vs e ++ 44 ∷ edges_text names vs (f ∷ es)
-
--- a blank before the successors, where there are any
-abbrev pub edges_part : List (List ℕ) → List NamedVertex → List (GuardedEdge Formula) → List ℕ
-edges_part names vs [] = []
-edges_part names vs (e ∷ es) = 32 ∷ edges_text names vs (e ∷ es)
+-- edges joined by `,`, behind a first byte; nothing where there are none
+abbrev pub edges_behind : List (List ℕ) → List NamedVertex → ℕ → List (GuardedEdge Formula) → List ℕ
+edges_behind names vs sign [] = []
+edges_behind names vs sign (e ∷ es) = sign ∷ (edge_text names vs e ++ edges_behind names vs 44 es)
 
 abbrev pub owner_digit : Player → ℕ
 owner_digit Even = 48
 owner_digit Odd = 49
 
+-- `identifier priority owner`, a blank and the edges where there are any, and `;`
 abbrev pub vertex_text : List (List ℕ) → List NamedVertex → NamedVertex → List ℕ
-vertex_text names vs v = decimal v.id ++ 32 ∷ (decimal v.priority ++ 32 ∷ (owner_digit v.owner ∷ (edges_part names vs v.edges ++ codes ";\n")))
+vertex_text names vs v = decimal v.id ++ 32 ∷ (decimal v.priority ++ 32 ∷ (owner_digit v.owner ∷ (edges_behind names vs 32 v.edges ++ codes ";\n")))
 
 abbrev pub vertices_text : List (List ℕ) → List NamedVertex → List NamedVertex → List ℕ
 vertices_text names vs [] = []
@@ -46,4 +41,5 @@ greatest (n ∷ ns) = max n (greatest ns)
 
 -- `parity`, the greatest identifier, and a line for each vertex
 abbrev pub game_text : List (List ℕ) → NamedGame → List ℕ
-game_text names game = codes "parity " ++ decimal (greatest (vertex_ids game.vertices)) ++ codes ";\n" ++ vertices_text names game.vertices game.vertices
+game_text names game =
+    codes "parity " ++ (decimal (greatest (vertex_ids game.vertices)) ++ (codes ";\n" ++ vertices_text names game.vertices game.vertices))

@@ -1,9 +1,14 @@
 //! Laws of the definitions. Each function does nothing: its contract is the law.
-ghost use Rattle.vpg_game.specs.Laws.{TextsSpellOneGame, GamesHaveGraphs, GraphsAgree};
+ghost use Rattle.vpg_game.specs.Laws.{TextsSpellOneGame, WritingsSpellTheGame, GamesHaveGraphs, GraphsAgree};
 
 /// A text spells one game at most.
 pub fn texts_spell_one_game()
     ensures { TextsSpellOneGame }
+{}
+
+/// What is written spells the game, where no priority is at the limit.
+pub fn writings_spell_the_game()
+    ensures { WritingsSpellTheGame }
 {}
 
 /// In the graph of a game each edge leads to a vertex, each guard names features of the game, and both tops are within the limit.

@@ -11,6 +11,7 @@ mod making;
 mod player;
 mod reading;
 mod vertex;
+mod writing;
 
 pub use fault::{DualFault, GameFault};
 pub use game::{GuardedGame, HIGHEST_PRIORITY};

@@ -1,0 +1,7 @@
+use Rattle.std.proofs.Common.{subst}
+use Rattle.vpg_game.specs.Game.{IsGame}
+use Rattle.vpg_game.proofs.Written.{writings_spell_the_game}
+use Rattle.vpg_game.proofs.game.GuardedGame.write.Goals as goal
+
+pub returns-clause-again : goal.returns-clause-again
+returns-clause-again c none = writings_spell_the_game c.args.names.now c.args.self.now c.len-count.ensures.names c.requires (subst IsGame c.self.view_is c.self.invariant.0) none
