@@ -3,6 +3,7 @@ pub mod Dual
 pub mod Edges
 pub mod Finite
 pub mod Guards
+pub mod Pages
 pub mod PlainTexts
 pub mod Reach
 pub mod Trails

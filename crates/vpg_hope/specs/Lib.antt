@@ -3,6 +3,7 @@ pub mod Comparison
 pub mod Games
 pub mod Hope
 pub mod Laws
+pub mod PageLaws
 pub mod Plain
 pub mod PlainParts
 pub mod Selection
