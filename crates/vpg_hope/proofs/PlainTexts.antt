@@ -3,7 +3,7 @@ use Rattle.std.proofs.Common.{ℕ, zero, suc, ◌≡◌, ◌+◌, ◌<◌, ◌�
 use Rattle.std.proofs.lemmas.List.{take_more, drop_more, drop_all}
 use Rattle.std.proofs.lemmas.Option.{slice_get_within, get_or_from_slice_get}
 use Rattle.vpg_game.specs.Game.{NamedVertex, vertex_ids, no_vertex}
-use Rattle.vpg_game.specs.Writing.{edges_part, edges_text, owner_digit, vertex_text, vertices_text, greatest}
+use Rattle.vpg_game.specs.Writing.{edges_behind, owner_digit, vertex_text, vertices_text, greatest}
 use Rattle.vpg_hope.specs.Games.{Game, owner_of, priority_of, successors_of}
 use Rattle.vpg_hope.specs.Plain.{IdentifiedGame, unguarded, unguarded_edge, plain_text}
 use Rattle.vpg_hope.specs.PlainParts.{marked_text, line_text}
@@ -43,27 +43,20 @@ unguarded_at (id ∷ ids) (vertex ∷ game) (suc v) same less = unguarded_at ids
 
 -- ---- its lines
 
-successors_text : (ids : List ℕ) (game : Game) (w : ℕ) (ws : List ℕ) → length ids ≡ length game →
-    edges_text [] (unguarded ids game) (map unguarded_edge (w ∷ ws)) ≡ decimal (get_or ids w 0) ++ marked_text 44 ids ws
-successors_text ids game w [] same = ap (λ n. decimal n ++ []) (id-unguarded ids game w same)
-successors_text ids game w (x ∷ ws) same = joined (id-unguarded ids game w same) (successors_text ids game x ws same)
+successors_part : (ids : List ℕ) (game : Game) (mark : ℕ) (ws : List ℕ) → length ids ≡ length game → edges_behind [] (unguarded ids game) mark (map unguarded_edge ws) ≡ marked_text mark ids ws
+successors_part ids game mark [] same = refl
+successors_part ids game mark (w ∷ ws) same = joined (id-unguarded ids game w same) (successors_part ids game 44 ws same)
   where
-    joined : (get_or (unguarded ids game) w no_vertex).id ≡ get_or ids w 0 → edges_text [] (unguarded ids game) (map unguarded_edge (x ∷ ws)) ≡ decimal (get_or ids x 0) ++ marked_text 44 ids ws →
-        edges_text [] (unguarded ids game) (map unguarded_edge (w ∷ x ∷ ws)) ≡ decimal (get_or ids w 0) ++ marked_text 44 ids (x ∷ ws)
-    joined e rest =
-        ap (λ (text : List ℕ). text ++ 44 ∷ edges_text [] (unguarded ids game) (map unguarded_edge (x ∷ ws))) (ap (λ n. decimal n ++ []) e ∙ append-nil (decimal (get_or ids w 0)))
-        ∙ ap (λ (text : List ℕ). decimal (get_or ids w 0) ++ 44 ∷ text) rest
-
-successors_part : (ids : List ℕ) (game : Game) (ws : List ℕ) → length ids ≡ length game → edges_part [] (unguarded ids game) (map unguarded_edge ws) ≡ marked_text 32 ids ws
-successors_part ids game [] same = refl
-successors_part ids game (w ∷ ws) same = ap (λ (text : List ℕ). 32 ∷ text) (successors_text ids game w ws same)
+    joined : (get_or (unguarded ids game) w no_vertex).id ≡ get_or ids w 0 → edges_behind [] (unguarded ids game) 44 (map unguarded_edge ws) ≡ marked_text 44 ids ws →
+        edges_behind [] (unguarded ids game) mark (map unguarded_edge (w ∷ ws)) ≡ marked_text mark ids (w ∷ ws)
+    joined e rest = ap₂ (λ (text more : List ℕ). mark ∷ (text ++ more)) (ap (λ n. decimal n ++ []) e ∙ append-nil (decimal (get_or ids w 0))) rest
 
 line_is : (plain : IdentifiedGame) (v : ℕ) → length plain.ids ≡ length plain.game → v < length plain.game →
     line_text plain v ≡ decimal (get_or plain.ids v 0) ++ 32 ∷ (decimal (priority_of plain.game v) ++ 32 ∷ (owner_digit (owner_of plain.game v) ∷ (marked_text 32 plain.ids (successors_of plain.game v) ++ codes ";\n")))
 line_is plain v same less =
     ap (vertex_text [] (unguarded plain.ids plain.game)) (unguarded_at plain.ids plain.game v same less)
     ∙ ap (λ (text : List ℕ). decimal (get_or plain.ids v 0) ++ 32 ∷ (decimal (priority_of plain.game v) ++ 32 ∷ (owner_digit (owner_of plain.game v) ∷ (text ++ codes ";\n"))))
-    (successors_part plain.ids plain.game (successors_of plain.game v) same)
+    (successors_part plain.ids plain.game 32 (successors_of plain.game v) same)
 
 -- what is there after each part of a line
 pub line_put : (plain : IdentifiedGame) (v digit : ℕ) (t t1 t2 t3 t4 t5 t6 t7 id priority marked : List ℕ) → length plain.ids ≡ length plain.game → v < length plain.game →
@@ -87,7 +80,7 @@ line_more plain v t t1 whole same less e left =
     ∙ ap (λ (rest : List NamedVertex). t ++ vertices_text [] vs rest) (sym (drop_more vs v no_vertex within))
     ∙ left
 
-regrouped : (t a n b rest : List ℕ) → t ++ a ++ n ++ b ++ rest ≡ t ++ (a ++ n ++ b ++ rest)
+regrouped : (t a n b rest : List ℕ) → t ++ a ++ n ++ b ++ rest ≡ t ++ (a ++ (n ++ (b ++ rest)))
 regrouped t a n b rest = simp append_assoc
 
 -- the header, then all lines
@@ -104,8 +97,8 @@ whole_put plain v t t1 t2 t3 t4 number same past e1 e2 e3 left en =
     ∙ left
     ∙ headed (vertices_text [] vs vs)
   where
-    headed : (rest : List ℕ) → t3 ++ rest ≡ t ++ (codes "parity " ++ decimal (greatest (vertex_ids (unguarded plain.ids plain.game))) ++ codes ";\n" ++ rest)
+    headed : (rest : List ℕ) → t3 ++ rest ≡ t ++ (codes "parity " ++ (decimal (greatest (vertex_ids (unguarded plain.ids plain.game))) ++ (codes ";\n" ++ rest)))
     headed rest =
         ap (λ (text : List ℕ). text ++ rest) (e3 ∙ ap (λ (text : List ℕ). text ++ codes ";\n") (e2 ∙ ap (λ (text : List ℕ). text ++ number) e1))
         ∙ regrouped t (codes "parity ") number (codes ";\n") rest
-        ∙ ap (λ (n : List ℕ). t ++ (codes "parity " ++ n ++ codes ";\n" ++ rest)) en
+        ∙ ap (λ (n : List ℕ). t ++ (codes "parity " ++ (n ++ (codes ";\n" ++ rest)))) en
