@@ -1,0 +1,27 @@
+use Rattle.std.proofs.lemmas.Result.{err_from_is_err_and}
+use Rattle.vpg_partial.specs.Known.{IsClosed}
+use Rattle.vpg_partial.specs.declared.propagation.Stop.TheVariants.{Contradiction}
+use Rattle.vpg_partial.proofs.TableSteps.{contradicts_before}
+use Rattle.vpg_partial.proofs.WorklistSteps.{advances_more, done_next, all_done, passed_on}
+use Rattle.vpg_partial.proofs.propagation.visit_all.Goals as goal
+
+pub returns-in_err-visit-clause-contradiction : goal.returns-in_err-visit-clause-contradiction
+returns-in_err-visit-clause-contradiction c =
+    let p = err_from_is_err_and c.from_residual.result c.from_residual.ensures.1 in
+    λ e. contradicts_before (IsClosed c.args.clauses.now c.args.counts.now) c.args.known.now c.loop-number.known c.loop-number.invariant.advances.grows
+    (c.visit.ensures.contradiction (passed_on c.from_residual.result c.visit.result c.in_err-visit.field-0.0 p.0 Contradiction p.1 p.2 c.in_err-visit.was e))
+
+pub loop-number-preserved : goal.loop-number-preserved
+loop-number-preserved c =
+    let clauses = c.args.clauses.now in
+    let counts = c.args.counts.now in
+    record {
+      advances = advances_more clauses counts c.args.known.now c.loop-number.known c.visit.new.known c.args.waiting.now.items c.loop-number.waiting.items c.visit.new.waiting.items
+          c.loop-number.invariant.advances c.in_ok-visit.ensures.advances;
+      done = done_next clauses counts c.loop-number.known c.visit.new.known c.loop-number.waiting.items c.visit.new.waiting.items c.loop-number.number
+          c.loop-number.invariant.done c.in_ok-visit.ensures.advances c.in_ok-visit.ensures.done;
+    }
+
+pub returns-clause-done : goal.returns-clause-done
+returns-clause-done c =
+    all_done c.args.clauses.now c.args.counts.now c.loop-number.known c.loop-number.waiting.items c.loop-number.number c.loop-number-test.false c.loop-number.invariant.done
