@@ -1,18 +1,26 @@
 -- Why choices have no table of known features.
-use Rattle.std.specs.Prelude.{ℕ, List, ⊤}
-use Rattle.vpg_diagram.specs.Tally.{Tally}
+use Rattle.std.specs.Prelude.{ℕ, ◌<◌, ◌≤◌, Bool, List, length, take, ⊤}
 use Rattle.vpg_diagram.specs.declared.clause.Literal.{Literal}
+use Rattle.vpg_diagram.specs.FeatureDiagram.{Line}
+use Rattle.vpg_diagram.specs.Clauses.{clauses_of, counts_of}
 use Rattle.vpg_partial.specs.Known.{NamesConflict}
+use Rattle.vpg_partial.specs.KnownLaws.{IsRemaining, HasConflictOf}
 use Rattle.vpg_partial.specs.declared.fault.PartialFault.{PartialFault}
 use Rattle.vpg_partial.specs.declared.fault.PartialFault.TheVariants.{Conflict, Memory}
-use Rattle.vpg_partial.specs.declared.propagation.Stop.{Stop}
-use Rattle.vpg_partial.specs.declared.propagation.Stop.TheVariants.{Contradiction, Memory as NoMemory}
 
--- a conflict is named by the first choice whose front has one; want of memory says nothing of the choices
-abbrev pub IsCloseFault : List (List Literal) → List Tally → List Literal → PartialFault → Type 0
-IsCloseFault clauses counts choices (Conflict feature) = NamesConflict clauses counts choices feature
-IsCloseFault clauses counts choices Memory = ⊤
+-- the conflict has this name; want of memory says nothing of the choices
+abbrev pub IsCloseFault : List Line → List Literal → PartialFault → Type 0
+IsCloseFault lines choices (Conflict feature) = NamesConflict (clauses_of lines) (counts_of lines) choices feature
+IsCloseFault lines choices Memory = ⊤
 
-abbrev pub fault_named : Stop → ℕ → PartialFault
-fault_named Contradiction feature = Conflict feature
-fault_named NoMemory feature = Memory
+-- Of the fronts of the list, the one of this length is the shortest that has a conflict.
+pub record IsShortestConflict (lines : List Line) (choices : List Literal) (front : ℕ) : Type 0 where
+  pub within : front ≤ length choices
+  pub conflict : HasConflictOf lines (take front choices)
+  pub shorter : (fewer : ℕ) → fewer < front → HasConflictOf lines (take fewer choices) → ⊥
+
+-- no product agrees with the shortest front that has a conflict
+abbrev pub LeavesNoProduct : List Line → List Literal → PartialFault → Type 0
+LeavesNoProduct lines choices (Conflict feature) =
+    (front : ℕ) × IsShortestConflict lines choices front × ((features : List Bool) → IsRemaining lines (take front choices) features → ⊥)
+LeavesNoProduct lines choices Memory = ⊤

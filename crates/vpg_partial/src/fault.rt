@@ -1,12 +1,26 @@
 //! Why decisions have no table of what is known.
+ghost use Rattle.std.specs.Prelude.{◌≡◌};
+
+use std::alloc::AllocError;
 use thiserror::Error;
 
 /// Why decisions have no table of what is known.
 #[derive(Clone, Copy, Debug, PartialEq, Eq, Error)]
 pub enum PartialFault {
-    /// A feature is known both ways, from this decision's feature on. Where the diagram alone has a conflict, its root is named.
+    /// The decisions have a conflict. It is named by the first decision up to which they have one, and by the root where
+    /// the diagram alone has one.
     #[error("Conflict {feature}")]
     Conflict { feature: u16 },
     #[error("Memory")]
     Memory,
+}
+
+impl From<AllocError> for PartialFault {
+    ghost use Rattle.vpg_partial.specs.declared.fault.PartialFault.TheVariants.{Memory};
+
+    ghost from_gives = { λ _ fault. fault ≡ Memory };
+
+    fn from(_: AllocError) -> PartialFault {
+        PartialFault::Memory
+    }
 }

@@ -1,11 +1,36 @@
 //! What is known of each feature.
 
-ghost use Rattle.std.specs.Prelude.{◌≡◌, ◌↔◌, ◌<◌, length, IsTrue, slice_index_or};
+ghost use Rattle.std.specs.Prelude.{◌≡◌, ◌↔◌, ◌<◌, List, length, map, true, IsTrue, IsSome, IfOk, IfErr, IfSome, slice_index_or};
 ghost use Rattle.vpg_guards.specs.Known.{AreAllKnown};
 ghost use Rattle.vpg_guards.specs.declared.tri.Tri.TheVariants.{Unknown};
+ghost use Rattle.vpg_diagram.specs.FeatureDiagram.{Line, IsDiagram};
+ghost use Rattle.vpg_diagram.specs.declared.clause.Literal.{Literal};
+ghost use Rattle.vpg_partial.specs.Known.{literal_of};
+ghost use Rattle.vpg_partial.specs.KnownTable.{is_known_as};
+ghost use Rattle.vpg_partial.specs.TableLaws.{AreChoicesOf, IsKnownTable, IsOnlyRemaining};
+ghost use Rattle.vpg_partial.specs.CloseFaults.{IsCloseFault, LeavesNoProduct};
 
+use crate::decision::Decision;
+use crate::fault::PartialFault;
+use crate::index::Index;
+use crate::propagation::decide_all;
+use std::alloc::{AllocError, Global};
 use std::marker::Model;
+use vpg_diagram::Diagram;
 use vpg_guards::Tri;
+
+/// For each value whether it says that the feature is in.
+fn features_in(alloc: Global, values: &[Tri]) -> Result<Vec<bool>, AllocError>
+    ensures { IfOk result (λ features. features.items ≡ map (λ value. is_known_as value true) values.now) }
+{
+    values
+        .iter()
+        .map(|value| match value {
+            Tri::No | Tri::Unknown => false,
+            Tri::Yes => true,
+        })
+        .collect(alloc)
+}
 
 /// What is known of each feature of a diagram, in the diagram's order.
 #[derive(Debug, Drop)]
@@ -23,6 +48,34 @@ impl Model for Partial {
 }
 
 impl Partial {
+    /// What the decisions make known, by the unit rule at each clause of the diagram and the counting rule at each count.
+    pub fn close(
+        alloc: Global,
+        diagram: &Diagram,
+        decisions: &[Decision],
+    ) -> Result<Partial, PartialFault>
+        requires { AreChoicesOf diagram.now.lines (map literal_of decisions.now) }
+        ensures known { IfOk result (IsKnownTable diagram.now.lines (map literal_of decisions.now)) }
+        ensures conflict { IfErr result (IsCloseFault diagram.now.lines (map literal_of decisions.now)) }
+        ensures no_product { IfErr result (LeavesNoProduct diagram.now.lines (map literal_of decisions.now)) }
+    {
+        let features = diagram.features();
+        let clauses = diagram.clauses();
+        let counts = diagram.counts();
+        let index = Index::of(alloc, features, clauses, counts)?;
+        let mut values = vec![in alloc; Tri::Unknown; features]?;
+        let mut waiting = Vec::new(alloc);
+        decide_all(
+            clauses,
+            counts,
+            &index,
+            decisions,
+            &mut values,
+            &mut waiting,
+        )?;
+        Ok(Partial { values })
+    }
+
     /// What is known of each feature.
     pub fn values(&self) -> &[Tri]
         ensures { result.now ≡ self.now }
@@ -43,5 +96,17 @@ impl Partial {
         ensures { IsTrue result ↔ AreAllKnown (length self.now) self.now }
     {
         self.values.iter().all(|value| *value != Tri::Unknown)
+    }
+
+    /// Where each feature is known, the one product that agrees with the decisions: for each feature whether it is in.
+    pub fn product(&self, alloc: Global) -> Result<Option<Vec<bool>>, AllocError>
+        ensures full { IfOk result (λ found. IsSome found ↔ AreAllKnown (length self.now) self.now) }
+        ensures product { (lines : List Line) (choices : List Literal) → IsDiagram lines → AreChoicesOf lines choices → IsKnownTable lines choices self.now →
+            IfOk result (λ found. IfSome found (λ features. IsOnlyRemaining lines choices features.items)) }
+    {
+        if !self.is_full() {
+            return Ok(None);
+        }
+        Ok(Some(features_in(alloc, &self.values)?))
     }
 }

@@ -10,7 +10,7 @@ ghost use Rattle.vpg_partial.specs.Known.{negation, literal_of, IsClosed, NamesC
 ghost use Rattle.vpg_partial.specs.KnownTable.{literals_in, IsClosedTable};
 ghost use Rattle.vpg_partial.specs.Propagation.{AddsLiteral, ClosedWith, Contradicts, Grows};
 ghost use Rattle.vpg_partial.specs.Rules.{Advances, AreDone, IsDoneAt, IsIndex};
-ghost use Rattle.vpg_partial.specs.CloseFaults.{IsCloseFault, fault_named};
+ghost use Rattle.vpg_partial.specs.Stops.{IsFaultOf, fault_named};
 
 use crate::decision::Decision;
 use crate::fault::PartialFault;
@@ -204,7 +204,7 @@ pub(crate) fn decide_all(
     requires decisions { AllByRecursion (λ d. d.feature < length known.old) decisions.now }
     requires nothing { known.old ≡ replicate (length known.old) Tri.Unknown }
     ensures table { OnOk result (IsClosedTable clauses.now counts.now (map literal_of decisions.now) (length known.old) known.new) }
-    ensures fault { IfErr result (IsCloseFault clauses.now counts.now (map literal_of decisions.now)) }
+    ensures fault { IfErr result (IsFaultOf clauses.now counts.now (map literal_of decisions.now)) }
 {
     if let Err(stop) = start(clauses, counts, index, known, waiting) {
         return Err(stop.named(0));
