@@ -1,5 +1,5 @@
 -- The hopeful game where choices of a diagram's features make features known.
-use Rattle.std.proofs.Common.{◌≡◌, Bool, true, false, cond, List}
+use Rattle.std.proofs.Common.{◌≡◌, Bool, true, false, cond, List, subst, ◌∙◌}
 use Rattle.vpg_guards.specs.declared.tri.Tri.{Tri}
 use Rattle.vpg_guards.specs.declared.tri.Tri.TheVariants.{No, Unknown, Yes}
 use Rattle.vpg_guards.specs.Formula.{Formula, truth, IsBelow}
@@ -9,10 +9,12 @@ use Rattle.vpg_guards.proofs.Full.{full_values_decide}
 use Rattle.vpg_diagram.specs.FeatureDiagram.{feature_count}
 use Rattle.vpg_partial.specs.KnownLaws.{IsRemaining}
 use Rattle.vpg_partial.proofs.Tables.{tables_refine, remaining_products_complete, full_tables_have_one_product}
-use Rattle.vpg_game.specs.Guarded.{GuardedGame, AllGuards}
+use Rattle.vpg_game.specs.Guarded.{GuardedGame, AllGuards, dual}
+use Rattle.vpg_hope.specs.Games.{Game}
+use Rattle.vpg_hope.specs.Comparison.{IsEasier, dual_game}
 use Rattle.vpg_hope.specs.Hope.{product_game, hopeful_game, IsFullOf}
-use Rattle.vpg_hope.specs.PageLaws.{RemainingProductsAreHarder, MoreChoicesAreHarder, FullPagesHaveTheProductsGame}
-use Rattle.vpg_hope.proofs.Guards.{hopeful_easier, earlier_easier, full_same}
+use Rattle.vpg_hope.specs.PageLaws.{RemainingProductsAreHarder, DualsOfRemainingProductsAreHarder, MoreChoicesAreHarder, FullPagesHaveTheProductsGame}
+use Rattle.vpg_hope.proofs.Guards.{hopeful_easier, earlier_easier, full_same, product_dual, dual_guards}
 
 known_parts : (t : Tri) (b : Bool) → Agrees t b → (t ≡ Yes → b ≡ true) × (t ≡ No → b ≡ false)
 known_parts No b h = ((λ e. cc), λ e. h)
@@ -36,6 +38,11 @@ remaining_products_are_harder lines choices known set game ok table remains =
     hopeful_easier Formula (kleene known) (truth set) game (each_guard (λ g. (kleene known g ≡ Yes → truth set g ≡ true) × (kleene known g ≡ No → truth set g ≡ false)) game
     (λ g. known_parts (kleene known g) (truth set g) (known_values_hold known set g complete)))
 
+pub duals_of_remaining_products_are_harder : DualsOfRemainingProductsAreHarder
+duals_of_remaining_products_are_harder lines choices known set game ok table remains =
+    subst (λ (hard : Game). IsEasier (hopeful_game (kleene known) (dual game)) hard) (product_dual Formula (truth set) game)
+    (remaining_products_are_harder lines choices known set (dual game) ok table remains)
+
 pub more_choices_are_harder : MoreChoicesAreHarder
 more_choices_are_harder lines few many known more game among table later =
     let finer = tables_refine lines few many known more among table later in
@@ -50,7 +57,13 @@ full_pages_have_the_products_game lines choices known game ok below table full n
         (λ g below. full_values_decide (feature_count lines) known set g full complete below) named
 
     of : (set : List Bool) × IsRemaining lines choices set × ((other : List Bool) → IsRemaining lines choices other → other ≡ set) →
-        (set : List Bool) × IsRemaining lines choices set × (hopeful_game (kleene known) game ≡ product_game (truth set) game) × ((other : List Bool) → IsRemaining lines choices other → other ≡ set)
+        (set : List Bool) × IsRemaining lines choices set × ((other : List Bool) → IsRemaining lines choices other → other ≡ set) ×
+        (hopeful_game (kleene known) game ≡ product_game (truth set) game) × (hopeful_game (kleene known) (dual game) ≡ dual_game (product_game (truth set) game))
     of (set, remains, only) =
-        let complete = remaining_products_complete lines choices known set ok table remains in
-        (set, remains, full_same Formula (kleene known) (truth set) game (decided set complete), only)
+        let full_game = decided set (remaining_products_complete lines choices known set ok table remains) in (
+          set,
+          remains,
+          only,
+          full_same Formula (kleene known) (truth set) game full_game,
+          full_same Formula (kleene known) (truth set) (dual game) (dual_guards Formula (λ g. kleene known g ≡ cond (truth set g) Yes No) game full_game) ∙ product_dual Formula (truth set) game,
+        )

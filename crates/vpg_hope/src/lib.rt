@@ -2,8 +2,8 @@
 //!
 //! A guarded game stands for one plain game per product: that which keeps the edges whose guard the product satisfies. While only
 //! some features are known, the hopeful game stands for all products that remain. It gives Even every edge that may be there and Odd
-//! only those that must be, so where Even has no winning strategy in it, Even has none in any remaining product. The hopeful game of
-//! the dual does the same for Odd.
+//! only those that must be, so it favours Even at least as much as the game of each remaining product: where Even can't win it, Even
+//! can't win in any of them. The hopeful game of the dual does the same for Odd.
 //!
 //! The layer above lifts measures over an [`Arena`]: [`Arena::hopeful`] and [`Arena::hopeful_of_dual`] make the two of a page in one
 //! pass over the edges, and [`Arena::kept`] is the look-up of each lift. [`project`] and [`PlainGame::write`] give a user the plain game
