@@ -10,4 +10,5 @@ pub mod Steps
 pub mod Parsed
 pub mod Written
 pub mod Readable
+pub mod Form
 pub mod LawProofs
