@@ -1,6 +1,7 @@
 pub mod Above
 pub mod Below
 pub mod Choices
+pub mod Conflicts
 pub mod Cycles
 pub mod Easier
 mod Examples
@@ -8,11 +9,13 @@ pub mod Least
 pub mod LevelsShape
 pub mod Lex
 pub mod Lift
+pub mod Monotone
 pub mod NumberGuards
 pub mod NumberTables
 pub mod NumberVerdicts
 pub mod Numbers
-pub mod Order
+pub mod MeasureOrder
+pub mod OrderLemmas
 pub mod Plays
 pub mod Priorities
 pub mod Products

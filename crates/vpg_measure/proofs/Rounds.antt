@@ -40,7 +40,7 @@ progress_at ls arena table t h v less =
 
 -- ---- a round rises, stays below progress tables, and stops at them
 
-raised_table : (ls : List Level) (arena : List Vertex) (table : List ℕ) (v : ℕ) → IsTableOf ls arena table → IsTableOf ls arena (raised ls arena table v)
+pub raised_table : (ls : List Level) (arena : List Vertex) (table : List ℕ) (v : ℕ) → IsTableOf ls arena table → IsTableOf ls arena (raised ls arena table v)
 raised_table ls arena table v t =
     table_set ls arena table v _ t (omega (arith, slice_index-le (top_of ls) table t.within v, lift_at_most ls table (vertex_at arena v) t.within))
 
@@ -76,7 +76,7 @@ set_below table other v y h le = (
   ],
 )
 
-raised_above : (ls : List Level) (arena : List Vertex) (table : List ℕ) (v : ℕ) → IsBelowTable table (raised ls arena table v)
+pub raised_above : (ls : List Level) (arena : List Vertex) (table : List ℕ) (v : ℕ) → IsBelowTable table (raised ls arena table v)
 raised_above ls arena table v = set_above table v _ (omega arith)
 
 raised_stays : (ls : List Level) (arena : List Vertex) (table other : List ℕ) (v : ℕ) → IsTableOf ls arena table → IsTableOf ls arena other →

@@ -11,7 +11,7 @@ use Rattle.vpg_measure.specs.Measures.{Shape, Measure, LexBelow, LexAtMost, AtMo
 use Rattle.vpg_measure.specs.Tables.{Table, IsProg, IsProgressMeasure, FitsFor, IsLeastSuccessor, FollowsLeast}
 use Rattle.vpg_measure.proofs.Lex.{below_irrefl, at_most_trans, below_at_most, at_most_below}
 use Rattle.vpg_measure.proofs.Above.{higher_at_most}
-use Rattle.vpg_measure.proofs.Order.{Fits-up, AtMost-trans}
+use Rattle.vpg_measure.proofs.MeasureOrder.{Fits-up, AtMost-trans}
 use Rattle.vpg_measure.proofs.Prog.{prog_exists}
 use Rattle.vpg_hope.proofs.Reach.{reaches_inside, cases_player}
 use Rattle.vpg_hope.proofs.Edges.{AreEdgesInside, edge_inside}

@@ -1,9 +1,13 @@
+pub mod Faults
 pub mod Least
 pub mod Lifts
 pub mod MeasureLaws
 pub mod Measures
 pub mod NumberLaws
 pub mod Numbers
+pub mod OrderFields
+pub mod OrderKept
+pub mod Orders
 pub mod TableLaws
 pub mod Tables
 pub mod TwoGames

@@ -6,7 +6,7 @@ use Rattle.vpg_measure.specs.Measures.{Measure, Components, IsMeasure, AtMost, L
 use Rattle.vpg_measure.specs.Numbers.{value_of, number_of, measure_of}
 use Rattle.vpg_measure.specs.Tables.{IsProg}
 use Rattle.vpg_hope.specs.Arena.{Vertex, vertex_at}
-use Rattle.vpg_measure.specs.Lifts.{IsTableOf, IsProgressTable, IsBelowTable, NumberFitsAt, NumberFitsEdge, lift_of, round_of, choice_of}
+use Rattle.vpg_measure.specs.Lifts.{IsTableOf, IsProgressTable, IsBelowTable, NumberFitsAt, NumberFitsEdge, lift_of, round_of, after_rounds, choice_of}
 use Rattle.vpg_game.specs.declared.player.Player.TheVariants.{Even}
 
 -- a measure has a number up to the top, and is the measure of that number
@@ -50,6 +50,12 @@ LiftGrows =
 -- no value falls in a round
 abbrev pub RoundsRise : Type 0
 RoundsRise = (ls : List Level) (arena : List Vertex) (table : List ℕ) → IsTableOf ls arena table → IsBelowTable table (round_of ls arena table)
+
+-- a greater table has greater rounds
+abbrev pub RoundsGrow : Type 0
+RoundsGrow =
+    (ls : List Level) (arena : List Vertex) (table other : List ℕ) (k : ℕ) → IsTableOf ls arena table → IsTableOf ls arena other →
+    IsBelowTable table other → IsBelowTable (after_rounds ls arena k table) (after_rounds ls arena k other)
 
 -- a round stays below each progress table that the table is below
 abbrev pub RoundsStayBelow : Type 0

@@ -2,7 +2,7 @@ ghost use Rattle.std.specs.Prelude.{◌≡◌, ◌≢◌, ℕ, ◌+◌, ◌-◌,
 ghost use Rattle.std.specs.List.{find};
 ghost use Rattle.vpg_game.specs.Levels.{top_of, prog_of};
 ghost use Rattle.vpg_hope.specs.Arena.{vertex_at};
-ghost use Rattle.vpg_measure.specs.Lifts.{IsTableOf, IsProgressTable, IsBelowTable, least_of, greatest_of, lift_of, raised, round_of, EndsAs, choice_of, AreChoices};
+ghost use Rattle.vpg_measure.specs.Lifts.{IsTableOf, IsProgressTable, IsBelowTable, least_of, greatest_of, lift_of, raised, round_of, after_rounds, EndsAs, choice_of, AreChoices};
 
 use crate::shape::{Shape, prog};
 use crate::table::Table;
@@ -119,6 +119,7 @@ fn lift_all(shape: &Shape, arena: &Arena, table: &mut Table) -> bool
 /// Lifts every vertex once a round, until a round raises nothing or the rounds run out.
 pub fn settle_alone(shape: &Shape, arena: &Arena, table: &mut Table, rounds: u64) -> Outcome
     requires { IsTableOf shape.now arena.now table.old }
+    ensures after { table.new ≡ after_rounds shape.now arena.now rounds table.old }
     ensures rounds { EndsAs result shape.now arena.now rounds table.old table.new }
 
     // RanOut never comes where the rounds exceed what all values lack to the top.
@@ -128,6 +129,10 @@ pub fn settle_alone(shape: &Shape, arena: &Arena, table: &mut Table, rounds: u64
     ensures above { IsBelowTable table.old table.new }
     ensures below { (other : List ℕ) → IsTableOf shape.now arena.now other → IsProgressTable shape.now arena.now other →
         IsBelowTable table.old other → IsBelowTable table.new other }
+
+    // A greater table ends no smaller.
+    ensures monotone { (other : List ℕ) → IsTableOf shape.now arena.now other → IsBelowTable table.old other →
+        IsBelowTable table.new (after_rounds shape.now arena.now rounds other) }
 {
     for done in 0..rounds {
         if !lift_all(shape, arena, table) {

@@ -1,5 +1,5 @@
 //! What holds of measures and their numbers: each law is the contract of a function that does nothing.
-ghost use Rattle.vpg_measure.specs.NumberLaws.{NumbersAreMeasures, MeasuresHaveNumbers, OrderIsNumeric, TruncatedOrderIsQuotient, ProgIsLeastFit, WeightsAreProducts, LiftIsLeast, LiftGrows, RoundsRise, RoundsStayBelow, RoundsStop, ProgIsLeastMeasure, LiftStaysBelow, ChoiceFits};
+ghost use Rattle.vpg_measure.specs.NumberLaws.{NumbersAreMeasures, MeasuresHaveNumbers, OrderIsNumeric, TruncatedOrderIsQuotient, ProgIsLeastFit, WeightsAreProducts, LiftIsLeast, LiftGrows, RoundsRise, RoundsGrow, RoundsStayBelow, RoundsStop, ProgIsLeastMeasure, LiftStaysBelow, ChoiceFits};
 
 /// Numbers up to the top and measures correspond one to one.
 pub fn correspondence()
@@ -35,9 +35,10 @@ pub fn growing_lifts()
     ensures below { LiftStaysBelow }
 {}
 
-/// Rounds rise, stay below every progress table, and stop at progress tables alone.
+/// Rounds rise, grow with the table, stay below every progress table, and stop at progress tables alone.
 pub fn rounds()
     ensures rise { RoundsRise }
+    ensures grow { RoundsGrow }
     ensures below { RoundsStayBelow }
     ensures stop { RoundsStop }
 {}

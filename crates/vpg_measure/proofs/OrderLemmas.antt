@@ -1,0 +1,244 @@
+-- Orders and harvests.
+use Rattle.std.proofs.Common.{◌≡◌, ℕ, ◌<◌, ◌≤◌, ◌↔◌, Bool, true, false, List, length, map, All, get_or, refl, sym, ap, ◌∙◌, subst, IsTrue, arith}
+use Rattle.std.proofs.lemmas.List.Elements.{All-from_get_or}
+use Rattle.std.specs.Prelude.{slice_index}
+use Rattle.vpg_guards.specs.Known.{kleene}
+use Rattle.vpg_diagram.specs.DiagramText.{NamedDiagram}
+use Rattle.vpg_diagram.specs.FeatureDiagram.{feature_count}
+use Rattle.vpg_game.specs.Game.{NamedGame, graph_of}
+use Rattle.vpg_partial.specs.declared.decision.Decision.{Decision}
+use Rattle.vpg_measure.specs.declared.ground.Prepared.{Prepared}
+use Rattle.vpg_measure.specs.declared.which.Which.{Which}
+use Rattle.vpg_measure.specs.declared.which.Which.TheVariants.{Hopeful, Dual}
+use Rattle.vpg_guards.specs.declared.tri.Tri.{Tri}
+use Rattle.vpg_guards.specs.Formula.{Formula}
+use Rattle.vpg_game.proofs.Graphs.{same_count}
+use Rattle.vpg_measure.specs.declared.ground.Ground.{Ground}
+use Rattle.vpg_measure.specs.Lifts.{IsTableOf, IsBelowTable, IsProgressTable, raised, after_rounds}
+use Rattle.vpg_measure.specs.Orders.{OrderView, HarvestView, harvest_of, order_table, order_room, harvest_table, order_levels, order_arena, with_room, IsOpeningTable, IsOrder, IsHarvest, IsRaised, IsSettledHarvest}
+use Rattle.vpg_measure.specs.OrderKept.{IsGround, IsPrepared}
+use Rattle.vpg_measure.specs.TwoGames.{IsTableBelow, IsProgressOf, levels_for, arena_for, top_for}
+use Rattle.vpg_measure.proofs.Below.{raise_is_below}
+use Rattle.vpg_measure.proofs.Rounds.{below_self, raised_above, raised_table, after_table, after_above, after_stays}
+use Rattle.vpg_measure.proofs.TwoGames.{arena_length, tops, tops_progress, top_bounds}
+
+-- the order of what is handed in and what stands ready
+abbrev pub order_with : NamedGame → NamedDiagram → List Decision → Prepared → List ℕ → List ℕ → OrderView
+order_with game diagram decisions prepared hopeful dual = record {
+  game = game;
+  diagram = diagram;
+  decisions = decisions;
+  known = prepared.known;
+  hopeful = hopeful;
+  dual = dual;
+  hopeful_room = prepared.hopeful_room;
+  dual_room = prepared.dual_room;
+}
+
+module _ (game : NamedGame) (diagram : NamedDiagram) (decisions : List Decision) (prepared : Prepared) (hopeful dual : List ℕ) where
+  pub order_made : game.features ≡ feature_count diagram.lines → All (λ d. d.feature < feature_count diagram.lines) decisions →
+      IsOpeningTable game diagram decisions Hopeful hopeful → IsOpeningTable game diagram decisions Dual dual → IsPrepared game diagram decisions prepared →
+      IsOrder (order_with game diagram decisions prepared hopeful dual)
+  order_made features named first second ready = record {
+    game = ready.is_game;
+    not_at_limit = ready.not_at_limit;
+    diagram = ready.is_diagram;
+    features = features;
+    named = named;
+    known = ready.known;
+    below = at;
+    hopeful_room = ready.hopeful_room;
+    dual_room = ready.dual_room;
+  }
+    where
+      at : (which : Which) → IsTableBelow (kleene prepared.known) which (graph_of game) (order_table which (order_with game diagram decisions prepared hopeful dual))
+      at Hopeful = first prepared.known ready.known
+      at Dual = second prepared.known ready.known
+
+-- ---- the vertices of an order
+
+pub arena_count : (known : List Tri) (which : Which) (game : NamedGame) → length (arena_for (kleene known) which (graph_of game)) ≡ length game.vertices
+arena_count known which game = arena_length Formula (kleene known) which (graph_of game) ∙ same_count game
+
+pub table_count : (order : OrderView) → IsOrder order → (which : Which) → length (order_table which order) ≡ length order.game.vertices
+table_count order is which = (is.below which).is_table.len ∙ arena_count order.known which order.game
+
+-- ---- an order's room
+
+pub room_put : (order : OrderView) (hopeful dual : List ℕ) → IsOrder order → length hopeful ≡ length order.game.vertices → length dual ≡ length order.game.vertices →
+    IsOrder (record order { hopeful_room = hopeful; dual_room = dual })
+room_put order hopeful dual is e f = record {
+  game = is.game;
+  not_at_limit = is.not_at_limit;
+  diagram = is.diagram;
+  features = is.features;
+  named = is.named;
+  known = is.known;
+  below = at;
+  hopeful_room = e;
+  dual_room = f;
+}
+  where
+    at : (which : Which) → IsTableBelow (kleene order.known) which (graph_of order.game) (order_table which (record order { hopeful_room = hopeful; dual_room = dual }))
+    at Hopeful = is.below Hopeful
+    at Dual = is.below Dual
+
+-- the order with its tables in the room
+abbrev pub filled : OrderView → OrderView
+filled order = record order { hopeful_room = order.hopeful; dual_room = order.dual }
+
+-- the order with the tables of its room for its own
+abbrev pub exchanged : OrderView → OrderView
+exchanged order = record order { hopeful = order.hopeful_room; dual = order.dual_room; hopeful_room = order.hopeful; dual_room = order.dual }
+
+pub room_filled : (order : OrderView) → IsOrder order → IsOrder (filled order)
+room_filled order is = room_put order order.hopeful order.dual is (table_count order is Hopeful) (table_count order is Dual)
+
+pub room_exchanged : (order : OrderView) → IsOrder order → ((which : Which) → IsTableBelow (kleene order.known) which (graph_of order.game) (order_room which order)) →
+    IsOrder (exchanged order)
+room_exchanged order is below = record {
+  game = is.game;
+  not_at_limit = is.not_at_limit;
+  diagram = is.diagram;
+  features = is.features;
+  named = is.named;
+  known = is.known;
+  below = at;
+  hopeful_room = table_count order is Hopeful;
+  dual_room = table_count order is Dual;
+}
+  where
+    at : (which : Which) → IsTableBelow (kleene order.known) which (graph_of order.game) (order_table which (exchanged order))
+    at Hopeful = below Hopeful
+    at Dual = below Dual
+
+pub filled_room : (order : OrderView) (which : Which) → order_room which (filled order) ≡ order_table which order
+filled_room order Hopeful = refl
+filled_room order Dual = refl
+
+pub harvest_room : (order : OrderView) (which : Which) → harvest_table which (harvest_of order) ≡ order_room which order
+harvest_room order Hopeful = refl
+harvest_room order Dual = refl
+
+-- ---- the ground of a table
+
+module _ (known : List Tri) (which : Which) (game : NamedGame) (ground : Ground) (is : IsGround known which game ground) where
+  pub ground_count : (table : List ℕ) → IsTableOf ground.shape ground.arena table → length table ≡ length game.vertices
+  ground_count table t = t.len ∙ ap (λ arena. length arena) is.arena ∙ arena_count known which game
+
+  pub ground_table : (table : List ℕ) → IsTableOf (levels_for which (graph_of game)) (arena_for (kleene known) which (graph_of game)) table → IsTableOf ground.shape ground.arena table
+  ground_table table t = rw (is.shape, is.arena) t
+
+  pub ground_raised : (table : List ℕ) (v : ℕ) →
+      raised ground.shape ground.arena table v ≡ raised (levels_for which (graph_of game)) (arena_for (kleene known) which (graph_of game)) table v
+  ground_raised table v = rw (is.shape, is.arena) refl
+
+  pub ground_settled : (table : List ℕ) (k : ℕ) →
+      after_rounds ground.shape ground.arena k table ≡ after_rounds (levels_for which (graph_of game)) (arena_for (kleene known) which (graph_of game)) k table
+  ground_settled table k = rw (is.shape, is.arena) refl
+
+-- ---- the tables of a harvest
+
+pub record IsLawfulTable (which : Which) (order : OrderView) (table : List ℕ) : Type 0 where
+  pub above : IsBelowTable (order_table which order) table
+  pub below : IsTableBelow (kleene order.known) which (graph_of order.game) table
+
+module _ (order : OrderView) (is : IsOrder order) (which : Which) where
+  pub own_lawful : IsLawfulTable which order (order_table which order)
+  own_lawful = record { above = below_self (order_table which order); below = is.below which }
+
+  pub raised_lawful : (v : ℕ) → v < length order.game.vertices →
+      IsLawfulTable which order (raised (order_levels which order) (order_arena which order) (order_table which order) v)
+  raised_lawful v less = record {
+    above = raised_above (order_levels which order) (order_arena which order) (order_table which order) v;
+    below = record {
+      is_table = raised_table (order_levels which order) (order_arena which order) (order_table which order) v (is.below which).is_table;
+      below = raise_is_below (order_levels which order) (order_arena which order) (order_table which order) (order_table which order) v
+          (is.below which).is_table (is.below which).below (is.below which).is_table (is.below which).below
+          (subst (λ n. v < n) (sym (arena_count order.known which order.game)) less);
+    };
+  }
+
+  pub settled_lawful : (k : ℕ) → IsLawfulTable which order (after_rounds (order_levels which order) (order_arena which order) k (order_table which order))
+  settled_lawful k = record {
+    above = after_above (order_levels which order) (order_arena which order) k (order_table which order);
+    below = record {
+      is_table = after_table (order_levels which order) (order_arena which order) k (order_table which order) (is.below which).is_table;
+      below = λ other t p. after_stays (order_levels which order) (order_arena which order) k (order_table which order) other (is.below which).is_table t p
+          ((is.below which).below other t p);
+    };
+  }
+
+  -- the table with the top everywhere is a progress table, so what is below each is within the top
+  pub handed_lawful : (table : List ℕ) → IsRaised which order table → IsLawfulTable which order table
+  handed_lawful table h = record {
+    above = h.above;
+    below = record { is_table = record { len = len; within = All-from_get_or (λ n. n ≤ top_for which (graph_of order.game)) table 0 within }; below = h.below };
+  }
+    where
+      len : length table ≡ length (order_arena which order)
+      len = sym h.above.0 ∙ (is.below which).is_table.len
+
+      most : IsProgressOf (kleene order.known) which (graph_of order.game) (tops Formula (kleene order.known) which (graph_of order.game))
+      most = tops_progress Formula (kleene order.known) which (graph_of order.game)
+
+      within : (v : ℕ) → v < length table → get_or table v 0 ≤ top_for which (graph_of order.game)
+      within v less = omega (
+        arith,
+        (h.below (tops Formula (kleene order.known) which (graph_of order.game)) most.is_table most.settled).1 v less,
+        top_bounds Formula (kleene order.known) which (graph_of order.game) v (subst (λ n. v < n) (len ∙ arena_length Formula (kleene order.known) which (graph_of order.game)) less),
+      )
+
+pub harvest_made : (order : OrderView) (hopeful dual : List ℕ) → IsOrder order → IsLawfulTable Hopeful order hopeful → IsLawfulTable Dual order dual →
+    IsHarvest (harvest_of (record order { hopeful_room = hopeful; dual_room = dual }))
+harvest_made order hopeful dual is h d = record {
+  order = room_put order hopeful dual is (h.below.is_table.len ∙ arena_count order.known Hopeful order.game) (d.below.is_table.len ∙ arena_count order.known Dual order.game);
+  above = above_at;
+  below = below_at;
+}
+  where
+    above_at : (which : Which) → IsBelowTable (order_table which (record order { hopeful_room = hopeful; dual_room = dual }))
+        (harvest_table which (harvest_of (record order { hopeful_room = hopeful; dual_room = dual })))
+    above_at Hopeful = h.above
+    above_at Dual = d.above
+
+    below_at : (which : Which) → IsTableBelow (kleene order.known) which (graph_of order.game) (harvest_table which (harvest_of (record order { hopeful_room = hopeful; dual_room = dual })))
+    below_at Hopeful = h.below
+    below_at Dual = d.below
+
+-- one table raised at a vertex
+pub one_made : (order : OrderView) (which : Which) (v : ℕ) → IsOrder order → v < length order.game.vertices →
+    IsHarvest (harvest_of (with_room which (raised (order_levels which order) (order_arena which order) (order_table which order) v) (filled order)))
+one_made order Hopeful v is less = harvest_made order _ order.dual is (raised_lawful order is Hopeful v less) (own_lawful order is Dual)
+one_made order Dual v is less = harvest_made order order.hopeful _ is (own_lawful order is Hopeful) (raised_lawful order is Dual v less)
+
+pub with_room_at : (order : OrderView) (which : Which) (room : List ℕ) → harvest_table which (harvest_of (with_room which room order)) ≡ room
+with_room_at order Hopeful room = refl
+with_room_at order Dual room = refl
+
+-- ---- whether both tables are settled
+
+pub both_settled : (harvest : HarvestView) → IsProgressTable (order_levels Hopeful harvest.order) (order_arena Hopeful harvest.order) harvest.hopeful →
+    IsProgressTable (order_levels Dual harvest.order) (order_arena Dual harvest.order) harvest.dual → IsSettledHarvest harvest
+both_settled harvest h d Hopeful = h
+both_settled harvest h d Dual = d
+
+-- ---- both tables settled
+
+abbrev pub alone_of : ℕ → OrderView → OrderView
+alone_of rounds order = record order {
+  hopeful_room = after_rounds (order_levels Hopeful order) (order_arena Hopeful order) rounds order.hopeful;
+  dual_room = after_rounds (order_levels Dual order) (order_arena Dual order) rounds order.dual;
+}
+
+pub alone_at : (rounds : ℕ) (order : OrderView) (which : Which) →
+    harvest_table which (harvest_of (alone_of rounds order)) ≡ after_rounds (order_levels which order) (order_arena which order) rounds (order_table which order)
+alone_at rounds order Hopeful = refl
+alone_at rounds order Dual = refl
+
+-- the order after its first table is settled
+pub hopeful_settled : (order ready after : OrderView) (rounds : ℕ) → ready ≡ filled order →
+    after ≡ with_room Hopeful (after_rounds (order_levels Hopeful ready) (order_arena Hopeful ready) rounds (order_room Hopeful ready)) ready →
+    after ≡ with_room Hopeful (after_rounds (order_levels Hopeful order) (order_arena Hopeful order) rounds order.hopeful) (filled order)
+hopeful_settled order ready after rounds e f =
+    f ∙ ap (λ (o : OrderView). with_room Hopeful (after_rounds (order_levels Hopeful o) (order_arena Hopeful o) rounds (order_room Hopeful o)) o) e

@@ -1,0 +1,19 @@
+use Rattle.std.proofs.Common.{◌∙◌, sym}
+use Rattle.vpg_measure.specs.declared.which.Which.TheVariants.{Hopeful, Dual}
+use Rattle.vpg_measure.specs.OrderFields.{order_of}
+use Rattle.vpg_measure.proofs.OrderLemmas.{table_count, room_filled}
+use Rattle.vpg_measure.proofs.order.Order.fill_room.Goals as goal
+
+pub assign-requires : goal.assign-requires
+assign-requires c = c.self.invariant.order.hopeful_room ∙ sym (table_count (order_of c.self.inside) c.self.invariant.order Hopeful)
+
+pub assign-requires-2 : goal.assign-requires-2
+assign-requires-2 c = c.self.invariant.order.dual_room ∙ sym (table_count (order_of c.self.inside) c.self.invariant.order Dual)
+
+pub invariant_of-self : goal.invariant_of-self
+invariant_of-self c =
+    rw (c.assign.ensures, c.assign-2.ensures) (record {
+      order = room_filled (order_of c.self.inside) c.self.invariant.order;
+      hopeful_ground = c.self.invariant.hopeful_ground;
+      dual_ground = c.self.invariant.dual_ground;
+    })

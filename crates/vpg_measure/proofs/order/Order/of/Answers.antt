@@ -1,0 +1,28 @@
+use Rattle.std.proofs.Common.{◌≡◌, ◌↔◌, ◌∙◌, List, sym, ap, length, subst, map, Ok, Err}
+use Rattle.std.specs.Arc.{arc_value}
+use Rattle.vpg_measure.specs.Orders.{IsOrder}
+use Rattle.vpg_measure.specs.OrderKept.{IsGround, IsPrepared}
+use Rattle.vpg_measure.specs.OrderFields.{AreFields}
+use Rattle.vpg_measure.proofs.OrderLemmas.{order_with, order_made}
+use Rattle.vpg_measure.proofs.order.Order.of.Goals as goal
+
+ready : (c : goal.In-Ok) → IsPrepared (arc_value c.args.game) (arc_value c.args.diagram) c.args.decisions.items c.in-Ok.prepared
+ready c = rw (c.deref.ensures, c.deref-2.ensures, c.deref-3.ensures.value) at c.in-Ok.ensures.prepared
+
+made : (c : goal.In-Ok) → IsOrder (order_with (arc_value c.args.game) (arc_value c.args.diagram) c.args.decisions.items c.in-Ok.prepared c.args.hopeful c.args.dual)
+made c = order_made (arc_value c.args.game) (arc_value c.args.diagram) c.args.decisions.items c.in-Ok.prepared c.args.hopeful c.args.dual
+    c.requires.features c.requires.named c.requires.hopeful c.requires.dual (ready c)
+
+pub invariant_of-result : goal.invariant_of-result
+invariant_of-result c = record { order = made c; hopeful_ground = (ready c).hopeful; dual_ground = (ready c).dual }
+
+pub returns-in-Ok-clause-order : goal.returns-in-Ok-clause-order
+returns-in-Ok-clause-order c = made c
+
+pub returns-in-Err-clause-at_limit : goal.returns-in-Err-clause-at_limit
+returns-in-Err-clause-at_limit c =
+    let at_limit = rw c.deref.ensures at c.in-Err.ensures.at_limit in
+    (λ e. at_limit.0 (ap Err e), λ h. (let e = at_limit.1 h in cc))
+
+pub returns-in-Err-clause-conflict : goal.returns-in-Err-clause-conflict
+returns-in-Err-clause-conflict c f e = (rw (c.deref-2.ensures, c.deref-3.ensures.value) at c.in-Err.ensures.conflict) f (ap Err e)

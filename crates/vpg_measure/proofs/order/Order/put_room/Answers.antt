@@ -1,0 +1,17 @@
+use Rattle.std.proofs.Common.{List, length, ap, sym, ◌∙◌}
+use Rattle.vpg_measure.specs.declared.which.Which.TheVariants.{Hopeful, Dual}
+use Rattle.vpg_measure.specs.OrderFields.{order_of}
+use Rattle.vpg_measure.specs.Orders.{OrderView}
+use Rattle.vpg_measure.proofs.OrderLemmas.{room_put, table_count}
+use Rattle.vpg_measure.proofs.order.Order.put_room.Goals as goal
+
+pub invariant_of-self : goal.invariant_of-self
+invariant_of-self c =
+    let order = order_of c.self.inside in
+    record {
+      order = room_put order c.args.hopeful c.args.dual c.self.invariant.order
+          (c.requires.hopeful ∙ sym (ap (λ (o : OrderView). length o.hopeful) c.self.view_is) ∙ table_count order c.self.invariant.order Hopeful)
+          (c.requires.dual ∙ sym (ap (λ (o : OrderView). length o.dual) c.self.view_is) ∙ table_count order c.self.invariant.order Dual);
+      hopeful_ground = c.self.invariant.hopeful_ground;
+      dual_ground = c.self.invariant.dual_ground;
+    }

@@ -1,0 +1,46 @@
+use Rattle.std.proofs.Common.{◌≡◌, ◌∙◌, ℕ, List, sym, ap, subst}
+use Rattle.vpg_measure.specs.declared.which.Which.{Which}
+use Rattle.vpg_measure.specs.declared.which.Which.TheVariants.{Hopeful, Dual}
+use Rattle.vpg_measure.specs.Lifts.{IsTableOf, raised}
+use Rattle.vpg_measure.specs.OrderFields.{order_of}
+use Rattle.vpg_measure.specs.Orders.{OrderView, order_levels, order_arena, order_room, with_room}
+use Rattle.vpg_measure.proofs.OrderLemmas.{room_put, ground_count, ground_table, ground_raised}
+use Rattle.vpg_measure.proofs.order.Order.raise_room.Goals as goal
+
+-- what is asked of the table, in the words of the order's fields
+abbrev asked : Which → OrderView → Type 0
+asked which order = IsTableOf (order_levels which order) (order_arena which order) (order_room which order)
+
+-- the order that is left
+abbrev left : ℕ → Which → OrderView → OrderView
+left n which order = with_room which (raised (order_levels which order) (order_arena which order) (order_room which order) n) order
+
+pub invariant_of-self : goal.invariant_of-self
+invariant_of-self c = record {
+  order = room_put (order_of c.self.inside) c.raise.new.table c.self.inside.dual_room c.self.invariant.order
+      (ground_count c.self.inside.known Hopeful (order_of c.self.inside).game c.self.inside.hopeful_ground c.self.invariant.hopeful_ground c.raise.new.table c.raise.ensures.table) c.self.invariant.order.dual_room;
+  hopeful_ground = c.self.invariant.hopeful_ground;
+  dual_ground = c.self.invariant.dual_ground;
+}
+
+pub returns-in-Hopeful : goal.returns-in-Hopeful
+returns-in-Hopeful c =
+    ap (λ (room : List ℕ). with_room Hopeful room (order_of c.self.inside))
+    (c.raise.ensures.raised ∙ ground_raised c.self.inside.known Hopeful (order_of c.self.inside).game c.self.inside.hopeful_ground c.self.invariant.hopeful_ground c.self.inside.hopeful_room c.args.v)
+    ∙ ap (λ (o : OrderView). left c.args.v Hopeful o) c.self.view_is
+    ∙ ap (λ (w : Which). left c.args.v w c.args.self.now) (sym c.in-Hopeful.is)
+
+pub invariant_of-self-in-Dual : goal.invariant_of-self-in-Dual
+invariant_of-self-in-Dual c = record {
+  order = room_put (order_of c.self.inside) c.self.inside.hopeful_room c.raise-in-Dual.new.table c.self.invariant.order
+      c.self.invariant.order.hopeful_room (ground_count c.self.inside.known Dual (order_of c.self.inside).game c.self.inside.dual_ground c.self.invariant.dual_ground c.raise-in-Dual.new.table c.raise-in-Dual.ensures.table);
+  hopeful_ground = c.self.invariant.hopeful_ground;
+  dual_ground = c.self.invariant.dual_ground;
+}
+
+pub returns-in-Dual : goal.returns-in-Dual
+returns-in-Dual c =
+    ap (λ (room : List ℕ). with_room Dual room (order_of c.self.inside))
+    (c.raise-in-Dual.ensures.raised ∙ ground_raised c.self.inside.known Dual (order_of c.self.inside).game c.self.inside.dual_ground c.self.invariant.dual_ground c.self.inside.dual_room c.args.v)
+    ∙ ap (λ (o : OrderView). left c.args.v Dual o) c.self.view_is
+    ∙ ap (λ (w : Which). left c.args.v w c.args.self.now) (sym c.in-Dual.is)

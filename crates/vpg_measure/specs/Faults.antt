@@ -1,0 +1,9 @@
+-- Why there is no order, where there is no table of what is known.
+use Rattle.vpg_partial.specs.declared.partial.PartialFault.{PartialFault}
+use Rattle.vpg_partial.specs.declared.partial.PartialFault.TheVariants.{Conflict as PartialConflict, Memory as PartialMemory}
+use Rattle.vpg_measure.specs.declared.fault.OrderFault.{OrderFault}
+use Rattle.vpg_measure.specs.declared.fault.OrderFault.TheVariants.{Conflict, Memory}
+
+abbrev pub order_fault : PartialFault → OrderFault
+order_fault (PartialConflict f) = Conflict f
+order_fault PartialMemory = Memory

@@ -1,0 +1,125 @@
+//! Harvests: what lifters bring back.
+
+ghost use Rattle.std.specs.Prelude.{◌≡◌, ◌↔◌, ◌<◌, ℕ, length, slice_index, IsTrue};
+ghost use Rattle.vpg_measure.specs.Lifts.{raised, after_rounds, IsProgressTable};
+ghost use Rattle.vpg_measure.specs.Orders.{IsHarvest, IsRaised, IsSameOrder, IsSettledHarvest, IsOrderAgain, order_table, harvest_table, other_table, order_levels, order_arena};
+
+use crate::lifts::is_progress;
+use crate::order::Order;
+use crate::table::Table;
+use crate::which::Which;
+use std::marker::Model;
+
+/// An order, and two tables on or above its own, below every progress table of its two games.
+///
+/// No call on it takes memory: its tables stand in the order's room.
+#[derive(Drop)]
+pub struct Harvest {
+    order: Order,
+}
+
+impl Model for Harvest {
+    ghost use Rattle.std.specs.Coded.{codes};
+    ghost use Rattle.vpg_game.specs.Coding.{game_code};
+    ghost use Rattle.vpg_measure.specs.Orders.{HarvestView, harvest_of, IsHarvest};
+
+    ghost Value = { HarvestView };
+
+    ghost coded = { Prim.hlevel (codes, game_code) };
+
+    ghost view = { λ h. harvest_of h.order };
+
+    ghost invariant = { λ h. IsHarvest (harvest_of h.order) };
+}
+
+impl Harvest {
+    /// The order with one vertex of one table lifted once, where that is greater.
+    pub fn one(order: Order, which: Which, v: u32) -> Harvest
+        requires { v < length order.game.vertices }
+        ensures order { IsSameOrder result.order order }
+        ensures raised { harvest_table which result ≡ raised (order_levels which order) (order_arena which order) (order_table which order) v }
+        ensures other { harvest_table (other_table which) result ≡ order_table (other_table which) order }
+    {
+        let mut order = order;
+        order.fill_room();
+        order.raise_room(which, v);
+        Harvest { order }
+    }
+
+    /// The order with both tables settled by one thread, in this many rounds each at most.
+    pub fn alone(order: Order, rounds: u64) -> Harvest
+        ensures order { IsSameOrder result.order order }
+        ensures settled { (which : Which) → harvest_table which result ≡ after_rounds (order_levels which order) (order_arena which order) rounds (order_table which order) }
+    {
+        let mut order = order;
+        order.fill_room();
+        order.settle_room(Which::Hopeful, rounds);
+        order.settle_room(Which::Dual, rounds);
+        Harvest { order }
+    }
+
+    /// The order with these tables, one value for each vertex.
+    pub fn of(order: Order, hopeful: Vec<u64>, dual: Vec<u64>) -> Harvest
+        requires hopeful { IsRaised Which.Hopeful order hopeful.items }
+        requires dual { IsRaised Which.Dual order dual.items }
+        ensures order { IsSameOrder result.order order }
+        ensures hopeful { result.hopeful ≡ hopeful.items }
+        ensures dual { result.dual ≡ dual.items }
+    {
+        let mut order = order;
+        order.put_room(Table::of(hopeful), Table::of(dual));
+        Harvest { order }
+    }
+
+    /// The order that it came of.
+    pub fn order(&self) -> &Order
+        ensures order { result.now ≡ self.now.order }
+        ensures harvest { IsHarvest self.now }
+    {
+        &self.order
+    }
+
+    /// Either table.
+    pub fn table(&self, which: Which) -> &Table
+        ensures table { result.now ≡ harvest_table which self.now }
+        ensures harvest { IsHarvest self.now }
+    {
+        self.order.room(which)
+    }
+
+    /// The value of a vertex in either table.
+    pub fn value(&self, which: Which, v: u32) -> u64
+        requires { v < length self.now.order.game.vertices }
+        ensures { result ≡ slice_index (harvest_table which self.now) v }
+    {
+        self.table(which).get(v)
+    }
+
+    /// Whether both tables are progress tables.
+    pub fn check(&self) -> bool
+        ensures { IsTrue result ↔ IsSettledHarvest self.now }
+    {
+        self.is_settled(Which::Hopeful) && self.is_settled(Which::Dual)
+    }
+
+    // Whether one table is a progress table.
+    fn is_settled(&self, which: Which) -> bool
+        ensures { IsTrue result ↔ IsProgressTable (order_levels which self.now.order) (order_arena which self.now.order) (harvest_table which self.now) }
+    {
+        is_progress(
+            self.order.shape(which),
+            self.order.arena(which),
+            self.order.room(which),
+        )
+    }
+
+    /// The order of the same page with the raised tables.
+    pub fn again(self) -> Order
+        ensures { IsOrderAgain result self }
+    {
+        let Harvest { order } = self;
+        let mut order = order;
+        order.exchange_room();
+        order
+    }
+}

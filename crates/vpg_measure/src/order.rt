@@ -1,0 +1,290 @@
+//! Orders: what lifters take from a page.
+
+ghost use Rattle.std.specs.Arc.{arc_value};
+ghost use Rattle.std.specs.Prelude.{◌≡◌, ◌↔◌, ◌<◌, ℕ, length, map, All, IfOk, IfErr, OnOk};
+ghost use Rattle.vpg_diagram.specs.Clauses.{clauses_of, counts_of};
+ghost use Rattle.vpg_diagram.specs.FeatureDiagram.{feature_count};
+ghost use Rattle.vpg_game.specs.Game.{IsAtLimit, graph_of};
+ghost use Rattle.vpg_partial.specs.Known.{literal_of, NamesConflict};
+ghost use Rattle.vpg_guards.specs.Known.{kleene};
+ghost use Rattle.vpg_measure.specs.Lifts.{IsTableOf, raised, after_rounds};
+ghost use Rattle.vpg_measure.specs.Orders.{IsOrder, IsOpeningTable, order_table, order_room, with_room, order_levels, order_arena};
+ghost use Rattle.vpg_measure.specs.TwoGames.{IsTableBelow};
+
+use crate::fault::OrderFault;
+use crate::ground::{Ground, Prepared, prepare};
+use crate::lifts::{raise, settle_alone};
+use crate::shape::Shape;
+use crate::table::Table;
+use crate::which::Which;
+use std::alloc::Global;
+use std::marker::Model;
+use std::mem;
+use std::sync::Arc;
+use vpg_diagram::Diagram;
+use vpg_game::GuardedGame;
+use vpg_hope::Arena;
+use vpg_partial::{Decision, Partial};
+
+/// The game, the diagram, the decisions and both tables of a page, with all that lifters need: the shapes and the kept edges of
+/// both games, and room for two raised tables.
+#[derive(Drop)]
+pub struct Order {
+    game: Arc<GuardedGame>,
+    diagram: Arc<Diagram>,
+    decisions: Vec<Decision>,
+    known: Partial,
+    hopeful_ground: Ground,
+    dual_ground: Ground,
+    hopeful: Table,
+    dual: Table,
+    hopeful_room: Table,
+    dual_room: Table,
+}
+
+impl Model for Order {
+    ghost use Rattle.std.specs.Coded.{codes};
+    ghost use Rattle.vpg_game.specs.Coding.{game_code};
+    ghost use Rattle.vpg_measure.specs.Orders.{OrderView};
+
+    ghost Value = { OrderView };
+
+    ghost coded = { Prim.hlevel (codes, game_code) };
+
+    ghost use Rattle.vpg_measure.specs.OrderFields.{order_of, AreFields};
+
+    ghost view = { order_of };
+
+    ghost invariant = { AreFields };
+}
+
+/// An order that is refused, with all that was handed in.
+#[derive(Drop)]
+pub struct Refused {
+    pub fault: OrderFault,
+    pub game: Arc<GuardedGame>,
+    pub diagram: Arc<Diagram>,
+    pub decisions: Vec<Decision>,
+    pub hopeful: Table,
+    pub dual: Table,
+}
+
+impl Order {
+    /// The order of a page.
+    pub fn of(
+        alloc: Global,
+        game: Arc<GuardedGame>,
+        diagram: Arc<Diagram>,
+        decisions: Vec<Decision>,
+        hopeful: Table,
+        dual: Table,
+    ) -> Result<Order, Refused>
+        requires features { (arc_value game).features ≡ feature_count (arc_value diagram).lines }
+        requires named { All (λ d. d.feature < feature_count (arc_value diagram).lines) decisions.items }
+        requires hopeful { IsOpeningTable (arc_value game) (arc_value diagram) decisions.items Which.Hopeful hopeful }
+        requires dual { IsOpeningTable (arc_value game) (arc_value diagram) decisions.items Which.Dual dual }
+
+        // It holds what was handed in.
+        ensures game { IfOk result (λ order. order.game ≡ arc_value game) }
+        ensures diagram { IfOk result (λ order. order.diagram ≡ arc_value diagram) }
+        ensures decisions { IfOk result (λ order. order.decisions ≡ decisions.items) }
+        ensures hopeful { IfOk result (λ order. order.hopeful ≡ hopeful) }
+        ensures dual { IfOk result (λ order. order.dual ≡ dual) }
+        ensures order { IfOk result IsOrder }
+
+        // The limit comes before a conflict, a conflict before want of memory.
+        ensures at_limit { IfErr result (λ refused. (refused.fault ≡ OrderFault.AtLimit) ↔ IsAtLimit (arc_value game)) }
+        ensures conflict { IfErr result (λ refused. (f : ℕ) → refused.fault ≡ OrderFault.Conflict f →
+            NamesConflict (clauses_of (arc_value diagram).lines) (counts_of (arc_value diagram).lines) (map literal_of decisions.items) f) }
+
+        // What a refused call took comes back.
+        ensures game_back { IfErr result (λ refused. arc_value refused.game ≡ arc_value game) }
+        ensures diagram_back { IfErr result (λ refused. arc_value refused.diagram ≡ arc_value diagram) }
+        ensures decisions_back { IfErr result (λ refused. refused.decisions.items ≡ decisions.items) }
+        ensures hopeful_back { IfErr result (λ refused. refused.hopeful ≡ hopeful) }
+        ensures dual_back { IfErr result (λ refused. refused.dual ≡ dual) }
+    {
+        match prepare(alloc, &game, &diagram, &decisions) {
+            Ok(prepared) => {
+                let Prepared {
+                    known,
+                    hopeful: hopeful_ground,
+                    dual: dual_ground,
+                    hopeful_room,
+                    dual_room,
+                } = prepared;
+                Ok(Order {
+                    game,
+                    diagram,
+                    decisions,
+                    known,
+                    hopeful_ground,
+                    dual_ground,
+                    hopeful,
+                    dual,
+                    hopeful_room,
+                    dual_room,
+                })
+            }
+            Err(fault) => Err(Refused {
+                fault,
+                game,
+                diagram,
+                decisions,
+                hopeful,
+                dual,
+            }),
+        }
+    }
+
+    /// The game.
+    pub fn game(&self) -> &Arc<GuardedGame>
+        ensures game { arc_value result.now ≡ self.now.game }
+        ensures order { IsOrder self.now }
+    {
+        &self.game
+    }
+
+    /// The diagram.
+    pub fn diagram(&self) -> &Arc<Diagram>
+        ensures diagram { arc_value result.now ≡ self.now.diagram }
+        ensures order { IsOrder self.now }
+    {
+        &self.diagram
+    }
+
+    /// The decisions, in the page's order.
+    pub fn decisions(&self) -> &[Decision]
+        ensures decisions { result.now ≡ self.now.decisions }
+        ensures order { IsOrder self.now }
+    {
+        &self.decisions
+    }
+
+    /// The table of the hopeful game.
+    pub fn hopeful(&self) -> &Table
+        ensures { result.now ≡ self.now.hopeful }
+    {
+        &self.hopeful
+    }
+
+    /// The table of the hopeful game of the dual.
+    pub fn dual(&self) -> &Table
+        ensures { result.now ≡ self.now.dual }
+    {
+        &self.dual
+    }
+
+    /// Either table.
+    pub fn table(&self, which: Which) -> &Table
+        ensures table { result.now ≡ order_table which self.now }
+        ensures order { IsOrder self.now }
+    {
+        match which {
+            Which::Hopeful => &self.hopeful,
+            Which::Dual => &self.dual,
+        }
+    }
+
+    /// The shape of the measures of either game.
+    pub fn shape(&self, which: Which) -> &Shape
+        ensures { result.now ≡ order_levels which self.now }
+    {
+        match which {
+            Which::Hopeful => &self.hopeful_ground.shape,
+            Which::Dual => &self.dual_ground.shape,
+        }
+    }
+
+    /// The kept edges of either game.
+    pub fn arena(&self, which: Which) -> &Arena
+        ensures { result.now ≡ order_arena which self.now }
+    {
+        match which {
+            Which::Hopeful => &self.hopeful_ground.arena,
+            Which::Dual => &self.dual_ground.arena,
+        }
+    }
+}
+
+// What harvests do with an order's room.
+impl Order {
+    /// What stands in the room for either table.
+    pub(crate) fn room(&self, which: Which) -> &Table
+        ensures { result.now ≡ order_room which self.now }
+    {
+        match which {
+            Which::Hopeful => &self.hopeful_room,
+            Which::Dual => &self.dual_room,
+        }
+    }
+
+    /// Writes the tables into the room.
+    pub(crate) fn fill_room(&mut self)
+        ensures order { IsOrder self.old }
+        ensures filled { self.new ≡ record self.old { hopeful_room = self.old.hopeful; dual_room = self.old.dual } }
+    {
+        self.hopeful_room.assign(&self.hopeful);
+        self.dual_room.assign(&self.dual);
+    }
+
+    /// Lifts a vertex of the table in the room once, where that is greater.
+    pub(crate) fn raise_room(&mut self, which: Which, v: u32)
+        requires vertex { v < length self.old.game.vertices }
+        requires table { IsTableOf (order_levels which self.old) (order_arena which self.old) (order_room which self.old) }
+        ensures { self.new ≡ with_room which (raised (order_levels which self.old) (order_arena which self.old) (order_room which self.old) v) self.old }
+    {
+        match which {
+            Which::Hopeful => {
+                let ground = &self.hopeful_ground;
+                raise(&ground.shape, &ground.arena, &mut self.hopeful_room, v);
+            }
+            Which::Dual => {
+                let ground = &self.dual_ground;
+                raise(&ground.shape, &ground.arena, &mut self.dual_room, v);
+            }
+        }
+    }
+
+    /// Settles the table in the room, by this many rounds at most.
+    pub(crate) fn settle_room(&mut self, which: Which, rounds: u64)
+        requires { IsTableOf (order_levels which self.old) (order_arena which self.old) (order_room which self.old) }
+        ensures { self.new ≡ with_room which (after_rounds (order_levels which self.old) (order_arena which self.old) rounds (order_room which self.old)) self.old }
+    {
+        match which {
+            Which::Hopeful => {
+                let ground = &self.hopeful_ground;
+                settle_alone(&ground.shape, &ground.arena, &mut self.hopeful_room, rounds);
+            }
+            Which::Dual => {
+                let ground = &self.dual_ground;
+                settle_alone(&ground.shape, &ground.arena, &mut self.dual_room, rounds);
+            }
+        }
+    }
+
+    /// Puts other tables into the room.
+    pub(crate) fn put_room(&mut self, hopeful: Table, dual: Table)
+        requires hopeful { length hopeful ≡ length self.old.hopeful }
+        requires dual { length dual ≡ length self.old.dual }
+        ensures order { IsOrder self.old }
+        ensures put { self.new ≡ record self.old { hopeful_room = hopeful; dual_room = dual } }
+    {
+        self.hopeful_room = hopeful;
+        self.dual_room = dual;
+    }
+
+    /// The order with the tables in the room for its own, whose memory is the room then.
+    pub(crate) fn exchange_room(&mut self)
+        requires { (which : Which) → IsTableBelow (kleene self.old.known) which (graph_of self.old.game) (order_room which self.old) }
+        ensures { self.new ≡ record self.old {
+          hopeful = self.old.hopeful_room;
+          dual = self.old.dual_room;
+          hopeful_room = self.old.hopeful;
+          dual_room = self.old.dual;
+        } }
+    {
+        mem::swap(&mut self.hopeful, &mut self.hopeful_room);
+        mem::swap(&mut self.dual, &mut self.dual_room);
+    }
+}
