@@ -1,8 +1,8 @@
 -- Conflicts, from one fault to the other.
-use Rattle.std.proofs.Common.{◌≡◌, ℕ, refl, ap}
-use Rattle.vpg_partial.specs.declared.partial.PartialFault.{PartialFault}
-use Rattle.vpg_partial.specs.declared.partial.PartialFault.TheVariants.{Conflict as PartialConflict, Memory as PartialMemory}
-use Rattle.vpg_measure.specs.declared.fault.OrderFault.TheVariants.{Conflict, Memory}
+use Rattle.std.proofs.Common.{◌≡◌, ℕ, ap}
+use Rattle.vpg_partial.specs.declared.fault.PartialFault.{PartialFault}
+use Rattle.vpg_partial.specs.declared.fault.PartialFault.TheVariants.{Conflict as PartialConflict, Memory as PartialMemory}
+use Rattle.vpg_measure.specs.declared.fault.OrderFault.TheVariants.{Conflict}
 use Rattle.vpg_measure.specs.Faults.{order_fault}
 
 pub conflict_back : (fault : PartialFault) (f : ℕ) → order_fault fault ≡ Conflict f → fault ≡ PartialConflict f

@@ -10,8 +10,8 @@ use Rattle.vpg_measure.specs.Tables.{Table, IsProg, IsLift, IsProgressMeasure, I
 use Rattle.vpg_game.specs.Guarded.{GuardedGame}
 use Rattle.vpg_hope.specs.Hope.{hopeful_game}
 use Rattle.vpg_hope.proofs.Edges.{Contains-first, Contains-cases, not_in_nil, edges_inside}
-use Rattle.vpg_measure.proofs.Lift.{even_lift, lift_below_all, zero_below, zero_least}
-use Rattle.vpg_measure.proofs.Prog.{zeros_in_range}
+use Rattle.vpg_measure.proofs.MeasureLifts.{even_lift, lift_below_all, zero_below, zero_least}
+use Rattle.vpg_measure.proofs.MeasureProgs.{zeros_in_range}
 
 abbrev guarded : Tri → Tri → GuardedGame Tri
 guarded f g = record { owner = Even; priority = 1; edges = record { to = 1; guard = f } ∷ record { to = 0; guard = Yes } ∷ [] }

@@ -7,8 +7,8 @@ use Rattle.vpg_hope.specs.Strategies.{Strategy, Wins}
 use Rattle.vpg_measure.specs.Measures.{Shape, IsShape, Measure, IsMeasure, LexBelow, LexAtMost, AtMost, Top, Components}
 use Rattle.vpg_measure.specs.Tables.{Table, IsTable, IsLift, IsProgressMeasure, IsBelowAllProgress, IsLeastProgress, zero_table, FitsAt}
 use Rattle.vpg_measure.proofs.MeasureOrder.{AtMost-total}
-use Rattle.vpg_measure.proofs.Prog.{zeros_in_range}
-use Rattle.vpg_measure.proofs.Lift.{lift_exists, lift_below, fits_raised, zero_below}
+use Rattle.vpg_measure.proofs.MeasureProgs.{zeros_in_range}
+use Rattle.vpg_measure.proofs.MeasureLifts.{lift_exists, lift_below, fits_raised, zero_below}
 use Rattle.vpg_measure.proofs.Signature.{top_refutes}
 use Rattle.vpg_hope.proofs.Edges.{AreEdgesInside}
 

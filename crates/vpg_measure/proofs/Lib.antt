@@ -1,29 +1,29 @@
+mod Examples
 pub mod Above
 pub mod Below
 pub mod Choices
 pub mod Conflicts
 pub mod Cycles
 pub mod Easier
-mod Examples
 pub mod Least
 pub mod LevelsShape
 pub mod Lex
-pub mod Lift
+pub mod MeasureLifts
+pub mod MeasureOrder
+pub mod MeasureProgs
 pub mod Monotone
 pub mod NumberGuards
 pub mod NumberTables
 pub mod NumberVerdicts
 pub mod Numbers
-pub mod MeasureOrder
 pub mod OrderLemmas
 pub mod Plays
 pub mod Priorities
 pub mod Products
-pub mod Prog
 pub mod Progs
 pub mod Rounds
 pub mod Shapes
 pub mod Signature
+pub mod TwoGames
 pub mod Verdicts
 pub mod Winning
-pub mod TwoGames

@@ -1,11 +1,10 @@
 -- A greater table has greater rounds, and rounds that raise nothing change nothing.
-use Rattle.std.proofs.Common.{ℕ, zero, suc, ◌≡◌, ◌<◌, ◌≤◌, max, List, length, set, refl, sym, ap, ◌∙◌, inl, inr, arith}
-use Rattle.std.specs.Prelude.{slice_index}
+use Rattle.std.proofs.Common.{ℕ, zero, suc, ◌≡◌, ◌<◌, ◌≤◌, List, length, set, refl, sym, ap, ◌∙◌, inl, inr, arith}
 use Rattle.std.proofs.lemmas.Bool.{cases_lt, cases_eq}
 use Rattle.std.proofs.lemmas.List.{length-set, get_or-set_same, get_or-set_other}
 use Rattle.vpg_game.specs.declared.levels.Level.{Level}
 use Rattle.vpg_hope.specs.Arena.{Vertex, vertex_at}
-use Rattle.vpg_measure.specs.Lifts.{IsTableOf, IsBelowTable, lift_of, raised, raised_before, round_of, after_rounds}
+use Rattle.vpg_measure.specs.Lifts.{IsTableOf, IsBelowTable, raised, raised_before, round_of, after_rounds}
 use Rattle.vpg_measure.specs.NumberLaws.{RoundsGrow}
 use Rattle.vpg_measure.proofs.Progs.{lift_grows, below_anywhere}
 use Rattle.vpg_measure.proofs.Rounds.{before_table, after_table}

@@ -1,12 +1,13 @@
 -- Orders and harvests.
-use Rattle.std.proofs.Common.{◌≡◌, ℕ, ◌<◌, ◌≤◌, ◌↔◌, Bool, true, false, List, length, map, All, get_or, refl, sym, ap, ◌∙◌, subst, IsTrue, arith}
+use Rattle.std.proofs.Common.{◌≡◌, ℕ, ◌<◌, ◌≤◌, List, length, map, get_or, refl, sym, ap, ◌∙◌, subst, arith}
 use Rattle.std.proofs.lemmas.List.Elements.{All-from_get_or}
-use Rattle.std.specs.Prelude.{slice_index}
 use Rattle.vpg_guards.specs.Known.{kleene}
 use Rattle.vpg_diagram.specs.DiagramText.{NamedDiagram}
 use Rattle.vpg_diagram.specs.FeatureDiagram.{feature_count}
 use Rattle.vpg_game.specs.Game.{NamedGame, graph_of}
 use Rattle.vpg_partial.specs.declared.decision.Decision.{Decision}
+use Rattle.vpg_partial.specs.Known.{literal_of}
+use Rattle.vpg_partial.specs.TableLaws.{AreChoicesOf}
 use Rattle.vpg_measure.specs.declared.ground.Prepared.{Prepared}
 use Rattle.vpg_measure.specs.declared.which.Which.{Which}
 use Rattle.vpg_measure.specs.declared.which.Which.TheVariants.{Hopeful, Dual}
@@ -36,7 +37,7 @@ order_with game diagram decisions prepared hopeful dual = record {
 }
 
 module _ (game : NamedGame) (diagram : NamedDiagram) (decisions : List Decision) (prepared : Prepared) (hopeful dual : List ℕ) where
-  pub order_made : game.features ≡ feature_count diagram.lines → All (λ d. d.feature < feature_count diagram.lines) decisions →
+  pub order_made : game.features ≡ feature_count diagram.lines → AreChoicesOf diagram.lines (map literal_of decisions) →
       IsOpeningTable game diagram decisions Hopeful hopeful → IsOpeningTable game diagram decisions Dual dual → IsPrepared game diagram decisions prepared →
       IsOrder (order_with game diagram decisions prepared hopeful dual)
   order_made features named first second ready = record {

@@ -1,5 +1,5 @@
 -- The priorities of a game and of its dual.
-use Rattle.std.proofs.Common.{◌≡◌, ℕ, zero, suc, ◌+◌, ◌<◌, ◌≤◌, ◌^◌, List, [], ◌∷◌, length, map, get_or, refl, sym, ap, ap₂, ◌∙◌, subst, add-zero, add-one, arith}
+use Rattle.std.proofs.Common.{◌≡◌, ℕ, zero, suc, ◌+◌, ◌<◌, ◌≤◌, ◌^◌, List, [], ◌∷◌, length, map, get_or, refl, sym, ap, ap₂, subst, add-zero, add-one, arith}
 use Rattle.vpg_guards.specs.Formula.{Formula}
 use Rattle.vpg_game.specs.Game.{NamedVertex, NamedGame, IsGame, AreVertices, unnamed, graph_of, no_vertex}
 use Rattle.vpg_game.specs.Guarded.{GuardedGame, guarded_priorities, dual}

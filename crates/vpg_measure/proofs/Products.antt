@@ -1,13 +1,11 @@
 -- The levels of a game, their weights and products over priorities.
-use Rattle.std.proofs.Common.{ℕ, zero, suc, ◌≡◌, ◌+◌, ◌*◌, ◌/◌, ◌^◌, ◌<◌, ◌≤◌, nat_lt, nat_le, ◌==◌, Bool, true, false, cond, ◌&&◌, List, [], ◌∷◌, ◌++◌, length, get_or, take, reverse, refl, sym, ap, ◌∙◌, subst, inl, inr, zero-add, add-one, length-take, arith}
-use Rattle.std.proofs.lemmas.Bool.{ltb-false, lt-ltb, le-ltb, le-leb, lt-leb, ne_eqb, cases_lt, cond-true, cond-false}
-use Rattle.std.proofs.lemmas.List.Sums.{sum_by-cons, count_by-le-length}
-use Rattle.std.proofs.Math.Nat.{mul-le-mul_right, div-lt_iff_lt-mul}
+use Rattle.std.proofs.Common.{ℕ, zero, suc, ◌≡◌, ◌+◌, ◌^◌, ◌<◌, ◌≤◌, nat_lt, nat_le, Bool, true, false, cond, ◌&&◌, List, [], ◌∷◌, ◌++◌, length, get_or, reverse, refl, sym, ap, ◌∙◌, inl, inr, add-one, arith}
+use Rattle.std.proofs.lemmas.Bool.{lt-ltb, le-ltb, le-leb, lt-leb, cases_lt, cond-true, cond-false}
 use Rattle.std.proofs.lemmas.List.{get_or_append_left, get_or_push, length_push, reverse-append}
 use Rattle.vpg_game.specs.declared.levels.Level.{Level}
-use Rattle.vpg_game.specs.Levels.{is_odd, count_of, levels_below, bound_of, levels_of, top_of, lower_levels, product_below, AreWeights, AreOddCounts}
+use Rattle.vpg_game.specs.Levels.{is_odd, count_of, levels_below, bound_of, levels_of, top_of, lower_levels, product_below, AreWeights}
 use Rattle.vpg_measure.specs.NumberLaws.{WeightsAreProducts}
-use Rattle.vpg_game.proofs.Products.{top-levels_below, product-beyond, top-levels, product_more}
+use Rattle.vpg_game.proofs.Products.{top-levels_below, product-beyond, top-levels}
 
 -- the levels below p of those below b
 lower-above : (p b : ℕ) (ps : List ℕ) → b ≤ p → lower_levels p (levels_below b ps) ≡ levels_below b ps

@@ -12,7 +12,7 @@ use Rattle.vpg_measure.specs.Tables.{Table, IsProg, IsProgressMeasure, FitsFor, 
 use Rattle.vpg_measure.proofs.Lex.{below_irrefl, at_most_trans, below_at_most, at_most_below}
 use Rattle.vpg_measure.proofs.Above.{higher_at_most}
 use Rattle.vpg_measure.proofs.MeasureOrder.{Fits-up, AtMost-trans}
-use Rattle.vpg_measure.proofs.Prog.{prog_exists}
+use Rattle.vpg_measure.proofs.MeasureProgs.{prog_exists}
 use Rattle.vpg_hope.proofs.Reach.{reaches_inside, cases_player}
 use Rattle.vpg_hope.proofs.Edges.{AreEdgesInside, edge_inside}
 

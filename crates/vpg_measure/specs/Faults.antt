@@ -1,6 +1,6 @@
 -- Why there is no order, where there is no table of what is known.
-use Rattle.vpg_partial.specs.declared.partial.PartialFault.{PartialFault}
-use Rattle.vpg_partial.specs.declared.partial.PartialFault.TheVariants.{Conflict as PartialConflict, Memory as PartialMemory}
+use Rattle.vpg_partial.specs.declared.fault.PartialFault.{PartialFault}
+use Rattle.vpg_partial.specs.declared.fault.PartialFault.TheVariants.{Conflict as PartialConflict, Memory as PartialMemory}
 use Rattle.vpg_measure.specs.declared.fault.OrderFault.{OrderFault}
 use Rattle.vpg_measure.specs.declared.fault.OrderFault.TheVariants.{Conflict, Memory}
 

@@ -1,5 +1,5 @@
 -- What an order's fields hold, and what stands ready for one.
-use Rattle.std.specs.Prelude.{◌≡◌, ℕ, List, length, map}
+use Rattle.std.specs.Prelude.{◌≡◌, List, length, map}
 use Rattle.vpg_guards.specs.declared.tri.Tri.{Tri}
 use Rattle.vpg_guards.specs.Known.{kleene}
 use Rattle.vpg_diagram.specs.DiagramText.{NamedDiagram, IsNamedDiagram}
@@ -11,7 +11,6 @@ use Rattle.vpg_measure.specs.declared.ground.Ground.{Ground}
 use Rattle.vpg_measure.specs.declared.ground.Prepared.{Prepared}
 use Rattle.vpg_measure.specs.declared.which.Which.{Which}
 use Rattle.vpg_measure.specs.declared.which.Which.TheVariants.{Hopeful, Dual}
-use Rattle.vpg_measure.specs.Orders.{OrderView, order_levels, order_arena}
 use Rattle.vpg_measure.specs.TwoGames.{levels_for, arena_for}
 
 -- the shape and the kept edges of one of the two games

@@ -1,5 +1,5 @@
 -- Orders and harvests: what lifters take from a page, and what they bring back. This project's own.
-use Rattle.std.specs.Prelude.{◌≡◌, ℕ, ◌<◌, List, length, map, slice_set, All}
+use Rattle.std.specs.Prelude.{◌≡◌, ℕ, List, length, map}
 use Rattle.vpg_guards.specs.declared.tri.Tri.{Tri}
 use Rattle.vpg_guards.specs.Known.{kleene}
 use Rattle.vpg_diagram.specs.DiagramText.{NamedDiagram, IsNamedDiagram}
@@ -8,7 +8,7 @@ use Rattle.vpg_game.specs.Game.{NamedGame, IsGame, IsAtLimit, graph_of}
 use Rattle.vpg_game.specs.declared.levels.Level.{Level}
 use Rattle.vpg_partial.specs.declared.decision.Decision.{Decision}
 use Rattle.vpg_partial.specs.Known.{literal_of}
-use Rattle.vpg_partial.specs.TableLaws.{IsKnownTable}
+use Rattle.vpg_partial.specs.TableLaws.{AreChoicesOf, IsKnownTable}
 use Rattle.vpg_hope.specs.Games.{Game}
 use Rattle.vpg_measure.specs.declared.which.Which.{Which}
 use Rattle.vpg_measure.specs.declared.which.Which.TheVariants.{Hopeful, Dual}
@@ -78,7 +78,7 @@ pub record IsOrder (order : OrderView) : Type 0 where
   pub not_at_limit : ¬ IsAtLimit order.game
   pub diagram : IsNamedDiagram order.diagram
   pub features : order.game.features ≡ feature_count order.diagram.lines
-  pub named : All (λ d. d.feature < feature_count order.diagram.lines) order.decisions
+  pub named : AreChoicesOf order.diagram.lines (map literal_of order.decisions)
   pub known : IsKnownTable order.diagram.lines (map literal_of order.decisions) order.known
   pub below : (which : Which) → IsTableBelow (kleene order.known) which (graph_of order.game) (order_table which order)
   pub hopeful_room : length order.hopeful_room ≡ length order.game.vertices

@@ -1,10 +1,11 @@
 //! What an order is made of beside what is handed in.
 
-ghost use Rattle.std.specs.Prelude.{◌≡◌, ◌↔◌, ◌<◌, ℕ, length, map, All, IfOk, Err};
+ghost use Rattle.std.specs.Prelude.{◌≡◌, ◌↔◌, ℕ, length, map, IfOk, Err};
 ghost use Rattle.vpg_diagram.specs.Clauses.{clauses_of, counts_of};
 ghost use Rattle.vpg_diagram.specs.FeatureDiagram.{feature_count};
 ghost use Rattle.vpg_game.specs.Game.{IsAtLimit};
 ghost use Rattle.vpg_partial.specs.Known.{literal_of, NamesConflict};
+ghost use Rattle.vpg_partial.specs.TableLaws.{AreChoicesOf};
 ghost use Rattle.vpg_measure.specs.OrderKept.{IsGround, IsPrepared};
 
 use crate::fault::OrderFault;
@@ -88,7 +89,7 @@ pub(crate) fn prepare(
     decisions: &[Decision],
 ) -> Result<Prepared, OrderFault>
     requires features { game.now.features ≡ feature_count diagram.now.lines }
-    requires named { All (λ d. d.feature < feature_count diagram.now.lines) decisions.now }
+    requires named { AreChoicesOf diagram.now.lines (map literal_of decisions.now) }
     ensures prepared { IfOk result (IsPrepared game.now diagram.now decisions.now) }
     ensures at_limit { (result ≡ Err OrderFault.AtLimit) ↔ IsAtLimit game.now }
     ensures conflict { (f : ℕ) → result ≡ Err (OrderFault.Conflict f) →

@@ -1,4 +1,18 @@
-//! Progress measures, each kept as one number.
+//! Small progress measures, each kept as one number, and what lifters carry from a page and back: orders and harvests.
+//!
+//! A measure of a parity game has one component for each odd priority that occurs, at most the number of vertices of that
+//! priority, or it is top (Jurdzinski 2000, mirrored so that the greatest priority decides). Read in mixed radix it is one `u64`
+//! of at most 2^62: a `Shape` has the radices, a `Table` one number for each vertex. `prog` and `lift` compute on the numbers,
+//! `settle_alone` lifts in rounds, `strategy` reads a winning strategy from a settled table.
+//!
+//! An `Order` holds all that lifters need of a page: both shapes and arenas, both tables, and room for two raised ones. So a
+//! `Harvest`, the order with raised tables, is made without memory. The layers above rest on what every harvest keeps: each of
+//! its tables is below every progress table of the order's two games.
+//!
+//! Definitions: `specs/Measures` and `specs/Tables` (measures as tuples, what fits, progress measures), `specs/Numbers` (the
+//! number of a measure), `specs/Lifts` (the same on tables of numbers, lifts, rounds, choices), `specs/Least` (below every
+//! progress table), `specs/TwoGames` (the two hopeful games of a guarded game), `specs/Orders` (orders and harvests). What holds
+//! of them stands in `laws`.
 #![tactic(auto)]
 
 mod fault;
@@ -9,4 +23,14 @@ pub mod lifts;
 pub mod order;
 pub mod shape;
 pub mod table;
+mod verdict;
 pub mod which;
+
+pub use fault::OrderFault;
+pub use harvest::Harvest;
+pub use lifts::{Outcome, StrategyFault, is_progress, lift, settle_alone, strategy};
+pub use order::{Order, Refused};
+pub use shape::{Shape, prog};
+pub use table::Table;
+pub use verdict::Verdict;
+pub use which::Which;

@@ -1,11 +1,12 @@
 //! Orders: what lifters take from a page.
 
 ghost use Rattle.std.specs.Arc.{arc_value};
-ghost use Rattle.std.specs.Prelude.{◌≡◌, ◌↔◌, ◌<◌, ℕ, length, map, All, IfOk, IfErr, OnOk};
+ghost use Rattle.std.specs.Prelude.{◌≡◌, ◌↔◌, ◌<◌, ℕ, length, map, IfOk, IfErr, OnOk};
 ghost use Rattle.vpg_diagram.specs.Clauses.{clauses_of, counts_of};
 ghost use Rattle.vpg_diagram.specs.FeatureDiagram.{feature_count};
 ghost use Rattle.vpg_game.specs.Game.{IsAtLimit, graph_of};
 ghost use Rattle.vpg_partial.specs.Known.{literal_of, NamesConflict};
+ghost use Rattle.vpg_partial.specs.TableLaws.{AreChoicesOf};
 ghost use Rattle.vpg_guards.specs.Known.{kleene};
 ghost use Rattle.vpg_measure.specs.Lifts.{IsTableOf, raised, after_rounds};
 ghost use Rattle.vpg_measure.specs.Orders.{IsOrder, IsOpeningTable, order_table, order_room, with_room, order_levels, order_arena};
@@ -80,7 +81,7 @@ impl Order {
         dual: Table,
     ) -> Result<Order, Refused>
         requires features { (arc_value game).features ≡ feature_count (arc_value diagram).lines }
-        requires named { All (λ d. d.feature < feature_count (arc_value diagram).lines) decisions.items }
+        requires named { AreChoicesOf (arc_value diagram).lines (map literal_of decisions.items) }
         requires hopeful { IsOpeningTable (arc_value game) (arc_value diagram) decisions.items Which.Hopeful hopeful }
         requires dual { IsOpeningTable (arc_value game) (arc_value diagram) decisions.items Which.Dual dual }
 

@@ -1,11 +1,10 @@
-use Rattle.std.proofs.Common.{◌≡◌, ◌∙◌, List, true, false, sym, ap, length, subst, map, Err}
-use Rattle.vpg_partial.specs.KnownTable.{IsTableOfKnown}
-use Rattle.vpg_measure.specs.OrderKept.{IsGround, IsPrepared}
+use Rattle.std.proofs.Common.{◌≡◌, true, false, sym}
 use Rattle.vpg_measure.proofs.Conflicts.{conflict_back}
 use Rattle.vpg_measure.proofs.ground.prepare.Goals as goal
 
 pub returns-in_err-known-clause-conflict : goal.returns-in_err-known-clause-conflict
-returns-in_err-known-clause-conflict c = λ f e. c.in_err-known.ensures.conflict f (ap Err (conflict_back c.in_err-known.field-0.0 f (sym (rw e at c.from_residual.ensures.1))))
+returns-in_err-known-clause-conflict c f e =
+    rw (conflict_back c.in_err-known.field-0.0 f (sym (rw e at c.from_residual.ensures.1))) at c.in_err-known.ensures.conflict
 
 pub returns-clause-prepared : goal.returns-clause-prepared
 returns-clause-prepared c = record {

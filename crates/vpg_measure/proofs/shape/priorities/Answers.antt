@@ -1,4 +1,4 @@
-use Rattle.std.proofs.Common.{◌≡◌, ◌+◌, ◌++◌, ◌∷◌, [], ◌∙◌, ◌<◌, List, ℕ, length, map, take, get_or, sym, ap, arith, add-one}
+use Rattle.std.proofs.Common.{◌≡◌, ◌+◌, ◌++◌, ◌∷◌, [], ◌∙◌, ◌<◌, List, ℕ, length, map, get_or, sym, ap, arith}
 use Rattle.std.proofs.lemmas.List.{map_more, take_all}
 use Rattle.vpg_game.specs.Game.{NamedVertex, no_vertex, graph_of}
 use Rattle.vpg_game.specs.Guarded.{guarded_priorities}

@@ -1,8 +1,7 @@
-use Rattle.std.proofs.Common.{◌≡◌, ℕ, List, ap, sym, subst, ◌∙◌}
-use Rattle.vpg_measure.specs.declared.which.Which.{Which}
+use Rattle.std.proofs.Common.{◌≡◌, ap, sym, subst, ◌∙◌}
 use Rattle.vpg_measure.specs.declared.which.Which.TheVariants.{Hopeful, Dual}
 use Rattle.vpg_measure.specs.Lifts.{IsTableOf, after_rounds}
-use Rattle.vpg_measure.specs.Orders.{OrderView, harvest_of, harvest_table, order_levels, order_arena, order_room, order_table, with_room, IsHarvest}
+use Rattle.vpg_measure.specs.Orders.{OrderView, harvest_of, harvest_table, order_levels, order_arena, order_room, with_room, IsHarvest}
 use Rattle.vpg_measure.proofs.OrderLemmas.{alone_of, hopeful_settled, harvest_made, settled_lawful, alone_at}
 use Rattle.vpg_measure.proofs.harvest.Harvest.alone.Goals as goal
 

@@ -1,5 +1,5 @@
 use Rattle.vpg_hope.proofs.Edges.{edges_inside}
-use Rattle.vpg_measure.proofs.Lift.{even_lift}
+use Rattle.vpg_measure.proofs.MeasureLifts.{even_lift}
 use Rattle.vpg_measure.proofs.laws.measures.even_lifts_to_least.Goals as goal
 
 pub returns : goal.returns

@@ -1,4 +1,4 @@
-use Rattle.vpg_measure.proofs.Lift.{fits_iff_lift}
+use Rattle.vpg_measure.proofs.MeasureLifts.{fits_iff_lift}
 use Rattle.vpg_measure.proofs.laws.measures.fits_from_lift.Goals as goal
 
 pub returns : goal.returns

@@ -1,5 +1,5 @@
 use Rattle.vpg_hope.proofs.Edges.{edges_inside}
-use Rattle.vpg_measure.proofs.Lift.{lift_below}
+use Rattle.vpg_measure.proofs.MeasureLifts.{lift_below}
 use Rattle.vpg_measure.proofs.laws.measures.lift_stays_below.Goals as goal
 
 pub returns : goal.returns

@@ -1,5 +1,5 @@
 use Rattle.vpg_hope.proofs.Edges.{edges_inside}
-use Rattle.vpg_measure.proofs.Lift.{odd_lift}
+use Rattle.vpg_measure.proofs.MeasureLifts.{odd_lift}
 use Rattle.vpg_measure.proofs.laws.measures.odd_lifts_to_greatest.Goals as goal
 
 pub returns : goal.returns

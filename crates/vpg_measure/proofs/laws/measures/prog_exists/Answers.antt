@@ -1,4 +1,4 @@
-use Rattle.vpg_measure.proofs.Prog.{prog_exists}
+use Rattle.vpg_measure.proofs.MeasureProgs.{prog_exists}
 use Rattle.vpg_measure.proofs.laws.measures.prog_exists.Goals as goal
 
 pub returns : goal.returns

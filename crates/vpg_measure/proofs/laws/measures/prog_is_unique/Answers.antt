@@ -1,4 +1,4 @@
-use Rattle.vpg_measure.proofs.Prog.{prog_unique}
+use Rattle.vpg_measure.proofs.MeasureProgs.{prog_unique}
 use Rattle.vpg_measure.proofs.laws.measures.prog_is_unique.Goals as goal
 
 pub returns : goal.returns

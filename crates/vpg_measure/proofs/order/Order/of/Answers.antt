@@ -1,8 +1,7 @@
-use Rattle.std.proofs.Common.{◌≡◌, ◌↔◌, ◌∙◌, List, sym, ap, length, subst, map, Ok, Err}
+use Rattle.std.proofs.Common.{ap, Err}
 use Rattle.std.specs.Arc.{arc_value}
 use Rattle.vpg_measure.specs.Orders.{IsOrder}
-use Rattle.vpg_measure.specs.OrderKept.{IsGround, IsPrepared}
-use Rattle.vpg_measure.specs.OrderFields.{AreFields}
+use Rattle.vpg_measure.specs.OrderKept.{IsPrepared}
 use Rattle.vpg_measure.proofs.OrderLemmas.{order_with, order_made}
 use Rattle.vpg_measure.proofs.order.Order.of.Goals as goal
 

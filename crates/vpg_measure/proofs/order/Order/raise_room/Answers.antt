@@ -1,10 +1,10 @@
-use Rattle.std.proofs.Common.{◌≡◌, ◌∙◌, ℕ, List, sym, ap, subst}
+use Rattle.std.proofs.Common.{◌∙◌, ℕ, List, sym, ap}
 use Rattle.vpg_measure.specs.declared.which.Which.{Which}
 use Rattle.vpg_measure.specs.declared.which.Which.TheVariants.{Hopeful, Dual}
 use Rattle.vpg_measure.specs.Lifts.{IsTableOf, raised}
 use Rattle.vpg_measure.specs.OrderFields.{order_of}
 use Rattle.vpg_measure.specs.Orders.{OrderView, order_levels, order_arena, order_room, with_room}
-use Rattle.vpg_measure.proofs.OrderLemmas.{room_put, ground_count, ground_table, ground_raised}
+use Rattle.vpg_measure.proofs.OrderLemmas.{room_put, ground_count, ground_raised}
 use Rattle.vpg_measure.proofs.order.Order.raise_room.Goals as goal
 
 -- what is asked of the table, in the words of the order's fields

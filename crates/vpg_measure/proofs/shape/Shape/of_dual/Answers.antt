@@ -1,7 +1,7 @@
 use Rattle.std.proofs.Common.{◌≡◌, ◌∙◌, List, ap, subst, IfOk}
 use Rattle.vpg_game.specs.declared.levels.Level.{Level}
 use Rattle.vpg_game.specs.Game.{graph_of}
-use Rattle.vpg_game.specs.Levels.{levels_of, top_of}
+use Rattle.vpg_game.specs.Levels.{levels_of}
 use Rattle.vpg_measure.proofs.Priorities.{dual_levels}
 use Rattle.vpg_measure.proofs.shape.Shape.of_dual.Goals as goal
 

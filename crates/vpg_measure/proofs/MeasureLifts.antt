@@ -6,7 +6,7 @@ use Rattle.vpg_hope.specs.Games.{Game, HasEdge, owner_of, priority_of, successor
 use Rattle.vpg_measure.specs.Measures.{Shape, Measure, IsMeasure, AtMost, Fits, zero_measure, Top, Components}
 use Rattle.vpg_measure.specs.Tables.{Table, IsTable, zero_table, IsProg, IsLift, IsProgressMeasure, IsBelow, IsBelowAllAt, IsBelowAllProgress, IsLeastProgress, FitsFor, FitsAt, IsLeastOfProgs, IsGreatestOfProgs}
 use Rattle.vpg_measure.proofs.MeasureOrder.{AtMost-trans, AtMost-antisym, AtMost-Top, AtMost-total, Fits-up, Fits-down}
-use Rattle.vpg_measure.proofs.Prog.{prog_exists, zeros_in_range, zeros_least}
+use Rattle.vpg_measure.proofs.MeasureProgs.{prog_exists, zeros_in_range, zeros_least}
 use Rattle.vpg_hope.proofs.Edges.{AreEdgesInside, Contains-cases, Contains-first, Contains-later, not_in_nil}
 
 -- the least of Top and the progs is Even's lift
