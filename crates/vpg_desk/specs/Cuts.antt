@@ -1,0 +1,24 @@
+-- What contracts see of the cuts that stand for past and future pages.
+use Rattle.std.specs.Prelude.{ℕ, ◌<◌, List, map, reverse, All}
+use Rattle.vpg_trail.specs.Page.{Entry as Step}
+use Rattle.vpg_trail.specs.Shown.{entry_of, VertexBelow}
+use Rattle.vpg_desk.specs.Trail.{Cut as Saved, Trail as CutBook}
+use Rattle.vpg_desk.specs.declared.cuts.Cut.{Cut}
+
+abbrev pub cut_of : Cut → Saved
+cut_of c = record { serial = c.serial; place = c.place; suffix = map entry_of c.suffix.items }
+
+-- a stack of cuts from its top, which stands last
+abbrev pub cuts_of : List Cut → List Saved
+cuts_of cuts = map cut_of (reverse cuts)
+
+abbrev pub serials_from_top : List Cut → List ℕ
+serials_from_top cuts = map (λ c. c.serial) (reverse cuts)
+
+-- the book by its cuts
+abbrev pub cut_book : List Cut → List Step → List Cut → ℕ → ℕ → CutBook
+cut_book past entries future changes tokens = record { past = cuts_of past; entries = entries; future = cuts_of future; changes = changes; tokens = tokens }
+
+-- the suffixes are on vertices below n
+abbrev pub SuffixesBelow : ℕ → List Cut → Type 0
+SuffixesBelow n cuts = All (λ c. All (λ e. VertexBelow n (entry_of e)) c.suffix.items) cuts

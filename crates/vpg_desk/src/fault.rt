@@ -1,0 +1,46 @@
+//! Why calls of a desk are refused.
+
+use std::sync::Arc;
+use thiserror::Error;
+use vpg_diagram::Diagram;
+use vpg_game::GuardedGame;
+
+/// Why a desk isn't opened.
+#[derive(Clone, Copy, Debug, PartialEq, Eq, Error)]
+pub enum OpenFault {
+    /// Some priority is 65,536, so that the game has no dual.
+    #[error("AtLimit")]
+    AtLimit,
+    /// The diagram alone has a conflict, which names its root.
+    #[error("Conflict {feature}")]
+    Conflict { feature: u16 },
+    #[error("Memory")]
+    Memory,
+}
+
+/// A desk that isn't opened, with what was handed in.
+#[derive(Drop)]
+pub struct OpenRefused {
+    pub fault: OpenFault,
+    pub game: Arc<GuardedGame>,
+    pub diagram: Arc<Diagram>,
+}
+
+/// Why a feature isn't decided. `Memory` comes last, and only where a growth was refused.
+#[derive(Clone, Copy, Debug, PartialEq, Eq, Error)]
+pub enum DecideFault {
+    /// The diagram has no such feature.
+    #[error("UnknownFeature")]
+    UnknownFeature,
+    /// The change of this serial decided the feature.
+    #[error("AlreadyDecided {serial}")]
+    AlreadyDecided { serial: u64 },
+    /// The decision contradicts the diagram and the present decisions.
+    #[error("Conflict {feature}")]
+    Conflict { feature: u16 },
+    /// The desk has made 1,048,576 changes.
+    #[error("TooManyChanges")]
+    TooManyChanges,
+    #[error("Memory")]
+    Memory,
+}
