@@ -1,5 +1,12 @@
 -- The refusals of the book that faults tell.
-use Rattle.std.specs.Prelude.{Option, Some, None}
+use Rattle.std.specs.Prelude.{◌≡◌, ℕ, List, [], Option, Some, None, ⊤}
+use Rattle.vpg_diagram.specs.Clauses.{clauses_of, counts_of}
+use Rattle.vpg_diagram.specs.FeatureDiagram.{Line}
+use Rattle.vpg_diagram.specs.declared.clause.Literal.{Literal}
+use Rattle.vpg_partial.specs.Known.{NamesConflict}
+use Rattle.vpg_partial.specs.KnownLaws.{HasConflictOf}
+use Rattle.vpg_desk.specs.declared.fault.OpenFault.{OpenFault}
+use Rattle.vpg_desk.specs.declared.fault.OpenFault.TheVariants.{AtLimit, Conflict as OpensInConflict, Memory as NoMemory}
 use Rattle.vpg_desk.specs.Book.{Refusal, UnknownFeature, AlreadyDecided, Conflict, TooManyChanges}
 use Rattle.vpg_desk.specs.declared.fault.DecideFault.{DecideFault}
 use Rattle.vpg_desk.specs.declared.fault.DecideFault.TheVariants.{UnknownFeature as IsUnknown, AlreadyDecided as IsDecided, Conflict as HasConflict, TooManyChanges as IsTooMany, Memory}
@@ -11,3 +18,15 @@ decide_refusal (IsDecided serial) = Some (AlreadyDecided serial)
 decide_refusal (HasConflict feature) = Some (Conflict feature)
 decide_refusal IsTooMany = Some TooManyChanges
 decide_refusal Memory = None
+
+-- why a closure with one decision more gives none
+abbrev pub ClosesWith : List Line → List Literal → ℕ → DecideFault → Type 0
+ClosesWith lines choices feature (HasConflict f) = (f ≡ feature) × ((g : ℕ) × NamesConflict (clauses_of lines) (counts_of lines) choices g)
+ClosesWith lines choices feature Memory = ⊤
+ClosesWith lines choices feature _ = ⊥
+
+-- why the closure of no decision gives none: the diagram alone has a conflict, which names the root
+abbrev pub OpensWith : List Line → OpenFault → Type 0
+OpensWith lines AtLimit = ⊥
+OpensWith lines (OpensInConflict f) = HasConflictOf lines [] × (f ≡ 0)
+OpensWith lines NoMemory = ⊤

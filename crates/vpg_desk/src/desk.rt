@@ -1,15 +1,19 @@
 //! The desk: sessions decide features of a product family on it, and lifters bring harvests.
 ghost use Rattle.std.specs.Arc.{arc_value};
-ghost use Rattle.std.specs.Prelude.{◌≡◌, ◌<◌, ℕ, length, IsTrue, IfOk};
-ghost use Rattle.vpg_game.specs.Game.{graph_of};
+ghost use Rattle.std.specs.Prelude.{◌≡◌, ◌<◌, ◌↔◌, ℕ, [], length, IsTrue, IfOk, IfErr};
+ghost use Rattle.vpg_diagram.specs.FeatureDiagram.{feature_count};
+ghost use Rattle.vpg_partial.specs.KnownLaws.{HasConflictOf};
+ghost use Rattle.vpg_game.specs.Game.{graph_of, IsAtLimit};
 ghost use Rattle.vpg_trail.specs.Page.{Which as Side, Hopeful, Dual, choices_of, decisions_of, table_of};
-ghost use Rattle.vpg_desk.specs.Book.{Settled, IsSettled, Verdict as AsksVerdict, VerdictIs, Page as AsksPage, PageIs};
+ghost use Rattle.vpg_desk.specs.Book.{opened, Settled, IsSettled, Verdict as AsksVerdict, VerdictIs, Page as AsksPage, PageIs};
 ghost use Rattle.vpg_desk.specs.Desk.{family_of, IsLeastUnder};
 ghost use Rattle.vpg_desk.specs.Headline.{NeverWins};
 ghost use Rattle.vpg_desk.specs.Lawful.{PageIsBelow};
 ghost use Rattle.vpg_desk.specs.State.{Replies, setting_of};
 
 use crate::cuts::Cut;
+use crate::fault::{OpenFault, OpenRefused};
+use crate::opening::{Opening, prepare};
 use crate::standing::Standing;
 use std::alloc::{AllocError, Global};
 use std::marker::Model;
@@ -64,6 +68,51 @@ impl Model for Desk {
 }
 
 impl Desk {
+    /// A desk without decisions; both tables are zero. Refused, in this order: a priority is 65,536, so that there is no dual; the
+    /// diagram alone has a conflict, which names its root; want of memory. What was handed in comes back.
+    pub fn open(
+        alloc: Global,
+        game: Arc<GuardedGame>,
+        diagram: Arc<Diagram>,
+    ) -> Result<Desk, OpenRefused>
+        requires { (arc_value game).features ≡ feature_count (arc_value diagram).lines }
+        ensures opened { IfOk result (λ desk. desk.book ≡ opened) }
+        ensures game { IfOk result (λ desk. desk.game ≡ arc_value game) }
+        ensures diagram { IfOk result (λ desk. desk.diagram ≡ arc_value diagram) }
+        ensures at_limit { IfErr result (λ refused. (refused.fault ≡ OpenFault.AtLimit) ↔ IsAtLimit (arc_value game)) }
+        ensures conflict { IfErr result (λ refused. (f : ℕ) → refused.fault ≡ OpenFault.Conflict f → HasConflictOf (arc_value diagram).lines [] × (f ≡ 0)) }
+        ensures game_back { IfErr result (λ refused. arc_value refused.game ≡ arc_value game) }
+        ensures diagram_back { IfErr result (λ refused. arc_value refused.diagram ≡ arc_value diagram) }
+    {
+        match prepare(alloc, &game, &diagram) {
+            Ok(made) => {
+                let Opening {
+                    hopeful_shape,
+                    dual_shape,
+                    standing,
+                    trail,
+                } = made;
+                Ok(Desk {
+                    game,
+                    diagram,
+                    hopeful_shape,
+                    dual_shape,
+                    standing,
+                    trail,
+                    past: Vec::new(alloc),
+                    future: Vec::new(alloc),
+                    changes: 0,
+                    tokens: 0,
+                })
+            }
+            Err(fault) => Err(OpenRefused {
+                fault,
+                game,
+                diagram,
+            }),
+        }
+    }
+
     /// Whether both tables of the present page are progress tables. They are then the least ones.
     pub fn settled(&self) -> bool
         ensures reply { Replies self.now Settled (IsSettled result) }

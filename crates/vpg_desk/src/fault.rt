@@ -1,5 +1,6 @@
 //! Why calls of a desk are refused.
 
+use std::alloc::{AllocError, AllocFailed};
 use std::sync::Arc;
 use thiserror::Error;
 use vpg_diagram::Diagram;
@@ -43,4 +44,37 @@ pub enum DecideFault {
     TooManyChanges,
     #[error("Memory")]
     Memory,
+}
+
+impl From<AllocError> for OpenFault {
+    ghost use Rattle.std.specs.Prelude.{◌≡◌};
+    ghost use Rattle.vpg_desk.specs.declared.fault.OpenFault.TheVariants.{Memory};
+
+    ghost from_gives = { λ _ fault. fault ≡ Memory };
+
+    fn from(_: AllocError) -> OpenFault {
+        OpenFault::Memory
+    }
+}
+
+impl From<AllocError> for DecideFault {
+    ghost use Rattle.std.specs.Prelude.{◌≡◌};
+    ghost use Rattle.vpg_desk.specs.declared.fault.DecideFault.TheVariants.{Memory};
+
+    ghost from_gives = { λ _ fault. fault ≡ Memory };
+
+    fn from(_: AllocError) -> DecideFault {
+        DecideFault::Memory
+    }
+}
+
+impl<T: Drop> From<AllocFailed<T>> for DecideFault {
+    ghost use Rattle.std.specs.Prelude.{◌≡◌};
+    ghost use Rattle.vpg_desk.specs.declared.fault.DecideFault.TheVariants.{Memory};
+
+    ghost from_gives = { λ _ fault. fault ≡ Memory };
+
+    fn from(_: AllocFailed<T>) -> DecideFault {
+        DecideFault::Memory
+    }
 }

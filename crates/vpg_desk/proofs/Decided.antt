@@ -1,0 +1,135 @@
+-- What a desk answers to a decide, and what an accepted one leaves.
+use Rattle.std.proofs.Common.{◌≡◌, ℕ, ◌+◌, ◌<◌, ◌≤◌, Bool, List, [], ◌∷◌, ◌++◌, length, map, Some, None, IfSome, refl, sym, ap, ◌∙◌, subst, arith, Vec, Global}
+use Rattle.std.specs.Arc.{arc_value}
+use Rattle.std.specs.List.{AllByRecursion}
+use Rattle.vpg_diagram.proofs.Lists.{All-unmap, All-append}
+use Rattle.vpg_diagram.specs.FeatureDiagram.{feature_count}
+use Rattle.vpg_diagram.specs.Clauses.{clauses_of, counts_of}
+use Rattle.vpg_game.specs.Game.{graph_of}
+use Rattle.vpg_guards.specs.Known.{kleene}
+use Rattle.vpg_measure.specs.TwoGames.{arena_for}
+use Rattle.vpg_guards.specs.declared.tri.Tri.{Tri}
+use Rattle.vpg_partial.specs.Known.{NamesConflict}
+use Rattle.vpg_partial.specs.TableLaws.{IsKnownTable, AreChoicesOf}
+use Rattle.vpg_trail.specs.Page.{Hopeful, Dual, Literal, Decision, Entry as Step, Decided, literal_of, decisions_of, choices_of, decision_on}
+use Rattle.vpg_trail.specs.Shown.{Track}
+use Rattle.vpg_trail.proofs.PageLemmas.{choices_of-append}
+use Rattle.vpg_desk.specs.Book.{Book, Refused, Changed, Decide, AlreadyDecided, UnknownFeature, Conflict, TooManyChanges, most_changes, with_choice, changed, IsReply}
+use Rattle.vpg_desk.specs.Cuts.{cuts_of, cut_book, SuffixesBelow}
+use Rattle.vpg_desk.specs.Desk.{family_of}
+use Rattle.vpg_desk.specs.Trail.{StandsFor, book_of}
+use Rattle.vpg_desk.specs.declared.cuts.Cut.{Cut}
+use Rattle.vpg_desk.specs.declared.standing.Standing.{Standing}
+use Rattle.vpg_desk.proofs.Changing.{end_cut, decided_stands}
+use Rattle.vpg_desk.specs.DeskFields.{setting_in, book_in, desk_of, IsDesk}
+use Rattle.vpg_desk.specs.Faults.{decide_refusal, ClosesWith}
+use Rattle.vpg_desk.specs.Setting.{Setting, HasConflict}
+use Rattle.vpg_desk.specs.State.{DeskState, Replies, IsStep, setting_of, IsReached}
+use Rattle.vpg_desk.specs.declared.desk.Desk.TheInside.{Inside}
+use Rattle.vpg_desk.specs.declared.fault.DecideFault.{DecideFault}
+use Rattle.vpg_desk.specs.declared.fault.DecideFault.TheVariants.{UnknownFeature as IsUnknown, AlreadyDecided as IsDecided, Conflict as InConflict, TooManyChanges as IsTooMany, Memory}
+use Rattle.vpg_desk.proofs.Answering.{tells}
+use Rattle.vpg_desk.proofs.Deciding.{choices_inside, one_more_inside, known_no_conflict, named_has_conflict}
+use Rattle.vpg_desk.proofs.Reaching.{reached_step, reached_limits}
+
+module _ (d : Inside) (i : IsDesk d) where
+  lines_in : ℕ
+  lines_in = feature_count (arc_value d.diagram).lines
+
+  consistent : ¬ (HasConflict (setting_in d) (choices_of d.trail.entries))
+  consistent = (tells d i).consistent
+
+  -- a decision more is of features of the diagram
+  pub decisions_inside : (made : Decision) → made.feature < feature_count (arc_value d.diagram).lines → (page : List Step) → page ≡ d.trail.entries →
+      AllByRecursion (λ x. x.feature < feature_count (arc_value d.diagram).lines) (decisions_of page ++ made ∷ [])
+  decisions_inside made h page e =
+      All-append (λ (x : Decision). x.feature < feature_count (arc_value d.diagram).lines) (decisions_of page) (made ∷ [])
+      (All-unmap (λ (c : Literal). c.feature < feature_count (arc_value d.diagram).lines) literal_of (decisions_of page)
+      (subst (λ (p : List Step). AreChoicesOf (arc_value d.diagram).lines (choices_of p)) (sym e) (choices_inside (setting_in d) (choices_of d.trail.entries) consistent)))
+      (h, tt)
+
+  pub limits : (d.tokens ≤ d.changes) × (d.changes ≤ most_changes)
+  limits = reached_limits (setting_in d) (book_in d) i.reached
+
+  module _ (f : ℕ) (value : Bool) where
+    pub decide_unknown : feature_count (arc_value d.diagram).lines ≤ f → Replies (desk_of d) (Decide f value) (Refused UnknownFeature)
+    decide_unknown h = (Some UnknownFeature, (h, refl))
+
+    module _ (known_feature : f < feature_count (arc_value d.diagram).lines) where
+      pub decide_already : (x : Decision) → decision_on f d.trail.entries ≡ Some x → Replies (desk_of d) (Decide f value) (Refused (AlreadyDecided x.serial))
+      decide_already x e = (Some (AlreadyDecided x.serial), ((known_feature, (x, (e, refl))), refl))
+
+      module _ (fresh : decision_on f d.trail.entries ≡ None) (made : Decision) (on_f : made.feature ≡ f) (its_value : made.value ≡ value) where
+        choices : choices_of (d.trail.entries ++ Decided made ∷ []) ≡ with_choice (book_in d) f value
+        choices = choices_of-append d.trail.entries (Decided made ∷ []) ∙ ap (λ (c : Literal). choices_of d.trail.entries ++ c ∷ []) (λ k. record { feature = on_f k; value = its_value k })
+
+        conflict : (g : ℕ) → NamesConflict (clauses_of (arc_value d.diagram).lines) (counts_of (arc_value d.diagram).lines) (choices_of (d.trail.entries ++ Decided made ∷ [])) g → HasConflict (setting_in d) (with_choice (book_in d) f value)
+        conflict g named = subst (HasConflict (setting_in d)) choices (named_has_conflict (setting_in d) (choices_of (d.trail.entries ++ Decided made ∷ [])) g named)
+
+        pub none : (known : List Tri) → IsKnownTable (arc_value d.diagram).lines (choices_of (d.trail.entries ++ Decided made ∷ [])) known → ¬ (HasConflict (setting_in d) (with_choice (book_in d) f value))
+        none known t = subst (λ (l : List Literal). ¬ (HasConflict (setting_in d) l)) choices
+            (known_no_conflict (setting_in d) (choices_of (d.trail.entries ++ Decided made ∷ [])) known
+            (subst (AreChoicesOf (arc_value d.diagram).lines) (sym (choices_of-append d.trail.entries (Decided made ∷ [])))
+            (one_more_inside (setting_in d) (choices_of d.trail.entries) (literal_of made) consistent (subst (λ (n : ℕ). n < feature_count (arc_value d.diagram).lines) (sym on_f) known_feature))) t)
+
+        pub closes_refuses : (fault : DecideFault) → ClosesWith (arc_value d.diagram).lines (choices_of (d.trail.entries ++ Decided made ∷ [])) made.feature fault →
+            IfSome (decide_refusal fault) (λ refusal. Replies (desk_of d) (Decide f value) (Refused refusal))
+        closes_refuses IsUnknown h = absurd h
+        closes_refuses (IsDecided s) h = absurd h
+        closes_refuses (InConflict g) h = (Some (Conflict g), ((known_feature, fresh, conflict h.1.0 h.1.1, h.0 ∙ on_f), refl))
+        closes_refuses IsTooMany h = absurd h
+        closes_refuses Memory h = tt
+
+        pub decide_too_many : (known : List Tri) → IsKnownTable (arc_value d.diagram).lines (choices_of (d.trail.entries ++ Decided made ∷ [])) known → d.changes ≡ 1048576 →
+            Replies (desk_of d) (Decide f value) (Refused TooManyChanges)
+        decide_too_many known t e = (Some TooManyChanges, ((known_feature, fresh, none known t, omega (arith, e)), refl))
+
+        pub decide_accepted : (known : List Tri) → IsKnownTable (arc_value d.diagram).lines (choices_of (d.trail.entries ++ Decided made ∷ [])) known → (d.changes ≡ 1048576 → ⊥) →
+            Replies (desk_of d) (Decide f value) (Changed (d.changes + 1))
+        decide_accepted known t n = (None, ((known_feature, fresh, none known t, room), refl))
+          where
+            room : d.changes < most_changes
+            room = omega (arith, limits.1, n)
+
+-- ---- what an accepted decide leaves
+
+module _ (d : Inside) (i : IsDesk d) (session f : ℕ) (value : Bool) (standing : Standing) (later : Vec Cut Global) (trail : Track) (future : Vec Cut Global) (known : List Tri)
+    (cuts : cuts_of later.items ≡ end_cut (d.changes + 1) d.trail.entries ∷ cuts_of d.past.items)
+    (below : SuffixesBelow d.trail.vertices d.past.items → SuffixesBelow d.trail.vertices later.items)
+    (trail_is : trail ≡ record { vertices = d.trail.vertices; entries = d.trail.entries ++ Decided (record { serial = d.changes + 1; session = session; feature = f; value = value }) ∷ [] })
+    (emptied : future.items ≡ [])
+    (accepted : Replies (desk_of d) (Decide f value) (Changed (d.changes + 1)))
+    (known_is : standing.known ≡ known)
+    (hopeful_is : standing.hopeful ≡ arena_for (kleene known) Hopeful (graph_of (arc_value d.game)))
+    (dual_is : standing.dual ≡ arena_for (kleene known) Dual (graph_of (arc_value d.game)))
+    (table : IsKnownTable (arc_value d.diagram).lines (choices_of (d.trail.entries ++ Decided (record { serial = d.changes + 1; session = session; feature = f; value = value }) ∷ [])) known) where
+  made : Step
+  made = Decided (record { serial = d.changes + 1; session = session; feature = f; value = value })
+
+  left : Inside
+  left = record { game = d.game; diagram = d.diagram; hopeful_shape = d.hopeful_shape; dual_shape = d.dual_shape; standing = standing; trail = trail; past = later; future = future; changes = d.changes + 1; tokens = d.tokens + 1 }
+
+  stands : StandsFor (cut_book later.items trail.entries future.items (d.changes + 1) (d.tokens + 1)) (changed (book_in d) (d.trail.entries ++ Decided (record { serial = d.changes + 1; session = session; feature = f; value = value }) ∷ []))
+  stands = coe 0 1 (k. StandsFor (record { past = cuts_of later.items; entries = (sym trail_is k).entries; future = cuts_of (sym emptied k); changes = d.changes + 1; tokens = d.tokens + 1 }) (changed (book_in d) (d.trail.entries ++ Decided (record { serial = d.changes + 1; session = session; feature = f; value = value }) ∷ [])))
+      (decided_stands d.past.items later.items d.trail.entries d.future.items d.changes d.tokens (Decided (record { serial = d.changes + 1; session = session; feature = f; value = value })) cuts i.past_fits i.future_fits)
+
+  pub decided_step : IsStep (desk_of d) session (Decide f value) (Changed (d.changes + 1)) (record { game = arc_value d.game; diagram = arc_value d.diagram; book = book_of (cut_book later.items trail.entries future.items (d.changes + 1) (d.tokens + 1)) })
+  decided_step = record { step = (accepted, stands.same); game = refl; diagram = refl }
+
+  pub decided_desk : IsDesk (record { game = d.game; diagram = d.diagram; hopeful_shape = d.hopeful_shape; dual_shape = d.dual_shape; standing = standing; trail = trail; past = later; future = future; changes = d.changes + 1; tokens = d.tokens + 1 })
+  decided_desk = record {
+    opened = i.opened;
+    reached = subst (IsReached (setting_in d)) (sym stands.same) (reached_step (setting_in d) (book_in d) session (Decide f value) (Changed (d.changes + 1)) i.reached accepted tt);
+    hopeful_shape = i.hopeful_shape;
+    dual_shape = i.dual_shape;
+    standing = record {
+      known = coe 0 1 (k. IsKnownTable (arc_value d.diagram).lines (choices_of (sym trail_is k).entries) (sym known_is k)) table;
+      hopeful = hopeful_is ∙ ap (λ (t : List Tri). arena_for (kleene t) Hopeful (graph_of (arc_value d.game))) (sym known_is);
+      dual = dual_is ∙ ap (λ (t : List Tri). arena_for (kleene t) Dual (graph_of (arc_value d.game))) (sym known_is);
+    };
+    vertices = ap (λ (t : Track). t.vertices) trail_is ∙ i.vertices;
+    past_fits = stands.past_fits;
+    future_fits = stands.future_fits;
+    past_below = subst (λ (t : Track). SuffixesBelow t.vertices later.items) (sym trail_is) (below i.past_below);
+    future_below = subst (λ (l : List Cut). SuffixesBelow trail.vertices l) (sym emptied) (λ k x h. absurd (omega arith));
+  }

@@ -1,0 +1,12 @@
+use Rattle.std.proofs.Common.{◌≡◌, ◌∙◌, [], sym, subst}
+use Rattle.vpg_diagram.specs.DiagramText.{NamedDiagram}
+use Rattle.vpg_game.specs.Game.{IsAtLimit}
+use Rattle.vpg_partial.specs.KnownLaws.{HasConflictOf}
+use Rattle.vpg_desk.proofs.Opened.{limit_told, conflict_told}
+use Rattle.vpg_desk.proofs.desk.Desk.open.Goals as goal
+
+pub returns-in-Err-clause-at_limit : goal.returns-in-Err-clause-at_limit
+returns-in-Err-clause-at_limit c = limit_told _ _ c.in-Err.fault c.deref.ensures c.in-Err.ensures.at_limit
+
+pub returns-in-Err-clause-conflict : goal.returns-in-Err-clause-conflict
+returns-in-Err-clause-conflict c f e = conflict_told _ _ c.in-Err.fault f c.deref-2.ensures (c.in-Err.ensures.conflict f) e
