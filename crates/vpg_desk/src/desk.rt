@@ -20,20 +20,11 @@ use std::marker::Model;
 use std::sync::Arc;
 use vpg_diagram::Diagram;
 use vpg_game::{GuardedGame, Player};
-use vpg_measure::lifts::is_progress;
-use vpg_measure::shape::Shape;
+use vpg_measure::{Shape, Verdict, is_progress};
 use vpg_trail::{Decisions, Entries, Page, Trail, decisions_among};
 
 /// The most changes that a desk makes.
 pub const MOST_CHANGES: u64 = 1_048_576;
-
-/// What a vertex's two values say. A hopeless vertex is one from which Even wins in no remaining product; a sure one is one
-/// from which Odd wins in none.
-#[derive(Clone, Copy, Debug, PartialEq, Eq)]
-pub struct Verdict {
-    pub hopeless: bool,
-    pub sure: bool,
-}
 
 /// A game and a diagram with the book of the pages that decisions and lifts made of them.
 #[derive(Drop)]

@@ -12,7 +12,7 @@ use crate::standing::Standing;
 use std::alloc::{AllocError, Global};
 use vpg_diagram::Diagram;
 use vpg_game::GuardedGame;
-use vpg_measure::shape::Shape;
+use vpg_measure::Shape;
 use vpg_partial::{Partial, PartialFault};
 use vpg_trail::Trail;
 

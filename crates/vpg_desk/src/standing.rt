@@ -7,7 +7,7 @@ ghost use Rattle.vpg_measure.specs.TwoGames.{arena_for};
 use std::alloc::{AllocError, Global};
 use vpg_game::GuardedGame;
 use vpg_hope::Arena;
-use vpg_measure::which::Which;
+use vpg_measure::Which;
 use vpg_partial::Partial;
 
 /// What is known of each feature, and the kept edges of the hopeful game and of that of the dual.

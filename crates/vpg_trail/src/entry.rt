@@ -6,7 +6,7 @@ use std::alloc::AllocError;
 use std::marker::Model;
 use std::sync::Arc;
 use vpg_diagram::Literal;
-use vpg_measure::which::Which;
+use vpg_measure::Which;
 use vpg_partial::Decision;
 
 /// The decisions that a lift rests on, without their serials, in the order of the page that they were read from.

@@ -5,7 +5,7 @@ ghost use Rattle.vpg_trail.specs.Page.{decisions_of, decision_on, has_decided, b
 use crate::entry::Entry;
 use std::alloc::{AllocError, Global};
 use std::marker::Model;
-use vpg_measure::table::Table;
+use vpg_measure::Table;
 use vpg_partial::Decision;
 
 /// Decisions in their order.

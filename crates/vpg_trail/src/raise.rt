@@ -6,8 +6,7 @@ ghost use Rattle.vpg_trail.specs.Shown.{entry_of, VertexBelow};
 use crate::entry::{Assumed, Entry};
 use std::alloc::{AllocError, Global};
 use std::sync::Arc;
-use vpg_measure::table::Table;
-use vpg_measure::which::Which;
+use vpg_measure::{Table, Which};
 
 /// One lift for each value above the present one, in the order of the vertices: the lifts of every page that has this
 /// present table.

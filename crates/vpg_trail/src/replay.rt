@@ -5,8 +5,7 @@ ghost use Rattle.vpg_trail.specs.Shown.{entry_of, VertexBelow, after_entry};
 
 use crate::entry::Entry;
 use std::alloc::{AllocError, Global};
-use vpg_measure::table::Table;
-use vpg_measure::which::Which;
+use vpg_measure::{Table, Which};
 
 /// Raises a value.
 fn raise(values: &mut Table, vertex: u32, new: u64)

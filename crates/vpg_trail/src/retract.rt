@@ -6,8 +6,7 @@ ghost use Rattle.vpg_trail.specs.Shown.{entry_of, VertexBelow, what_stays};
 use crate::entry::Entry;
 use crate::replay::{replay, take_in};
 use std::alloc::{AllocError, Global};
-use vpg_measure::table::Table;
-use vpg_measure::which::Which;
+use vpg_measure::{Table, Which};
 
 /// What stays of an entry: nothing of a lift that assumed the feature, else the entry with the old value that the tables
 /// give.

@@ -7,7 +7,7 @@ use crate::entry::Entry;
 use crate::replay::{replay, take_all, take_in};
 use std::alloc::{AllocError, AllocFailed, Global};
 use std::marker::Model;
-use vpg_measure::table::Table;
+use vpg_measure::Table;
 
 /// The entries of a page over a number of vertices. Its tables are those that the entries give.
 #[derive(Drop)]
