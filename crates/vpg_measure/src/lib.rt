@@ -34,3 +34,6 @@ pub use shape::{Shape, prog};
 pub use table::Table;
 pub use verdict::Verdict;
 pub use which::Which;
+
+#[cfg(test)]
+mod tests;

@@ -1,7 +1,9 @@
 ghost use Rattle.std.specs.Prelude.{◌≡◌, ◌≢◌, ℕ, ◌+◌, ◌-◌, ◌<◌, ◌≤◌, ◌^◌, ◌↔◌, List, length, map, IfOk, OnOk, All, IsTrue, MatchBool, Err, ◌==◌, slice_index, sum, sum_by};
 ghost use Rattle.std.specs.List.{find};
 ghost use Rattle.vpg_game.specs.Levels.{top_of, prog_of};
-ghost use Rattle.vpg_hope.specs.Arena.{vertex_at};
+ghost use Rattle.vpg_hope.specs.Arena.{vertex_at, IsClosed};
+ghost use Rattle.vpg_hope.specs.Strategies.{Wins};
+ghost use Rattle.vpg_measure.specs.Views.{strategy_of};
 ghost use Rattle.vpg_measure.specs.Lifts.{IsTableOf, IsProgressTable, IsBelowTable, least_of, greatest_of, lift_of, raised, round_of, after_rounds, EndsAs, choice_of, AreChoices};
 
 use crate::shape::{Shape, prog};
@@ -186,6 +188,10 @@ pub fn strategy(
     ensures settled { OnOk result (IsProgressTable shape.now arena.now table.now) }
     ensures not_settled { result ≡ Err StrategyFault.NotSettled → ¬ IsProgressTable shape.now arena.now table.now }
     ensures choices { IfOk result (λ choices. AreChoices shape.now arena.now table.now choices.items) }
+
+    // They win for Even from every vertex below top, by reachable cycles: `Wins` stands in the crate of hopeful games.
+    ensures wins { IfOk result (λ choices. IsClosed arena.now → (v : ℕ) → v < length arena.now → slice_index table.now v < top_of shape.now →
+        Wins arena.now Player.Even (strategy_of choices.items) v) }
 {
     if !is_progress(shape, arena, table) {
         return Err(StrategyFault::NotSettled);

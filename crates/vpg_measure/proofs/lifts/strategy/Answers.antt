@@ -1,0 +1,14 @@
+use Rattle.std.proofs.Common.{refl, arith}
+use Rattle.vpg_measure.specs.Lifts.{AreChoices}
+use Rattle.vpg_measure.proofs.NumberVerdicts.{choices_win}
+use Rattle.vpg_measure.proofs.lifts.strategy.Goals as goal
+
+all_chosen : (c : goal.After-loop-v) → AreChoices c.args.shape.now c.args.arena.now c.args.table.now c.loop-v.choices.items
+all_chosen c = (
+  omega (arith, c.loop-v.invariant.len, c.vertices-v-end.ensures),
+  λ v less. c.loop-v.invariant.each v (omega (arith, c.vertices-v-end.ensures)),
+)
+
+pub returns-clause-wins : goal.returns-clause-wins
+returns-clause-wins c = λ closed v less below.
+    choices_win c.args.shape.now c.args.arena.now c.args.table.now c.loop-v.choices.items c.requires (c.if-not-is_progress.ensures.0 refl) (all_chosen c) closed v less below
