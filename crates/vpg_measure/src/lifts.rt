@@ -4,7 +4,7 @@ ghost use Rattle.vpg_game.specs.Levels.{top_of, prog_of};
 ghost use Rattle.vpg_hope.specs.Arena.{vertex_at, IsClosed};
 ghost use Rattle.vpg_hope.specs.Strategies.{Wins};
 ghost use Rattle.vpg_measure.specs.Views.{strategy_of};
-ghost use Rattle.vpg_measure.specs.Lifts.{IsTableOf, IsProgressTable, IsBelowTable, least_of, greatest_of, lift_of, raised, round_of, after_rounds, EndsAs, choice_of, AreChoices};
+ghost use Rattle.vpg_measure.specs.Lifts.{IsTableOf, NumberFitsAt, IsProgressTable, IsBelowTable, least_of, greatest_of, lift_of, raised, round_of, after_rounds, EndsAs, choice_of, AreChoices};
 
 use crate::shape::{Shape, prog};
 use crate::table::Table;
@@ -48,8 +48,8 @@ fn greatest_value(table: &Table, kept: &[u32]) -> u64
     greatest
 }
 
-/// The least number that fits at a vertex.
-pub fn lift(shape: &Shape, arena: &Arena, table: &Table, v: u32) -> u64
+// The prog of the best successor: the least for Even, the greatest for Odd.
+fn best_prog(shape: &Shape, arena: &Arena, table: &Table, v: u32) -> u64
     requires vertex { v < length arena.now }
     requires table { IsTableOf shape.now arena.now table.now }
     ensures lift { result ≡ lift_of shape.now table.now (vertex_at arena.now v) }
@@ -70,6 +70,19 @@ pub fn lift(shape: &Shape, arena: &Arena, table: &Table, v: u32) -> u64
             }
         }
     }
+}
+
+/// The least number that fits at a vertex, at most top.
+pub fn lift(shape: &Shape, arena: &Arena, table: &Table, v: u32) -> u64
+    requires vertex { v < length arena.now }
+    requires table { IsTableOf shape.now arena.now table.now }
+    ensures lift { result ≡ lift_of shape.now table.now (vertex_at arena.now v) }
+    ensures within { result ≤ top_of shape.now }
+
+    // The numbers that fit are those from the result on.
+    ensures least { (n : ℕ) → n ≤ top_of shape.now → NumberFitsAt shape.now table.now (vertex_at arena.now v) n ↔ (result ≤ n) }
+{
+    best_prog(shape, arena, table, v)
 }
 
 /// Whether no lift raises the table.

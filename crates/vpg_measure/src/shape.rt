@@ -1,9 +1,10 @@
 //! Shapes: the odd priorities of a game, and the numbers of its measures.
 
-ghost use Rattle.std.specs.Prelude.{◌≡◌, ◌+◌, ◌≤◌, IfOk, map};
+ghost use Rattle.std.specs.Prelude.{◌≡◌, ◌+◌, ◌≤◌, ◌↔◌, ℕ, IfOk, map};
 ghost use Rattle.vpg_game.specs.Game.{graph_of};
 ghost use Rattle.vpg_game.specs.Guarded.{guarded_priorities};
 ghost use Rattle.vpg_game.specs.Levels.{top_of, weight_of, levels_of, prog_of};
+ghost use Rattle.vpg_measure.specs.Lifts.{NumberFitsEdge};
 ghost use Rattle.vpg_measure.specs.TwoGames.{levels_for};
 
 use crate::which::Which;
@@ -110,22 +111,34 @@ impl Shape {
             self.top
         }
     }
+
+    // The formula in mixed radix: what stands below the priority is cut off, and an odd priority counts one more.
+    fn cut(&self, priority: u32, value: u64) -> u64
+        requires { value ≤ top_of self.now }
+        ensures prog { result ≡ prog_of self.now priority value }
+        ensures within { result ≤ top_of self.now }
+    {
+        if value == self.top() {
+            return value;
+        }
+        let weight = self.weight(priority);
+        let quotient = value / weight;
+        if priority % 2 == 1 {
+            (quotient + 1) * weight
+        } else {
+            quotient * weight
+        }
+    }
 }
 
-/// The least number whose measure fits an edge from a vertex of this priority to one of this value.
+/// The least number whose measure fits an edge from a vertex of this priority to one of this value, at most top.
 pub fn prog(shape: &Shape, priority: u32, value: u64) -> u64
     requires { value ≤ top_of shape.now }
     ensures prog { result ≡ prog_of shape.now priority value }
     ensures within { result ≤ top_of shape.now }
+
+    // The numbers that fit the edge are those from the result on.
+    ensures least { (n : ℕ) → n ≤ top_of shape.now → NumberFitsEdge shape.now priority n value ↔ (result ≤ n) }
 {
-    if value == shape.top() {
-        return value;
-    }
-    let weight = shape.weight(priority);
-    let quotient = value / weight;
-    if priority % 2 == 1 {
-        (quotient + 1) * weight
-    } else {
-        quotient * weight
-    }
+    shape.cut(priority, value)
 }
