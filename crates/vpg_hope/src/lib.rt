@@ -24,3 +24,6 @@ mod selection;
 pub use arena::Arena;
 pub use plain::PlainGame;
 pub use projection::{ProjectFault, project};
+
+#[cfg(test)]
+mod tests;
