@@ -1,13 +1,15 @@
 //! A feature diagram with the names of its features.
 
-ghost use Rattle.std.specs.Prelude.{◌≡◌, ◌↔◌, length, map, IsTrue, IfOk};
+ghost use Rattle.std.specs.Prelude.{◌≡◌, ◌↔◌, length, map, IsTrue, IfOk, IfErr, MatchResult, ◌≢◌};
 ghost use Rattle.std.specs.List.{AllByRecursion};
 ghost use Rattle.vpg_diagram.specs.Clauses.{clauses_of, counts_of, IsClauseBelow, IsCountBelow};
 ghost use Rattle.vpg_diagram.specs.DiagramText.{IsNamedDiagram};
 ghost use Rattle.vpg_diagram.specs.FeatureDiagram.{feature_count, IsDiagram, IsProduct};
 
 use crate::clause::{Clause, Count};
+use crate::fault::DiagramFault;
 use crate::line::Line;
+use crate::reading::read_text;
 use crate::{building, product};
 use std::alloc::{AllocError, Global};
 use std::marker::Model;
@@ -37,6 +39,8 @@ impl Model for Diagram {
 
 impl Diagram {
     ghost use Rattle.vpg_diagram.specs.LineView.{lines_of};
+    ghost use Rattle.vpg_diagram.specs.DiagramText.{IsTextOf, NamedDiagram};
+    ghost use Rattle.vpg_diagram.specs.TextFaults.{IsFirstFault};
 
     /// The diagram of these names and lines.
     fn of(alloc: Global, names: Names, lines: Vec<Line>) -> Result<Diagram, AllocError>
@@ -51,6 +55,27 @@ impl Diagram {
             clauses,
             counts,
         })
+    }
+
+    /// The diagram that a text spells.
+    pub fn read(alloc: Global, text: &[u8]) -> Result<Diagram, DiagramFault>
+        // What is read is spelled so.
+        ensures found { IfOk result (IsTextOf text.now) }
+        // A text that is refused spells no diagram within the limits.
+        ensures refused { IfErr result (λ fault. fault ≢ DiagramFault.Memory → (d : NamedDiagram) → IsTextOf text.now d → ⊥) }
+        // The fault is that of the first faulty line, and the first that this line has.
+        ensures fault { IfErr result (IsFirstFault text.now) }
+        // What is spelled so is read, unless memory runs out.
+        ensures only { (d : NamedDiagram) → IsTextOf text.now d → MatchResult result (λ read. read ≡ d) (λ fault. fault ≡ DiagramFault.Memory) }
+    {
+        let reader = match read_text(alloc, text) {
+            Ok(reader) => reader,
+            Err(fault) => return Err(fault),
+        };
+        match Diagram::of(alloc, reader.names, reader.lines) {
+            Ok(diagram) => Ok(diagram),
+            Err(_) => Err(DiagramFault::Memory),
+        }
     }
 
     /// The names of the features, in order. The root is the first.

@@ -56,3 +56,23 @@ pub(crate) enum Line {
         other: u16,
     },
 }
+
+impl Line {
+    ghost use Rattle.std.specs.Prelude.{◌≡◌};
+    ghost use Rattle.vpg_diagram.specs.DiagramText.{is_rule};
+    ghost use Rattle.vpg_diagram.specs.LineView.{line_of};
+
+    /// Whether it is a rule.
+    pub(crate) fn is_rule(self) -> bool
+        ensures { result ≡ is_rule (line_of self) }
+    {
+        match self {
+            Line::Requires { .. } | Line::Excludes { .. } => true,
+            Line::Mandatory { .. }
+            | Line::Optional { .. }
+            | Line::Alternative { .. }
+            | Line::Or { .. }
+            | Line::Group { .. } => false,
+        }
+    }
+}

@@ -1,0 +1,54 @@
+-- What reading a line gives: words for private functions.
+use Rattle.std.specs.Prelude.{ℕ, ◌≡◌, ◌+◌, ◌≤◌, ◌++◌, length, true, ◌∷◌, [], Bool, List, Some, None, Ok, Err, Result, ◌⊎◌, ⊤}
+use Rattle.vpg_diagram.specs.FeatureDiagram.{Line}
+use Rattle.vpg_diagram.specs.DiagramText.{Form, NamedDiagram}
+use Rattle.vpg_diagram.specs.DiagramReading.{Syntax, Fault, NoRoot, At, place_of_name, children_at, line_at, form_of, new_names, rules_in}
+use Rattle.vpg_diagram.specs.TextFaults.{fault_at}
+use Rattle.vpg_diagram.specs.LineView.{members_of, lines_of}
+use Rattle.vpg_diagram.specs.declared.fault.DiagramFault.{DiagramFault}
+use Rattle.vpg_diagram.specs.declared.fault.DiagramFault.TheVariants as faults
+use Rattle.vpg_diagram.specs.declared.fault.LineError.{LineError}
+use Rattle.vpg_diagram.specs.declared.fault.LineError.TheVariants.{Memory, Refused}
+use Rattle.vpg_diagram.specs.declared.reading.Family.{Family}
+use Rattle.vpg_diagram.specs.declared.reading.Reader.{Reader}
+
+-- children of a parent, read behind names
+pub record IsFamily (names : List (List ℕ)) (parent : List ℕ) (members : List (List ℕ)) (fits : Bool) (family : Family) : Type 0 where
+  pub read : (line : ℕ → List ℕ → Line) → children_at names (place_of_name names parent) members line fits ≡ Ok (line family.parent (members_of family.members))
+  pub first : family.members.first ≡ length names
+  pub few : length names + length members ≤ 512
+  pub in_range : fits ≡ true
+
+-- why children are refused
+abbrev pub IsChildrenError : List (List ℕ) → List ℕ → List (List ℕ) → Bool → LineError → Type 0
+IsChildrenError names parent members fits Memory = ⊤
+IsChildrenError names parent members fits (Refused kind) = (line : ℕ → List ℕ → Line) → children_at names (place_of_name names parent) members line fits ≡ Err kind
+
+-- why a form is refused
+abbrev pub IsFormError : List (List ℕ) → ℕ → Form → LineError → Type 0
+IsFormError names rules form Memory = ⊤
+IsFormError names rules form (Refused kind) = line_at names rules form ≡ Err kind
+
+-- a line behind what is read
+pub record AddsLine (old : Reader) (bytes : List ℕ) (new : Reader) : Type 0 where
+  pub form : Form
+  pub line : Line
+  pub form_is : form_of bytes ≡ Some form
+  pub line_is : line_at old.names old.rules form ≡ Ok line
+  pub names_are : new.names ≡ old.names ++ new_names form
+  pub lines_are : lines_of new.lines.items ≡ lines_of old.lines.items ++ line ∷ []
+  pub rules_are : new.rules ≡ old.rules + rules_in form
+
+-- why a line is refused
+abbrev pub IsLineError : Reader → List ℕ → LineError → Type 0
+IsLineError old bytes Memory = ⊤
+IsLineError old bytes (Refused kind) = ((form_of bytes ≡ None) × (kind ≡ Syntax)) ⊎ ((form : Form) × (form_of bytes ≡ Some form) × (line_at old.names old.rules form ≡ Err kind))
+
+-- the fault of a text that is not read
+abbrev pub fault_of : Fault → DiagramFault
+fault_of NoRoot = faults.NoRoot
+fault_of (At line kind) = fault_at line kind
+
+-- memory ran out, or this is the fault of the reading
+abbrev pub IsReadingFault : Result NamedDiagram Fault → DiagramFault → Type 0
+IsReadingFault read e = (e ≡ faults.Memory) ⊎ ((fault : Fault) × (read ≡ Err fault) × (e ≡ fault_of fault))

@@ -1,0 +1,104 @@
+//! Why a text is no diagram.
+
+use std::alloc::AllocError;
+use thiserror::Error;
+
+/// Why a text is no diagram, and at which line, counted from 1. Of the lines that are refused the first decides.
+/// Of the reasons that one line has the first in this order does.
+#[derive(Clone, Copy, Debug, PartialEq, Eq, Error)]
+pub enum DiagramFault {
+    /// A line of no known form, or with a word that is no feature name.
+    #[error("Syntax {line}")]
+    Syntax { line: usize },
+    /// All lines are blank.
+    #[error("NoRoot")]
+    NoRoot,
+    /// A second root line.
+    #[error("TwoRoots {line}")]
+    TwoRoots { line: usize },
+    /// A parent, or a feature of a rule, that stands on no earlier line.
+    #[error("UnknownFeature {line}")]
+    UnknownFeature { line: usize },
+    /// A child that was named before as root or child, or twice in one group.
+    #[error("TwoParents {line}")]
+    TwoParents { line: usize },
+    /// The 513th feature, or the 16,385th rule.
+    #[error("TooMany {line}")]
+    TooMany { line: usize },
+    /// A range whose low end is above its high end, or whose high end is above the number of members.
+    #[error("BadRange {line}")]
+    BadRange { line: usize },
+    /// Memory ran out.
+    #[error("Memory")]
+    Memory,
+}
+
+/// Why a line is refused.
+#[derive(Clone, Copy, Debug, PartialEq, Eq)]
+pub(crate) enum LineFault {
+    Syntax,
+    TwoRoots,
+    UnknownFeature,
+    TwoParents,
+    TooMany,
+    BadRange,
+}
+
+impl LineFault {
+    ghost use Rattle.std.specs.Prelude.{◌≡◌};
+    ghost use Rattle.vpg_diagram.specs.TextFaults.{fault_at};
+
+    /// The fault of a diagram whose line is refused so.
+    pub(crate) fn at(self, line: usize) -> DiagramFault
+        ensures { result ≡ fault_at line self }
+    {
+        match self {
+            LineFault::Syntax => DiagramFault::Syntax { line },
+            LineFault::TwoRoots => DiagramFault::TwoRoots { line },
+            LineFault::UnknownFeature => DiagramFault::UnknownFeature { line },
+            LineFault::TwoParents => DiagramFault::TwoParents { line },
+            LineFault::TooMany => DiagramFault::TooMany { line },
+            LineFault::BadRange => DiagramFault::BadRange { line },
+        }
+    }
+}
+
+/// Why a line is not read: it is refused, or memory ran out.
+#[derive(Clone, Copy, Debug, PartialEq, Eq)]
+pub(crate) enum LineError {
+    Refused(LineFault),
+    Memory,
+}
+
+impl From<AllocError> for LineError {
+    ghost use Rattle.std.specs.Prelude.{◌≡◌};
+    ghost use Rattle.vpg_diagram.specs.declared.fault.LineError.TheVariants.{Memory};
+
+    ghost from_gives = { λ _ e. e ≡ Memory };
+
+    fn from(_e: AllocError) -> LineError {
+        LineError::Memory
+    }
+}
+
+impl From<LineFault> for LineError {
+    ghost use Rattle.std.specs.Prelude.{◌≡◌};
+    ghost use Rattle.vpg_diagram.specs.declared.fault.LineError.TheVariants.{Refused};
+
+    ghost from_gives = { λ kind e. e ≡ Refused kind };
+
+    fn from(kind: LineFault) -> LineError {
+        LineError::Refused(kind)
+    }
+}
+
+impl From<AllocError> for DiagramFault {
+    ghost use Rattle.std.specs.Prelude.{◌≡◌};
+    ghost use Rattle.vpg_diagram.specs.declared.fault.DiagramFault.TheVariants.{Memory};
+
+    ghost from_gives = { λ _ e. e ≡ Memory };
+
+    fn from(_e: AllocError) -> DiagramFault {
+        DiagramFault::Memory
+    }
+}

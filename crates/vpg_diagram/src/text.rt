@@ -1,0 +1,250 @@
+//! Lines of a text, and the forms of lines.
+
+ghost use Rattle.std.specs.Prelude.{◌≡◌, ℕ, List, [], ◌∷◌, map, filter, length, IfOk, IfSome, IsTrue, ◌↔◌, Some, None, option_map, ◌||◌, ◌==◌, not};
+ghost use Rattle.std.specs.List.{slice_split, list_all};
+ghost use Rattle.vpg_diagram.specs.DiagramText.{is_blank, is_nonempty, words, is_numeral};
+ghost use Rattle.std.specs.Char.{is_ascii_digit};
+
+use std::alloc::{AllocError, Global};
+use vpg_guards::is_feature_name;
+
+fn is_blank(byte: u8) -> bool
+    ensures { result ≡ is_blank byte }
+{
+    byte == b' ' || byte == b'\t'
+}
+
+fn is_nonempty(part: &[u8]) -> bool
+    ensures { result ≡ is_nonempty part.now }
+{
+    match part {
+        [] => false,
+        [_, ..] => true,
+    }
+}
+
+/// The words of a line: what stands between its blanks.
+fn words(alloc: Global, line: &[u8]) -> Result<Vec<&[u8]>, AllocError>
+    ensures { IfOk result (λ v. map (λ w. w.now) v.items ≡ words line.now) }
+{
+    line.split(|b| is_blank(*b))
+        .filter(|w| is_nonempty(w))
+        .collect(alloc)
+}
+
+ghost use Rattle.std.specs.Prelude.{◌&&◌, bytes_eq};
+ghost use Rattle.vpg_diagram.specs.DiagramReading.{is_feature_name, plain_form, group_form, form_of};
+ghost use Rattle.vpg_diagram.specs.FormView.{texts, view_form};
+
+/// A line, with the names and numerals that stand in it.
+#[derive(Debug, Drop)]
+pub(crate) enum LineForm<'a> {
+    Root(&'a [u8]),
+    Mandatory(&'a [u8], &'a [u8]),
+    Optional(&'a [u8], &'a [u8]),
+    Alternative(&'a [u8], Vec<&'a [u8]>),
+    Or(&'a [u8], Vec<&'a [u8]>),
+    Group(&'a [u8], &'a [u8], &'a [u8], Vec<&'a [u8]>),
+    Requires(&'a [u8], &'a [u8]),
+    Excludes(&'a [u8], &'a [u8]),
+}
+
+fn same(a: &[u8], b: &[u8]) -> bool
+    ensures { result ≡ bytes_eq a.now b.now }
+{
+    a == b
+}
+
+fn has_digits(word: &[u8]) -> bool
+    ensures { result ≡ list_all is_ascii_digit word.now }
+{
+    word.iter().all(|b| b.is_ascii_digit())
+}
+
+/// Whether a word is a feature's name.
+fn is_name(word: &[u8]) -> bool
+    ensures { result ≡ is_feature_name word.now }
+{
+    is_feature_name(word)
+}
+
+/// Whether a word is a numeral.
+fn is_numeral(word: &[u8]) -> bool
+    ensures { result ≡ is_numeral word.now }
+{
+    is_nonempty(word) && has_digits(word)
+}
+
+fn root_form<'a>(word: &[u8], name: &'a [u8]) -> Option<LineForm<'a>>
+    ensures { option_map view_form result ≡ plain_form (word.now ∷ name.now ∷ []) }
+{
+    if same(word, b"root") && is_name(name) {
+        Some(LineForm::Root(name))
+    } else {
+        None
+    }
+}
+
+fn pair_form<'a>(word: &[u8], first: &'a [u8], second: &'a [u8]) -> Option<LineForm<'a>>
+    ensures { option_map view_form result ≡ plain_form (word.now ∷ first.now ∷ second.now ∷ []) }
+{
+    if !is_name(first) || !is_name(second) {
+        return None;
+    }
+    if same(word, b"mandatory") {
+        Some(LineForm::Mandatory(first, second))
+    } else if same(word, b"optional") {
+        Some(LineForm::Optional(first, second))
+    } else if same(word, b"requires") {
+        Some(LineForm::Requires(first, second))
+    } else if same(word, b"excludes") {
+        Some(LineForm::Excludes(first, second))
+    } else {
+        None
+    }
+}
+
+/// A line with no colon.
+fn plain_form<'a>(words: &[&'a [u8]]) -> Option<LineForm<'a>>
+    ensures { option_map view_form result ≡ plain_form (texts words.now) }
+{
+    match words {
+        [] | [_] => None,
+        [word, name] => root_form(word, name),
+        [word, first, second] => pair_form(word, first, second),
+        [_, _, _, _, ..] => None,
+    }
+}
+
+/// Whether each word is a feature's name.
+fn are_names(words: &[&[u8]]) -> bool
+    ensures { result ≡ list_all is_feature_name (texts words.now) }
+{
+    words.iter().all(|w| is_name(w))
+}
+
+fn members_form<'a>(word: &[u8], parent: &'a [u8], members: Vec<&'a [u8]>) -> Option<LineForm<'a>>
+    ensures { option_map view_form result ≡ group_form (word.now ∷ parent.now ∷ []) (texts members.entry.items) }
+{
+    if members.is_empty() || !is_name(parent) || !are_names(&members) {
+        return None;
+    }
+    if same(word, b"alternative") {
+        Some(LineForm::Alternative(parent, members))
+    } else if same(word, b"or") {
+        Some(LineForm::Or(parent, members))
+    } else {
+        None
+    }
+}
+
+fn range_form<'a>(
+    word: &[u8],
+    parent: &'a [u8],
+    low: &'a [u8],
+    high: &'a [u8],
+    members: Vec<&'a [u8]>,
+) -> Option<LineForm<'a>>
+    ensures { option_map view_form result ≡ group_form (word.now ∷ parent.now ∷ low.now ∷ high.now ∷ []) (texts members.entry.items) }
+{
+    if members.is_empty() || !is_name(parent) || !are_names(&members) {
+        return None;
+    }
+    if same(word, b"group") && is_numeral(low) && is_numeral(high) {
+        Some(LineForm::Group(parent, low, high, members))
+    } else {
+        None
+    }
+}
+
+/// A line with a colon, by the words before it and after it.
+fn group_form<'a>(head: &[&'a [u8]], members: Vec<&'a [u8]>) -> Option<LineForm<'a>>
+    ensures { option_map view_form result ≡ group_form (texts head.now) (texts members.entry.items) }
+{
+    match head {
+        [] | [_] => None,
+        [word, parent] => members_form(word, parent, members),
+        [_, _, _] => None,
+        [word, parent, low, high] => range_form(word, parent, low, high, members),
+        [_, _, _, _, _, ..] => None,
+    }
+}
+
+ghost use Rattle.std.specs.Prelude.{position};
+
+fn colon(line: &[u8]) -> Option<usize>
+    ensures { result ≡ position (λ b. b == 58) line.now }
+{
+    line.iter().position(|b| *b == b':')
+}
+
+/// The form of a line, if it has one.
+pub(crate) fn form_of(alloc: Global, line: &[u8]) -> Result<Option<LineForm>, AllocError>
+    ensures { IfOk result (λ found. option_map view_form found ≡ form_of line.now) }
+{
+    match colon(line) {
+        None => {
+            let all = words(alloc, line)?;
+            Ok(plain_form(&all))
+        }
+        Some(at) => {
+            let head = words(alloc, &line[..at])?;
+            let members = words(alloc, &line[at + 1..])?;
+            Ok(group_form(&head, members))
+        }
+    }
+}
+
+ghost use Rattle.std.specs.Prelude.{◌<◌, ◌^◌, min};
+ghost use Rattle.std.specs.Str.Lines.{lines, strip_carriage_return};
+ghost use Rattle.std.specs.Str.Parse.{digits_value};
+
+/// No number of members is as great as this.
+const GREAT: u64 = 1 << 60;
+
+/// The number that digits write, and `GREAT` where it is greater.
+pub(crate) fn number(digits: &[u8]) -> u64
+    ensures { result ≡ min (digits_value 10 digits.now) (2 ^ 60) }
+{
+    let mut value: u64 = 0;
+    for digit in digits {
+        let digit = char::from(*digit).to_digit(36).unwrap_or(36);
+        value = (value * 10 + u64::from(digit)).min(GREAT);
+    }
+    value
+}
+
+/// Whether only spaces and tabs stand in a line.
+pub(crate) fn is_blank_line(line: &[u8]) -> bool
+    ensures { result ≡ not (is_nonempty (words line.now)) }
+{
+    line.iter().all(|b| is_blank(*b))
+}
+
+/// A line without the one carriage return at its end.
+fn without_return(line: &[u8]) -> &[u8]
+    ensures { result.now ≡ strip_carriage_return line.now }
+{
+    match line {
+        [front @ .., b'\r'] => front,
+        _ => line,
+    }
+}
+
+fn line_end(text: &[u8]) -> Option<usize>
+    ensures { result ≡ position (λ b. b == 10) text.now }
+{
+    text.iter().position(|b| *b == b'\n')
+}
+
+/// The first line of a text, and what stands behind it.
+pub(crate) fn first_line(text: &[u8]) -> (&[u8], &[u8])
+    requires { 0 < length text.now }
+    ensures lines { lines text.now ≡ result.0.now ∷ lines result.1.now }
+    ensures shorter { length result.1.now < length text.now }
+{
+    match line_end(text) {
+        Some(at) => (without_return(&text[..at]), &text[at + 1..]),
+        None => (text, &text[text.len()..]),
+    }
+}
