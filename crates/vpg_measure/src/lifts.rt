@@ -1,3 +1,5 @@
+//! Lifts, settling by rounds, and strategies. Definitions: `specs/Lifts`, after Jurdzinski 2000.
+
 ghost use Rattle.std.specs.Prelude.{◌≡◌, ◌≢◌, ℕ, ◌+◌, ◌-◌, ◌<◌, ◌≤◌, ◌^◌, ◌↔◌, List, length, map, IfOk, OnOk, All, IsTrue, MatchBool, Err, ◌==◌, slice_index, sum, sum_by};
 ghost use Rattle.std.specs.List.{find};
 ghost use Rattle.vpg_game.specs.Levels.{top_of, prog_of};
@@ -8,21 +10,27 @@ ghost use Rattle.vpg_measure.specs.Lifts.{IsTableOf, NumberFitsAt, IsProgressTab
 
 use crate::shape::{Shape, prog};
 use crate::table::Table;
-use std::alloc::{AllocError, Global};
+use std::alloc::Global;
+use thiserror::Error;
 use vpg_game::Player;
 use vpg_hope::arena::Arena;
 
 /// How settling ended.
 #[derive(Clone, Copy, Debug, PartialEq, Eq)]
 pub enum Outcome {
+    /// A round raised nothing: the table is a progress table.
     Settled,
+    /// Each of the rounds allowed raised something.
     RanOut,
 }
 
 /// Why there is no strategy.
-#[derive(Clone, Copy, Debug, PartialEq, Eq)]
+#[derive(Clone, Copy, Debug, PartialEq, Eq, Error)]
 pub enum StrategyFault {
+    /// The table is no progress table.
+    #[error("NotSettled")]
     NotSettled,
+    #[error("Memory")]
     Memory,
 }
 
