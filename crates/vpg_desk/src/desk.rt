@@ -4,8 +4,9 @@ ghost use Rattle.std.specs.Prelude.{◌≡◌, ◌<◌, ◌↔◌, ℕ, [], leng
 ghost use Rattle.vpg_diagram.specs.FeatureDiagram.{feature_count};
 ghost use Rattle.vpg_partial.specs.KnownLaws.{HasConflictOf};
 ghost use Rattle.vpg_game.specs.Game.{graph_of, IsAtLimit};
+ghost use Rattle.vpg_measure.specs.Orders.{IsOrder};
 ghost use Rattle.vpg_trail.specs.Page.{Which as Side, Hopeful, Dual, choices_of, decisions_of, table_of};
-ghost use Rattle.vpg_desk.specs.Book.{opened, Settled, IsSettled, Verdict as AsksVerdict, VerdictIs, Page as AsksPage, PageIs};
+ghost use Rattle.vpg_desk.specs.Book.{opened, Order as AsksOrder, Ordered, Settled, IsSettled, Verdict as AsksVerdict, VerdictIs, Page as AsksPage, PageIs};
 ghost use Rattle.vpg_desk.specs.Desk.{family_of, IsLeastUnder};
 ghost use Rattle.vpg_desk.specs.Headline.{NeverWins};
 ghost use Rattle.vpg_desk.specs.Lawful.{PageIsBelow};
@@ -20,7 +21,7 @@ use std::marker::Model;
 use std::sync::Arc;
 use vpg_diagram::Diagram;
 use vpg_game::{GuardedGame, Player};
-use vpg_measure::{Shape, Verdict, is_progress};
+use vpg_measure::{Order, OrderFault, Shape, Verdict, is_progress};
 use vpg_trail::{Decisions, Entries, Page, Trail, decisions_among};
 
 /// The most changes that a desk makes.
@@ -126,6 +127,31 @@ impl Desk {
         Verdict {
             hopeless: self.trail.hopeful().get(v) == self.hopeful_shape.top(),
             sure: self.trail.dual().get(v) == self.dual_shape.top(),
+        }
+    }
+
+    /// What lifters take along: the game, the diagram, the present decisions and both present tables.
+    pub fn order(&self, alloc: Global) -> Result<Order, AllocError>
+        ensures reply { IfOk result (λ order. Replies self.now AsksOrder (Ordered order.decisions order.hopeful order.dual)) }
+        ensures game { IfOk result (λ order. order.game ≡ self.now.game) }
+        ensures diagram { IfOk result (λ order. order.diagram ≡ self.now.diagram) }
+        ensures decisions { IfOk result (λ order. order.decisions ≡ decisions_of self.now.book.present) }
+        ensures hopeful { IfOk result (λ order. order.hopeful ≡ table_of Hopeful self.now.book.present (length (graph_of self.now.game))) }
+        ensures dual { IfOk result (λ order. order.dual ≡ table_of Dual self.now.book.present (length (graph_of self.now.game))) }
+        ensures order { IfOk result IsOrder }
+    {
+        let decisions = decisions_among(alloc, self.trail.entries())?;
+        let hopeful = self.trail.hopeful().copy(alloc)?;
+        let dual = self.trail.dual().copy(alloc)?;
+        let game = self.game.clone()?;
+        let diagram = self.diagram.clone()?;
+        match Order::of(alloc, game, diagram, decisions, hopeful, dual) {
+            Ok(order) => Ok(order),
+            // A desk's game has a dual, and its decisions have no conflict.
+            Err(refused) => match refused.fault {
+                OrderFault::AtLimit | OrderFault::Conflict { .. } => unreachable!(),
+                OrderFault::Memory => Err(AllocError),
+            },
         }
     }
 
