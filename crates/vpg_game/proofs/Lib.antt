@@ -11,3 +11,4 @@ pub mod Answered
 pub mod DualGames
 pub mod Graphs
 pub mod Written
+pub mod Named

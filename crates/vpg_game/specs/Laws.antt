@@ -1,11 +1,12 @@
 -- Laws of the definitions.
-use Rattle.std.specs.Prelude.{◌≡◌, ℕ, ◌≤◌, ◌^◌, List, length}
-use Rattle.vpg_guards.specs.Formula.{Formula, IsBelow}
+use Rattle.std.specs.Prelude.{◌≡◌, ℕ, ◌≤◌, ◌^◌, ◌⊎◌, ◌↔◌, Bool, true, List, [], ◌∷◌, length}
+use Rattle.vpg_guards.specs.Formula.{Formula, IsBelow, truth}
 use Rattle.vpg_guards.specs.Names.{AreNames}
 use Rattle.vpg_guards.specs.Writing.{IsReadable}
-use Rattle.vpg_game.specs.Guarded.{GuardedGame, IsClosedGuarded, AllGuards, guarded_priorities, dual}
+use Rattle.vpg_game.specs.Guarded.{GuardedEdge, GuardedGame, IsClosedGuarded, AllGuards, guarded_priorities, dual}
 use Rattle.vpg_game.specs.Levels.{levels_of, top_of}
-use Rattle.vpg_game.specs.Game.{NamedGame, IsGame, IsAtLimit, SpellsGame, graph_of, dual_of, priorities_of}
+use Rattle.vpg_game.specs.Game.{NamedGame, IsGame, IsAtLimit, SpellsGame, graph_of, dual_of, priorities_of, place_of, vertex_of}
+use Rattle.vpg_game.specs.Spelled.{SpelledSuccessor, SpelledEntry}
 use Rattle.vpg_game.specs.Writing.{game_text}
 
 -- a text spells one game at most
@@ -38,3 +39,17 @@ pub record GraphAgrees (game : NamedGame) : Type 0 where
 
 abbrev pub GraphsAgree : Type 0
 GraphsAgree = (game : NamedGame) → GraphAgrees game
+
+-- some edge to the vertex has a guard that is true in the set of features
+abbrev pub SomeEdgeHolds : List Bool → ℕ → List (GuardedEdge Formula) → Type 0
+SomeEdgeHolds set to [] = ⊥
+SomeEdgeHolds set to (e ∷ es) = ((e.to ≡ to) × (truth set e.guard ≡ true)) ⊎ SomeEdgeHolds set to es
+
+-- some successor that names the vertex has such a guard
+abbrev pub SomeNamedHolds : List Bool → List ℕ → ℕ → List SpelledSuccessor → Type 0
+SomeNamedHolds set ids to [] = ⊥
+SomeNamedHolds set ids to (s ∷ ss) = ((place_of ids s.id ≡ to) × (truth set s.guard ≡ true)) ⊎ SomeNamedHolds set ids to ss
+
+-- a vertex has an edge in the game of a product exactly where its entry names a successor whose guard the product satisfies
+abbrev pub EdgesHoldAsNamed : Type 0
+EdgesHoldAsNamed = (set : List Bool) (ids : List ℕ) (entry : SpelledEntry) (to : ℕ) → SomeEdgeHolds set to (vertex_of ids entry).edges ↔ SomeNamedHolds set ids to entry.successors

@@ -16,7 +16,7 @@ use vpg_guards::Names;
 /// The highest priority that a game has. One that is read has lower ones; its dual may have it.
 pub const HIGHEST_PRIORITY: u32 = 65_536;
 
-/// A guarded game.
+/// A guarded game. Vertices are numbered in the order of the file, features in the order of their names.
 #[derive(Drop)]
 pub struct GuardedGame {
     pub(crate) ids: IndexSet<u32>,
@@ -40,7 +40,7 @@ impl Model for GuardedGame {
 }
 
 impl GuardedGame {
-    /// How many vertices it has.
+    /// How many vertices it has, from 1 to 65,536.
     pub fn vertices(&self) -> usize
         ensures count { result ≡ length self.now.vertices }
         ensures graph { result ≡ length (graph_of self.now) }
@@ -49,7 +49,7 @@ impl GuardedGame {
         self.vertices.len()
     }
 
-    /// Over how many features its guards are.
+    /// Over how many features its guards are, at most 512.
     pub fn features(&self) -> usize
         ensures { result ≡ self.now.features }
     {
@@ -84,7 +84,7 @@ impl GuardedGame {
         self.vertices[v as usize].owner
     }
 
-    /// The priority of a vertex.
+    /// The priority of a vertex, at most 65,536.
     pub fn priority(&self, v: u32) -> u32
         requires { v < length self.now.vertices }
         ensures value { result ≡ (slice_index_or self.now.vertices v no_vertex).priority }
@@ -113,10 +113,10 @@ impl GuardedGame {
     pub fn is_same(&self, other: &GuardedGame) -> bool
         ensures { IsTrue result ↔ (self.now ≡ other.now) }
     {
-        self.features == other.features && are_same(&self.vertices, &other.vertices)
+        other.features == self.features && are_same(&self.vertices, &other.vertices)
     }
 
-    /// The numbers of the top measures of the game and of its dual.
+    /// The numbers of the top measures of the game and of its dual, from 1 to 2^62.
     pub fn tops(&self) -> (u64, u64)
         ensures top { result.0 ≡ top_in (priorities_of self.now.vertices) }
         ensures dual { result.1 ≡ dual_top_in (priorities_of self.now.vertices) }
@@ -126,7 +126,12 @@ impl GuardedGame {
 }
 
 impl GuardedGame {
-    /// The game that a text spells.
+    /// The game that a text spells, over the features of these names.
+    ///
+    /// It has at most 65,536 entries and 1,048,576 successors as named, priorities up to 65,535 and identifiers up to
+    /// 4,294,967,295. Refusals, in their order: of `Syntax`, `BadOwner`, `PriorityTooLarge`, `TooMany` and `Guard` the one
+    /// that stands leftmost; `DoubleVertex`; `MissingVertex`; `TooWide`, where the number of the top measure of the game
+    /// or of its dual exceeds 2^62. The second and third are told for the first place in the file.
     pub fn read(alloc: Global, text: &[u8], names: &Names) -> Result<GuardedGame, GameFault>
         // What is read is spelled so.
         ensures found { IfOk result (λ game. SpellsGame names.now text.now game) }

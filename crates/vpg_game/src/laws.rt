@@ -1,5 +1,5 @@
 //! Laws of the definitions. Each function does nothing: its contract is the law.
-ghost use Rattle.vpg_game.specs.Laws.{TextsSpellOneGame, WritingsSpellTheGame, GamesHaveGraphs, GraphsAgree};
+ghost use Rattle.vpg_game.specs.Laws.{TextsSpellOneGame, WritingsSpellTheGame, EdgesHoldAsNamed, GamesHaveGraphs, GraphsAgree};
 
 /// A text spells one game at most.
 pub fn texts_spell_one_game()
@@ -9,6 +9,12 @@ pub fn texts_spell_one_game()
 /// What is written spells the game, where no priority is at the limit.
 pub fn writings_spell_the_game()
     ensures { WritingsSpellTheGame }
+{}
+
+/// A vertex has an edge in the game of a product exactly where its entry names a successor whose guard the product
+/// satisfies, however often the successor is named.
+pub fn edges_hold_as_named()
+    ensures { EdgesHoldAsNamed }
 {}
 
 /// In the graph of a game each edge leads to a vertex, each guard names features of the game, and both tops are within the limit.

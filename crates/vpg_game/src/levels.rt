@@ -1,3 +1,4 @@
+//! The levels of a game, and the number of its top measure.
 ghost use Rattle.std.specs.Prelude.{◌≡◌, ℕ, ◌+◌, ◌*◌, ◌%◌, ◌^◌, ◌<◌, ◌≤◌, List, length, IfOk, SomeIff, vec_len};
 ghost use Rattle.vpg_game.specs.Levels.{top_of, levels_of, bound_of, AreOddCounts};
 

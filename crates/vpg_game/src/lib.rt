@@ -1,4 +1,14 @@
-//! Guarded games: parity games whose edges have guards.
+//! Guarded games: parity games whose edges have guards over features (FASE 2020), in a profile of PGSolver's text format.
+//!
+//! `GuardedGame::read` gives the game that a text spells, `write` its one writing, which is read as the same game, and
+//! `dual` the game with the players exchanged. The layers above go over `vertices`, `owner`, `priority` and `edges`,
+//! whose clauses speak of the game with its identifiers (`NamedGame`) and of its graph without them (`graph_of`).
+//! `laws::games_have_graphs` says what every graph keeps, and `top_within_limit` is the number of the top measure.
+//!
+//! The definitions stand in `specs/`: `Players`; `Guarded`, games over any kind of guard and their duals; `Levels`, the
+//! odd priorities that occur and the number of the top measure (Jurdzinski 2000); `Grammar`, the texts as a relation;
+//! `Game`, the game that entries spell, and what every game keeps; `Refused`, why a text is no game; `Writing`; `Laws`.
+//! `Spelled`, `Reading`, `Building` and `Coding` serve these and the proofs.
 #![tactic(auto)]
 
 mod dual;

@@ -48,7 +48,7 @@ impl Edge {
     pub fn is_same(&self, other: &Edge) -> bool
         ensures { IsTrue result ↔ (self.now ≡ other.now) }
     {
-        self.to == other.to && self.guard.is_same(&other.guard)
+        other.to == self.to && self.guard.is_same(&other.guard)
     }
 
     /// The same edge.

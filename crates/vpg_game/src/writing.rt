@@ -12,7 +12,7 @@ use std::alloc::{AllocError, Global};
 use vpg_guards::{Guard, Names};
 
 impl GuardedGame {
-    /// Writes the game behind what is there.
+    /// Writes the game behind what is there: `parity` and the greatest identifier, then a line for each vertex.
     pub fn write(&self, alloc: Global, names: &Names, out: &mut Vec<u8>) -> Result<(), AllocError>
         requires { length names.now ≡ self.now.features }
         ensures ok { OnOk result (out.new.items ≡ out.old.items ++ game_text names.now self.now) }
