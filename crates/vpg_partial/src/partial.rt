@@ -1,12 +1,14 @@
 //! What is known of each feature.
 
-ghost use Rattle.std.specs.Prelude.{◌≡◌, ◌↔◌, ◌<◌, List, length, map, true, IsTrue, IsSome, IfOk, IfErr, IfSome, slice_index_or};
-ghost use Rattle.vpg_guards.specs.Known.{AreAllKnown};
+ghost use Rattle.std.specs.Prelude.{◌≡◌, ◌↔◌, ◌<◌, Bool, List, length, map, true, IsTrue, IsSome, IfOk, IfErr, IfSome, slice_index_or};
+ghost use Rattle.vpg_guards.specs.Known.{AreAllKnown, IsCompletion};
 ghost use Rattle.vpg_guards.specs.declared.tri.Tri.TheVariants.{Unknown};
-ghost use Rattle.vpg_diagram.specs.FeatureDiagram.{Line, IsDiagram};
+ghost use Rattle.vpg_diagram.specs.FeatureDiagram.{Line, IsDiagram, feature_count};
+ghost use Rattle.vpg_diagram.specs.Clauses.{clauses_of, counts_of};
 ghost use Rattle.vpg_diagram.specs.declared.clause.Literal.{Literal};
-ghost use Rattle.vpg_partial.specs.Known.{literal_of};
+ghost use Rattle.vpg_partial.specs.Known.{literal_of, IsFullConfiguration};
 ghost use Rattle.vpg_partial.specs.KnownTable.{is_known_as};
+ghost use Rattle.vpg_partial.specs.KnownLaws.{IsRemaining};
 ghost use Rattle.vpg_partial.specs.TableLaws.{AreChoicesOf, IsKnownTable, IsOnlyRemaining};
 ghost use Rattle.vpg_partial.specs.CloseFaults.{IsCloseFault, LeavesNoProduct};
 
@@ -56,6 +58,11 @@ impl Partial {
     ) -> Result<Partial, PartialFault>
         requires { AreChoicesOf diagram.now.lines (map literal_of decisions.now) }
         ensures known { IfOk result (IsKnownTable diagram.now.lines (map literal_of decisions.now)) }
+
+        // Every product that agrees with the decisions agrees with what is known.
+        ensures agrees { (features : List Bool) → IsRemaining diagram.now.lines (map literal_of decisions.now) features →
+            IfOk result (λ known. IsCompletion known features) }
+
         ensures conflict { IfErr result (IsCloseFault diagram.now.lines (map literal_of decisions.now)) }
         ensures no_product { IfErr result (LeavesNoProduct diagram.now.lines (map literal_of decisions.now)) }
     {
@@ -93,7 +100,9 @@ impl Partial {
 
     /// Whether each feature is known to be in or out.
     pub fn is_full(&self) -> bool
-        ensures { IsTrue result ↔ AreAllKnown (length self.now) self.now }
+        ensures known { IsTrue result ↔ AreAllKnown (length self.now) self.now }
+        ensures full { (lines : List Line) (choices : List Literal) → IsKnownTable lines choices self.now →
+            IsTrue result ↔ IsFullConfiguration (clauses_of lines) (counts_of lines) choices (feature_count lines) }
     {
         self.values.iter().all(|value| *value != Tri::Unknown)
     }

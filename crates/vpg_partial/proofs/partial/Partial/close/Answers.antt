@@ -4,6 +4,7 @@ use Rattle.std.proofs.lemmas.Result.{err_from_is_err_and}
 use Rattle.vpg_partial.specs.Known.{literal_of}
 use Rattle.vpg_partial.specs.CloseFaults.{IsCloseFault, LeavesNoProduct}
 use Rattle.vpg_partial.proofs.Fronts.{decisions_below, table_of_lines, fault_of_lines, if_err_from, leaves_no_product}
+use Rattle.vpg_partial.proofs.Tables.{remaining_products_complete}
 use Rattle.vpg_partial.proofs.partial.Partial.close.Goals as goal
 
 pub decide_all-requires-clause-decisions : goal.decide_all-requires-clause-decisions
@@ -34,3 +35,7 @@ returns-clause-known c =
     let l : length c.decide_all.new.known ≡ c.in_ok-values.values.len = omega (arith, c.decide_all.auto.known, c.deref_mut.ensures.len) in
     table_of_lines lines choices c.clauses-clauses.result.now c.counts-counts.result.now (length c.deref_mut.result.now) c.decide_all.new.known _
     c.clauses-clauses.ensures.clauses c.counts-counts.ensures.counts (omega (arith, c.deref_mut.ensures.len, c.in_ok-values.ensures.len, c.features-features.ensures.count)) (with_items_is c.in_ok-values.values c.decide_all.new.known l) c.in_ok-decide_all.ensures.table
+
+pub returns-clause-agrees : goal.returns-clause-agrees
+returns-clause-agrees c =
+    λ features remaining. remaining_products_complete c.args.diagram.now.lines (map literal_of c.args.decisions.now) _ features c.features-features.ensures.diagram.diagram (returns-clause-known c) remaining

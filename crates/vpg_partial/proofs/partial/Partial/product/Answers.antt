@@ -6,5 +6,5 @@ use Rattle.vpg_partial.proofs.partial.Partial.product.Goals as goal
 
 pub returns-clause-product : goal.returns-clause-product
 returns-clause-product c =
-    λ lines choices ok below table. only_remaining lines choices c.args.self.now c.in_ok-features_in.field-0.items ok below table (c.is_full.ensures.0 c.if-not-is_full.false)
+    λ lines choices ok below table. only_remaining lines choices c.args.self.now c.in_ok-features_in.field-0.items ok below table (c.is_full.ensures.known.0 c.if-not-is_full.false)
     (c.in_ok-features_in.ensures ∙ ap (λ (values : List Tri). map (λ value. is_known_as value true) values) (c.deref.ensures.value ∙ c.self.view_is))
