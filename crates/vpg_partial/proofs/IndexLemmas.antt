@@ -6,7 +6,7 @@ use Rattle.std.proofs.lemmas.List.Elements.{Contains-append_left, Contains-appen
 use Rattle.std.proofs.lemmas.Option.{slice_get_within, slice_get-get_or}
 use Rattle.vpg_diagram.specs.declared.clause.Literal.{Literal}
 use Rattle.vpg_diagram.specs.Tally.{Tally}
-use Rattle.vpg_diagram.proofs.Lists.{Contains-here, Contains-nil, Contains-only}
+use Rattle.vpg_diagram.proofs.Lists.{Contains-here, Contains-only}
 use Rattle.vpg_partial.specs.Rules.{Rule, AtClause, AtCount, HasNumber, features_of, IsIndex, NotesAll}
 use Rattle.vpg_partial.proofs.RuleSteps.{only_clause, only_count}
 
@@ -35,9 +35,6 @@ pub notes_pushed : {T E : Type 0} (r : Result T E) (old items : List (List ℕ))
 notes_pushed (Err x) old items number f row more same b e g = tt
 notes_pushed (Ok x) old items number f row more same b e g =
     subst (λ (from : List (List ℕ)). NotesAll from number (f ∷ []) (set items f more)) same (notes_one items number f row more (subst (λ (from : List (List ℕ)). f < length from) (sym same) b) e g)
-
-pub notes_none : (old : List (List ℕ)) (number : ℕ) → NotesAll old number [] old
-notes_none old number = record { same_length = refl; kept = λ f k h. h; noted = λ f h. absurd (Contains-nil f h) }
 
 pub notes_more : (old mid new : List (List ℕ)) (number : ℕ) (first then : List ℕ) → NotesAll old number first mid → NotesAll mid number then new → NotesAll old number (first ++ then) new
 notes_more old mid new number first then a b = record {
@@ -77,9 +74,6 @@ module _ (clauses : List (List Literal)) (counts : List Tally) where
           let e : number ≡ k = omega arith in
           subst (λ (n : ℕ). Contains (get_or new f []) n) e
           (notes.noted f (subst (λ (r : Rule). Contains (features_of r) f) (sym (only rule (subst (λ (n : ℕ). HasNumber clauses counts n rule) (sym e) h))) c))
-
-  pub indexed_none : (index : List (List ℕ)) → IndexedBelow clauses counts index 0
-  indexed_none index k rule f l h c = absurd (omega (arith, l))
 
   pub indexed_clause : (old new : List (List ℕ)) (number : ℕ) (clause : List Literal) → IndexedBelow clauses counts old number → slice_get clauses number ≡ Some clause →
       NotesAll old number (features_of (AtClause clause)) new → IndexedBelow clauses counts new (number + 1)

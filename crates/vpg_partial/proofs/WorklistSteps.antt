@@ -16,7 +16,7 @@ use Rattle.vpg_partial.specs.Propagation.{AddsLiteral}
 use Rattle.vpg_partial.specs.Rules.{Rule, AtClause, AtCount, HasNumber, features_of, IsClosedAt, IsIndex, IsMissing, IsDone, IsDoneAt, AreDone, Advances}
 use Rattle.vpg_partial.proofs.KnownLemmas.{count_by-cons}
 use Rattle.vpg_partial.proofs.RuleSteps.{Contains-map}
-use Rattle.vpg_partial.proofs.TableSteps.{grows_none, grows_more, grows_by}
+use Rattle.vpg_partial.proofs.TableSteps.{grows_more, grows_by}
 
 contains_cases : (xs : List ℕ) (f : ℕ) → Contains xs f ⊎ (Contains xs f → ⊥)
 contains_cases [] f = inr (λ h. Contains-nil f h)
@@ -100,9 +100,6 @@ done_after old new waiting l rule a (inl closed) = go (contains_cases (features_
         (λ x c. same_elsewhere old new l a x (λ e. n (subst (λ (f : ℕ). Contains (features_of rule) f) e c))) closed)
 
 module _ (clauses : List (List Literal)) (counts : List Tally) where
-  pub advances_none : (known : List Tri) (waiting : List ℕ) → Advances clauses counts known waiting known waiting
-  advances_none known waiting = record { grows = grows_none (IsClosed clauses counts) known; stays = λ rule d. d; work = omega arith }
-
   pub advances_more : (a b c : List Tri) (x y z : List ℕ) → Advances clauses counts a x b y → Advances clauses counts b y c z → Advances clauses counts a x c z
   advances_more a b c x y z p q = record {
     grows = grows_more (IsClosed clauses counts) a b c p.grows q.grows;
@@ -116,12 +113,6 @@ module _ (clauses : List (List Literal)) (counts : List Tally) where
     stays = λ rule d. subst (λ (w : List ℕ). IsDone new w rule) (sym e) (done_after old new waiting l rule a d);
     work = omega (arith, a.fewer m.absent, ap length e, length-append waiting (l.feature ∷ []));
   }
-
-  -- the rule that a literal is missing at awaits the literal's feature
-  pub done_at : (new : List Tri) (waiting later : List ℕ) (number : ℕ) (l : Literal) → ((rule : Rule) → HasNumber clauses counts number rule → Contains (features_of rule) l.feature) →
-      later ≡ waiting ++ l.feature ∷ [] → IsDoneAt clauses counts new later number
-  done_at new waiting later number l m e rule h =
-      inr (l.feature, subst (λ (w : List ℕ). Contains w l.feature) (sym e) (Contains-append_right waiting (l.feature ∷ []) l.feature (Contains-here l.feature [])), m rule h)
 
   -- the next rule, and the rule of the next number in a list
   pub done_next : (known more : List Tri) (waiting later : List ℕ) (next : ℕ) → ((number : ℕ) → number < next → IsDoneAt clauses counts known waiting number) →

@@ -50,7 +50,11 @@ impl Model for Partial {
 }
 
 impl Partial {
-    /// What the decisions make known, by the unit rule at each clause of the diagram and the counting rule at each count.
+    /// What the decisions make known: the least set of literals that has each decision and to which neither the unit rule
+    /// at a clause nor the counting rule at a count of the diagram adds anything (this project's own).
+    ///
+    /// Each decision is of a feature of the diagram. Errors, in this order: `Conflict` where a feature is known both ways,
+    /// named by the first decision up to which there is a conflict (by the root, where the diagram alone has one); `Memory`.
     pub fn close(
         alloc: Global,
         diagram: &Diagram,
@@ -90,7 +94,7 @@ impl Partial {
         self.values.as_slice()
     }
 
-    /// What is known of the feature.
+    /// What is known of the feature, which is one of the diagram's.
     pub fn value(&self, feature: u16) -> Tri
         requires { feature < length self.now }
         ensures { result ≡ slice_index_or self.now feature Unknown }
