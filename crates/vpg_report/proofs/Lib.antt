@@ -1,5 +1,10 @@
 pub mod Commands
 pub mod LineLemmas
-pub mod RunLemmas
+pub mod ScriptLemmas
 pub mod DeviceLemmas
 pub mod Whole
+pub mod Histories
+pub mod Settled
+pub mod Asked
+pub mod Shown
+pub mod Sweeps

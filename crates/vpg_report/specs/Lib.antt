@@ -1,6 +1,9 @@
+pub mod Answers
 pub mod Devices
 pub mod Lines
 pub mod Output
+pub mod Run
+pub mod Scene
 pub mod Script
 pub mod Text
 pub mod View

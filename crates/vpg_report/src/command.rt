@@ -9,6 +9,7 @@ ghost use Rattle.vpg_report.specs.Script.{is_blank, is_nonempty, words, is_featu
 ghost use Rattle.vpg_report.specs.View.{command_shown, texts};
 
 use std::alloc::{AllocError, Global};
+use thiserror::Error;
 
 /// The most bytes of a line before its end.
 pub const LONGEST_LINE: usize = 4096;
@@ -48,10 +49,16 @@ pub enum Command<'t> {
 }
 
 /// What is wrong with a line.
-#[derive(Clone, Copy, Debug, PartialEq, Eq)]
+#[derive(Clone, Copy, Debug, PartialEq, Eq, Error)]
 pub enum LineFault {
+    /// No command has this name, or the label is none from 1 to 64.
+    #[error("Word")]
     Word,
+    /// An argument is missing, is one too many, or has not its form.
+    #[error("Args")]
     Args,
+    /// The line has more than 4,096 bytes before its end.
+    #[error("TooLong")]
     TooLong,
 }
 

@@ -57,11 +57,26 @@ pub struct Device<D> {
     calls: u32,
 }
 
-impl<D> Device<D> {
-    pub fn new(inner: D) -> Device<D>
-        ensures inner { result.inner ≡ inner }
-        ensures sound { result.failed ≡ false }
-        ensures unread { result.calls ≡ 0 }
+impl<R: Read> Device<R> {
+    /// A reader that was not read yet.
+    pub fn reader(inner: R) -> Device<R>
+        ensures remaining { ⟦<Device<R> as Source>⟧.remaining result ≡ R.remaining inner }
+        ensures sound { ⟦<Device<R> as Source>⟧.has_failed result ≡ false }
+        ensures unread { ⟦<Device<R> as Source>⟧.calls result ≡ 0 }
+    {
+        Device {
+            inner,
+            failed: false,
+            calls: 0,
+        }
+    }
+}
+
+impl<W: Write> Device<W> {
+    /// A writer that did not fail yet.
+    pub fn writer(inner: W) -> Device<W>
+        ensures contents { ⟦<Device<W> as Sink>⟧.contents result ≡ W.contents inner }
+        ensures sound { ⟦<Device<W> as Sink>⟧.has_failed result ≡ false }
     {
         Device {
             inner,
@@ -70,8 +85,9 @@ impl<D> Device<D> {
         }
     }
 
-    pub fn into_inner(self) -> D
-        ensures { result ≡ self.inner }
+    /// The writer, with what was written to it.
+    pub fn into_writer(self) -> W
+        ensures { W.contents result ≡ ⟦<Device<W> as Sink>⟧.contents self }
     {
         self.inner
     }

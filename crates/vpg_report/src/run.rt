@@ -1,119 +1,19 @@
-//! A script is read and answered line by line.
-ghost use Rattle.std.specs.Prelude.{◌≡◌, ℕ, suc, List, [], ◌++◌, length, OnOk, OnErr, IfErr, IfOk, IsErrOf, Result, Ok, Err, Some, ◌⊎◌, true};
-ghost use Rattle.std.specs.Io.KnownBytes.{Appends, prepend_known};
-ghost use Rattle.vpg_report.specs.Devices.{AppendsSome};
-ghost use Rattle.vpg_report.specs.Script.{Request as RequestShown, said};
-ghost use Rattle.vpg_report.specs.View.{request_shown};
-ghost use Rattle.vpg_report.specs.declared.command.LineFault.{LineFault as Fault};
-ghost use Rattle.vpg_report.specs.Output.{Speaks, Answered, Wrote, FaultyKnown, IsEmptyKnown};
-
-use crate::command::{LineFault, ReadFault, Request, read_line};
-use crate::device::{Sink, Source};
-use crate::lines::{Next, NextFault, next_line};
-use std::alloc::{AllocError, Global};
-
-/// What carries requests out.
-pub trait Server {
-    // From a state, it may answer a request with this text and go on to a state.
-    ghost serves: { Self → RequestShown → List ℕ → Self → Type 0 };
-
-    /// Carries a request out, and appends its answer.
-    fn serve(&mut self, request: &Request<'_>, out: &mut Vec<u8>) -> Result<(), AllocError>
-        ensures { OnOk result ((text : List ℕ) × (serves self.old (request_shown request.now) text self.new × (out.new.items ≡ out.old.items ++ text))) };
-}
-
-/// Why a line ends the run.
-#[derive(Clone, Copy, Debug)]
-pub enum LineStop {
-    Fault(LineFault),
-    Write,
-    Memory,
-}
-
-/// Carries a line out, and writes its answer.
-fn answer_line<V: Server, W: Sink>(
-    alloc: Global,
-    server: &mut V,
-    line: &[u8],
-    writer: &mut W,
-) -> Result<(), LineStop>
-    ensures ok { OnOk result ((text : List ℕ) × (Speaks V.serves server.old (said line.now) text server.new × Appends (W.contents writer.old) (W.contents writer.new) text)) }
-    ensures fault { (f : Fault) → IsErrOf result (LineStop.Fault f) → (said line.now ≡ Err f) × (server.new ≡ server.old) × (writer.new ≡ writer.old) }
-    ensures memory { IsErrOf result LineStop.Memory → writer.new ≡ writer.old }
-    ensures write { IsErrOf result LineStop.Write → (text : List ℕ) × (Speaks V.serves server.old (said line.now) text server.new × AppendsSome (W.contents writer.old) (W.contents writer.new) text) }
-    ensures write_failed { IsErrOf result LineStop.Write → W.has_failed writer.new ≡ true }
-{
-    let request = match read_line(alloc, line) {
-        Ok(None) => return Ok(()),
-        Ok(Some(request)) => request,
-        Err(ReadFault::Line(fault)) => return Err(LineStop::Fault(fault)),
-        Err(ReadFault::Memory) => return Err(LineStop::Memory),
-    };
-    let mut text = Vec::new(alloc);
-    if server.serve(&request, &mut text).is_err() {
-        return Err(LineStop::Memory);
-    }
-    match writer.put(&text) {
-        Ok(()) => Ok(()),
-        Err(_) => Err(LineStop::Write),
-    }
-}
-
-ghost use Rattle.vpg_report.specs.declared.run.RunFault.{RunFault as Stop};
-ghost use Rattle.vpg_report.specs.declared.run.RunFault.TheVariants as stops;
-ghost use Rattle.vpg_report.specs.Output.{Outcome};
+//! Runs of scripts.
+use crate::command::LineFault;
+use thiserror::Error;
 
 /// Why a run ends before the script does.
-#[derive(Clone, Copy, Debug)]
+#[derive(Clone, Copy, Debug, PartialEq, Eq, Error)]
 pub enum RunFault {
+    /// The line of this number, from 1, has a fault.
+    #[error("Line {line} {fault}")]
     Line { line: u64, fault: LineFault },
+    /// The reader failed, or was read 16,777,216 times.
+    #[error("Read")]
     Read,
+    /// The writer failed.
+    #[error("Write")]
     Write,
+    #[error("Memory")]
     Memory,
-}
-
-/// Reads a script, and answers its lines in order.
-pub fn run<V: Server, R: Source, W: Sink>(
-    alloc: Global,
-    server: &mut V,
-    reader: &mut R,
-    writer: &mut W,
-) -> Result<(), RunFault>
-    requires { R.calls reader.old ≡ 0 }
-    // What is written is the output for the lines that were read.
-    ensures output { Outcome V.serves server.old (R.remaining reader.old) (R.remaining reader.new) (W.contents writer.old) (W.contents writer.new) result }
-    // Read and Write are answered only where the device failed, or the reads were used up.
-    ensures read { IsErrOf result RunFault.Read → (R.has_failed reader.new ≡ true) ⊎ (R.calls reader.new ≡ 16777216) }
-    ensures write { IsErrOf result RunFault.Write → W.has_failed writer.new ≡ true }
-{
-    let mut held = Vec::new(alloc);
-    let mut reads = 0;
-    let mut number = 1;
-    'lines: loop {
-        let next = match next_line(alloc, &mut held, &mut reads, reader) {
-            Ok(next) => next,
-            Err(NextFault::Read) => return Err(RunFault::Read),
-            Err(NextFault::Memory) => return Err(RunFault::Memory),
-        };
-        let line = match next {
-            Next::Line(line) => line,
-            Next::End => return Ok(()),
-            Next::TooLong => {
-                return Err(RunFault::Line {
-                    line: number,
-                    fault: LineFault::TooLong,
-                });
-            }
-        };
-        match answer_line(alloc, server, &line, writer) {
-            Ok(()) => {}
-            Err(LineStop::Fault(fault)) => return Err(RunFault::Line {
-                line: number,
-                fault,
-            }),
-            Err(LineStop::Write) => return Err(RunFault::Write),
-            Err(LineStop::Memory) => return Err(RunFault::Memory),
-        }
-        number += 1;
-    }
 }

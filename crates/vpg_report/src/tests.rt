@@ -1,23 +1,37 @@
-ghost use Rattle.std.specs.Prelude.{◌≡◌, codes};
-
-use crate::command::{LineFault, Request};
+use crate::command::{Command, LineFault, Request};
 use crate::device::Device;
-use crate::run::{RunFault, Server, run};
+use crate::run::RunFault;
+use crate::serving::{Server, answer_script};
 use std::alloc::{AllocError, Global};
 use std::io;
 use std::io::{Read, Write};
 use std::test::*;
 
-// Answers each order with `ok`.
+// Refuses what asks for a token or a harvest; it has no desk for the rest.
 #[derive(Drop)]
-struct Told;
+struct Refuser;
 
-impl Server for Told {
-    ghost serves = { λ old order text new. text ≡ codes "ok\n" };
+impl Server for Refuser {
+    ghost use Rattle.std.specs.Prelude.{[]};
+    ghost use Rattle.vpg_desk.specs.Book.{opened};
 
-    fn serve(&mut self, _request: &Request<'_>, out: &mut Vec<u8>) -> Result<(), AllocError> {
-        out.extend_from_slice(b"ok\n")?;
-        Ok(())
+    ghost scene = { λ _. record { setting = record { game = []; lines = [] }; names = []; identifiers = [] } };
+
+    ghost book = { λ _. opened };
+
+    fn serve(
+        &mut self,
+        _alloc: Global,
+        request: &Request<'_>,
+        out: &mut Vec<u8>,
+    ) -> Result<(), AllocError> {
+        match request.command {
+            Command::Undo(_) | Command::Redo(_) | Command::Keep(_) | Command::Forget(_) => {
+                out.extend_from_slice(b"refused NoToken\n")
+            }
+            Command::Commit(_) => out.extend_from_slice(b"refused NoHarvest\n"),
+            _ => Err(AllocError),
+        }
     }
 }
 
@@ -65,84 +79,82 @@ impl Write for FailsAt {
 }
 
 fn outcome(alloc: Global, text: &'static [u8], calls: u32) -> (Result<(), RunFault>, Vec<u8>) {
-    let mut reader = Device::new(text);
-    let mut writer = Device::new(FailsAt {
+    let mut reader = Device::reader(text);
+    let mut writer = Device::writer(FailsAt {
         got: Vec::new(alloc),
         calls,
     });
-    let result = run(alloc, &mut Told, &mut reader, &mut writer);
-    (result, writer.into_inner().got)
+    let result = answer_script(alloc, &mut Refuser, &mut reader, &mut writer);
+    (result, writer.into_writer().got)
 }
 
 #[test]
 fn answers_lines(rt: HostRuntime) -> Result<(), Fail> {
     let (result, got) = outcome(
         rt.alloc(),
-        b"# none\r\n\n 2: show \r\nundo 007\nsettle",
+        b"# none\r\n\n 2: keep 1 \r\nundo 007\ncommit 1",
         100,
     );
     assert!(rt; result.is_ok());
-    assert_eq!(rt; got.as_slice(), b"ok\nok\nok\n".as_slice());
+    assert_eq!(rt;
+        got.as_slice(),
+        b"refused NoToken\nrefused NoToken\nrefused NoHarvest\n".as_slice()
+    );
     Ok(())
 }
 
 #[test]
 fn names_the_faulty_line(rt: HostRuntime) -> Result<(), Fail> {
-    let (result, got) = outcome(rt.alloc(), b"show\nfrob", 100);
+    let (result, got) = outcome(rt.alloc(), b"redo\nfrob", 100);
     assert!(rt;
-        matches!(
-            result,
-            Err(RunFault::Line {
+        result
+            == Err(RunFault::Line {
                 line: 2,
                 fault: LineFault::Word
             })
-        )
     );
-    assert_eq!(rt; got.as_slice(), b"ok\n".as_slice());
+    assert_eq!(rt; got.as_slice(), b"refused NoToken\n".as_slice());
     let (result, _) = outcome(rt.alloc(), b"settle 1000000001", 100);
     assert!(rt;
-        matches!(
-            result,
-            Err(RunFault::Line {
+        result
+            == Err(RunFault::Line {
                 line: 1,
                 fault: LineFault::Args
             })
-        )
     );
-    let (result, _) = outcome(rt.alloc(), b"65: show", 100);
+    let (result, _) = outcome(rt.alloc(), b"65: undo", 100);
     assert!(rt;
-        matches!(
-            result,
-            Err(RunFault::Line {
+        result
+            == Err(RunFault::Line {
                 line: 1,
                 fault: LineFault::Word
             })
-        )
     );
-    let (result, _) = outcome(rt.alloc(), b"2:show", 100);
+    let (result, _) = outcome(rt.alloc(), b"2:undo", 100);
     assert!(rt;
-        matches!(
-            result,
-            Err(RunFault::Line {
+        result
+            == Err(RunFault::Line {
                 line: 1,
                 fault: LineFault::Word
             })
-        )
     );
     Ok(())
 }
 
 #[test]
 fn a_failing_reader_and_writer(rt: HostRuntime) -> Result<(), Fail> {
-    let mut reader = Device::new(ThenFails {
-        bytes: b"exclude f\nshow",
+    let mut reader = Device::reader(ThenFails {
+        bytes: b"undo\nredo",
     });
-    let mut writer = Device::new(Vec::new(rt.alloc()));
-    let result = run(rt.alloc(), &mut Told, &mut reader, &mut writer);
-    assert!(rt; matches!(result, Err(RunFault::Read)));
-    assert_eq!(rt; writer.into_inner().as_slice(), b"ok\n".as_slice());
-    let (result, got) = outcome(rt.alloc(), b"show\nshow\n", 3);
-    assert!(rt; matches!(result, Err(RunFault::Write)));
-    assert_eq!(rt; got.as_slice(), b"ok\nok".as_slice());
+    let mut writer = Device::writer(Vec::new(rt.alloc()));
+    let result = answer_script(rt.alloc(), &mut Refuser, &mut reader, &mut writer);
+    assert!(rt; result == Err(RunFault::Read));
+    assert_eq!(rt;
+        writer.into_writer().as_slice(),
+        b"refused NoToken\n".as_slice()
+    );
+    let (result, got) = outcome(rt.alloc(), b"undo\nundo\n", 9);
+    assert!(rt; result == Err(RunFault::Write));
+    assert_eq!(rt; got.as_slice(), b"refused NoToken\nre".as_slice());
     Ok(())
 }

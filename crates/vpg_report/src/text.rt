@@ -2,10 +2,13 @@
 ghost use Rattle.std.specs.Prelude.{◌≡◌, ◌<◌, ◌≤◌, Some, ◌==◌, ◌++◌, ◌∷◌, [], codes, decimal, length, map, OnOk, OnErr, All, slice_index, suc};
 ghost use Rattle.vpg_report.specs.Text.{blank_number, name_of, blank_name, choice_text, choices_text, decisions_line, answer_line, hopeless_text, sure_text, vertex_line, vertex_lines, show_text};
 ghost use Rattle.vpg_trail.specs.Page.{literal_of};
+ghost use Rattle.vpg_game.specs.Game.{vertex_ids};
 
 use itoa::Buffer;
 use std::alloc::AllocError;
+use vpg_game::GuardedGame;
 use vpg_guards::Names;
+use vpg_measure::Table;
 use vpg_partial::Decision;
 
 /// Appends a number in decimal.
@@ -17,7 +20,7 @@ fn number(n: u64, out: &mut Vec<u8>) -> Result<(), AllocError>
     Ok(())
 }
 
-fn blank_number(n: u64, out: &mut Vec<u8>) -> Result<(), AllocError>
+pub(crate) fn blank_number(n: u64, out: &mut Vec<u8>) -> Result<(), AllocError>
     ensures { OnOk result (out.new.items ≡ out.old.items ++ blank_number n) }
 {
     out.push(b' ')?;
@@ -31,7 +34,7 @@ fn name_at(names: &Names, f: u16) -> &[u8]
     names.name(f).as_bytes()
 }
 
-fn blank_name(names: &Names, f: u16, out: &mut Vec<u8>) -> Result<(), AllocError>
+pub(crate) fn blank_name(names: &Names, f: u16, out: &mut Vec<u8>) -> Result<(), AllocError>
     requires { f < length names.now }
     ensures { OnOk result (out.new.items ≡ out.old.items ++ blank_name names.now f) }
 {
@@ -100,7 +103,7 @@ pub struct Tops {
     pub dual: u64,
 }
 
-fn vertex(tops: Tops, id: u32, h: u64, d: u64, out: &mut Vec<u8>) -> Result<(), AllocError>
+fn measures(tops: Tops, id: u32, h: u64, d: u64, out: &mut Vec<u8>) -> Result<(), AllocError>
     ensures { OnOk result (out.new.items ≡ out.old.items ++ vertex_line tops.hopeful tops.dual id h d) }
 {
     number(id as u64, out)?;
@@ -110,39 +113,65 @@ fn vertex(tops: Tops, id: u32, h: u64, d: u64, out: &mut Vec<u8>) -> Result<(), 
     sure(d == tops.dual, out)
 }
 
-fn vertices(
+fn identifier(game: &GuardedGame, v: u32) -> u32
+    requires { v < length game.now.vertices }
+    ensures { result ≡ slice_index (vertex_ids game.now.vertices) v }
+{
+    game.id(v)
+}
+
+/// The line of a vertex.
+fn vertex(
     tops: Tops,
-    ids: &[u32],
-    hopeful: &[u64],
-    dual: &[u64],
+    game: &GuardedGame,
+    hopeful: &Table,
+    dual: &Table,
+    v: u32,
     out: &mut Vec<u8>,
 ) -> Result<(), AllocError>
-    requires hopeful { length hopeful.now ≡ length ids.now }
-    requires dual { length dual.now ≡ length ids.now }
-    ensures { OnOk result (out.new.items ≡ out.old.items ++ vertex_lines tops.hopeful tops.dual ids.now hopeful.now dual.now (length ids.now)) }
+    requires game { v < length game.now.vertices }
+    requires hopeful { v < length hopeful.now }
+    requires dual { v < length dual.now }
+    ensures { OnOk result (out.new.items ≡ out.old.items ++ vertex_line tops.hopeful tops.dual (slice_index (vertex_ids game.now.vertices) v) (slice_index hopeful.now v) (slice_index dual.now v)) }
 {
-    for v in 0..ids.len() {
-        vertex(tops, ids[v], hopeful[v], dual[v], out)?;
+    measures(tops, identifier(game, v), hopeful.get(v), dual.get(v), out)
+}
+
+/// The lines of all vertices.
+fn vertices(
+    tops: Tops,
+    game: &GuardedGame,
+    hopeful: &Table,
+    dual: &Table,
+    out: &mut Vec<u8>,
+) -> Result<(), AllocError>
+    requires hopeful { length hopeful.now ≡ length game.now.vertices }
+    requires dual { length dual.now ≡ length game.now.vertices }
+    ensures { OnOk result (out.new.items ≡ out.old.items ++ vertex_lines tops.hopeful tops.dual (vertex_ids game.now.vertices) hopeful.now dual.now (length game.now.vertices)) }
+{
+    let count = game.vertices() as u32;
+    for v in 0..count {
+        vertex(tops, game, hopeful, dual, v, out)?;
     }
     Ok(())
 }
 
-/// Appends the text of a page.
-pub fn show(
+/// The lines of a page.
+pub(crate) fn page(
     names: &Names,
-    ids: &[u32],
+    game: &GuardedGame,
     tops: Tops,
     ds: &[Decision],
     full: bool,
     settled: bool,
-    hopeful: &[u64],
-    dual: &[u64],
+    hopeful: &Table,
+    dual: &Table,
     out: &mut Vec<u8>,
 ) -> Result<(), AllocError>
-    requires choices { All (λ d. d.feature < length names.now) ds.now }
-    requires hopeful { length hopeful.now ≡ length ids.now }
-    requires dual { length dual.now ≡ length ids.now }
-    ensures { OnOk result (out.new.items ≡ out.old.items ++ show_text names.now ids.now tops.hopeful tops.dual (map literal_of ds.now) full settled hopeful.now dual.now) }
+    requires decisions { All (λ d. d.feature < length names.now) ds.now }
+    requires hopeful { length hopeful.now ≡ length game.now.vertices }
+    requires dual { length dual.now ≡ length game.now.vertices }
+    ensures { OnOk result (out.new.items ≡ out.old.items ++ show_text names.now (vertex_ids game.now.vertices) tops.hopeful tops.dual (map literal_of ds.now) full settled hopeful.now dual.now) }
 {
     out.extend_from_slice(b"decisions")?;
     choices(names, ds, out)?;
@@ -151,5 +180,5 @@ pub fn show(
     answer(full, out)?;
     out.extend_from_slice(b"settled")?;
     answer(settled, out)?;
-    vertices(tops, ids, hopeful, dual, out)
+    vertices(tops, game, hopeful, dual, out)
 }

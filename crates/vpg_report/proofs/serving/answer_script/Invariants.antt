@@ -1,14 +1,16 @@
 use Rattle.std.proofs.Common.{◌≡◌, ◌≤◌, ◌+◌, ◌*◌, length, vec_len, List, ℕ}
 use Rattle.std.specs.Io.KnownBytes.{prepend_known}
+use Rattle.vpg_report.specs.Run.{answering}
 use Rattle.vpg_report.specs.Output.{Wrote, lines_left}
-use Rattle.vpg_report.proofs.run.run.Given as goal
+use Rattle.vpg_report.proofs.serving.answer_script.Given as goal
 
 abbrev pub invariant-lines : goal.invariant-lines
 invariant-lines g l = record {
+  same : g.V.Server.scene l.server ≡ g.V.Server.scene l.fn.server;
   few : l.reads ≤ 16777216;
   calls : g.R.Source.calls l.reader ≡ l.reads;
   bound : l.number + lines_left l.reads (vec_len l.held) ≤ 16777216 * 8193 + 1;
-  wrote : (lines : List (List ℕ)) × (Wrote g.V.Server.serves l.fn.server l.server (g.R.Source.remaining l.fn.reader) (prepend_known l.held.items (g.R.Source.remaining l.reader))
+  wrote : (lines : List (List ℕ)) × (Wrote (answering (g.V.Server.scene l.fn.server)) (g.V.Server.book l.fn.server) (g.V.Server.book l.server) (g.R.Source.remaining l.fn.reader) (prepend_known l.held.items (g.R.Source.remaining l.reader))
       (g.W.Sink.contents l.fn.writer) (g.W.Sink.contents l.writer) lines × (l.number ≡ length lines + 1));
 }
 

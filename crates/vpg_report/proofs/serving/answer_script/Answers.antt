@@ -1,27 +1,31 @@
-use Rattle.std.proofs.Common.{ℕ, List, [], ◌∷◌, ◌++◌, Err, ◌<◌, length-append, arith, ap, sym, refl, subst, vec_len}
+use Rattle.std.proofs.Common.{ℕ, List, [], ◌∷◌, ◌++◌, Err, ◌<◌, length-append, arith, ap, sym, refl, ◌∙◌, subst, vec_len}
 use Rattle.std.specs.Io.KnownBytes.{prepend_known}
 use Rattle.vpg_report.specs.Script.{said}
 use Rattle.vpg_report.specs.Lines.{ComesKnown}
 use Rattle.vpg_report.specs.declared.lines.Next.{Next}
 use Rattle.vpg_report.specs.declared.lines.Next.TheVariants as next
+use Rattle.vpg_report.specs.Scene.{Scene}
+use Rattle.vpg_report.specs.Run.{answering}
 use Rattle.vpg_report.specs.Output.{Wrote, Speaks, IsLine, lines_left}
-use Rattle.vpg_report.proofs.RunLemmas.{wrote_nothing, wrote_more, wrote_kept}
-use Rattle.vpg_report.proofs.run.run.Goals as goal
+use Rattle.vpg_report.proofs.ScriptLemmas.{wrote_nothing, wrote_more, wrote_kept}
+use Rattle.vpg_report.proofs.serving.answer_script.Goals as goal
 
 pub lines-init : goal.lines-init
 lines-init g c =
-    let server = c.args.server.now in
+    let book = g.V.Server.book c.args.server.now in
+    let serves = answering (g.V.Server.scene c.args.server.now) in
     let input = g.R.Source.remaining c.args.reader.now in
     let holds = g.W.Sink.contents c.args.writer.now in
     record {
+      same = refl;
       few = omega arith;
       calls = c.requires;
       bound = omega (arith, c.new-held.ensures.len);
       wrote = (
         [],
         (
-          subst (λ (held : List ℕ). Wrote g.V.Server.serves server server input (prepend_known held input) holds holds []) (sym c.new-held.ensures.items)
-              (wrote_nothing g.V.Server.serves server input holds),
+          subst (λ (held : List ℕ). Wrote serves book book input (prepend_known held input) holds holds []) (sym c.new-held.ensures.items)
+              (wrote_nothing serves book input holds),
           refl,
         ),
       );
@@ -37,16 +41,21 @@ lines-preserved g c =
     let comes : ComesKnown (next.Line line) a b = subst (λ (n : Next). ComesKnown n a b) c.in-Line.is c.in-Ok.ensures.next in
     let fewer : lines_left c.next_line.new.reads (vec_len c.next_line.new.held) < lines_left c.lines.reads (vec_len c.lines.held) =
     subst (λ (n : Next). IsLine n → lines_left c.next_line.new.reads (vec_len c.next_line.new.held) < lines_left c.lines.reads (vec_len c.lines.held)) c.in-Line.is c.in-Ok.ensures.fewer tt in
-    let speaks : Speaks g.V.Server.serves c.lines.server (said line.items) ok.0 c.answer_line.new.server =
-    subst (λ (t : List ℕ). Speaks g.V.Server.serves c.lines.server (said t) ok.0 c.answer_line.new.server) c.deref.ensures.value ok.1.0 in
+    let first = c.args.server.now in
+    let before = g.V.Server.book c.lines.server in
+    let after = g.V.Server.book c.answer_line.new.server in
+    let speaks : Speaks (answering (g.V.Server.scene first)) before (said line.items) ok.0 after =
+    subst (λ (s : Scene). Speaks (answering s) before (said line.items) ok.0 after) c.lines.invariant.same
+    (subst (λ (t : List ℕ). Speaks (answering (g.V.Server.scene c.lines.server)) before (said t) ok.0 after) c.deref.ensures.value ok.1.0) in
     record {
+      same = c.in-Ok-answer_line.ensures.scene ∙ c.lines.invariant.same;
       few = c.next_line.ensures.reads;
       calls = c.next_line.ensures.calls;
       bound = omega (arith, c.lines.invariant.bound, fewer);
       wrote = (
         so.0 ++ line.items ∷ [],
         (
-          wrote_more g.V.Server.serves c.args.server.now c.lines.server c.answer_line.new.server (g.R.Source.remaining c.args.reader.now) a b
+          wrote_more (answering (g.V.Server.scene first)) (g.V.Server.book first) before after (g.R.Source.remaining c.args.reader.now) a b
               (g.W.Sink.contents c.args.writer.now) (g.W.Sink.contents c.lines.writer) (g.W.Sink.contents c.answer_line.new.writer) so.0 line ok.0
               so.1.0 comes speaks ok.1.1,
           omega (arith, so.1.1, length-append so.0 (line.items ∷ [])),
@@ -59,10 +68,10 @@ returns-in-Err-Read-clause-output g c =
     let so = c.lines.invariant.wrote in
     let is = ap Err c.in-Err-Read.field-0-is in (
       so.0,
-      c.lines.server,
+      g.V.Server.book c.lines.server,
       c.next_line.new.held.items,
       (
-        wrote_kept g.V.Server.serves c.args.server.now c.lines.server (g.R.Source.remaining c.args.reader.now)
+        wrote_kept (answering (g.V.Server.scene c.args.server.now)) (g.V.Server.book c.args.server.now) (g.V.Server.book c.lines.server) (g.R.Source.remaining c.args.reader.now)
             (prepend_known c.lines.held.items (g.R.Source.remaining c.lines.reader)) (prepend_known c.next_line.new.held.items (g.R.Source.remaining c.next_line.new.reader))
             (g.W.Sink.contents c.args.writer.now) (g.W.Sink.contents c.lines.writer) so.0 so.1.0 (c.in-Err-Read.ensures.read is),
         c.in-Err-Read.ensures.unended is,
