@@ -8,7 +8,7 @@ ghost use Rattle.vpg_measure.specs.Orders.{IsOrder};
 ghost use Rattle.vpg_trail.specs.Page.{Which as Side, Hopeful, Dual, choices_of, decisions_of, table_of};
 ghost use Rattle.vpg_desk.specs.Book.{opened, Order as AsksOrder, Ordered, Settled, IsSettled, Verdict as AsksVerdict, VerdictIs, Page as AsksPage, PageIs};
 ghost use Rattle.vpg_desk.specs.Desk.{family_of, IsLeastUnder};
-ghost use Rattle.vpg_desk.specs.Headline.{NeverWins};
+ghost use Rattle.vpg_desk.specs.Headline.{NeverWins, Tells};
 ghost use Rattle.vpg_desk.specs.Lawful.{PageIsBelow};
 ghost use Rattle.vpg_desk.specs.State.{Replies, setting_of};
 
@@ -162,6 +162,7 @@ impl Desk {
         ensures hopeful { IfOk result (λ page. page.hopeful ≡ table_of Hopeful self.now.book.present (length (graph_of self.now.game))) }
         ensures dual { IfOk result (λ page. page.dual ≡ table_of Dual self.now.book.present (length (graph_of self.now.game))) }
         ensures below { IfOk result (λ _. PageIsBelow (family_of (setting_of self.now)) self.now.book.present) }
+        ensures tells { IfOk result (λ _. Tells (setting_of self.now) self.now.book.present) }
     {
         Ok(Page {
             decisions: Decisions::new(decisions_among(alloc, self.trail.entries())?),
