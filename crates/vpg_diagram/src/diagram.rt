@@ -5,6 +5,7 @@ ghost use Rattle.std.specs.List.{AllByRecursion};
 ghost use Rattle.vpg_diagram.specs.Clauses.{clauses_of, counts_of, IsClauseBelow, IsCountBelow};
 ghost use Rattle.vpg_diagram.specs.DiagramText.{IsNamedDiagram};
 ghost use Rattle.vpg_diagram.specs.FeatureDiagram.{feature_count, IsDiagram, IsProduct};
+ghost use Rattle.vpg_diagram.specs.LineView.{lines_of};
 
 use crate::clause::{Clause, Count};
 use crate::fault::DiagramFault;
@@ -38,7 +39,6 @@ impl Model for Diagram {
 }
 
 impl Diagram {
-    ghost use Rattle.vpg_diagram.specs.LineView.{lines_of};
     ghost use Rattle.vpg_diagram.specs.DiagramText.{IsTextOf, NamedDiagram};
     ghost use Rattle.vpg_diagram.specs.TextFaults.{IsFirstFault};
 
@@ -117,4 +117,34 @@ impl Diagram {
     {
         &self.counts
     }
+
+    /// Whether both have the same names and the same lines.
+    pub fn is_same(&self, other: &Diagram) -> bool
+        ensures { IsTrue result ↔ (self.now ≡ other.now) }
+    {
+        same_names(&self.names, &other.names) && are_same(&self.lines, &other.lines)
+    }
+}
+
+/// Whether both have the same names in the same order.
+fn same_names(a: &Names, b: &Names) -> bool
+    ensures { IsTrue result ↔ (a.now ≡ b.now) }
+{
+    if a.len() != b.len() {
+        return false;
+    }
+    for f in 0..a.len() {
+        if a.name(f as u16) != b.name(f as u16) {
+            return false;
+        }
+    }
+    true
+}
+
+/// Whether the lines are the same, in order.
+fn are_same(lines: &[Line], others: &[Line]) -> bool
+    requires { IsDiagram (lines_of lines.now) × IsDiagram (lines_of others.now) }
+    ensures { IsTrue result ↔ (lines_of lines.now ≡ lines_of others.now) }
+{
+    lines == others
 }
