@@ -10,7 +10,8 @@ ghost use Rattle.vpg_desk.specs.Book.{opened, Order as AsksOrder, Ordered, Settl
 ghost use Rattle.vpg_desk.specs.Desk.{family_of, IsLeastUnder};
 ghost use Rattle.vpg_desk.specs.Headline.{NeverWins, Tells};
 ghost use Rattle.vpg_desk.specs.Lawful.{PageIsBelow};
-ghost use Rattle.vpg_desk.specs.State.{Replies, setting_of};
+ghost use Rattle.vpg_desk.specs.Setting.{IsSetting};
+ghost use Rattle.vpg_desk.specs.State.{IsReached, Replies, setting_of};
 
 use crate::cuts::Cut;
 use crate::fault::{OpenFault, OpenRefused};
@@ -163,6 +164,9 @@ impl Desk {
         ensures dual { IfOk result (λ page. page.dual ≡ table_of Dual self.now.book.present (length (graph_of self.now.game))) }
         ensures below { IfOk result (λ _. PageIsBelow (family_of (setting_of self.now)) self.now.book.present) }
         ensures tells { IfOk result (λ _. Tells (setting_of self.now) self.now.book.present) }
+        ensures setting { IfOk result (λ _. IsSetting (setting_of self.now)) }
+        // So what the headline says of every legal history holds of this desk's own.
+        ensures reached { IfOk result (λ _. IsReached (setting_of self.now) self.now.book) }
     {
         Ok(Page {
             decisions: Decisions::new(decisions_among(alloc, self.trail.entries())?),

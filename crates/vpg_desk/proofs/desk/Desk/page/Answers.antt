@@ -2,7 +2,8 @@ use Rattle.std.proofs.Common.{subst}
 use Rattle.vpg_desk.specs.Desk.{family_of}
 use Rattle.vpg_desk.specs.Headline.{Tells}
 use Rattle.vpg_desk.specs.Lawful.{PageIsBelow}
-use Rattle.vpg_desk.specs.State.{DeskState, setting_of}
+use Rattle.vpg_desk.specs.Setting.{IsSetting}
+use Rattle.vpg_desk.specs.State.{DeskState, IsReached, setting_of}
 use Rattle.vpg_desk.proofs.Answering.{tells}
 use Rattle.vpg_desk.proofs.desk.Desk.page.Goals as goal
 
@@ -11,3 +12,9 @@ returns-clause-below c = subst (λ (s : DeskState). PageIsBelow (family_of (sett
 
 pub returns-clause-tells : goal.returns-clause-tells
 returns-clause-tells c = subst (λ (s : DeskState). Tells (setting_of s) s.book.present) c.self.view_is (tells c.self.inside c.self.invariant)
+
+pub returns-clause-setting : goal.returns-clause-setting
+returns-clause-setting c = subst (λ (s : DeskState). IsSetting (setting_of s)) c.self.view_is c.self.invariant.opened.is_setting
+
+pub returns-clause-reached : goal.returns-clause-reached
+returns-clause-reached c = subst (λ (s : DeskState). IsReached (setting_of s) s.book) c.self.view_is c.self.invariant.reached
