@@ -5,6 +5,7 @@ use std::sync::Arc;
 use thiserror::Error;
 use vpg_diagram::Diagram;
 use vpg_game::GuardedGame;
+use vpg_measure::Harvest;
 
 /// Why a desk isn't opened.
 #[derive(Clone, Copy, Debug, PartialEq, Eq, Error)]
@@ -46,6 +47,26 @@ pub enum DecideFault {
     Memory,
 }
 
+/// Why a harvest isn't committed. `Memory` comes last, and only where a growth was refused.
+#[derive(Clone, Copy, Debug, PartialEq, Eq, Error)]
+pub enum CommitFault {
+    /// The order's game or diagram isn't the desk's.
+    #[error("OtherGame")]
+    OtherGame,
+    /// The order's decision on this feature, its first such one, isn't among the present ones with the same value.
+    #[error("Outdated {feature}")]
+    Outdated { feature: u16 },
+    #[error("Memory")]
+    Memory,
+}
+
+/// A harvest that isn't committed.
+#[derive(Drop)]
+pub struct CommitRefused {
+    pub fault: CommitFault,
+    pub harvest: Harvest,
+}
+
 impl From<AllocError> for OpenFault {
     ghost use Rattle.std.specs.Prelude.{◌≡◌};
     ghost use Rattle.vpg_desk.specs.declared.fault.OpenFault.TheVariants.{Memory};
@@ -76,5 +97,27 @@ impl<T: Drop> From<AllocFailed<T>> for DecideFault {
 
     fn from(_: AllocFailed<T>) -> DecideFault {
         DecideFault::Memory
+    }
+}
+
+impl From<AllocError> for CommitFault {
+    ghost use Rattle.std.specs.Prelude.{◌≡◌};
+    ghost use Rattle.vpg_desk.specs.declared.fault.CommitFault.TheVariants.{Memory};
+
+    ghost from_gives = { λ _ fault. fault ≡ Memory };
+
+    fn from(_: AllocError) -> CommitFault {
+        CommitFault::Memory
+    }
+}
+
+impl<T: Drop> From<AllocFailed<T>> for CommitFault {
+    ghost use Rattle.std.specs.Prelude.{◌≡◌};
+    ghost use Rattle.vpg_desk.specs.declared.fault.CommitFault.TheVariants.{Memory};
+
+    ghost from_gives = { λ _ fault. fault ≡ Memory };
+
+    fn from(_: AllocFailed<T>) -> CommitFault {
+        CommitFault::Memory
     }
 }

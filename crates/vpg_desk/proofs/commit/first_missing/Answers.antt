@@ -1,0 +1,19 @@
+use Rattle.std.proofs.Common.{◌+◌, ◌∙◌, sym, ap, map, take, drop}
+use Rattle.std.proofs.lemmas.List.{map_more}
+use Rattle.vpg_trail.specs.Page.{literal_of, choices_of}
+use Rattle.vpg_trail.specs.Shown.{entry_of}
+use Rattle.vpg_desk.specs.Book.{first_missing}
+use Rattle.vpg_desk.proofs.Missing.{missing_here, missing_more, split_decisions}
+use Rattle.vpg_desk.proofs.commit.first_missing.Goals as goal
+
+pub returns-then-not-is_among : goal.returns-then-not-is_among
+returns-then-not-is_among c =
+    sym (ap (first_missing (choices_of (map entry_of c.args.entries.now))) (split_decisions c.args.decisions.now c.loop-decision.decision-index _ c.loop-decision-test.true)
+    ∙ missing_here (choices_of (map entry_of c.args.entries.now)) (map literal_of (take c.loop-decision.decision-index c.args.decisions.now)) _ (map literal_of (drop (c.loop-decision.decision-index + 1) c.args.decisions.now)) c.loop-decision.invariant
+    (sym c.is_among.ensures ∙ c.if-not-is_among.true))
+
+pub loop-decision-preserved : goal.loop-decision-preserved
+loop-decision-preserved c =
+    ap (first_missing (choices_of (map entry_of c.args.entries.now))) (map_more literal_of c.args.decisions.now c.loop-decision.decision-index _ c.loop-decision-test.true)
+    ∙ missing_more (choices_of (map entry_of c.args.entries.now)) (map literal_of (take c.loop-decision.decision-index c.args.decisions.now)) _ c.loop-decision.invariant
+    (sym c.is_among.ensures ∙ c.if-not-is_among.false)

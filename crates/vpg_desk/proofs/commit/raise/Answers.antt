@@ -1,0 +1,17 @@
+use Rattle.std.proofs.Common.{◌∙◌, length, sym, ap}
+use Rattle.vpg_trail.specs.Page.{Hopeful, Dual}
+use Rattle.vpg_trail.proofs.PageLemmas.{length-table_of}
+use Rattle.vpg_desk.proofs.Committed.{harvest_length}
+use Rattle.vpg_desk.proofs.commit.raise.Goals as goal
+
+pub lifts-requires-clause-present : goal.lifts-requires-clause-present
+lifts-requires-clause-present c = ap length c.hopeful.ensures ∙ length-table_of Hopeful c.args.trail.now.entries c.args.trail.now.vertices ∙ sym c.vertices-vertices.ensures
+
+pub lifts-requires-clause-values : goal.lifts-requires-clause-values
+lifts-requires-clause-values c = ap length c.table.ensures.table ∙ harvest_length c.args.harvest.now Hopeful c.table.ensures.harvest ∙ c.requires ∙ sym c.vertices-vertices.ensures
+
+pub lifts-requires-2-clause-present : goal.lifts-requires-2-clause-present
+lifts-requires-2-clause-present c = ap length c.dual.ensures ∙ length-table_of Dual c.args.trail.now.entries c.args.trail.now.vertices ∙ sym c.vertices-vertices.ensures
+
+pub lifts-requires-2-clause-values : goal.lifts-requires-2-clause-values
+lifts-requires-2-clause-values c = ap length c.table-2.ensures.table ∙ harvest_length c.args.harvest.now Dual c.table-2.ensures.harvest ∙ c.requires ∙ sym c.vertices-vertices.ensures

@@ -1,0 +1,29 @@
+-- What harvests mean for a desk.
+use Rattle.std.specs.Prelude.{◌≡◌, Bool, ◌++◌, List, map, Option, Some, None}
+use Rattle.vpg_measure.specs.Orders.{OrderView, HarvestView}
+use Rattle.vpg_trail.specs.Page.{Hopeful, Dual, Entry, literal_of, raises}
+use Rattle.vpg_trail.specs.Shown.{Track}
+use Rattle.vpg_desk.specs.Book.{Harvest, Refusal, OtherGame, Outdated}
+use Rattle.vpg_desk.specs.State.{DeskState}
+use Rattle.vpg_desk.specs.declared.fault.CommitFault.{CommitFault}
+use Rattle.vpg_desk.specs.declared.fault.CommitFault.TheVariants.{OtherGame as IsOther, Outdated as IsOutdated, Memory}
+
+-- the order's game and diagram are the desk's
+abbrev pub IsOrderOf : DeskState → OrderView → Type 0
+IsOrderOf state order = (order.game ≡ state.game) × (order.diagram ≡ state.diagram)
+
+-- the harvest as the book sees it: whether its order is of the desk, its decisions and its two tables
+abbrev pub handed_in : Bool → HarvestView → Harvest
+handed_in is_of_this_desk harvest = record { is_of_this_desk = is_of_this_desk; decisions = harvest.order.decisions; hopeful = harvest.hopeful; dual = harvest.dual }
+
+-- want of memory is no refusal of the book
+abbrev pub commit_refusal : CommitFault → Option Refusal
+commit_refusal IsOther = Some OtherGame
+commit_refusal (IsOutdated feature) = Some (Outdated feature)
+commit_refusal Memory = None
+
+-- the lifts that raise the entries' tables to the harvest's, those of the first table before those of the second
+abbrev pub raised_by : HarvestView → Track → List Entry
+raised_by harvest trail =
+    raises (map literal_of harvest.order.decisions) trail.entries Hopeful harvest.hopeful trail.vertices
+    ++ raises (map literal_of harvest.order.decisions) trail.entries Dual harvest.dual trail.vertices

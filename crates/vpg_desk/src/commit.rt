@@ -1,0 +1,134 @@
+//! Committing what lifters bring back.
+ghost use Rattle.std.specs.Bool.{Decides};
+ghost use Rattle.std.specs.Prelude.{◌≡◌, ℕ, Bool, true, length, map, All, IfOk, IfErr, OnOk, OnErr, IfSome};
+ghost use Rattle.vpg_trail.specs.Page.{literal_of, choices_of, stands};
+ghost use Rattle.vpg_trail.specs.Shown.{entry_of, VertexBelow};
+ghost use Rattle.vpg_desk.specs.Book.{first_missing as missing_among};
+ghost use Rattle.vpg_desk.specs.Commit.{raised_by};
+
+use crate::desk::Desk;
+use crate::fault::{CommitFault, CommitRefused};
+use std::alloc::{AllocError, Global};
+use std::sync::Arc;
+use vpg_diagram::{Diagram, Literal};
+use vpg_game::GuardedGame;
+use vpg_measure::{Harvest, Order, Which};
+use vpg_partial::Decision;
+use vpg_trail::{Assumed, Entry, Trail, lifts};
+
+/// Whether the order is of this game and this diagram.
+fn is_order_of(order: &Order, game: &GuardedGame, diagram: &Diagram) -> bool
+    ensures { Decides result ((order.now.game ≡ game.now) × (order.now.diagram ≡ diagram.now)) }
+{
+    order.game().is_same(game) && order.diagram().is_same(diagram)
+}
+
+/// Whether a decision among the entries is on the same feature with the same value.
+fn is_among(entries: &[Entry], decision: Decision) -> bool
+    ensures { result ≡ stands (choices_of (map entry_of entries.now)) (literal_of decision) }
+{
+    for entry in entries {
+        if let Entry::Decide(made) = entry {
+            if decision.feature == made.feature && decision.value == made.value {
+                return true;
+            }
+        }
+    }
+    false
+}
+
+/// The feature of the first decision that isn't among the entries with the same value.
+fn first_missing(entries: &[Entry], decisions: &[Decision]) -> Option<u16>
+    ensures { result ≡ missing_among (choices_of (map entry_of entries.now)) (map literal_of decisions.now) }
+{
+    for decision in decisions {
+        if !is_among(entries, *decision) {
+            return Some(decision.feature);
+        }
+    }
+    None
+}
+
+/// The decisions without their serials.
+fn literals_of(alloc: Global, decisions: &[Decision]) -> Result<Vec<Literal>, AllocError>
+    ensures { IfOk result (λ literals. literals.items ≡ map literal_of decisions.now) }
+{
+    let mut literals = Vec::with_capacity(alloc, decisions.len())?;
+    for decision in decisions {
+        literals.push(Literal {
+            feature: decision.feature,
+            value: decision.value,
+        })?;
+    }
+    Ok(literals)
+}
+
+/// The lifts that raise the trail's tables to the harvest's. All of them share the list of what they assume.
+fn raise(alloc: Global, trail: &Trail, harvest: &Harvest) -> Result<Vec<Entry>, AllocError>
+    requires { length harvest.now.order.game.vertices ≡ trail.now.vertices }
+    ensures lifts { IfOk result (λ raised. map entry_of raised.items ≡ raised_by harvest.now trail.now) }
+    ensures below { IfOk result (λ raised. All (λ e. VertexBelow trail.now.vertices (entry_of e)) raised.items) }
+{
+    let literals = literals_of(alloc, harvest.order().decisions())?;
+    let under = Arc::new(alloc, Assumed::new(literals))?;
+    let vertices = trail.vertices();
+    let mut raised = lifts(
+        alloc,
+        Which::Hopeful,
+        trail.hopeful(),
+        harvest.table(Which::Hopeful),
+        &under,
+        vertices,
+    )?;
+    let mut dual = lifts(
+        alloc,
+        Which::Dual,
+        trail.dual(),
+        harvest.table(Which::Dual),
+        &under,
+        vertices,
+    )?;
+    raised.append(&mut dual)?;
+    Ok(raised)
+}
+
+impl Desk {
+    ghost use Rattle.vpg_desk.specs.Book.{Commit, Added, Refused};
+    ghost use Rattle.vpg_desk.specs.Commit.{IsOrderOf, handed_in, commit_refusal};
+    ghost use Rattle.vpg_desk.specs.State.{IsStep, Replies};
+
+    /// Raises the present tables to the harvest's, by one lift for each value above the present one, and gives the number of
+    /// these lifts: at most 131,072. Refused, in this order: the order's game or diagram isn't the desk's; a decision of the
+    /// order doesn't stand; want of memory. A refusal changes nothing, and the harvest comes back.
+    pub fn commit(&mut self, alloc: Global, harvest: Harvest) -> Result<u32, CommitRefused>
+        ensures accepted { IfOk result (λ added. (session : ℕ) → IsStep self.old session (Commit (handed_in true harvest)) (Added added) self.new) }
+        ensures same { OnOk result (IsOrderOf self.old harvest.order) }
+        ensures refused { IfErr result (λ r. IfSome (commit_refusal r.fault) (λ refusal. (b : Bool) × (Decides b (IsOrderOf self.old harvest.order) × Replies self.old (Commit (handed_in b harvest)) (Refused refusal)))) }
+        ensures err { OnErr result (self.new ≡ self.old) }
+        ensures back { IfErr result (λ r. r.harvest ≡ harvest) }
+    {
+        match self.take_in(alloc, &harvest) {
+            Ok(added) => Ok(added),
+            Err(fault) => Err(CommitRefused { fault, harvest }),
+        }
+    }
+
+    fn take_in(&mut self, alloc: Global, harvest: &Harvest) -> Result<u32, CommitFault>
+        ensures accepted { IfOk result (λ added. (session : ℕ) → IsStep self.old session (Commit (handed_in true harvest.now)) (Added added) self.new) }
+        ensures same { OnOk result (IsOrderOf self.old harvest.now.order) }
+        ensures refused { IfErr result (λ fault. IfSome (commit_refusal fault) (λ refusal. (b : Bool) × (Decides b (IsOrderOf self.old harvest.now.order) × Replies self.old (Commit (handed_in b harvest.now)) (Refused refusal)))) }
+        ensures err { OnErr result (self.new ≡ self.old) }
+    {
+        let order = harvest.order();
+        if !is_order_of(order, &self.game, &self.diagram) {
+            return Err(CommitFault::OtherGame);
+        }
+        if let Some(feature) = first_missing(self.trail.entries(), order.decisions()) {
+            return Err(CommitFault::Outdated { feature });
+        }
+        let raised = raise(alloc, &self.trail, harvest)?;
+        let added = raised.len() as u32;
+        self.trail.extend(raised)?;
+        Ok(added)
+    }
+}
