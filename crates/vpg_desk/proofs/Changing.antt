@@ -1,10 +1,10 @@
 -- A decision more: the book, and what the desk keeps.
-use Rattle.std.proofs.Common.{◌≡◌, ℕ, ◌+◌, List, [], ◌∷◌, ◌++◌, length, map, drop, arith, refl, sym, ap, ◌∙◌, subst, reverse}
+use Rattle.std.proofs.Common.{◌≡◌, ℕ, ◌+◌, List, [], ◌∷◌, ◌++◌, length, map, drop, arith, refl, sym, ap, ◌∙◌}
 use Rattle.std.proofs.lemmas.List.{drop_all, reverse-append}
 use Rattle.vpg_trail.specs.Page.{Entry as Step}
-use Rattle.vpg_desk.specs.Book.{Book, changed}
+use Rattle.vpg_desk.specs.Book.{changed}
 use Rattle.vpg_desk.specs.Cuts.{cut_of, cuts_of, cut_book}
-use Rattle.vpg_desk.specs.Trail.{Cut as Saved, Trail as CutBook, FitOver, StandsFor, book_of, spliced, cut_at}
+use Rattle.vpg_desk.specs.Trail.{Cut as Saved, FitOver, StandsFor, book_of, cut_at}
 use Rattle.vpg_desk.specs.declared.cuts.Cut.{Cut}
 use Rattle.vpg_desk.proofs.Trail.{cut_is_change, decide_cuts_at_end}
 

@@ -1,5 +1,5 @@
 -- What a desk answers to a decide, and what an accepted one leaves.
-use Rattle.std.proofs.Common.{◌≡◌, ℕ, ◌+◌, ◌<◌, ◌≤◌, Bool, List, [], ◌∷◌, ◌++◌, length, map, Some, None, IfSome, refl, sym, ap, ◌∙◌, subst, arith, Vec, Global}
+use Rattle.std.proofs.Common.{◌≡◌, ℕ, ◌+◌, ◌<◌, ◌≤◌, Bool, List, [], ◌∷◌, ◌++◌, Some, None, IfSome, refl, sym, ap, ◌∙◌, subst, arith, Vec, Global}
 use Rattle.std.specs.Arc.{arc_value}
 use Rattle.std.specs.List.{AllByRecursion}
 use Rattle.vpg_diagram.proofs.Lists.{All-unmap, All-append}
@@ -14,17 +14,16 @@ use Rattle.vpg_partial.specs.TableLaws.{IsKnownTable, AreChoicesOf}
 use Rattle.vpg_trail.specs.Page.{Hopeful, Dual, Literal, Decision, Entry as Step, Decided, literal_of, decisions_of, choices_of, decision_on}
 use Rattle.vpg_trail.specs.Shown.{Track}
 use Rattle.vpg_trail.proofs.PageLemmas.{choices_of-append}
-use Rattle.vpg_desk.specs.Book.{Book, Refused, Changed, Decide, AlreadyDecided, UnknownFeature, Conflict, TooManyChanges, most_changes, with_choice, changed, IsReply}
+use Rattle.vpg_desk.specs.Book.{Refused, Changed, Decide, AlreadyDecided, UnknownFeature, Conflict, TooManyChanges, most_changes, with_choice, changed}
 use Rattle.vpg_desk.specs.Cuts.{cuts_of, cut_book, SuffixesBelow}
-use Rattle.vpg_desk.specs.Desk.{family_of}
 use Rattle.vpg_desk.specs.Trail.{StandsFor, book_of}
 use Rattle.vpg_desk.specs.declared.cuts.Cut.{Cut}
 use Rattle.vpg_desk.specs.declared.standing.Standing.{Standing}
 use Rattle.vpg_desk.proofs.Changing.{end_cut, decided_stands}
 use Rattle.vpg_desk.specs.DeskFields.{setting_in, book_in, desk_of, IsDesk}
 use Rattle.vpg_desk.specs.Faults.{decide_refusal, ClosesWith}
-use Rattle.vpg_desk.specs.Setting.{Setting, HasConflict}
-use Rattle.vpg_desk.specs.State.{DeskState, Replies, IsStep, setting_of, IsReached}
+use Rattle.vpg_desk.specs.Setting.{HasConflict}
+use Rattle.vpg_desk.specs.State.{Replies, IsStep, IsReached}
 use Rattle.vpg_desk.specs.declared.desk.Desk.TheInside.{Inside}
 use Rattle.vpg_desk.specs.declared.fault.DecideFault.{DecideFault}
 use Rattle.vpg_desk.specs.declared.fault.DecideFault.TheVariants.{UnknownFeature as IsUnknown, AlreadyDecided as IsDecided, Conflict as InConflict, TooManyChanges as IsTooMany, Memory}

@@ -1,5 +1,5 @@
 -- What a refused opening tells of the game and the diagram that were handed in.
-use Rattle.std.proofs.Common.{◌≡◌, ◌↔◌, ℕ, [], Result, Ok, Err, sym, subst}
+use Rattle.std.proofs.Common.{◌≡◌, ◌↔◌, ℕ, [], Result, Err, sym, subst}
 use Rattle.vpg_diagram.specs.DiagramText.{NamedDiagram}
 use Rattle.vpg_game.specs.Game.{NamedGame, IsAtLimit}
 use Rattle.vpg_partial.specs.KnownLaws.{HasConflictOf}

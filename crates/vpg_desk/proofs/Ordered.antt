@@ -1,5 +1,5 @@
 -- What an order of a desk stands on.
-use Rattle.std.proofs.Common.{◌≡◌, ℕ, ◌⊎◌, ◌↔◌, inl, inr, List, length, sym, ◌∙◌, ap, subst}
+use Rattle.std.proofs.Common.{◌≡◌, ℕ, ◌⊎◌, ◌↔◌, inl, inr, List, sym, ◌∙◌, ap, subst}
 use Rattle.std.specs.Arc.{arc_value}
 use Rattle.vpg_diagram.specs.Clauses.{clauses_of, counts_of}
 use Rattle.vpg_diagram.specs.DiagramText.{NamedDiagram}

@@ -1,14 +1,13 @@
 -- What every book that is reached keeps.
 use Rattle.std.proofs.Common.{◌≡◌, ℕ, ◌≤◌, List, [], ◌∷◌, ◌++◌, refl, sym, ◌∙◌, ap, subst}
-use Rattle.std.specs.List.{AllByRecursion}
 use Rattle.vpg_trail.specs.WellFormed.{IsWellFormed}
-use Rattle.vpg_desk.specs.Book.{Family, Book, Call, Reply, Harvest, opened, most_changes, next, IsReply}
+use Rattle.vpg_desk.specs.Book.{Book, Call, Reply, Harvest, opened, most_changes, next, IsReply}
 use Rattle.vpg_desk.specs.Desk.{family_of}
-use Rattle.vpg_desk.specs.Headline.{Tells, Headline}
+use Rattle.vpg_desk.specs.Headline.{Tells}
 use Rattle.vpg_desk.specs.History.{Event, IsLegal, book_after}
 use Rattle.vpg_desk.specs.Lawful.{EachPage, IsLawful, HandsIn, AllHandIn}
 use Rattle.vpg_desk.specs.Setting.{Setting, IsSetting}
-use Rattle.vpg_desk.specs.State.{IsHistoryOf, IsReached}
+use Rattle.vpg_desk.specs.State.{IsReached}
 use Rattle.vpg_desk.proofs.Tokens.{counts_are_limited}
 use Rattle.vpg_desk.proofs.UndoRedo.{one_more_is_legal}
 use Rattle.vpg_desk.proofs.WellFormed.{pages_are_well_formed}

@@ -1,5 +1,5 @@
 -- What contracts see of the cuts that stand for past and future pages.
-use Rattle.std.specs.Prelude.{ℕ, ◌<◌, List, map, reverse, All}
+use Rattle.std.specs.Prelude.{ℕ, List, map, reverse, All}
 use Rattle.vpg_trail.specs.Page.{Entry as Step}
 use Rattle.vpg_trail.specs.Shown.{entry_of, VertexBelow}
 use Rattle.vpg_desk.specs.Trail.{Cut as Saved, Trail as CutBook}

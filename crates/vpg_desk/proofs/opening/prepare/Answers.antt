@@ -1,4 +1,4 @@
-use Rattle.std.proofs.Common.{◌≡◌, ◌∙◌, [], List, ℕ, true, false, sym, ap, subst}
+use Rattle.std.proofs.Common.{◌∙◌, [], List, ℕ, sym, ap, subst}
 use Rattle.std.proofs.lemmas.Bool.{false≢true}
 use Rattle.vpg_game.specs.Game.{graph_of}
 use Rattle.vpg_guards.specs.declared.tri.Tri.{Tri}
@@ -6,7 +6,6 @@ use Rattle.vpg_guards.specs.Known.{kleene}
 use Rattle.vpg_measure.specs.TwoGames.{arena_for}
 use Rattle.vpg_partial.specs.TableLaws.{IsKnownTable}
 use Rattle.vpg_trail.specs.Page.{Hopeful, Dual}
-use Rattle.vpg_trail.specs.Shown.{Track}
 use Rattle.vpg_desk.proofs.Deciding.{setting_stands, known_is_consistent}
 use Rattle.vpg_desk.proofs.opening.prepare.Goals as goal
 

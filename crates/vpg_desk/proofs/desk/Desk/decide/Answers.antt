@@ -1,4 +1,4 @@
-use Rattle.std.proofs.Common.{◌≡◌, ◌∙◌, ◌+◌, ◌<◌, ◌≤◌, ◌++◌, ◌∷◌, [], ℕ, List, Option, Some, None, IfSome, refl, sym, ap, subst, arith, rules, map}
+use Rattle.std.proofs.Common.{◌≡◌, ◌∙◌, ◌+◌, ◌<◌, ◌≤◌, ◌++◌, ◌∷◌, [], ℕ, IfSome, refl, sym, ap, subst, arith, map}
 use Rattle.std.proofs.lemmas.Result.{err_from_is_err_and}
 use Rattle.std.specs.Arc.{arc_value}
 use Rattle.std.specs.List.{AllByRecursion}
@@ -8,13 +8,12 @@ use Rattle.vpg_game.specs.Game.{NamedGame, graph_of}
 use Rattle.vpg_guards.specs.Known.{kleene}
 use Rattle.vpg_measure.specs.TwoGames.{arena_for}
 use Rattle.vpg_partial.specs.TableLaws.{IsKnownTable}
-use Rattle.vpg_trail.specs.Page.{Hopeful, Dual, Decision, Decided, Entry as Step, decisions_of, choices_of, decision_on}
+use Rattle.vpg_trail.specs.Page.{Hopeful, Dual, Decided, decisions_of, choices_of, decision_on}
 use Rattle.vpg_trail.specs.Shown.{entry_of}
-use Rattle.vpg_desk.specs.Book.{Decide, Changed, Refused, UnknownFeature, AlreadyDecided, TooManyChanges, IsReply}
-use Rattle.vpg_desk.specs.Desk.{family_of}
+use Rattle.vpg_desk.specs.Book.{Decide, Changed, Refused, UnknownFeature, AlreadyDecided, TooManyChanges}
 use Rattle.vpg_desk.specs.DeskFields.{desk_of}
 use Rattle.vpg_desk.specs.Faults.{decide_refusal, ClosesWith}
-use Rattle.vpg_desk.specs.State.{DeskState, Replies, IsStep, setting_of}
+use Rattle.vpg_desk.specs.State.{DeskState, Replies, IsStep}
 use Rattle.vpg_desk.proofs.Decided.{decide_unknown, decide_already, decide_too_many, decide_accepted, closes_refuses, decisions_inside, limits, decided_step, decided_desk}
 use Rattle.vpg_desk.proofs.desk.Desk.decide.Goals as goal
 use Rattle.vpg_desk.proofs.desk.Desk.decide.Goals.{After-features, After-clear}

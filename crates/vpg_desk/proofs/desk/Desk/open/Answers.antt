@@ -1,7 +1,3 @@
-use Rattle.std.proofs.Common.{◌≡◌, ◌∙◌, [], sym, subst}
-use Rattle.vpg_diagram.specs.DiagramText.{NamedDiagram}
-use Rattle.vpg_game.specs.Game.{IsAtLimit}
-use Rattle.vpg_partial.specs.KnownLaws.{HasConflictOf}
 use Rattle.vpg_desk.proofs.Opened.{limit_told, conflict_told}
 use Rattle.vpg_desk.proofs.desk.Desk.open.Goals as goal
 

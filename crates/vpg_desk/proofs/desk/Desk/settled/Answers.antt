@@ -5,7 +5,7 @@ use Rattle.vpg_trail.specs.Page.{Which, choices_of, table_of}
 use Rattle.vpg_desk.specs.Book.{IsSettledPage, Settled, IsSettled}
 use Rattle.vpg_desk.specs.Desk.{family_of, IsLeastUnder}
 use Rattle.vpg_desk.specs.DeskFields.{setting_in}
-use Rattle.vpg_desk.specs.State.{DeskState, Replies, setting_of}
+use Rattle.vpg_desk.specs.State.{DeskState, setting_of}
 use Rattle.vpg_desk.specs.Book.{IsReply}
 use Rattle.vpg_trail.specs.Page.{Hopeful, Dual}
 use Rattle.vpg_desk.proofs.Answering.{tells, table_is, settled_replies, decided_by_second, decided_by_first}
