@@ -1,4 +1,4 @@
--- Texts of feature diagrams.
+-- Texts of feature diagrams: this project's own format.
 use Rattle.std.specs.Prelude.{ℕ, ◌<◌, ◌≤◌, ◌≡◌, Bool, true, false, ◌&&◌, ◌||◌, ◌==◌, List, [], ◌∷◌, ◌++◌, length, map, filter, slice_index_or, IsTrue, codes, count_by}
 use Rattle.std.specs.List.{AllByRecursion, AllZip, list_all, slice_split}
 use Rattle.std.specs.Char.{is_ascii_digit}

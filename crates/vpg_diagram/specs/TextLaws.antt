@@ -1,3 +1,4 @@
+-- Laws of texts of feature diagrams.
 use Rattle.std.specs.Prelude.{ℕ, ◌≡◌, List}
 use Rattle.vpg_diagram.specs.DiagramText.{NamedDiagram, IsTextOf}
 

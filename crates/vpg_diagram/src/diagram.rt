@@ -57,7 +57,8 @@ impl Diagram {
         })
     }
 
-    /// The diagram that a text spells.
+    /// The diagram that a text spells, of at most 512 features and 16,384 rules. A text that is refused has the first fault
+    /// of its first faulty line, in the order of `DiagramFault`.
     pub fn read(alloc: Global, text: &[u8]) -> Result<Diagram, DiagramFault>
         // What is read is spelled so.
         ensures found { IfOk result (IsTextOf text.now) }
@@ -86,7 +87,7 @@ impl Diagram {
         &self.names
     }
 
-    /// How many features there are.
+    /// How many features there are, 1 to 512.
     pub fn features(&self) -> usize
         ensures count { result ≡ feature_count self.now.lines }
         ensures diagram { IsNamedDiagram self.now }
@@ -118,23 +119,23 @@ impl Diagram {
         &self.counts
     }
 
-    /// Whether both have the same names and the same lines.
+    /// Whether two diagrams are the same: with the same names and the same lines, each in the same order.
     pub fn is_same(&self, other: &Diagram) -> bool
         ensures { IsTrue result ↔ (self.now ≡ other.now) }
     {
-        same_names(&self.names, &other.names) && are_same(&self.lines, &other.lines)
+        same_names(&self.names, &other.names) && same_lines(&self.lines, &other.lines)
     }
 }
 
-/// Whether both have the same names in the same order.
-fn same_names(a: &Names, b: &Names) -> bool
-    ensures { IsTrue result ↔ (a.now ≡ b.now) }
+/// Whether the names are the same, in order.
+fn same_names(names: &Names, others: &Names) -> bool
+    ensures { IsTrue result ↔ (names.now ≡ others.now) }
 {
-    if a.len() != b.len() {
+    if names.len() != others.len() {
         return false;
     }
-    for f in 0..a.len() {
-        if a.name(f as u16) != b.name(f as u16) {
+    for f in 0..names.len() {
+        if names.name(f as u16) != others.name(f as u16) {
             return false;
         }
     }
@@ -142,8 +143,9 @@ fn same_names(a: &Names, b: &Names) -> bool
 }
 
 /// Whether the lines are the same, in order.
-fn are_same(lines: &[Line], others: &[Line]) -> bool
-    requires { IsDiagram (lines_of lines.now) × IsDiagram (lines_of others.now) }
+fn same_lines(lines: &[Line], others: &[Line]) -> bool
+    requires lines { IsDiagram (lines_of lines.now) }
+    requires others { IsDiagram (lines_of others.now) }
     ensures { IsTrue result ↔ (lines_of lines.now ≡ lines_of others.now) }
 {
     lines == others

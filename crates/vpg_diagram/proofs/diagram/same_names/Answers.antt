@@ -10,4 +10,4 @@ not_other false r e f = absurd (cc)
 pub loop-f-preserved : goal.loop-f-preserved
 loop-f-preserved c =
     let same = same_text c.name.result.now c.name-in-loop-f.result.now (not_other (pointwise nat_eq c.name.result.now c.name-in-loop-f.result.now) c.ne.result c.ne.ensures c.if-ne.false) in
-    (c.loop-f.invariant.0, take_same_more [] c.args.a.now c.args.b.now c.loop-f.f c.loop-f.invariant.0 (search rules) c.loop-f.invariant.1 (sym c.name.ensures.value ∙ same ∙ c.name-in-loop-f.ensures.value))
+    (c.loop-f.invariant.0, take_same_more [] c.args.names.now c.args.others.now c.loop-f.f c.loop-f.invariant.0 (search rules) c.loop-f.invariant.1 (sym c.name.ensures.value ∙ same ∙ c.name-in-loop-f.ensures.value))
