@@ -8,3 +8,6 @@ pub mod Settled
 pub mod Asked
 pub mod Shown
 pub mod Sweeps
+pub mod Deciding
+pub mod Paged
+pub mod Settling

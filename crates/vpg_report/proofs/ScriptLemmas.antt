@@ -1,5 +1,5 @@
 -- A run, one line more.
-use Rattle.std.proofs.Common.{◌≡◌, ℕ, List, [], ◌∷◌, ◌++◌, Option, Some, None, Err, refl, sym, ap, ◌∙◌, inl, inr, append_assoc, append-nil, subst}
+use Rattle.std.proofs.Common.{◌≡◌, ℕ, List, [], ◌∷◌, ◌++◌, Option, Some, None, Result, Ok, Err, refl, sym, ap, ◌∙◌, inl, inr, append_assoc, append-nil, subst}
 use Rattle.std.specs.Io.KnownBytes.{prepend_known, Appends, Keeps}
 use Rattle.std.specs.Global.{Vec}
 use Rattle.vpg_report.specs.Script.{said}
@@ -7,7 +7,10 @@ use Rattle.vpg_report.specs.declared.lines.Next.TheVariants as next
 use Rattle.vpg_report.specs.declared.command.LineFault.{LineFault}
 use Rattle.vpg_report.specs.declared.command.LineFault.TheVariants as faults
 use Rattle.vpg_report.specs.Lines.{ComesKnown}
-use Rattle.vpg_report.specs.Output.{Machine, Speaks, Answered, NextLine, ReadLines, ReadKnown, Wrote, IsEmptyKnown, FaultyKnown}
+use Rattle.vpg_report.specs.Output.{Machine, Speaks, Answered, NextLine, ReadLines, ReadKnown, Wrote, IsEmptyKnown, FaultyKnown, Outcome}
+use Rattle.vpg_desk.specs.declared.fault.OpenFault.{OpenFault}
+use Rattle.vpg_report.specs.declared.run.RunFault.{RunFault}
+use Rattle.vpg_report.specs.declared.run.RunFault.TheVariants as stops
 
 appends_none : (a : Option (List ℕ)) → Appends a a []
 appends_none None = tt
@@ -85,3 +88,13 @@ pub wrote_kept : {S : Type 0} (serves : Machine S) (old new : S) (input a b befo
     → Wrote serves old new input a before after lines → Keeps a b → Wrote serves old new input b before after lines
 wrote_kept serves old new input a b before after lines so kept =
     record { text = so.text; read = read_kept input a b lines so.read kept; answered = so.answered; written = so.written }
+
+-- a run whose opening is never refused is one whose opening is refused for some causes
+pub never_refused : {S : Type 0} (serves : Machine S) (Refuses : OpenFault → Type 0) (old : S) (input left before after : Option (List ℕ)) (result : Result (Unit {0}) RunFault)
+    → Outcome serves (λ _. ⊥) old input left before after result → Outcome serves Refuses old input left before after result
+never_refused serves Refuses old input left before after (Ok done) so = so
+never_refused serves Refuses old input left before after (Err (stops.Line n fault)) so = so
+never_refused serves Refuses old input left before after (Err stops.Read) so = so
+never_refused serves Refuses old input left before after (Err stops.Write) so = so
+never_refused serves Refuses old input left before after (Err (stops.Open fault)) so = absurd so.0
+never_refused serves Refuses old input left before after (Err stops.Memory) so = so

@@ -1,11 +1,13 @@
 -- What commands ask of a desk, and how its replies are written.
-use Rattle.std.specs.Prelude.{◌≡◌, ℕ, ◌+◌, ◌<◌, ◌≤◌, Bool, true, false, if◌then◌else◌, List, [], ◌∷◌, ◌++◌, length, map, sum, Option, Some, None, Result, Ok, Err, slice_index, codes}
+use Rattle.std.specs.Prelude.{◌≡◌, ℕ, ◌+◌, ◌<◌, ◌≤◌, Bool, true, false, if◌then◌else◌, List, [], ◌∷◌, ◌++◌, length, map, sum, Option, Some, None, option_map, Result, Ok, Err, slice_index, codes}
 use Rattle.vpg_guards.specs.Names.{index_of}
 use Rattle.vpg_trail.specs.Page.{Hopeful, Dual, Decision, literal_of, decisions_of, table_of}
 use Rattle.vpg_desk.specs.Book.{Family, Harvest, Call, Decide, Order, Commit, Settled, Page, Reply, Changed, Ordered, Added, IsSettled, PageIs, Refused, Refusal, UnknownFeature, AlreadyDecided, Conflict, TooManyChanges, NotDecided, Sealed, NotNewest, Overtaken, NotNext, OtherGame, Outdated}
 use Rattle.vpg_desk.specs.History.{Event}
 use Rattle.vpg_desk.specs.Lawful.{IsLawful}
 use Rattle.vpg_desk.specs.Desk.{family_of}
+use Rattle.vpg_desk.specs.Faults.{decide_refusal}
+use Rattle.vpg_desk.specs.declared.fault.DecideFault.{DecideFault}
 use Rattle.vpg_report.specs.Script as script
 use Rattle.vpg_report.specs.Script.{Request}
 use Rattle.vpg_report.specs.Text.{blank_number, blank_name}
@@ -38,6 +40,11 @@ refusal_text names (Outdated f) = codes "Outdated" ++ blank_name names f
 
 abbrev pub settled_text : Bool → ℕ → List ℕ
 settled_text settled n = numbered (if settled then codes "settled" else codes "unsettled") n
+
+-- the answer to a decide; none where memory ran out
+abbrev pub decide_text : List (List ℕ) → Result ℕ DecideFault → Option (List ℕ)
+decide_text names (Ok serial) = Some (numbered (codes "done") serial)
+decide_text names (Err fault) = option_map (λ r. refused_line (refusal_text names r)) (decide_refusal fault)
 
 -- ---- what commands ask
 

@@ -1,5 +1,7 @@
 pub mod Answers
 pub mod Devices
+pub mod Engine
+pub mod EngineFields
 pub mod Lines
 pub mod Output
 pub mod Run

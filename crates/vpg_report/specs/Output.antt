@@ -8,6 +8,7 @@ use Rattle.vpg_report.specs.Lines.{IsUnended, IsEnded, IsLast, BeginsTooLong}
 use Rattle.vpg_report.specs.declared.lines.Next.{Next}
 use Rattle.vpg_report.specs.declared.lines.Next.TheVariants as next
 use Rattle.vpg_report.specs.declared.command.LineFault.{LineFault}
+use Rattle.vpg_desk.specs.declared.fault.OpenFault.{OpenFault}
 use Rattle.vpg_report.specs.declared.run.RunFault.{RunFault}
 use Rattle.vpg_report.specs.declared.run.RunFault.TheVariants as stops
 use Rattle.vpg_report.specs.declared.command.LineFault.TheVariants as faults
@@ -70,23 +71,24 @@ IsLine (next.Line line) = ⊤
 IsLine next.End = ⊥
 IsLine next.TooLong = ⊥
 
--- what a run's result says of what was read and written
-abbrev pub Outcome : {S : Type 0} → Machine S → S → Option (List ℕ) → Option (List ℕ) → Option (List ℕ) → Option (List ℕ) → Result (Unit {0}) RunFault → Type 0
+-- what a run's result says of what was read and written; a refused opening comes before any line
+abbrev pub Outcome : {S : Type 0} → Machine S → (OpenFault → Type 0) → S → Option (List ℕ) → Option (List ℕ) → Option (List ℕ) → Option (List ℕ) → Result (Unit {0}) RunFault → Type 0
 -- all lines were answered
-Outcome {S} serves old input left before after (Ok done) =
+Outcome {S} serves Refuses old input left before after (Ok done) =
     (lines : List (List ℕ)) × (new : S) × (rest : Option (List ℕ)) × (Wrote serves old new input rest before after lines × IsEmptyKnown rest)
 -- the lines before it were, and line n has the fault
-Outcome {S} serves old input left before after (Err (stops.Line n fault)) =
+Outcome {S} serves Refuses old input left before after (Err (stops.Line n fault)) =
     (lines : List (List ℕ)) × (new : S) × (rest : Option (List ℕ)) × (Wrote serves old new input rest before after lines × FaultyKnown fault rest × (n ≡ length lines + 1))
 -- all lines with their ends that were read were answered; what was read behind them is a line without its end
-Outcome {S} serves old input left before after (Err stops.Read) =
+Outcome {S} serves Refuses old input left before after (Err stops.Read) =
     (lines : List (List ℕ)) × (new : S) × (held : List ℕ) × (Wrote serves old new input (prepend_known held left) before after lines × IsUnended held)
 -- some first lines were answered; where a write failed, a front of the answer to one more was written
-Outcome {S} serves old input left before after (Err stops.Memory) =
+Outcome {S} serves Refuses old input left before after (Err stops.Memory) =
     (lines : List (List ℕ)) × (new : S) × (rest : Option (List ℕ)) × Wrote serves old new input rest before after lines
-Outcome {S} serves old input left before after (Err stops.Write) =
+Outcome {S} serves Refuses old input left before after (Err stops.Write) =
     (lines : List (List ℕ)) × (new : S) × (rest : Option (List ℕ)) × (mid : Option (List ℕ)) × (text : List ℕ)
     × (Wrote serves old new input rest before mid lines × (last : S) × (line : List ℕ) × (Speaks serves new (said line) text last × AppendsSome mid after text))
+Outcome {S} serves Refuses old input left before after (Err (stops.Open fault)) = Refuses fault × (left ≡ input) × (after ≡ before)
 
 -- Lines that were read one by one, and the lines of the rest, are the lines of the text.
 abbrev pub ReadIsWhole : Type 0

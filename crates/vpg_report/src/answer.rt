@@ -1,10 +1,11 @@
 //! The lines that answer commands.
-ghost use Rattle.std.specs.Prelude.{◌≡◌, ◌++◌, ◌∷◌, ◌<◌, length, codes, OnOk};
-ghost use Rattle.vpg_report.specs.Answers.{numbered, refused_line, settled_text};
+ghost use Rattle.std.specs.Prelude.{◌≡◌, ◌++◌, ◌∷◌, ◌<◌, ℕ, List, length, codes, Some, Err, OnOk};
+ghost use Rattle.vpg_report.specs.Answers.{decide_text, numbered, refused_line, settled_text};
 ghost use Rattle.vpg_report.specs.Text.{blank_number, blank_name};
 
 use crate::text;
 use std::alloc::AllocError;
+use vpg_desk::DecideFault;
 use vpg_guards::Names;
 
 /// A word and a number.
@@ -64,4 +65,23 @@ pub(crate) fn refused_feature(
     text::blank_name(names, feature, out)?;
     out.push(b'\n')?;
     Ok(())
+}
+
+/// The answer to a decide.
+pub(crate) fn decided(
+    names: &Names,
+    decided: Result<u64, DecideFault>,
+    out: &mut Vec<u8>,
+) -> Result<(), AllocError>
+    requires { (feature : ℕ) → decided ≡ Err (DecideFault.Conflict feature) → feature < length names.now }
+    ensures { OnOk result ((text : List ℕ) × (decide_text names.now decided ≡ Some text × (out.new.items ≡ out.old.items ++ text))) }
+{
+    match decided {
+        Ok(serial) => numbered(b"done", serial, out),
+        Err(DecideFault::UnknownFeature) => refused(b"UnknownFeature", out),
+        Err(DecideFault::AlreadyDecided { serial }) => refused_at(b"AlreadyDecided", serial, out),
+        Err(DecideFault::Conflict { feature }) => refused_feature(b"Conflict", names, feature, out),
+        Err(DecideFault::TooManyChanges) => refused(b"TooManyChanges", out),
+        Err(DecideFault::Memory) => Err(AllocError),
+    }
 }

@@ -1,6 +1,23 @@
 //! Runs of scripts.
+ghost use Rattle.std.specs.Arc.{arc_value};
+ghost use Rattle.std.specs.Prelude.{◌≡◌, ◌⊎◌, true, IsErrOf};
+ghost use Rattle.vpg_desk.specs.Book.{opened};
+ghost use Rattle.vpg_diagram.specs.FeatureDiagram.{feature_count};
+ghost use Rattle.vpg_report.specs.Engine.{IsOpenFault};
+ghost use Rattle.vpg_report.specs.Output.{Outcome};
+ghost use Rattle.vpg_report.specs.Run.{answering};
+ghost use Rattle.vpg_report.specs.Scene.{scene_of};
+
 use crate::command::LineFault;
+use crate::device::{Sink, Source};
+use crate::engine::Engine;
+use crate::serving::answer_script;
+use std::alloc::Global;
+use std::sync::Arc;
 use thiserror::Error;
+use vpg_desk::OpenFault;
+use vpg_diagram::Diagram;
+use vpg_game::GuardedGame;
 
 /// Why a run ends before the script does.
 #[derive(Clone, Copy, Debug, PartialEq, Eq, Error)]
@@ -14,6 +31,38 @@ pub enum RunFault {
     /// The writer failed.
     #[error("Write")]
     Write,
+    /// No desk was opened.
+    #[error("{fault}")]
+    Open { fault: OpenFault },
     #[error("Memory")]
     Memory,
+}
+
+/// Opens a desk on the game and the diagram, reads a script, and answers its lines in order, each before the next is read.
+///
+/// `Open` comes before any line is read; `Line`, `Read` and `Write` as the run meets them, and `Memory` only where a growth was refused.
+/// What earlier lines wrote stays written.
+pub fn run<R: Source, W: Sink>(
+    alloc: Global,
+    game: Arc<GuardedGame>,
+    diagram: Arc<Diagram>,
+    reader: &mut R,
+    writer: &mut W,
+) -> Result<(), RunFault>
+    requires unread { R.calls reader.old ≡ 0 }
+    requires features { (arc_value game).features ≡ feature_count (arc_value diagram).lines }
+
+    // What is written are the answers to the lines read, each by calls on the desk's book with the replies that it gives.
+    ensures output { Outcome (answering (scene_of (arc_value game) (arc_value diagram))) (IsOpenFault (arc_value game) (arc_value diagram)) opened (R.remaining reader.old) (R.remaining reader.new) (W.contents writer.old) (W.contents writer.new) result }
+
+    // Read and Write come only where the device failed, or the reads were used up.
+    ensures read { IsErrOf result RunFault.Read → (R.has_failed reader.new ≡ true) ⊎ (R.calls reader.new ≡ 16777216) }
+    ensures write { IsErrOf result RunFault.Write → W.has_failed writer.new ≡ true }
+{
+    let mut engine = match Engine::open(alloc, game, diagram) {
+        Ok(engine) => engine,
+        Err(OpenFault::Memory) => return Err(RunFault::Memory),
+        Err(fault) => return Err(RunFault::Open { fault }),
+    };
+    answer_script(alloc, &mut engine, reader, writer)
 }

@@ -84,7 +84,7 @@ pub fn answer_script<V: Server, R: Source, W: Sink>(
 ) -> Result<(), RunFault>
     requires { R.calls reader.old ≡ 0 }
     // What is written is the output for the lines that were read.
-    ensures output { Outcome (answering (V.scene server.old)) (V.book server.old) (R.remaining reader.old) (R.remaining reader.new) (W.contents writer.old) (W.contents writer.new) result }
+    ensures output { Outcome (answering (V.scene server.old)) (λ _. ⊥) (V.book server.old) (R.remaining reader.old) (R.remaining reader.new) (W.contents writer.old) (W.contents writer.new) result }
     // Read and Write are answered only where the device failed, or the reads were used up.
     ensures read { IsErrOf result RunFault.Read → (R.has_failed reader.new ≡ true) ⊎ (R.calls reader.new ≡ 16777216) }
     ensures write { IsErrOf result RunFault.Write → W.has_failed writer.new ≡ true }
