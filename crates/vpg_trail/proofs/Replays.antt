@@ -14,7 +14,7 @@ use Rattle.vpg_trail.specs.declared.entry.Entry.TheVariants.{Decide, Lift}
 use Rattle.vpg_trail.proofs.PageLemmas.{length-table_of}
 use Rattle.vpg_trail.proofs.Tables.{tables_after_entry, tables_hold, reset_one_more}
 
-same_table-true : (a b : Which) → same_table a b ≡ true → a ≡ b
+pub same_table-true : (a b : Which) → same_table a b ≡ true → a ≡ b
 same_table-true Hopeful Hopeful e = refl
 same_table-true Hopeful Dual e = cc
 same_table-true Dual Hopeful e = cc

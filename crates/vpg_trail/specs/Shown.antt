@@ -3,6 +3,7 @@ use Rattle.std.specs.Prelude.{ℕ, ◌≡◌, ◌<◌, max, slice_index, slice_s
 use Rattle.vpg_measure.specs.declared.which.Which.{Which}
 use Rattle.vpg_measure.specs.declared.which.Which.TheVariants.{Hopeful, Dual}
 use Rattle.vpg_trail.specs.Page.{assumes, same_table, table_of, Entry as Step, Decided, Lifted}
+use Rattle.vpg_trail.specs.WellFormed.{LiftsStandAfter}
 use Rattle.vpg_trail.specs.declared.entry.Entry.{Entry}
 use Rattle.vpg_trail.specs.declared.entry.Entry.TheVariants.{Decide, Lift}
 
@@ -21,11 +22,15 @@ pub record Track : Type 0 where
   pub vertices : ℕ
   pub entries : List Step
 
--- ---- tables with one entry more
+-- ---- tables with one entry more, and with the last one taken back
 
 abbrev pub after_entry : Which → List ℕ → Step → List ℕ
 after_entry table values (Decided d) = values
 after_entry table values (Lifted l) = if same_table table l.table then slice_set values l.vertex (max (slice_index values l.vertex) l.new) else values
+
+abbrev pub before_entry : Which → List ℕ → Step → List ℕ
+before_entry table values (Decided d) = values
+before_entry table values (Lifted l) = if same_table table l.table then slice_set values l.vertex l.old else values
 
 abbrev pub picked : Which → List ℕ → List ℕ → List ℕ
 picked Hopeful hopeful dual = hopeful
@@ -39,8 +44,9 @@ with_old hopeful dual (Lifted l) = Lifted (record l { old = slice_index (picked 
 abbrev pub what_stays : ℕ → List ℕ → List ℕ → Step → List Step
 what_stays f hopeful dual e = if assumes f e then [] else with_old hopeful dual e ∷ []
 
--- the tables are those of the entries
+-- the tables are those of the entries, and each lift's old value is what the entries before it give, below its new one
 pub record IsTracked (vertices : ℕ) (entries : List Step) (hopeful dual : List ℕ) : Type 0 where
   pub below : All (VertexBelow vertices) entries
+  pub lifts : LiftsStandAfter [] entries
   pub hopeful_is : hopeful ≡ table_of Hopeful entries vertices
   pub dual_is : dual ≡ table_of Dual entries vertices

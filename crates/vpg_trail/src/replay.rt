@@ -1,7 +1,8 @@
-//! The tables that entries give.
+//! The tables that entries give, entry by entry.
 ghost use Rattle.std.specs.Prelude.{List, ◌≡◌, ◌++◌, ◌<◌, max, length, map, replicate, slice_index, slice_set, All, IfOk};
 ghost use Rattle.vpg_trail.specs.Page.{Hopeful, Dual, table_of, Entry as Step};
-ghost use Rattle.vpg_trail.specs.Shown.{entry_of, VertexBelow, after_entry};
+ghost use Rattle.vpg_trail.specs.Shown.{entry_of, VertexBelow, after_entry, before_entry};
+ghost use Rattle.vpg_trail.specs.WellFormed.{LiftsStandAfter};
 
 use crate::entry::Entry;
 use std::alloc::{AllocError, Global};
@@ -49,6 +50,44 @@ pub(crate) fn take_all(entries: &[Entry], hopeful: &mut Table, dual: &mut Table,
 {
     for entry in entries {
         take_in(hopeful, dual, entry);
+    }
+}
+
+/// The two tables without their last entry.
+fn take_back(hopeful: &mut Table, dual: &mut Table, entry: &Entry)
+    requires hopeful { VertexBelow (length hopeful.old) (entry_of entry.now) }
+    requires dual { VertexBelow (length dual.old) (entry_of entry.now) }
+    ensures hopeful { hopeful.new ≡ before_entry Hopeful hopeful.old (entry_of entry.now) }
+    ensures dual { dual.new ≡ before_entry Dual dual.old (entry_of entry.now) }
+    ensures hopeful_len { length hopeful.new ≡ length hopeful.old }
+    ensures dual_len { length dual.new ≡ length dual.old }
+{
+    match entry {
+        Entry::Decide(_) => {}
+        Entry::Lift {
+            table,
+            vertex,
+            old,
+            ..
+        } => match table {
+            Which::Hopeful => hopeful.set(*vertex, *old),
+            Which::Dual => dual.set(*vertex, *old),
+        },
+    }
+}
+
+/// The two tables of a page without its last entries, which are taken back from the last to the first.
+pub(crate) fn take_all_back(entries: &[Entry], hopeful: &mut Table, dual: &mut Table, vertices: u32)
+    requires below { All (λ e. VertexBelow vertices (entry_of e)) entries.now }
+    requires hopeful_len { length hopeful.old ≡ vertices }
+    requires dual_len { length dual.old ≡ vertices }
+    ensures hopeful { (page : List Step) → LiftsStandAfter page (map entry_of entries.now) → hopeful.old ≡ table_of Hopeful (page ++ map entry_of entries.now) vertices → hopeful.new ≡ table_of Hopeful page vertices }
+    ensures dual { (page : List Step) → LiftsStandAfter page (map entry_of entries.now) → dual.old ≡ table_of Dual (page ++ map entry_of entries.now) vertices → dual.new ≡ table_of Dual page vertices }
+    ensures hopeful_kept { length hopeful.new ≡ vertices }
+    ensures dual_kept { length dual.new ≡ vertices }
+{
+    for place in (0..entries.len()).rev() {
+        take_back(hopeful, dual, &entries[place]);
     }
 }
 

@@ -1,7 +1,8 @@
 //! What stays of a page once a decision is retracted.
-ghost use Rattle.std.specs.Prelude.{◌≡◌, ◌+◌, ◌<◌, length, map, filter, not, take, drop, replicate, All, option_to_list, IfOk, IfSome};
+ghost use Rattle.std.specs.Prelude.{[], ◌≡◌, ◌+◌, ◌<◌, length, map, filter, not, take, drop, replicate, All, option_to_list, IfOk, IfSome};
 ghost use Rattle.vpg_trail.specs.Page.{Hopeful, Dual, assumes as assumes_of, reset_all};
 ghost use Rattle.vpg_trail.specs.Shown.{entry_of, VertexBelow, what_stays};
+ghost use Rattle.vpg_trail.specs.WellFormed.{LiftsStandAfter};
 
 use crate::entry::Entry;
 use crate::replay::{replay, take_in};
@@ -62,6 +63,7 @@ pub fn kept_after(
     requires vertices { All (λ e. VertexBelow vertices (entry_of e)) entries.now }
     ensures kept { IfOk result (λ kept. map entry_of kept.items ≡ reset_all (map entry_of (take place entries.now)) (filter (λ e. not (assumes_of feature e)) (map entry_of (drop (place + 1) entries.now)))) }
     ensures vertices { IfOk result (λ kept. All (λ e. VertexBelow vertices (entry_of e)) kept.items) }
+    ensures lifts { IfOk result (λ kept. LiftsStandAfter [] (map entry_of entries.now) → LiftsStandAfter (map entry_of (take place entries.now)) (map entry_of kept.items)) }
 {
     let mut hopeful = Table::zero(alloc, vertices)?;
     let mut dual = Table::zero(alloc, vertices)?;

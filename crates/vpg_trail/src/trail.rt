@@ -2,9 +2,10 @@
 ghost use Rattle.std.specs.Prelude.{◌≡◌, ◌+◌, ◌++◌, ◌∷◌, ◌≤◌, ◌<◌, [], length, map, take, drop, replicate, vec_len, All, IfOk, IfErr, OnOk, OnErr};
 ghost use Rattle.vpg_trail.specs.Page.{Hopeful, Dual, table_of, decisions_of};
 ghost use Rattle.vpg_trail.specs.Shown.{entry_of, VertexBelow};
+ghost use Rattle.vpg_trail.specs.WellFormed.{LiftStands, LiftsStandAfter};
 
 use crate::entry::Entry;
-use crate::replay::{replay, take_all, take_in};
+use crate::replay::{take_all, take_all_back, take_in};
 use std::alloc::{AllocError, AllocFailed, Global};
 use std::marker::Model;
 use vpg_measure::Table;
@@ -61,16 +62,6 @@ fn count_decisions(entries: &[Entry]) -> usize
     count
 }
 
-/// Sets every value to zero.
-fn clear(table: &mut Table, vertices: u32)
-    requires { length table.old ≡ vertices }
-    ensures { table.new ≡ replicate vertices 0 }
-{
-    for v in 0..vertices {
-        table.set(v, 0);
-    }
-}
-
 impl Trail {
     /// A trail without entries; both tables are zero.
     pub fn open(alloc: Global, vertices: u32) -> Result<Trail, AllocError>
@@ -84,10 +75,11 @@ impl Trail {
         })
     }
 
-    /// The entries in their order.
+    /// The entries in their order. Each lift's old value is what the entries before it give, below its new one.
     pub fn entries(&self) -> &[Entry]
         ensures entries { map entry_of result.now ≡ self.now.entries }
         ensures vertices { All (λ e. VertexBelow self.now.vertices (entry_of e)) result.now }
+        ensures lifts { LiftsStandAfter [] self.now.entries }
     {
         self.entries.as_slice()
     }
@@ -121,9 +113,11 @@ impl Trail {
         count_decisions(&self.entries[..place])
     }
 
-    /// Puts one entry behind the others. It comes back where memory was refused; the trail is then as it was.
+    /// Puts one entry behind the others. A lift's old value is what they give, below its new one. The entry comes back where
+    /// memory was refused; the trail is then as it was.
     pub fn append(&mut self, entry: Entry) -> Result<(), AllocFailed<Entry>>
-        requires { VertexBelow self.old.vertices (entry_of entry) }
+        requires vertices { VertexBelow self.old.vertices (entry_of entry) }
+        requires lifts { LiftStands self.old.entries (entry_of entry) }
         ensures appended { OnOk result (self.new ≡ record { vertices = self.old.vertices; entries = self.old.entries ++ entry_of entry ∷ [] }) }
         ensures err { OnErr result (self.new ≡ self.old) }
         ensures back { IfErr result (λ e. e.value ≡ entry) }
@@ -136,9 +130,11 @@ impl Trail {
         Ok(())
     }
 
-    /// Puts these entries behind the others. They come back where memory was refused; the trail is then as it was.
+    /// Puts these entries behind the others. Each lift's old value is what the entries before it give, below its new one. The
+    /// entries come back where memory was refused; the trail is then as it was.
     pub fn extend(&mut self, more: Vec<Entry>) -> Result<(), AllocFailed<Vec<Entry>>>
-        requires { All (λ e. VertexBelow self.old.vertices (entry_of e)) more.items }
+        requires vertices { All (λ e. VertexBelow self.old.vertices (entry_of e)) more.items }
+        requires lifts { LiftsStandAfter self.old.entries (map entry_of more.items) }
         ensures extended { OnOk result (self.new ≡ record { vertices = self.old.vertices; entries = self.old.entries ++ map entry_of more.items }) }
         ensures err { OnErr result (self.new ≡ self.old) }
         ensures back { IfErr result (λ e. e.value.items ≡ more.items) }
@@ -152,8 +148,9 @@ impl Trail {
         Ok(())
     }
 
-    /// Puts the suffix in place of the entries from a place on, and gives those. The suffix comes back where memory was
-    /// refused; the trail is then as it was.
+    /// Puts the suffix in place of the entries from a place on, and gives those. Each lift's old value is what the entries
+    /// before it give, below its new one. The tables change by the lifts of both suffixes alone. The suffix comes back where
+    /// memory was refused; the trail is then as it was.
     pub fn splice(
         &mut self,
         place: usize,
@@ -161,19 +158,20 @@ impl Trail {
     ) -> Result<Vec<Entry>, AllocFailed<Vec<Entry>>>
         requires place { place ≤ length self.old.entries }
         requires vertices { All (λ e. VertexBelow self.old.vertices (entry_of e)) suffix.items }
+        requires lifts { LiftsStandAfter (take place self.old.entries) (map entry_of suffix.items) }
         ensures spliced { OnOk result (self.new ≡ record { vertices = self.old.vertices; entries = take place self.old.entries ++ map entry_of suffix.items }) }
         ensures removed { IfOk result (λ removed. map entry_of removed.items ≡ drop place self.old.entries) }
         ensures removed_vertices { IfOk result (λ removed. All (λ e. VertexBelow self.old.vertices (entry_of e)) removed.items) }
+        ensures removed_lifts { IfOk result (λ removed. LiftsStandAfter (take place self.old.entries) (map entry_of removed.items)) }
         ensures err { OnErr result (self.new ≡ self.old) }
         ensures back { IfErr result (λ e. e.value.items ≡ suffix.items) }
     {
         let mut suffix = suffix;
         match exchange(&mut self.entries, place, &mut suffix) {
             Ok(()) => {
-                clear(&mut self.hopeful, self.vertices);
-                clear(&mut self.dual, self.vertices);
-                replay(
-                    &self.entries,
+                take_all_back(&suffix, &mut self.hopeful, &mut self.dual, self.vertices);
+                take_all(
+                    &self.entries[place..],
                     &mut self.hopeful,
                     &mut self.dual,
                     self.vertices,

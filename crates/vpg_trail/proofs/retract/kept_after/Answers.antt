@@ -1,8 +1,10 @@
-use Rattle.std.proofs.Common.{◌≡◌, ◌+◌, ◌-◌, ◌++◌, ◌∙◌, ◌∷◌, [], List, All, sym, ap, subst, map, take, drop, length, Some, None, Vec, Global}
+use Rattle.std.proofs.Common.{◌≡◌, ◌+◌, ◌-◌, ◌++◌, ◌∙◌, ◌∷◌, [], List, All, sym, ap, subst, map, take, drop, length, Some, None, Vec, Global, filter, not, rules}
 use Rattle.std.proofs.lemmas.List.Elements.{All-push}
-use Rattle.vpg_trail.specs.Page.{Hopeful, Dual, table_of}
+use Rattle.vpg_trail.specs.Page.{Hopeful, Dual, table_of, assumes, reset_all}
 use Rattle.vpg_trail.specs.declared.entry.Entry.{Entry}
 use Rattle.vpg_trail.specs.Shown.{entry_of, VertexBelow}
+use Rattle.vpg_trail.specs.WellFormed.{LiftsStandAfter}
+use Rattle.vpg_trail.proofs.Lifting.{stays_standing}
 use Rattle.vpg_trail.proofs.Replays.{kept_none, kept_some, kept_table, vertex_read, some_vertex, told_stays, below_table, below_page}
 use Rattle.vpg_trail.proofs.retract.kept_after.Goals as goal
 use Rattle.vpg_trail.proofs.retract.kept_after.Goals.{in-Some+in_ok-push, in_default}
@@ -46,3 +48,9 @@ loop-entry-preserved c =
         vertices = subst (λ (v : Vec Entry Global). All (λ e. VertexBelow c.args.vertices (entry_of e)) v.items) (sym w.kept-is) c.loop-entry.invariant.vertices;
       }
     ]
+
+pub returns-clause-lifts : goal.returns-clause-lifts
+returns-clause-lifts c w =
+    let before = map entry_of (take c.args.place c.args.entries.now) in
+    let kept : map entry_of c.loop-entry.kept.items ≡ reset_all before (filter (λ e. not (assumes c.args.feature e)) (map entry_of (drop (c.args.place + 1) c.args.entries.now))) = search rules in
+    subst (LiftsStandAfter before) (sym kept) (stays_standing c.args.feature c.args.place c.args.entries.now c.requires.place w)

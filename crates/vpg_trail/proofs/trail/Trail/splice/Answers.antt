@@ -1,30 +1,34 @@
-use Rattle.std.proofs.Common.{◌∙◌, ◌++◌, List, All, take, drop, map, sym, ap, subst}
-use Rattle.vpg_trail.specs.Page.{Hopeful, Dual, table_of}
-use Rattle.vpg_trail.specs.declared.entry.Entry.{Entry}
-use Rattle.vpg_trail.specs.Shown.{entry_of, VertexBelow, Track}
-use Rattle.vpg_trail.proofs.Tracking.{tracked_length, tracked_again, all_viewed, spliced_below, spliced_is, removed_is, removed_below}
+use Rattle.std.proofs.Common.{◌≡◌, ◌∙◌, ◌++◌, ◌≤◌, [], length, take, drop, map, arith, sym, ap, subst}
+use Rattle.std.proofs.lemmas.List.{length-map}
+use Rattle.vpg_trail.specs.Shown.{entry_of, Track}
+use Rattle.vpg_trail.specs.WellFormed.{LiftsStandAfter}
+use Rattle.vpg_trail.proofs.Tracking.{tracked_length, tracked_spliced, removed_stand, later_is, all_viewed, spliced_is, removed_is, removed_below}
 use Rattle.vpg_trail.proofs.trail.Trail.splice.Goals as goal
-use Rattle.vpg_trail.proofs.trail.Trail.splice.Goals.{In-Ok, After-replay}
+use Rattle.vpg_trail.proofs.trail.Trail.splice.Goals.{After-deref}
 
-below : (c : In-Ok) → All (λ e. VertexBelow c.self.inside.vertices (entry_of e)) c.exchange.new.entries.items
-below c =
-    spliced_below c.self.inside.vertices c.args.place c.self.inside.entries.items c.exchange.new.entries.items c.args.suffix.items c.self.invariant.below
-    (all_viewed _ _ c.args.suffix.items (ap (λ (t : Track). t.vertices) (sym c.self.view_is)) c.requires.vertices) c.in-Ok.ensures.entries
+cut : (c : After-deref) → c.deref.result.now ≡ drop c.args.place c.self.inside.entries.items
+cut c = c.deref.ensures.value ∙ c.in-Ok.ensures.suffix
 
-pub clear-requires : goal.clear-requires
-clear-requires c = (tracked_length _ _ _ _ c.self.invariant).0
+pub take_all_back-requires-clause-below : goal.take_all_back-requires-clause-below
+take_all_back-requires-clause-below c = removed_below c.self.inside.vertices c.args.place c.self.inside.entries.items c.deref.result.now c.self.invariant.below (cut (goal.at.take_all_back-requires-clause-below c).After-deref)
 
-pub clear-requires-in-Ok : goal.clear-requires-in-Ok
-clear-requires-in-Ok c = (tracked_length _ _ _ _ c.self.invariant).1
+pub take_all_back-requires-clause-hopeful_len : goal.take_all_back-requires-clause-hopeful_len
+take_all_back-requires-clause-hopeful_len c = (tracked_length _ _ _ _ c.self.invariant).0
 
-pub replay-requires-clause-below : goal.replay-requires-clause-below
-replay-requires-clause-below c = subst (All (λ e. VertexBelow c.self.inside.vertices (entry_of e))) (sym c.deref.ensures.value) (below (goal.at.replay-requires-clause-below c).In-Ok)
+pub take_all_back-requires-clause-dual_len : goal.take_all_back-requires-clause-dual_len
+take_all_back-requires-clause-dual_len c = (tracked_length _ _ _ _ c.self.invariant).1
 
 pub invariant_of-self : goal.invariant_of-self
 invariant_of-self c =
-    tracked_again c.self.inside.vertices c.exchange.new.entries.items c.replay.new.hopeful c.replay.new.dual (below (goal.at.invariant_of-self c).In-Ok)
-    (c.replay.ensures.hopeful ∙ ap (λ (l : List Entry). table_of Hopeful (map entry_of l) c.self.inside.vertices) c.deref.ensures.value)
-    (c.replay.ensures.dual ∙ ap (λ (l : List Entry). table_of Dual (map entry_of l) c.self.inside.vertices) c.deref.ensures.value)
+    let entries = c.self.inside.entries.items in
+    let after = c.exchange.new.entries.items in
+    let within : c.args.place ≤ length entries = omega (arith, c.requires.place, length-map entries entry_of, ap (λ (t : Track). length t.entries) c.self.view_is) in
+    tracked_spliced c.self.inside.vertices c.args.place entries after c.args.suffix.items c.deref.result.now _ c.self.inside.hopeful c.self.inside.dual c.self.invariant c.in-Ok.ensures.entries (cut (goal.at.invariant_of-self c).After-deref)
+    (all_viewed _ _ c.args.suffix.items (ap (λ (t : Track). t.vertices) (sym c.self.view_is)) c.requires.vertices)
+    (subst (λ (t : Track). LiftsStandAfter (take c.args.place t.entries) (map entry_of c.args.suffix.items)) (sym c.self.view_is) c.requires.lifts)
+    (later_is c.args.place entries after c.args.suffix.items c.deref-in-Ok.result.now within c.in-Ok.ensures.entries c.deref-in-Ok.ensures.value)
+    c.take_all_back.new.hopeful c.take_all_back.new.dual c.take_all.new.hopeful c.take_all.new.dual
+    c.take_all_back.ensures.hopeful c.take_all_back.ensures.dual c.take_all.ensures.hopeful c.take_all.ensures.dual
 
 pub returns-in-Ok-clause-spliced : goal.returns-in-Ok-clause-spliced
 returns-in-Ok-clause-spliced c = λ i. record {
@@ -40,3 +44,8 @@ pub returns-in-Ok-clause-removed_vertices : goal.returns-in-Ok-clause-removed_ve
 returns-in-Ok-clause-removed_vertices c =
     all_viewed c.self.inside.vertices c.args.self.now.vertices c.exchange.new.suffix.items (ap (λ (t : Track). t.vertices) c.self.view_is)
     (removed_below c.self.inside.vertices c.args.place c.self.inside.entries.items c.exchange.new.suffix.items c.self.invariant.below c.in-Ok.ensures.suffix)
+
+pub returns-in-Ok-clause-removed_lifts : goal.returns-in-Ok-clause-removed_lifts
+returns-in-Ok-clause-removed_lifts c =
+    subst (λ (t : Track). LiftsStandAfter (take c.args.place t.entries) (map entry_of c.exchange.new.suffix.items)) c.self.view_is
+    (removed_stand c.self.inside.vertices c.args.place c.self.inside.entries.items c.exchange.new.entries.items c.args.suffix.items c.exchange.new.suffix.items [] c.self.inside.hopeful c.self.inside.dual c.self.invariant c.in-Ok.ensures.entries c.in-Ok.ensures.suffix)
