@@ -13,6 +13,8 @@ use Rattle.vpg_measure.specs.TwoGames.{IsTableBelow}
 use Rattle.vpg_partial.specs.TableLaws.{IsKnownTable}
 use Rattle.vpg_trail.specs.Page.{Which, Hopeful, Dual, Literal, Decision, literal_of, choices_of, raises}
 use Rattle.vpg_trail.specs.Shown.{Track}
+use Rattle.vpg_trail.specs.WellFormed.{LiftsStandAfter}
+use Rattle.vpg_trail.proofs.Lifting.{well_formed_lifts_stand}
 use Rattle.vpg_trail.proofs.PageLemmas.{choices_of-append}
 use Rattle.vpg_desk.specs.Book.{Commit, Added, Refused, OtherGame, Outdated, committed, raises_of, first_missing, outdated_at}
 use Rattle.vpg_desk.specs.Commit.{IsOrderOf, handed_in, raised_by}
@@ -24,7 +26,7 @@ use Rattle.vpg_desk.specs.State.{Replies, IsStep, IsReached}
 use Rattle.vpg_desk.specs.Trail.{StandsFor, book_of}
 use Rattle.vpg_desk.specs.declared.desk.Desk.TheInside.{Inside}
 use Rattle.vpg_desk.proofs.Lawful.{harvests_are_lawful}
-use Rattle.vpg_desk.proofs.Raising.{raises-decisions}
+use Rattle.vpg_desk.proofs.Raising.{raises-decisions, raises_of_well_formed, missing_none}
 use Rattle.vpg_desk.proofs.Reaching.{reached_step}
 use Rattle.vpg_desk.proofs.Telling.{added_are_few}
 use Rattle.vpg_desk.proofs.Trail.{append_is_commit}
@@ -64,6 +66,11 @@ module _ (d : Inside) (i : IsDesk d) (harvest : HarvestView) (is_harvest : IsHar
 
   pub few : length (raised_by harvest d.trail) ≤ 131072
   few = omega (arith, ap length raised_are, added_are_few (family_of (setting_in d)) (handed_in true harvest) d.trail.entries, same_count (arc_value d.game), i.opened.is_game.few)
+
+  pub lifts_stand : LiftsStandAfter d.trail.entries (raised_by harvest d.trail)
+  lifts_stand =
+      subst (LiftsStandAfter d.trail.entries) (sym raised_are)
+      (well_formed_lifts_stand d.trail.entries _ (raises_of_well_formed (family_of (setting_in d)) (handed_in true harvest) d.trail.entries (missing_none _ _ none)))
 
   lawful : IsLawful (family_of (setting_in d)) (handed_in true harvest)
   lawful = harvests_are_lawful (setting_in d) (handed_in true harvest) harvest.order.known i.opened.is_setting

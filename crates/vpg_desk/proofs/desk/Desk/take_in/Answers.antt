@@ -3,12 +3,13 @@ use Rattle.std.proofs.lemmas.List.{length-map}
 use Rattle.std.specs.Bool.{Decides}
 use Rattle.vpg_trail.specs.Page.{Entry as Step, literal_of, choices_of}
 use Rattle.vpg_trail.specs.Shown.{entry_of}
+use Rattle.vpg_trail.specs.WellFormed.{LiftsStandAfter}
 use Rattle.vpg_measure.specs.Orders.{OrderView}
 use Rattle.vpg_desk.specs.Book.{Commit, Added, Refused, OtherGame, Outdated, first_missing}
 use Rattle.vpg_desk.specs.Commit.{IsOrderOf, handed_in, raised_by}
 use Rattle.vpg_desk.specs.DeskFields.{desk_of}
 use Rattle.vpg_desk.specs.State.{DeskState, IsStep, Replies}
-use Rattle.vpg_desk.proofs.Committed.{other_refused, outdated_refused, few, committed_step, committed_desk}
+use Rattle.vpg_desk.proofs.Committed.{other_refused, outdated_refused, few, lifts_stand, committed_step, committed_desk}
 use Rattle.vpg_desk.proofs.desk.Desk.take_in.Goals as goal
 use Rattle.vpg_desk.proofs.desk.Desk.take_in.Goals.{After-is_order_of, After-first_missing, After-len-added}
 
@@ -47,6 +48,11 @@ overflow_cast-added c =
     let at = (goal.at.overflow_cast-added c).After-len-added in
     let bound : length (raised_by c.args.harvest.now c.self.inside.trail) ≤ 131072 = few c.self.inside c.self.invariant c.args.harvest.now c.order-order.ensures.harvest (ours at) (none at) in
     omega (arith, added at, bound)
+
+pub extend-requires-clause-lifts : goal.extend-requires-clause-lifts
+extend-requires-clause-lifts c =
+    let at = (goal.at.extend-requires-clause-lifts c).After-len-added in
+    subst (LiftsStandAfter c.self.inside.trail.entries) (sym c.in_ok-raised.ensures.lifts) (lifts_stand c.self.inside c.self.invariant c.args.harvest.now c.order-order.ensures.harvest (ours at) (none at))
 
 pub invariant_of-self-2 : goal.invariant_of-self-2
 invariant_of-self-2 c =
