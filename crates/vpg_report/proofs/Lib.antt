@@ -11,3 +11,5 @@ pub mod Sweeps
 pub mod Deciding
 pub mod Paged
 pub mod Settling
+pub mod Planned
+pub mod Within

@@ -1,5 +1,5 @@
 -- Decisions of a diagram's features, without a conflict.
-use Rattle.std.proofs.Common.{◌≡◌, ℕ, zero, suc, ◌<◌, List, [], ◌∷◌, sym, arith, subst, Result, Ok, Err}
+use Rattle.std.proofs.Common.{◌≡◌, ℕ, zero, suc, ◌<◌, List, [], ◌∷◌, ◌++◌, sym, ap, ◌∙◌, arith, subst, Result, Ok, Err}
 use Rattle.std.specs.Prelude.{map, All, OnOk, is_ok, if◌then◌else◌}
 use Rattle.vpg_diagram.specs.FeatureDiagram.{Line, feature_count}
 use Rattle.vpg_diagram.specs.Clauses.{clauses_of, counts_of}
@@ -26,3 +26,7 @@ on_ok (Err e) P Q f p = tt
 pub appended : {E : Type 0} (r : Result (Unit {0}) E) (new longer same : List ℕ) → new ≡ (if is_ok r then longer else same) → OnOk r (new ≡ longer)
 appended (Ok done) new longer same is = is
 appended (Err e) new longer same is = tt
+
+-- what was written into an empty buffer
+pub written : (text after before body : List ℕ) → text ≡ after → after ≡ before ++ body → before ≡ [] → text ≡ body
+written text after before body same more empty = same ∙ more ∙ ap (λ (bytes : List ℕ). bytes ++ body) empty

@@ -4,6 +4,7 @@ pub mod Engine
 pub mod EngineFields
 pub mod Lines
 pub mod Output
+pub mod Plan
 pub mod Run
 pub mod Scene
 pub mod Script

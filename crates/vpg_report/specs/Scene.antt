@@ -1,5 +1,5 @@
 -- A game over the features of a diagram, with the names that texts write.
-use Rattle.std.specs.Prelude.{◌≡◌, ℕ, Bool, List, length, map}
+use Rattle.std.specs.Prelude.{◌≡◌, ℕ, ◌<◌, Bool, List, length, map, All}
 use Rattle.std.specs.Bool.{Decides}
 use Rattle.vpg_guards.specs.declared.tri.Tri.{Tri}
 use Rattle.vpg_guards.specs.Formula.{Formula}
@@ -9,9 +9,9 @@ use Rattle.vpg_game.specs.Game.{NamedGame, graph_of, vertex_ids}
 use Rattle.vpg_partial.specs.TableLaws.{IsKnownTable}
 use Rattle.vpg_game.specs.Guarded.{GuardedGame}
 use Rattle.vpg_measure.specs.TwoGames.{top_for, IsProgressOf}
-use Rattle.vpg_trail.specs.Page.{Which, Hopeful, Dual, Decision, literal_of}
+use Rattle.vpg_trail.specs.Page.{Which, Hopeful, Dual, Entry, Decided, Lifted, Decision, literal_of}
 use Rattle.vpg_desk.specs.Setting.{Setting}
-use Rattle.vpg_report.specs.Text.{show_text}
+use Rattle.vpg_report.specs.Text.{show_text, products_text}
 
 pub record Scene : Type 0 where
   pub setting : Setting
@@ -26,6 +26,10 @@ scene_of game diagram =
       names = diagram.names;
       identifiers = vertex_ids game.vertices;
     }
+
+-- it is so of what the decisions make known
+abbrev pub UnderKnown : Scene → List Decision → (List Tri → Type 0) → Type 0
+UnderKnown scene decisions P = (known : List Tri) × (IsKnownTable scene.setting.lines (map literal_of decisions) known × P known)
 
 -- the one of two tables
 abbrev pub table_in : List ℕ → List ℕ → Which → List ℕ
@@ -46,5 +50,13 @@ pub record ShowsUnder (scene : Scene) (known : List Tri) (decisions : List Decis
 
 -- The text shows these decisions, under what they make known, and these tables.
 abbrev pub IsShown : Scene → List Decision → (hopeful dual text : List ℕ) → Type 0
-IsShown scene decisions hopeful dual text =
-    (known : List Tri) × (IsKnownTable scene.setting.lines (map literal_of decisions) known × ShowsUnder scene known decisions hopeful dual text)
+IsShown scene decisions hopeful dual text = UnderKnown scene decisions (λ known. ShowsUnder scene known decisions hopeful dual text)
+
+-- The text tells of each feature whether the decisions make it known.
+abbrev pub TellsKnown : Scene → List Decision → List ℕ → Type 0
+TellsKnown scene decisions text = UnderKnown scene decisions (λ known. text ≡ products_text scene.names known)
+
+-- the features and the vertex of an entry are below these counts
+abbrev pub EntryIsWithin : ℕ → ℕ → Entry → Type 0
+EntryIsWithin features vertices (Decided d) = d.feature < features
+EntryIsWithin features vertices (Lifted l) = (l.vertex < vertices) × All (λ c. c.feature < features) l.under

@@ -1,6 +1,9 @@
 -- The texts of a page.
-use Rattle.std.specs.Prelude.{ℕ, zero, suc, Bool, ◌==◌, if◌then◌else◌, List, [], ◌∷◌, ◌++◌, length, flat_map, slice_index, slice_index_or, codes, decimal}
+use Rattle.std.specs.Prelude.{ℕ, zero, suc, Bool, true, false, ◌==◌, if◌then◌else◌, List, [], ◌∷◌, ◌++◌, length, Option, Some, None, flat_map, count_by, is_some, slice_index, slice_index_or, codes, decimal}
 use Rattle.vpg_diagram.specs.declared.clause.Literal.{Literal}
+use Rattle.vpg_guards.specs.declared.tri.Tri.{Tri}
+use Rattle.vpg_guards.specs.declared.tri.Tri.TheVariants.{No, Unknown, Yes}
+use Rattle.vpg_trail.specs.Page.{Which, Hopeful, Dual, Entry, Decided, Lifted}
 
 -- a blank, and then a number
 abbrev pub blank_number : ℕ → List ℕ
@@ -53,3 +56,63 @@ show_text names identifiers hopeful_top dual_top choices full settled hopeful du
     ++ codes "full" ++ answer_line full
     ++ codes "settled" ++ answer_line settled
     ++ vertex_lines hopeful_top dual_top identifiers hopeful dual (length identifiers)
+
+-- ---- trail
+
+abbrev pub deciding_text : Bool → List ℕ
+deciding_text value = if value then codes "select" else codes "exclude"
+
+abbrev pub table_text : Which → List ℕ
+table_text Hopeful = codes "hopeful"
+table_text Dual = codes "dual"
+
+-- a decision with its serial; a lift of a vertex in a table, with the old and the new value and what it assumed
+abbrev pub entry_line : List (List ℕ) → List ℕ → Entry → List ℕ
+entry_line names identifiers (Decided d) = deciding_text d.value ++ blank_name names d.feature ++ blank_number d.serial ++ 10 ∷ []
+entry_line names identifiers (Lifted l) =
+    table_text l.table ++ blank_number (slice_index identifiers l.vertex) ++ blank_number l.old ++ blank_number l.new
+    ++ choices_text names l.under ++ 10 ∷ []
+
+abbrev pub trail_text : List (List ℕ) → List ℕ → List Entry → List ℕ
+trail_text names identifiers entries = flat_map (entry_line names identifiers) entries ++ codes "entries" ++ blank_number (length entries) ++ 10 ∷ []
+
+-- ---- products
+
+abbrev pub is_value : Tri → Tri → Bool
+is_value No No = true
+is_value Unknown Unknown = true
+is_value Yes Yes = true
+is_value _ _ = false
+
+abbrev pub name_if : Bool → List (List ℕ) → ℕ → List ℕ
+name_if b names f = if b then blank_name names f else []
+
+-- those of the first n features of which this is known
+abbrev pub names_known : List (List ℕ) → List Tri → Tri → ℕ → List ℕ
+names_known names known value zero = []
+names_known names known value (suc n) = names_known names known value n ++ name_if (is_value (slice_index_or known n Unknown) value) names n
+
+abbrev pub products_line : List ℕ → List (List ℕ) → List Tri → Tri → List ℕ
+products_line word names known value = word ++ names_known names known value (length names) ++ 10 ∷ []
+
+abbrev pub products_text : List (List ℕ) → List Tri → List ℕ
+products_text names known =
+    products_line (codes "in") names known Yes
+    ++ products_line (codes "out") names known No
+    ++ products_line (codes "open") names known Unknown
+
+-- ---- plan
+
+-- a vertex's identifier and that of its chosen successor
+abbrev pub plan_line : List ℕ → ℕ → Option ℕ → List ℕ
+plan_line identifiers v None = []
+plan_line identifiers v (Some w) = codes "plan" ++ blank_number (slice_index identifiers v) ++ blank_number (slice_index identifiers w) ++ 10 ∷ []
+
+-- those of the vertices below n
+abbrev pub plan_lines : List ℕ → List (Option ℕ) → ℕ → List ℕ
+plan_lines identifiers chosen zero = []
+plan_lines identifiers chosen (suc n) = plan_lines identifiers chosen n ++ plan_line identifiers n (slice_index_or chosen n None)
+
+abbrev pub plan_text : List ℕ → List (Option ℕ) → List ℕ
+plan_text identifiers chosen =
+    plan_lines identifiers chosen (length identifiers) ++ codes "plans" ++ blank_number (count_by is_some chosen) ++ 10 ∷ []

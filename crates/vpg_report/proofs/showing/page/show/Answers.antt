@@ -2,7 +2,7 @@ use Rattle.std.proofs.Common.{◌++◌, ℕ, List, ap, ◌∙◌, subst}
 use Rattle.vpg_partial.specs.declared.decision.Decision.{Decision}
 use Rattle.vpg_report.specs.Scene.{IsShown, scene_of}
 use Rattle.vpg_report.proofs.Shown.{on_ok, appended}
-use Rattle.vpg_report.proofs.showing.show.Goals as goal
+use Rattle.vpg_report.proofs.showing.page.show.Goals as goal
 
 pub known_of-requires-clause-consistent : goal.known_of-requires-clause-consistent
 known_of-requires-clause-consistent c = rw c.as_slice-decisions.ensures c.requires.consistent

@@ -1,6 +1,6 @@
 use Rattle.std.proofs.Common.{ap, ◌∙◌, List, ℕ, length}
 use Rattle.vpg_report.proofs.Shown.{named_below}
-use Rattle.vpg_report.proofs.showing.shown.Goals as goal
+use Rattle.vpg_report.proofs.showing.page.shown.Goals as goal
 
 pub page-requires-clause-decisions : goal.page-requires-clause-decisions
 page-requires-clause-decisions c =

@@ -1,6 +1,6 @@
 use Rattle.vpg_measure.specs.declared.which.Which.TheVariants.{Hopeful, Dual}
 use Rattle.vpg_report.proofs.Settled.{told, first_fails, second_tells}
-use Rattle.vpg_report.proofs.showing.is_settled.Goals as goal
+use Rattle.vpg_report.proofs.showing.page.is_settled.Goals as goal
 
 pub returns-then-not-is_progress : goal.returns-then-not-is_progress
 returns-then-not-is_progress c =

@@ -1,0 +1,115 @@
+-- What a plan's choices do.
+use Rattle.std.proofs.Common.{◌≡◌, ℕ, zero, suc, ◌<◌, ◌≤◌, Bool, true, false, List, [], ◌∷◌, length, get_or, Option, Some, None, refl, sym, ◌∙◌, subst, arith, find}
+use Rattle.std.specs.Prelude.{map, All, IfSome, if◌then◌else◌, slice_index, slice_get}
+use Rattle.std.proofs.lemmas.List.{length-map, same_lists, get_or_default}
+use Rattle.std.proofs.lemmas.List.Elements.{All-from_get_or}
+use Rattle.std.proofs.lemmas.Option.{get_or_from_slice_get}
+use Rattle.vpg_guards.specs.Formula.{Formula, truth}
+use Rattle.vpg_guards.specs.Known.{kleene, IsFinerValue, AreAllKnown}
+use Rattle.vpg_guards.specs.declared.tri.Tri.{Tri}
+use Rattle.vpg_guards.specs.declared.tri.Tri.TheVariants.{No, Unknown, Yes}
+use Rattle.vpg_diagram.specs.DiagramText.{NamedDiagram}
+use Rattle.vpg_diagram.specs.FeatureDiagram.{Line, feature_count}
+use Rattle.vpg_game.specs.Game.{NamedGame, unnamed, graph_of}
+use Rattle.vpg_game.specs.Guarded.{IsClosedGuarded}
+use Rattle.vpg_game.specs.declared.levels.Level.{Level}
+use Rattle.vpg_game.specs.declared.player.Player.{Player}
+use Rattle.vpg_hope.specs.Arena.{Vertex, IsClosed, vertex_at}
+use Rattle.vpg_hope.specs.Hope.{IsFullOf}
+use Rattle.vpg_partial.specs.KnownLaws.{IsRemaining, HasConflictOf}
+use Rattle.vpg_partial.specs.TableLaws.{AreChoicesOf, IsKnownTable}
+use Rattle.vpg_diagram.proofs.Lists.{Contains-nil}
+use Rattle.vpg_partial.proofs.Tables.{tables_refine, conflicts_stay}
+use Rattle.vpg_measure.specs.Lifts.{AreChoices, choice_of, is_even, lift_of}
+use Rattle.vpg_measure.specs.TwoGames.{top_for, levels_for, arena_for}
+use Rattle.vpg_measure.specs.Views.{strategy_of}
+use Rattle.vpg_measure.proofs.NumberGuards.{possible_number}
+use Rattle.vpg_measure.proofs.TwoGames.{arena_length, arena_closed}
+use Rattle.vpg_trail.specs.Page.{Which, Hopeful, Dual, Literal, Decision, literal_of}
+use Rattle.vpg_desk.specs.Headline.{WinsIn}
+use Rattle.vpg_desk.specs.Setting.{Setting, IsSetting, HasConflict}
+use Rattle.vpg_desk.proofs.Sound.{IsSound, sound_of}
+use Rattle.vpg_desk.proofs.Deciding.{known_no_conflict}
+use Rattle.vpg_report.specs.Scene.{Scene, scene_of, UnderKnown, AreProgressTables}
+use Rattle.vpg_report.specs.Plan.{AreChosen, PlanWins}
+
+-- ---- what is known is one table
+
+same_value : (t u : Tri) → IsFinerValue t u → IsFinerValue u t → t ≡ u
+same_value No u a b = sym a
+same_value Unknown No a b = b
+same_value Unknown Unknown a b = refl
+same_value Unknown Yes a b = b
+same_value Yes u a b = sym a
+
+pub known_is_one : (lines : List Line) (choices : List Literal) (one other : List Tri) → IsKnownTable lines choices one → IsKnownTable lines choices other → one ≡ other
+known_is_one lines choices one other is_one is_other =
+    same_lists one other count (λ k d l. get_or_default one k d Unknown l ∙ same k ∙ get_or_default other k Unknown d (subst (λ n. k < n) count l))
+  where
+    count : length one ≡ length other
+    count = is_one.length_is ∙ sym is_other.length_is
+
+    same : (k : ℕ) → get_or one k Unknown ≡ get_or other k Unknown
+    same k = same_value _ _ (tables_refine lines choices choices one other (λ c within. within) is_one is_other k) (tables_refine lines choices choices other one (λ c within. within) is_other is_one k)
+
+-- ---- chosen successors are vertices
+
+find_within : (P : ℕ → Type 0) (test : ℕ → Bool) (xs : List ℕ) → All P xs → IfSome (find test xs) P
+find_within P test [] all = tt
+find_within P test (x ∷ xs) all = decide (test x) (all 0 x (omega arith)) (find_within P test xs (λ k d l. all (suc k) d (omega (arith, l))))
+  where
+    decide : (b : Bool) → P x → IfSome (find test xs) P → IfSome (if b then Some x else find test xs) P
+    decide true p rest = p
+    decide false p rest = rest
+
+if_found : (P : ℕ → Type 0) (found : Option ℕ) (b : Bool) → IfSome found P → IfSome (if b then found else None) P
+if_found P found true f = f
+if_found P found false f = tt
+
+choice_within : (P : ℕ → Type 0) (levels : List Level) (table : List ℕ) (x : Vertex) (n : ℕ) → All P x.successors → IfSome (choice_of levels table x n) P
+choice_within P levels table x n all = if_found P _ _ (find_within P _ x.successors all)
+
+choices_within : (levels : List Level) (arena : List Vertex) (table : List ℕ) (chosen : List (Option ℕ)) → IsClosed arena → AreChoices levels arena table chosen →
+    All (λ w. IfSome w (λ v. v < length arena)) chosen
+choices_within levels arena table chosen closed are =
+    All-from_get_or (λ w. IfSome w (λ v. v < length arena)) chosen None (λ v l. within v (subst (λ n. v < n) are.0 l))
+  where
+    within : (v : ℕ) → v < length arena → IfSome (get_or chosen v None) (λ w. w < length arena)
+    within v l = subst (λ (w : Option ℕ). IfSome w (λ u. u < length arena)) (sym (get_or_from_slice_get chosen v _ None (are.1 v l)))
+        (choice_within (λ w. w < length arena) levels table (vertex_at arena v) (slice_index table v) (closed v _ l))
+
+module _ (game : NamedGame) (known : List Tri) (hopeful : List ℕ) (chosen : List (Option ℕ)) (are : AreChosen known (graph_of game) hopeful chosen) where
+  count : length (arena_for (kleene known) Hopeful (graph_of game)) ≡ length game.vertices
+  count = arena_length Formula (kleene known) Hopeful (graph_of game) ∙ length-map game.vertices unnamed
+
+  pub chosen_count : length chosen ≡ length game.vertices
+  chosen_count = are.0 ∙ count
+
+  pub chosen_within : IsClosedGuarded (graph_of game) → All (λ w. IfSome w (λ v. v < length game.vertices)) chosen
+  chosen_within closed = subst (λ n. All (λ w. IfSome w (λ v. v < n)) chosen) count
+      (choices_within (levels_for Hopeful (graph_of game)) (arena_for (kleene known) Hopeful (graph_of game)) hopeful chosen (arena_closed Formula (kleene known) Hopeful (graph_of game) closed) are)
+
+-- ---- they win
+
+module _ (game : NamedGame) (diagram : NamedDiagram) (decisions : List Decision) (is_setting : IsSetting ((scene_of game diagram).setting))
+    (named : AreChoicesOf diagram.lines (map literal_of decisions)) (known : List Tri) (is_known : IsKnownTable diagram.lines (map literal_of decisions) known) where
+  pub plan_wins : (hopeful dual : List ℕ) → AreAllKnown (length known) known → AreProgressTables known (graph_of game) hopeful dual →
+      PlanWins (scene_of game diagram) decisions hopeful
+  plan_wins hopeful dual full settled = of ((sound_of ((scene_of game diagram).setting) is_setting).full (map literal_of decisions) known
+      (known_no_conflict ((scene_of game diagram).setting) (map literal_of decisions) known named is_known) is_known (subst (λ n. AreAllKnown n known) is_known.length_is full))
+    where
+      of : (set : List Bool) × IsRemaining diagram.lines (map literal_of decisions) set × IsFullOf (kleene known) (truth set) (graph_of game) ×
+          ((other : List Bool) → IsRemaining diagram.lines (map literal_of decisions) other → other ≡ set) → PlanWins (scene_of game diagram) decisions hopeful
+      of s = record {
+        product = s.0;
+        only = record { remaining = s.1; only = s.3 };
+        wins = λ chosen under v l low.
+            possible_number Formula (kleene known) (truth s.0) (graph_of game) s.2 (levels_for Hopeful (graph_of game)) (arena_for (kleene known) Hopeful (graph_of game)) hopeful chosen
+            refl (arena_closed Formula (kleene known) Hopeful (graph_of game) is_setting.closed) (settled Hopeful).is_table (settled Hopeful).settled
+            (subst (λ (k : List Tri). AreChosen k (graph_of game) hopeful chosen) (known_is_one diagram.lines (map literal_of decisions) under.0 known under.1.0 is_known) under.1.1)
+            v (subst (λ n. v < n) (sym (arena_length Formula (kleene known) Hopeful (graph_of game))) l) low;
+      }
+
+-- without a conflict the diagram alone has none
+pub opens : (lines : List Line) (choices : List Literal) → ¬ (HasConflictOf lines choices) → ¬ (HasConflictOf lines [])
+opens lines choices fine conflict = fine (conflicts_stay lines [] choices (λ c within. absurd (Contains-nil c within)) conflict)
