@@ -1,6 +1,6 @@
 -- What a plan's choices do.
-use Rattle.std.proofs.Common.{◌≡◌, ℕ, zero, suc, ◌<◌, ◌≤◌, Bool, true, false, List, [], ◌∷◌, length, get_or, Option, Some, None, refl, sym, ◌∙◌, subst, arith, find}
-use Rattle.std.specs.Prelude.{map, All, IfSome, if◌then◌else◌, slice_index, slice_get}
+use Rattle.std.proofs.Common.{◌≡◌, ℕ, suc, ◌<◌, Bool, true, false, List, [], ◌∷◌, length, get_or, Option, Some, None, refl, sym, ◌∙◌, subst, arith, find}
+use Rattle.std.specs.Prelude.{map, All, IfSome, if◌then◌else◌, slice_index}
 use Rattle.std.proofs.lemmas.List.{length-map, same_lists, get_or_default}
 use Rattle.std.proofs.lemmas.List.Elements.{All-from_get_or}
 use Rattle.std.proofs.lemmas.Option.{get_or_from_slice_get}
@@ -9,28 +9,25 @@ use Rattle.vpg_guards.specs.Known.{kleene, IsFinerValue, AreAllKnown}
 use Rattle.vpg_guards.specs.declared.tri.Tri.{Tri}
 use Rattle.vpg_guards.specs.declared.tri.Tri.TheVariants.{No, Unknown, Yes}
 use Rattle.vpg_diagram.specs.DiagramText.{NamedDiagram}
-use Rattle.vpg_diagram.specs.FeatureDiagram.{Line, feature_count}
+use Rattle.vpg_diagram.specs.FeatureDiagram.{Line}
 use Rattle.vpg_game.specs.Game.{NamedGame, unnamed, graph_of}
 use Rattle.vpg_game.specs.Guarded.{IsClosedGuarded}
 use Rattle.vpg_game.specs.declared.levels.Level.{Level}
-use Rattle.vpg_game.specs.declared.player.Player.{Player}
 use Rattle.vpg_hope.specs.Arena.{Vertex, IsClosed, vertex_at}
 use Rattle.vpg_hope.specs.Hope.{IsFullOf}
 use Rattle.vpg_partial.specs.KnownLaws.{IsRemaining, HasConflictOf}
 use Rattle.vpg_partial.specs.TableLaws.{AreChoicesOf, IsKnownTable}
 use Rattle.vpg_diagram.proofs.Lists.{Contains-nil}
 use Rattle.vpg_partial.proofs.Tables.{tables_refine, conflicts_stay}
-use Rattle.vpg_measure.specs.Lifts.{AreChoices, choice_of, is_even, lift_of}
-use Rattle.vpg_measure.specs.TwoGames.{top_for, levels_for, arena_for}
-use Rattle.vpg_measure.specs.Views.{strategy_of}
+use Rattle.vpg_measure.specs.Lifts.{AreChoices, choice_of}
+use Rattle.vpg_measure.specs.TwoGames.{levels_for, arena_for}
 use Rattle.vpg_measure.proofs.NumberGuards.{possible_number}
 use Rattle.vpg_measure.proofs.TwoGames.{arena_length, arena_closed}
-use Rattle.vpg_trail.specs.Page.{Which, Hopeful, Dual, Literal, Decision, literal_of}
-use Rattle.vpg_desk.specs.Headline.{WinsIn}
-use Rattle.vpg_desk.specs.Setting.{Setting, IsSetting, HasConflict}
-use Rattle.vpg_desk.proofs.Sound.{IsSound, sound_of}
+use Rattle.vpg_trail.specs.Page.{Hopeful, Literal, Decision, literal_of}
+use Rattle.vpg_desk.specs.Setting.{IsSetting}
+use Rattle.vpg_desk.proofs.Sound.{sound_of}
 use Rattle.vpg_desk.proofs.Deciding.{known_no_conflict}
-use Rattle.vpg_report.specs.Scene.{Scene, scene_of, UnderKnown, AreProgressTables}
+use Rattle.vpg_report.specs.Scene.{scene_of, AreProgressTables}
 use Rattle.vpg_report.specs.Plan.{AreChosen, PlanWins}
 
 -- ---- what is known is one table

@@ -1,5 +1,5 @@
 -- The entries of a desk's pages are of the diagram's features and the game's vertices.
-use Rattle.std.proofs.Common.{◌≡◌, ℕ, zero, suc, ◌<◌, ◌≤◌, ◌⊎◌, inl, inr, max, Bool, true, false, ◌&&◌, ◌||◌, ◌==◌, List, [], ◌∷◌, ◌++◌, length, get_or, slice_index, All, IsTrue, refl, sym, ap, ◌∙◌, subst, arith, append_assoc, eq-eqb}
+use Rattle.std.proofs.Common.{◌≡◌, ℕ, zero, suc, ◌<◌, ◌≤◌, ◌⊎◌, inl, inr, max, Bool, true, false, ◌&&◌, ◌||◌, ◌==◌, List, [], ◌∷◌, ◌++◌, length, get_or, All, IsTrue, refl, sym, ap, ◌∙◌, subst, arith, append_assoc, eq-eqb}
 use Rattle.std.specs.Prelude.{if◌then◌else◌, map}
 use Rattle.std.specs.Bool.{beq}
 use Rattle.std.specs.List.{AllByRecursion}
@@ -12,7 +12,7 @@ use Rattle.vpg_diagram.specs.FeatureDiagram.{feature_count}
 use Rattle.vpg_partial.specs.TableLaws.{IsKnownTable, AreChoicesOf}
 use Rattle.vpg_measure.specs.TwoGames.{IsProgressOf}
 use Rattle.vpg_measure.proofs.TwoGames.{arena_length, tops, tops_progress}
-use Rattle.vpg_trail.specs.Page.{Which, Hopeful, Dual, Literal, Lift, Entry, Decided, Lifted, literal_of, choices_of, value_at, same_table, same_literal, stands, AllStand}
+use Rattle.vpg_trail.specs.Page.{Which, Hopeful, Dual, Literal, Lift, Entry, Decided, Lifted, literal_of, choices_of, value_at, same_table, same_literal, stands}
 use Rattle.vpg_trail.specs.Shown.{entry_of}
 use Rattle.vpg_trail.specs.declared.entry.Entry.{Entry as Item}
 use Rattle.vpg_trail.specs.WellFormed.{StandsAfter, IsWellFormed, IsWellFormedAfter}
@@ -91,7 +91,7 @@ module _ (setting : Setting) (is_setting : IsSetting setting) (page : List Entry
   entry_within before rest (Decided d) is s =
       (back (λ c. c.feature < feature_count setting.lines) (choices_of before) (literal_of d ∷ choices_of rest)
       (subst (λ (cs : List Literal). AreChoicesOf setting.lines cs) (ap choices_of (sym is) ∙ choices_of-append before (Decided d ∷ rest)) inside)).0
-  entry_within before rest (Lifted l) is s = (vertex (cases_lt l.vertex (length setting.game)), λ k d m. standing_below (feature_count setting.lines) (choices_of before) (get_or l.under k d) before_inside (s.2 (get_or l.under k d) (each_stands l.under k d m)))
+  entry_within before rest (Lifted l) is s = (vertex (cases_lt l.vertex (length setting.game)), λ k d m. standing_below (feature_count setting.lines) (choices_of before) (get_or l.under k d) before_inside (s.1 (get_or l.under k d) (each_stands l.under k d m)))
     where
       before_inside : AreChoicesOf setting.lines (choices_of before)
       before_inside = front (λ c. c.feature < feature_count setting.lines) (choices_of before) (choices_of rest)
@@ -104,7 +104,7 @@ module _ (setting : Setting) (is_setting : IsSetting setting) (page : List Entry
         past_is_zero l.table l.vertex past,
         lift_reaches l rest,
         ap (λ (p : List Entry). value_at l.table l.vertex p) (sym is) ∙ value_at-append l.table l.vertex before (Lifted l ∷ rest),
-        s.1,
+        s.0.1,
       ))
 
   within_after : (before rest : List Entry) → before ++ rest ≡ page → IsWellFormedAfter before rest → All (EntryIsWithin (feature_count setting.lines) (length setting.game)) rest

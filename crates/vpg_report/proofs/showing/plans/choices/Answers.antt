@@ -1,4 +1,3 @@
-use Rattle.std.proofs.Common.{ap, ◌∙◌, false}
 use Rattle.vpg_measure.specs.declared.which.Which.TheVariants.{Hopeful, Dual}
 use Rattle.vpg_report.proofs.Settled.{both, settled_one, unsettled, refuted}
 use Rattle.vpg_report.proofs.showing.plans.choices.Goals as goal

@@ -1,4 +1,4 @@
-use Rattle.std.proofs.Common.{sym, ◌∙◌, subst, List, Option, ℕ, ◌<◌, length, All}
+use Rattle.std.proofs.Common.{sym, subst, List, Option, ℕ, ◌<◌, length, All}
 use Rattle.std.specs.Prelude.{IfSome, map}
 use Rattle.vpg_game.proofs.Graphs.{games_have_graphs}
 use Rattle.vpg_game.specs.Game.{graph_of}
