@@ -3,7 +3,7 @@
 ghost use Rattle.std.specs.Prelude.{◌≡◌, ◌≢◌, ℕ, ◌+◌, ◌-◌, ◌<◌, ◌≤◌, ◌^◌, ◌↔◌, List, length, map, IfOk, OnOk, All, IsTrue, MatchBool, Err, ◌==◌, slice_index, sum, sum_by};
 ghost use Rattle.std.specs.List.{find};
 ghost use Rattle.vpg_game.specs.Levels.{top_of, prog_of};
-ghost use Rattle.vpg_hope.specs.Arena.{vertex_at, IsClosed};
+ghost use Rattle.vpg_hope.specs.Arena.{vertex_at};
 ghost use Rattle.vpg_hope.specs.Strategies.{Wins};
 ghost use Rattle.vpg_measure.specs.Views.{strategy_of};
 ghost use Rattle.vpg_measure.specs.Lifts.{IsTableOf, NumberFitsAt, IsProgressTable, IsBelowTable, least_of, greatest_of, lift_of, raised, round_of, after_rounds, EndsAs, choice_of, AreChoices};
@@ -139,7 +139,8 @@ fn lift_all(shape: &Shape, arena: &Arena, table: &mut Table) -> bool
     rose
 }
 
-/// Lifts every vertex once a round, until a round raises nothing or the rounds run out.
+/// Lifts every vertex once a round, in file order, each seeing earlier raises, until a round raises nothing (`Settled`) or the
+/// rounds run out (`RanOut`, also where none are allowed). No value falls.
 pub fn settle_alone(shape: &Shape, arena: &Arena, table: &mut Table, rounds: u64) -> Outcome
     requires { IsTableOf shape.now arena.now table.old }
     ensures after { table.new ≡ after_rounds shape.now arena.now rounds table.old }
@@ -183,13 +184,15 @@ fn first_of(shape: &Shape, table: &Table, kept: &[u32], priority: u32, least: u6
 fn choice(shape: &Shape, arena: &Arena, table: &Table, v: u32) -> Option<u32>
     requires vertex { v < length arena.now }
     requires table { IsTableOf shape.now arena.now table.now }
-    ensures { result ≡ choice_of shape.now table.now (vertex_at arena.now v) (slice_index table.now v) }
+    ensures choice { result ≡ choice_of shape.now table.now (vertex_at arena.now v) (slice_index table.now v) }
+    ensures closed { All (λ w. w < length arena.now) (vertex_at arena.now v).successors }
 {
+    let kept = arena.kept(v);
     match arena.owner(v) {
         Player::Even => {
             if table.get(v) < shape.top() {
                 let least = lift(shape, arena, table, v);
-                first_of(shape, table, arena.kept(v), arena.priority(v), least)
+                first_of(shape, table, kept, arena.priority(v), least)
             } else {
                 None
             }
@@ -198,7 +201,8 @@ fn choice(shape: &Shape, arena: &Arena, table: &Table, v: u32) -> Option<u32>
     }
 }
 
-/// For each vertex of Even below top the first kept successor of least `prog`.
+/// For each vertex of Even below top the first kept successor of least `prog`; `None` at every other vertex. Errors, in this
+/// order: `NotSettled` where the table is no progress table; `Memory`.
 pub fn strategy(
     alloc: Global,
     shape: &Shape,
@@ -211,7 +215,7 @@ pub fn strategy(
     ensures choices { IfOk result (λ choices. AreChoices shape.now arena.now table.now choices.items) }
 
     // They win for Even from every vertex below top, by reachable cycles: `Wins` stands in the crate of hopeful games.
-    ensures wins { IfOk result (λ choices. IsClosed arena.now → (v : ℕ) → v < length arena.now → slice_index table.now v < top_of shape.now →
+    ensures wins { IfOk result (λ choices. (v : ℕ) → v < length arena.now → slice_index table.now v < top_of shape.now →
         Wins arena.now Player.Even (strategy_of choices.items) v) }
 {
     if !is_progress(shape, arena, table) {

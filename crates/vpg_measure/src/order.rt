@@ -71,7 +71,10 @@ pub struct Refused {
 }
 
 impl Order {
-    /// The order of a page.
+    /// The order of a page: each table has one value for each vertex, below every progress table of its game.
+    ///
+    /// Errors, in this order: `AtLimit` where a priority of the game is 65,536, so that it has no dual; `Conflict` where the
+    /// decisions have one; `Memory`. All that was handed in comes back beside the fault.
     pub fn of(
         alloc: Global,
         game: Arc<GuardedGame>,
@@ -93,7 +96,7 @@ impl Order {
         ensures dual { IfOk result (λ order. order.dual ≡ dual) }
         ensures order { IfOk result IsOrder }
 
-        // The limit comes before a conflict, a conflict before want of memory.
+        // The limit is told wherever a priority is at it, a conflict only where there is one.
         ensures at_limit { IfErr result (λ refused. (refused.fault ≡ OrderFault.AtLimit) ↔ IsAtLimit (arc_value game)) }
         ensures conflict { IfErr result (λ refused. (f : ℕ) → refused.fault ≡ OrderFault.Conflict f →
             NamesConflict (clauses_of (arc_value diagram).lines) (counts_of (arc_value diagram).lines) (map literal_of decisions.items) f) }
