@@ -7,9 +7,13 @@ use Rattle.vpg_partial.specs.Known.{NamesConflict}
 use Rattle.vpg_partial.specs.KnownLaws.{HasConflictOf}
 use Rattle.vpg_desk.specs.declared.fault.OpenFault.{OpenFault}
 use Rattle.vpg_desk.specs.declared.fault.OpenFault.TheVariants.{AtLimit, Conflict as OpensInConflict, Memory as NoMemory}
-use Rattle.vpg_desk.specs.Book.{Refusal, UnknownFeature, AlreadyDecided, Conflict, TooManyChanges}
+use Rattle.vpg_desk.specs.Book.{Refusal, UnknownFeature, AlreadyDecided, Conflict, TooManyChanges, Sealed, NotNewest, Overtaken, NotNext}
 use Rattle.vpg_desk.specs.declared.fault.DecideFault.{DecideFault}
 use Rattle.vpg_desk.specs.declared.fault.DecideFault.TheVariants.{UnknownFeature as IsUnknown, AlreadyDecided as IsDecided, Conflict as HasConflict, TooManyChanges as IsTooMany, Memory}
+use Rattle.vpg_desk.specs.declared.fault.UndoFault.{UndoFault}
+use Rattle.vpg_desk.specs.declared.fault.UndoFault.TheVariants.{Sealed as IsSealed, NotNewest as IsNotNewest, Memory as UndoMemory}
+use Rattle.vpg_desk.specs.declared.fault.RedoFault.{RedoFault}
+use Rattle.vpg_desk.specs.declared.fault.RedoFault.TheVariants.{Overtaken as IsOvertaken, NotNext as IsNotNext, Memory as RedoMemory}
 
 -- want of memory is no refusal of the book
 abbrev pub decide_refusal : DecideFault → Option Refusal
@@ -18,6 +22,16 @@ decide_refusal (IsDecided serial) = Some (AlreadyDecided serial)
 decide_refusal (HasConflict feature) = Some (Conflict feature)
 decide_refusal IsTooMany = Some TooManyChanges
 decide_refusal Memory = None
+
+abbrev pub undo_refusal : UndoFault → Option Refusal
+undo_refusal IsSealed = Some Sealed
+undo_refusal (IsNotNewest newest) = Some (NotNewest newest)
+undo_refusal UndoMemory = None
+
+abbrev pub redo_refusal : RedoFault → Option Refusal
+redo_refusal IsOvertaken = Some Overtaken
+redo_refusal (IsNotNext next) = Some (NotNext next)
+redo_refusal RedoMemory = None
 
 -- why a closure with one decision more gives none
 abbrev pub ClosesWith : List Line → List Literal → ℕ → DecideFault → Type 0

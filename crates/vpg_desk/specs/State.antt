@@ -1,11 +1,11 @@
 -- What a desk is: a game, a diagram and a book that one of its histories leaves.
-use Rattle.std.specs.Prelude.{◌≡◌, ℕ, List}
+use Rattle.std.specs.Prelude.{◌≡◌, ℕ, Bool, List}
 use Rattle.vpg_diagram.specs.DiagramText.{NamedDiagram, IsNamedDiagram}
 use Rattle.vpg_diagram.specs.FeatureDiagram.{feature_count}
 use Rattle.vpg_game.specs.Game.{NamedGame, IsGame, IsAtLimit, graph_of}
 use Rattle.vpg_desk.specs.Book.{Book, Call, Reply, opened, IsReply, Step}
 use Rattle.vpg_desk.specs.Desk.{family_of}
-use Rattle.vpg_desk.specs.History.{Event, IsLegal, book_after}
+use Rattle.vpg_desk.specs.History.{Event, IsLegal, IsBeforeLast, book_after, page_after}
 use Rattle.vpg_desk.specs.Lawful.{IsLawful, AllHandIn}
 use Rattle.vpg_desk.specs.Setting.{Setting, IsSetting}
 
@@ -50,3 +50,8 @@ pub record IsStep (old : DeskState) (session : ℕ) (call : Call) (reply : Reply
   pub step : Step (family_of (setting_of old)) old.book session call reply new.book
   pub game : new.game ≡ old.game
   pub diagram : new.diagram ≡ old.diagram
+
+-- the new page is the one just before the last event of any history of the old book that gave a token of this serial
+abbrev pub Restores : (ℕ → Reply → Bool) → DeskState → ℕ → DeskState → Type 0
+Restores gives old serial new = (history : List Event) → IsHistoryOf (setting_of old) old.book history →
+    (before : List Event) × (IsBeforeLast (gives serial) before history × (new.book.present ≡ page_after (family_of (setting_of old)) before))

@@ -12,6 +12,7 @@ use crate::cuts::Cut;
 use crate::desk::{Desk, MOST_CHANGES};
 use crate::fault::DecideFault;
 use crate::standing::Standing;
+use crate::token::Undo;
 use std::alloc::{AllocError, Global};
 use vpg_diagram::Diagram;
 use vpg_partial::{Decision, Partial, PartialFault};
@@ -69,7 +70,7 @@ impl Desk {
     ghost use Rattle.vpg_desk.specs.Faults.{decide_refusal};
     ghost use Rattle.vpg_desk.specs.State.{IsStep, Replies};
 
-    /// Decides a feature in or out, as the next change, and gives the change's serial. A feature that is known but not decided may
+    /// Decides a feature in or out, as the next change, and gives the change's token. A feature that is known but not decided may
     /// be decided the same way. A refusal changes nothing; want of memory comes after the others.
     pub fn decide(
         &mut self,
@@ -77,8 +78,8 @@ impl Desk {
         session: u32,
         feature: u16,
         value: bool,
-    ) -> Result<u64, DecideFault>
-        ensures accepted { IfOk result (λ serial. IsStep self.old session (Decide feature value) (Changed serial) self.new) }
+    ) -> Result<Undo, DecideFault>
+        ensures accepted { IfOk result (λ undo. IsStep self.old session (Decide feature value) (Changed undo) self.new) }
         ensures refused { IfErr result (λ fault. IfSome (decide_refusal fault) (λ refusal. Replies self.old (Decide feature value) (Refused refusal))) }
         ensures err { OnErr result (self.new ≡ self.old) }
     {
@@ -107,6 +108,6 @@ impl Desk {
         self.standing = standing;
         self.changes = serial;
         self.tokens += 1;
-        Ok(serial)
+        Ok(Undo::of(serial))
     }
 }

@@ -1,5 +1,7 @@
 //! Why calls of a desk are refused.
 
+use crate::desk::Desk;
+use crate::token::{Redo, Undo};
 use std::alloc::{AllocError, AllocFailed};
 use std::sync::Arc;
 use thiserror::Error;
@@ -45,6 +47,51 @@ pub enum DecideFault {
     TooManyChanges,
     #[error("Memory")]
     Memory,
+}
+
+/// Why a change isn't undone. `Memory` comes last, and only where a growth was refused.
+#[derive(Clone, Copy, Debug, PartialEq, Eq, Error)]
+pub enum UndoFault {
+    /// The past has no page of this serial.
+    #[error("Sealed")]
+    Sealed,
+    /// A newer change has to be undone before; this is the newest one's serial.
+    #[error("NotNewest {newest}")]
+    NotNewest { newest: u64 },
+    #[error("Memory")]
+    Memory,
+}
+
+/// A change that isn't undone, with its token.
+pub struct UndoRefused {
+    pub fault: UndoFault,
+    pub token: Undo,
+}
+
+/// Why a change isn't redone. `Memory` comes last, and only where a growth was refused.
+#[derive(Clone, Copy, Debug, PartialEq, Eq, Error)]
+pub enum RedoFault {
+    /// The future has no page of this serial.
+    #[error("Overtaken")]
+    Overtaken,
+    /// An earlier change has to be redone before; this is the nearest one's serial.
+    #[error("NotNext {next}")]
+    NotNext { next: u64 },
+    #[error("Memory")]
+    Memory,
+}
+
+/// A change that isn't redone, with its token.
+pub struct RedoRefused {
+    pub fault: RedoFault,
+    pub token: Redo,
+}
+
+/// A desk that isn't closed since tokens of it are out, and their number.
+#[derive(Drop)]
+pub struct TokensOut {
+    pub tokens: u64,
+    pub desk: Desk,
 }
 
 /// Why a harvest isn't committed. `Memory` comes last, and only where a growth was refused.
@@ -119,5 +166,27 @@ impl<T: Drop> From<AllocFailed<T>> for CommitFault {
 
     fn from(_: AllocFailed<T>) -> CommitFault {
         CommitFault::Memory
+    }
+}
+
+impl From<AllocError> for UndoFault {
+    ghost use Rattle.std.specs.Prelude.{◌≡◌};
+    ghost use Rattle.vpg_desk.specs.declared.fault.UndoFault.TheVariants.{Memory};
+
+    ghost from_gives = { λ _ fault. fault ≡ Memory };
+
+    fn from(_: AllocError) -> UndoFault {
+        UndoFault::Memory
+    }
+}
+
+impl From<AllocError> for RedoFault {
+    ghost use Rattle.std.specs.Prelude.{◌≡◌};
+    ghost use Rattle.vpg_desk.specs.declared.fault.RedoFault.TheVariants.{Memory};
+
+    ghost from_gives = { λ _ fault. fault ≡ Memory };
+
+    fn from(_: AllocError) -> RedoFault {
+        RedoFault::Memory
     }
 }

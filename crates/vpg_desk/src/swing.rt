@@ -1,0 +1,128 @@
+//! Going over to the nearest past or future page.
+ghost use Rattle.std.specs.Prelude.{◌≡◌, ◌==◌, ◌∷◌, ◌<◌, ◌≤◌, List, length, None, MatchOption, IfOk, OnOk, OnErr};
+ghost use Rattle.std.specs.List.{AllByRecursion, list_any};
+ghost use Rattle.vpg_diagram.specs.FeatureDiagram.{feature_count};
+ghost use Rattle.vpg_trail.specs.Page.{choices_of};
+ghost use Rattle.vpg_trail.specs.WellFormed.{IsWellFormed};
+ghost use Rattle.vpg_desk.specs.Book.{refuses_redo, refuses_undo};
+ghost use Rattle.vpg_desk.specs.Cuts.{IsSwung, SuffixesBelow, cuts_of, pages_of, serials_from_top};
+ghost use Rattle.vpg_desk.specs.Faults.{redo_refusal, undo_refusal};
+ghost use Rattle.vpg_desk.specs.Setting.{HasConflict};
+ghost use Rattle.vpg_desk.specs.Standing.{IsStanding};
+ghost use Rattle.vpg_desk.specs.State.{setting_between};
+ghost use Rattle.vpg_desk.specs.Trail.{FitOver, spliced, Cut as Saved};
+
+use crate::cuts::Cut;
+use crate::fault::{RedoFault, UndoFault};
+use crate::standing::Standing;
+use std::alloc::{AllocError, Global};
+use vpg_diagram::Diagram;
+use vpg_game::GuardedGame;
+use vpg_trail::Trail;
+
+fn has_serial(cuts: &[Cut], serial: u64) -> bool
+    ensures { result ≡ list_any (λ c. c.serial == serial) cuts.now }
+{
+    cuts.iter().any(|c| c.serial == serial)
+}
+
+/// Why the newest past page isn't that of the serial.
+pub(crate) fn undo_fault(past: &[Cut], serial: u64) -> Option<UndoFault>
+    ensures { MatchOption result (refuses_undo serial (serials_from_top past.now) ≡ None) (λ fault. refuses_undo serial (serials_from_top past.now) ≡ undo_refusal fault) }
+{
+    let Some(newest) = past.last() else {
+        return Some(UndoFault::Sealed);
+    };
+    if newest.serial == serial {
+        return None;
+    }
+    if has_serial(past, serial) {
+        return Some(UndoFault::NotNewest {
+            newest: newest.serial,
+        });
+    }
+    Some(UndoFault::Sealed)
+}
+
+/// Why the nearest future page isn't that of the serial.
+pub(crate) fn redo_fault(future: &[Cut], serial: u64) -> Option<RedoFault>
+    ensures { MatchOption result (refuses_redo serial (serials_from_top future.now) ≡ None) (λ fault. refuses_redo serial (serials_from_top future.now) ≡ redo_refusal fault) }
+{
+    let Some(nearest) = future.last() else {
+        return Some(RedoFault::Overtaken);
+    };
+    if nearest.serial == serial {
+        return None;
+    }
+    if has_serial(future, serial) {
+        return Some(RedoFault::NotNext {
+            next: nearest.serial,
+        });
+    }
+    Some(RedoFault::Overtaken)
+}
+
+/// What the decisions of the nearest page make known.
+pub(crate) fn standing_over(
+    alloc: Global,
+    game: &GuardedGame,
+    diagram: &Diagram,
+    trail: &Trail,
+    cuts: &[Cut],
+) -> Result<Standing, AllocError>
+    requires some { 0 < length cuts.now }
+    requires fits { FitOver trail.now.entries (cuts_of cuts.now) }
+    requires features { game.now.features ≡ feature_count diagram.now.lines }
+    requires consistent { AllByRecursion (λ k. ¬ (HasConflict (setting_between game.now diagram.now) (choices_of k.page))) (pages_of trail.now.entries cuts.now) }
+    ensures { IfOk result (λ standing. (cut : Saved) (further : List Saved) → cuts_of cuts.now ≡ cut ∷ further → IsStanding (setting_between game.now diagram.now) (choices_of (spliced trail.now.entries cut.place cut.suffix)) standing) }
+{
+    let cut = cuts.last().unwrap();
+    let before = &trail.entries()[..cut.place];
+    Standing::of_page(alloc, game, diagram, before, &cut.suffix)
+}
+
+/// Takes the nearest page of the one side in place of the present one, which becomes the nearest of the other side.
+pub(crate) fn swing(
+    from: &mut Vec<Cut>,
+    trail: &mut Trail,
+    to: &mut Vec<Cut>,
+) -> Result<(), AllocError>
+    requires some { 0 < length from.old.items }
+    requires fits { FitOver trail.old.entries (cuts_of from.old.items) }
+    requires below { SuffixesBelow trail.old.vertices from.old.items }
+    requires well_formed { AllByRecursion (λ k. IsWellFormed k.page) (pages_of trail.old.entries from.old.items) }
+    ensures swung { OnOk result (IsSwung from.old.items trail.old.entries to.old.items from.new.items trail.new.entries to.new.items) }
+    ensures vertices { trail.new.vertices ≡ trail.old.vertices }
+    ensures from_below { SuffixesBelow trail.old.vertices from.new.items }
+    ensures to_below { SuffixesBelow trail.old.vertices to.old.items → SuffixesBelow trail.old.vertices to.new.items }
+    ensures err_from { OnErr result (cuts_of from.new.items ≡ cuts_of from.old.items) }
+    ensures err_trail { OnErr result (trail.new ≡ trail.old) }
+    ensures err_to { OnErr result (to.new.items ≡ to.old.items) }
+{
+    to.reserve(1)?;
+    let Cut {
+        serial,
+        place,
+        suffix,
+    } = from.pop().unwrap();
+    match trail.splice(place, suffix) {
+        Ok(suffix) => {
+            to.push(Cut {
+                serial,
+                place,
+                suffix,
+            })
+            .unwrap();
+            Ok(())
+        }
+        Err(refused) => {
+            from.push(Cut {
+                serial,
+                place,
+                suffix: refused.value,
+            })
+            .unwrap();
+            Err(AllocError)
+        }
+    }
+}

@@ -1,0 +1,76 @@
+//! Tokens of changes: one is out for each change that can still be undone, redone, kept or forgotten.
+ghost use Rattle.std.specs.Prelude.{◌≡◌};
+
+use std::marker::Model;
+
+/// Stands for a change, which an undo takes back. It can be neither copied nor let go: `Desk::undo` or `Desk::keep` spends it.
+pub struct Undo {
+    serial: u64,
+}
+
+impl Model for Undo {
+    ghost use Rattle.std.specs.Prelude.{ℕ};
+
+    ghost Value = { ℕ };
+
+    ghost view = { λ token. token.serial };
+}
+
+impl Undo {
+    pub(crate) fn of(serial: u64) -> Undo
+        ensures { result ≡ serial }
+    {
+        Undo { serial }
+    }
+
+    /// The serial of the change.
+    pub fn serial(&self) -> u64
+        ensures { result ≡ self.now }
+    {
+        self.serial
+    }
+
+    /// Ends the token.
+    pub(crate) fn spend(self) -> u64
+        ensures { result ≡ self }
+    {
+        let Undo { serial } = self;
+        serial
+    }
+}
+
+/// Stands for a change that was undone. It can be neither copied nor let go: `Desk::redo` or `Desk::forget` spends it.
+pub struct Redo {
+    serial: u64,
+}
+
+impl Model for Redo {
+    ghost use Rattle.std.specs.Prelude.{ℕ};
+
+    ghost Value = { ℕ };
+
+    ghost view = { λ token. token.serial };
+}
+
+impl Redo {
+    pub(crate) fn of(serial: u64) -> Redo
+        ensures { result ≡ serial }
+    {
+        Redo { serial }
+    }
+
+    /// The serial of the change.
+    pub fn serial(&self) -> u64
+        ensures { result ≡ self.now }
+    {
+        self.serial
+    }
+
+    /// Ends the token.
+    pub(crate) fn spend(self) -> u64
+        ensures { result ≡ self }
+    {
+        let Redo { serial } = self;
+        serial
+    }
+}
