@@ -81,9 +81,10 @@ invariant_of-self-2 c =
 pub returns-clause-accepted : goal.returns-clause-accepted
 returns-clause-accepted c =
     let at = (goal.at.returns-clause-accepted c).After-clear in
-    subst (λ (s : DeskState). IsStep s c.args.session (Decide c.args.feature c.args.value) (Changed (c.self.inside.changes + 1)) (desk_of (record { game = c.self.inside.game; diagram = c.self.inside.diagram; hopeful_shape = c.self.inside.hopeful_shape; dual_shape = c.self.inside.dual_shape; standing = c.in_ok-standing.standing; trail = c.push_decision.new.trail; past = c.push_decision.new.past; future = c.clear.new.self; changes = c.self.inside.changes + 1; tokens = c.self.inside.tokens + 1 }))) c.self.view_is
+    subst (λ (n : ℕ). IsStep c.args.self.now c.args.session (Decide c.args.feature c.args.value) (Changed n) (desk_of (record { game = c.self.inside.game; diagram = c.self.inside.diagram; hopeful_shape = c.self.inside.hopeful_shape; dual_shape = c.self.inside.dual_shape; standing = c.in_ok-standing.standing; trail = c.push_decision.new.trail; past = c.push_decision.new.past; future = c.clear.new.self; changes = c.self.inside.changes + 1; tokens = c.self.inside.tokens + 1 }))) (sym c.of-2.ensures)
+    (subst (λ (s : DeskState). IsStep s c.args.session (Decide c.args.feature c.args.value) (Changed (c.self.inside.changes + 1)) (desk_of (record { game = c.self.inside.game; diagram = c.self.inside.diagram; hopeful_shape = c.self.inside.hopeful_shape; dual_shape = c.self.inside.dual_shape; standing = c.in_ok-standing.standing; trail = c.push_decision.new.trail; past = c.push_decision.new.past; future = c.clear.new.self; changes = c.self.inside.changes + 1; tokens = c.self.inside.tokens + 1 }))) c.self.view_is
     (decided_step c.self.inside c.self.invariant c.args.session c.args.feature c.args.value c.in_ok-standing.standing c.push_decision.new.past c.push_decision.new.trail c.clear.new.self c.in_ok-known.known
     c.in_ok-push_decision.ensures.past c.in_ok-push_decision.ensures.below c.in_ok-push_decision.ensures.trail c.clear.ensures.items (accepted at) c.in_ok-standing.ensures.known
     (c.in_ok-standing.ensures.hopeful ∙ ap (λ (g : NamedGame). arena_for (kleene c.in_ok-known.known) Hopeful (graph_of g)) c.deref-3.ensures)
     (c.in_ok-standing.ensures.dual ∙ ap (λ (g : NamedGame). arena_for (kleene c.in_ok-known.known) Dual (graph_of g)) c.deref-3.ensures)
-    (known_table at))
+    (known_table at)))

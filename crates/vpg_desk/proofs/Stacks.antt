@@ -1,0 +1,158 @@
+-- Stacks of cuts, with the top last, against lists of cuts with the top first.
+use Rattle.std.proofs.Common.{◌≡◌, ℕ, zero, suc, ◌-◌, ◌+◌, ◌<◌, Bool, true, false, cond, ◌||◌, ◌==◌, List, [], ◌∷◌, ◌++◌, map, reverse, length, take, drop, slice_get, get_or, Option, Some, None, arith, refl, sym, ap, ◌∙◌, subst, ne_eqb, eq-eqb, append-nil, append_assoc, take_all}
+use Rattle.std.specs.List.{AllByRecursion, list_any}
+use Rattle.std.proofs.lemmas.Bool.{cond-false, cond-true}
+use Rattle.std.proofs.lemmas.List.{map-append, reverse-append, take_more, drop_more, drop_all}
+use Rattle.vpg_trail.proofs.PageLemmas.{any-append}
+use Rattle.vpg_trail.specs.Page.{Entry as Step}
+use Rattle.vpg_trail.specs.Shown.{entry_of}
+use Rattle.vpg_desk.specs.Book.{Kept, Refusal, Sealed, NotNewest, Overtaken, NotNext, refuses_undo, refuses_redo, has_serial}
+use Rattle.vpg_desk.specs.Cuts.{cut_of, cuts_of, serials_from_top, pages_of}
+use Rattle.vpg_desk.specs.Trail.{Cut as Saved, cuts_in_front_of, pages_over, spliced}
+use Rattle.vpg_desk.specs.declared.cuts.Cut.{Cut}
+use Rattle.vpg_desk.proofs.Changing.{cuts_of-push}
+
+last_split_at : {X : Type 0} (xs : List X) (x : X) (n : ℕ) → length xs ≡ suc n → slice_get xs n ≡ Some x → xs ≡ take n xs ++ x ∷ []
+last_split_at [] x n l e = absurd (omega arith)
+last_split_at (a ∷ []) x zero l e = let s : a ≡ x = cc in ap (λ y. y ∷ []) s
+last_split_at (a ∷ b ∷ xs) x zero l e = absurd (omega arith)
+last_split_at (a ∷ []) x (suc n) l e = cc
+last_split_at (a ∷ b ∷ xs) x (suc n) l e = ap (λ ys. a ∷ ys) (last_split_at (b ∷ xs) x n (omega arith) e)
+
+pub last_split : {X : Type 0} (xs : List X) (x : X) → slice_get xs (length xs - 1) ≡ Some x → xs ≡ take (length xs - 1) xs ++ x ∷ []
+last_split [] x e = cc
+last_split (a ∷ xs) x e =
+    let n : length (a ∷ xs) - 1 ≡ length xs = omega arith in
+    subst (λ k. a ∷ xs ≡ take k (a ∷ xs) ++ x ∷ []) (sym n) (last_split_at (a ∷ xs) x (length xs) refl (ap (slice_get (a ∷ xs)) (sym n) ∙ e))
+
+-- the top of a stack
+pub cuts_of-last : (cuts : List Cut) (cut : Cut) → slice_get cuts (length cuts - 1) ≡ Some cut → cuts_of cuts ≡ cut_of cut ∷ cuts_of (take (length cuts - 1) cuts)
+cuts_of-last cuts cut e = ap cuts_of (last_split cuts cut e) ∙ cuts_of-push (take (length cuts - 1) cuts) cut
+
+module _ (entries : List Step) (cuts : List Cut) (cut : Cut) (top : slice_get cuts (length cuts - 1) ≡ Some cut) where
+  -- the nearest page, by the top of the stack
+  pub nearest_page : (P : List Step → Type 0) → AllByRecursion (λ k. P k.page) (pages_of entries cuts) → P (spliced entries cut.place (map entry_of cut.suffix.items))
+  nearest_page P a = at (subst (λ (l : List Saved). AllByRecursion (λ (k : Kept). P k.page) (pages_over entries l)) (cuts_of-last cuts cut top) a)
+    where
+      at : AllByRecursion (λ (k : Kept). P k.page) (pages_over entries (cut_of cut ∷ cuts_of (take (length cuts - 1) cuts))) → P (spliced entries cut.place (map entry_of cut.suffix.items))
+      at b = b.0
+
+  -- the first cut is the top
+  pub nearest_cut : (first : Saved) (further : List Saved) → cuts_of cuts ≡ first ∷ further → cut_of cut ≡ first
+  nearest_cut first further e = let both : cut_of cut ∷ cuts_of (take (length cuts - 1) cuts) ≡ first ∷ further = sym (cuts_of-last cuts cut top) ∙ e in cc
+
+or_comm : (a b : Bool) → (a || b) ≡ (b || a)
+or_comm true true = refl
+or_comm true false = refl
+or_comm false true = refl
+or_comm false false = refl
+
+or_false : (b : Bool) → (b || false) ≡ b
+or_false true = refl
+or_false false = refl
+
+any_serial : (s : ℕ) (cuts : List Cut) → has_serial s (map (λ c. c.serial) cuts) ≡ list_any (λ c. c.serial == s) cuts
+any_serial s [] = refl
+any_serial s (c ∷ cuts) = ap (λ (b : Bool). (c.serial == s) || b) (any_serial s cuts)
+
+any-reverse : {X : Type 0} (test : X → Bool) (xs : List X) → list_any test (reverse xs) ≡ list_any test xs
+any-reverse test [] = refl
+any-reverse test (x ∷ xs) = ap (list_any test) (reverse-append (x ∷ []) xs) ∙ any-append test (reverse xs) (x ∷ []) ∙ or_comm (list_any test (reverse xs)) (test x || false) ∙ ap (λ (b : Bool). b || list_any test (reverse xs)) (or_false (test x)) ∙ ap (λ (b : Bool). test x || b) (any-reverse test xs)
+
+-- ---- the refusals, by the last cut
+
+-- a serial is refused where it isn't the first: by the first's name where it is further on, and else as absent
+abbrev by_serials : (ℕ → Refusal) → Refusal → ℕ → List ℕ → Option Refusal
+by_serials named absent s [] = Some absent
+by_serials named absent s (first ∷ further) = cond (first == s) None (cond (has_serial s further) (Some (named first)) (Some absent))
+
+undo_by_serials : (s : ℕ) (serials : List ℕ) → refuses_undo s serials ≡ by_serials NotNewest Sealed s serials
+undo_by_serials s [] = refl
+undo_by_serials s (n ∷ serials) = refl
+
+redo_by_serials : (s : ℕ) (serials : List ℕ) → refuses_redo s serials ≡ by_serials NotNext Overtaken s serials
+redo_by_serials s [] = refl
+redo_by_serials s (n ∷ serials) = refl
+
+module _ (named : ℕ → Refusal) (absent : Refusal) where
+  by_parts : (older : List Cut) (top : Cut) (s : ℕ) →
+      by_serials named absent s (serials_from_top (older ++ top ∷ [])) ≡ cond (top.serial == s) None (cond (list_any (λ c. c.serial == s) (older ++ top ∷ [])) (Some (named top.serial)) (Some absent))
+  by_parts older top s =
+      ap (λ (l : List Cut). by_serials named absent s (map (λ c. c.serial) l)) (reverse-append older (top ∷ []))
+      ∙ ap (λ (b : Bool). cond (top.serial == s) None (cond b (Some (named top.serial)) (Some absent))) (any_serial s (reverse older) ∙ any-reverse (λ (c : Cut). c.serial == s) older)
+      ∙ go (top.serial == s) refl
+    where
+      go : (b : Bool) → (top.serial == s) ≡ b →
+          cond b None (cond (list_any (λ c. c.serial == s) older) (Some (named top.serial)) (Some absent)) ≡ cond b None (cond (list_any (λ c. c.serial == s) (older ++ top ∷ [])) (Some (named top.serial)) (Some absent))
+      go true e = refl
+      go false e = ap (λ (b : Bool). cond b (Some (named top.serial)) (Some absent)) (sym (any-append (λ (c : Cut). c.serial == s) older (top ∷ []) ∙ ap (λ (b : Bool). list_any (λ c. c.serial == s) older || (b || false)) e ∙ or_false (list_any (λ c. c.serial == s) older)))
+
+  by_last : (cuts : List Cut) (top : Cut) (s : ℕ) → slice_get cuts (length cuts - 1) ≡ Some top →
+      by_serials named absent s (serials_from_top cuts) ≡ cond (top.serial == s) None (cond (list_any (λ c. c.serial == s) cuts) (Some (named top.serial)) (Some absent))
+  by_last cuts top s e =
+      subst (λ (l : List Cut). by_serials named absent s (serials_from_top l) ≡ cond (top.serial == s) None (cond (list_any (λ c. c.serial == s) l) (Some (named top.serial)) (Some absent))) (sym (last_split cuts top e))
+      (by_parts (take (length cuts - 1) cuts) top s)
+
+  by_same : (cuts : List Cut) (top : Cut) (s : ℕ) → slice_get cuts (length cuts - 1) ≡ Some top → top.serial ≡ s → by_serials named absent s (serials_from_top cuts) ≡ None
+  by_same cuts top s e n = by_last cuts top s e ∙ cond-true _ _ _ (eq-eqb top.serial s n)
+
+  by_other : (cuts : List Cut) (top : Cut) (s : ℕ) (b : Bool) → slice_get cuts (length cuts - 1) ≡ Some top → (top.serial ≡ s → ⊥) → list_any (λ c. c.serial == s) cuts ≡ b →
+      by_serials named absent s (serials_from_top cuts) ≡ cond b (Some (named top.serial)) (Some absent)
+  by_other cuts top s b e n h = by_last cuts top s e ∙ cond-false _ _ _ (ne_eqb top.serial s n) ∙ ap (λ (b : Bool). cond b (Some (named top.serial)) (Some absent)) h
+
+pub undo_same : (cuts : List Cut) (top : Cut) (s : ℕ) → slice_get cuts (length cuts - 1) ≡ Some top → top.serial ≡ s → refuses_undo s (serials_from_top cuts) ≡ None
+undo_same cuts top s e n = undo_by_serials s (serials_from_top cuts) ∙ by_same NotNewest Sealed cuts top s e n
+
+pub undo_other : (cuts : List Cut) (top : Cut) (s : ℕ) (b : Bool) → slice_get cuts (length cuts - 1) ≡ Some top → (top.serial ≡ s → ⊥) → list_any (λ c. c.serial == s) cuts ≡ b →
+    refuses_undo s (serials_from_top cuts) ≡ cond b (Some (NotNewest top.serial)) (Some Sealed)
+undo_other cuts top s b e n h = undo_by_serials s (serials_from_top cuts) ∙ by_other NotNewest Sealed cuts top s b e n h
+
+pub redo_same : (cuts : List Cut) (top : Cut) (s : ℕ) → slice_get cuts (length cuts - 1) ≡ Some top → top.serial ≡ s → refuses_redo s (serials_from_top cuts) ≡ None
+redo_same cuts top s e n = redo_by_serials s (serials_from_top cuts) ∙ by_same NotNext Overtaken cuts top s e n
+
+pub redo_other : (cuts : List Cut) (top : Cut) (s : ℕ) (b : Bool) → slice_get cuts (length cuts - 1) ≡ Some top → (top.serial ≡ s → ⊥) → list_any (λ c. c.serial == s) cuts ≡ b →
+    refuses_redo s (serials_from_top cuts) ≡ cond b (Some (NotNext top.serial)) (Some Overtaken)
+redo_other cuts top s b e n h = redo_by_serials s (serials_from_top cuts) ∙ by_other NotNext Overtaken cuts top s b e n h
+
+-- an empty stack refuses every serial
+pub undo_accepts_some : (cuts : List Cut) (s : ℕ) → refuses_undo s (serials_from_top cuts) ≡ None → 0 < length cuts
+undo_accepts_some [] s e = cc
+undo_accepts_some (c ∷ cuts) s e = omega arith
+
+pub redo_accepts_some : (cuts : List Cut) (s : ℕ) → refuses_redo s (serials_from_top cuts) ≡ None → 0 < length cuts
+redo_accepts_some [] s e = cc
+redo_accepts_some (c ∷ cuts) s e = omega arith
+
+-- ---- the cuts in front of a serial
+
+front_here : (s : ℕ) (c : Cut) (cuts : List Saved) → c.serial ≡ s → cuts_in_front_of s (cut_of c ∷ cuts) ≡ []
+front_here s c cuts e = cond-true _ _ _ (eq-eqb c.serial s e)
+
+front_other : (s : ℕ) (c : Cut) (cuts : List Saved) → (c.serial ≡ s → ⊥) → cuts_in_front_of s (cut_of c ∷ cuts) ≡ cut_of c ∷ cuts_in_front_of s cuts
+front_other s c cuts n = cond-false _ _ _ (ne_eqb c.serial s n)
+
+module _ (s : ℕ) (cuts : List Cut) (m : ℕ) (c : Cut) (within : m < length cuts) (read : c ≡ get_or cuts m c)
+    (so_far : cuts_in_front_of s (cuts_of cuts) ≡ cuts_of (drop (m + 1) cuts) ++ cuts_in_front_of s (cuts_of (take (m + 1) cuts))) where
+  below : cuts_of (take (m + 1) cuts) ≡ cut_of c ∷ cuts_of (take m cuts)
+  below = ap cuts_of (take_more cuts m c within ∙ ap (λ (x : Cut). take m cuts ++ x ∷ []) (sym read)) ∙ cuts_of-push (take m cuts) c
+
+  pub front_found : c.serial ≡ s → cuts_of (drop (m + 1) cuts) ≡ cuts_in_front_of s (cuts_of cuts)
+  front_found e = sym (so_far ∙ ap (λ (l : List Saved). cuts_of (drop (m + 1) cuts) ++ l) (ap (cuts_in_front_of s) below ∙ front_here s c (cuts_of (take m cuts)) e) ∙ append-nil (cuts_of (drop (m + 1) cuts)))
+
+  above : cuts_of (drop m cuts) ≡ cuts_of (drop (m + 1) cuts) ++ cut_of c ∷ []
+  above =
+      ap cuts_of (drop_more cuts m c within ∙ ap (λ (x : Cut). x ∷ drop (m + 1) cuts) (sym read))
+      ∙ ap (map cut_of) (reverse-append (c ∷ []) (drop (m + 1) cuts)) ∙ map-append cut_of (reverse (drop (m + 1) cuts)) (c ∷ [])
+
+  pub front_more : (c.serial ≡ s → ⊥) → cuts_in_front_of s (cuts_of cuts) ≡ cuts_of (drop m cuts) ++ cuts_in_front_of s (cuts_of (take m cuts))
+  front_more n =
+      so_far
+      ∙ ap (λ (l : List Saved). cuts_of (drop (m + 1) cuts) ++ l) (ap (cuts_in_front_of s) below ∙ front_other s c (cuts_of (take m cuts)) n)
+      ∙ sym (append_assoc (cuts_of (drop (m + 1) cuts)) (cut_of c ∷ []) (cuts_in_front_of s (cuts_of (take m cuts))))
+      ∙ ap (λ (l : List Saved). l ++ cuts_in_front_of s (cuts_of (take m cuts))) (sym above)
+
+pub front_start : (s : ℕ) (cuts : List Cut) → cuts_in_front_of s (cuts_of cuts) ≡ cuts_of (drop (length cuts) cuts) ++ cuts_in_front_of s (cuts_of (take (length cuts) cuts))
+front_start s cuts =
+    let none : drop (length cuts) cuts ≡ [] = drop_all (length cuts) cuts (omega arith) in
+    let all : take (length cuts) cuts ≡ cuts = take_all (length cuts) cuts (omega arith) in
+    sym (ap (λ (l : List Cut). cuts_of l ++ cuts_in_front_of s (cuts_of (take (length cuts) cuts))) none ∙ ap (λ (l : List Cut). cuts_in_front_of s (cuts_of l)) all)

@@ -1,0 +1,46 @@
+use Rattle.std.proofs.Common.{◌≡◌, ◌∙◌, ◌∷◌, IfSome, List, None, ap, sym, subst}
+use Rattle.std.specs.List.{AllByRecursion}
+use Rattle.vpg_trail.specs.Page.{choices_of}
+use Rattle.vpg_desk.specs.Book.{Undo, Undone, Refused, refuses_undo}
+use Rattle.vpg_desk.specs.Cuts.{cuts_of, pages_of, serials_from_top}
+use Rattle.vpg_desk.specs.DeskFields.{setting_in, desk_of}
+use Rattle.vpg_desk.specs.Faults.{undo_refusal}
+use Rattle.vpg_desk.specs.Setting.{HasConflict}
+use Rattle.vpg_desk.specs.Standing.{IsStanding}
+use Rattle.vpg_desk.specs.State.{DeskState, IsStep, Replies, setting_between}
+use Rattle.vpg_desk.specs.Trail.{Cut as Saved, spliced}
+use Rattle.vpg_desk.specs.declared.cuts.Cut.{Cut}
+use Rattle.vpg_desk.proofs.Swung.{undo_refused, past_consistent, past_well_formed, undone_step, undone_desk}
+use Rattle.vpg_desk.proofs.desk.Desk.swing_back.Goals as goal
+use Rattle.vpg_desk.proofs.desk.Desk.swing_back.Goals.{After-swing}
+
+pub returns-in-Some-clause-refused : goal.returns-in-Some-clause-refused
+returns-in-Some-clause-refused c =
+    subst (λ (s : DeskState). IfSome (undo_refusal c.in-Some.fault) (λ refusal. Replies s (Undo c.args.serial) (Refused refusal))) c.self.view_is
+    (undo_refused c.self.inside c.self.invariant c.args.serial c.in-Some.fault (ap (λ (l : List Cut). refuses_undo c.args.serial (serials_from_top l)) (sym c.deref.ensures.value) ∙ c.in-Some.ensures))
+
+pub standing_over-requires-clause-consistent : goal.standing_over-requires-clause-consistent
+standing_over-requires-clause-consistent c =
+    coe 0 1 (k. AllByRecursion (λ x. ¬ (HasConflict (setting_between (sym c.deref-2.ensures k) (sym c.deref-3.ensures k)) (choices_of x.page))) (pages_of c.self.inside.trail.entries (sym c.deref-4.ensures.value k))) (past_consistent c.self.inside c.self.invariant)
+
+pub swing-requires-clause-well_formed : goal.swing-requires-clause-well_formed
+swing-requires-clause-well_formed c = past_well_formed c.self.inside c.self.invariant
+
+accepted : (c : After-swing) → refuses_undo c.args.serial (serials_from_top c.self.inside.past.items) ≡ None
+accepted c = ap (λ (l : List Cut). refuses_undo c.args.serial (serials_from_top l)) (sym c.deref.ensures.value) ∙ c.in_default.ensures
+
+known : (c : After-swing) (cut : Saved) (further : List Saved) → cuts_of c.self.inside.past.items ≡ cut ∷ further → IsStanding (setting_in c.self.inside) (choices_of (spliced c.self.inside.trail.entries cut.place cut.suffix)) c.in_ok-standing.standing
+known c cut further e =
+    coe 0 1 (k. IsStanding (setting_between (c.deref-2.ensures k) (c.deref-3.ensures k)) (choices_of (spliced c.self.inside.trail.entries cut.place cut.suffix)) c.in_ok-standing.standing)
+    (c.in_ok-standing.ensures cut further (ap cuts_of c.deref-4.ensures.value ∙ e))
+
+pub invariant_of-self-2 : goal.invariant_of-self-2
+invariant_of-self-2 c =
+    let at = (goal.at.invariant_of-self-2 c).After-swing in
+    undone_desk c.self.inside c.self.invariant c.args.serial c.in_ok-standing.standing c.swing.new.from c.swing.new.to c.swing.new.trail c.swing.ensures.vertices c.swing.ensures.from_below (c.swing.ensures.to_below c.self.invariant.future_below) (accepted at) c.in_ok-swing.ensures.swung (known at)
+
+pub returns-clause-accepted : goal.returns-clause-accepted
+returns-clause-accepted c session =
+    let at = (goal.at.returns-clause-accepted c).After-swing in
+    subst (λ (s : DeskState). IsStep s session (Undo c.args.serial) (Undone c.args.serial) (desk_of (record c.self.inside { standing = c.in_ok-standing.standing; trail = c.swing.new.trail; past = c.swing.new.from; future = c.swing.new.to }))) c.self.view_is
+    (undone_step c.self.inside c.self.invariant c.args.serial c.in_ok-standing.standing c.swing.new.from c.swing.new.to c.swing.new.trail c.swing.ensures.vertices c.swing.ensures.from_below (c.swing.ensures.to_below c.self.invariant.future_below) (accepted at) c.in_ok-swing.ensures.swung (known at) session)
