@@ -1,7 +1,6 @@
 -- Accepted undos and redos restore pages.
 use Rattle.std.proofs.Common.{◌≡◌, ℕ, List, [], ◌∷◌, ◌++◌, sym, ap, ◌∙◌, subst}
-use Rattle.vpg_trail.specs.Page.{Entry}
-use Rattle.vpg_desk.specs.Book.{Book, Call, Reply, Undo, Redo, Undone, Redone, opened, next, IsReply}
+use Rattle.vpg_desk.specs.Book.{Book, Undo, Redo, Undone, Redone, opened, next, IsReply}
 use Rattle.vpg_desk.specs.Desk.{family_of}
 use Rattle.vpg_desk.specs.History.{Event, IsLegal, IsBeforeLast, gives_undo, gives_redo, undo_of, redo_of, book_after, page_after}
 use Rattle.vpg_desk.specs.Setting.{Setting}
@@ -23,11 +22,11 @@ module _ (setting : Setting) (book new : Book) (history : List Event) (h : IsHis
 pub undo_restored : (old new : DeskState) (s : ℕ) → IsStep old 0 (Undo s) (Undone s) new → Restores gives_undo old s new
 undo_restored old new s step history h =
     let r : (before : List Event) × (IsBeforeLast (gives_undo s) before history × (page_after (family_of (setting_of old)) (history ++ undo_of 0 s ∷ []) ≡ page_after (family_of (setting_of old)) before)) =
-        undo_restores (family_of (setting_of old)) history 0 s (longer_legal (setting_of old) old.book new.book history h (undo_of 0 s) step.step.0 step.step.1) in
+    undo_restores (family_of (setting_of old)) history 0 s (longer_legal (setting_of old) old.book new.book history h (undo_of 0 s) step.step.0 step.step.1) in
     (r.0, (r.1.0, longer_leaves (setting_of old) old.book new.book history h (undo_of 0 s) step.step.0 step.step.1 ∙ r.1.1))
 
 pub redo_restored : (old new : DeskState) (s : ℕ) → IsStep old 0 (Redo s) (Redone s) new → Restores gives_redo old s new
 redo_restored old new s step history h =
     let r : (before : List Event) × (IsBeforeLast (gives_redo s) before history × (page_after (family_of (setting_of old)) (history ++ redo_of 0 s ∷ []) ≡ page_after (family_of (setting_of old)) before)) =
-        redo_restores (family_of (setting_of old)) history 0 s (longer_legal (setting_of old) old.book new.book history h (redo_of 0 s) step.step.0 step.step.1) in
+    redo_restores (family_of (setting_of old)) history 0 s (longer_legal (setting_of old) old.book new.book history h (redo_of 0 s) step.step.0 step.step.1) in
     (r.0, (r.1.0, longer_leaves (setting_of old) old.book new.book history h (redo_of 0 s) step.step.0 step.step.1 ∙ r.1.1))

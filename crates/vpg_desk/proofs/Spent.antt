@@ -1,11 +1,10 @@
 -- What a desk answers to keep and forget, and what they leave.
-use Rattle.std.proofs.Common.{◌≡◌, ℕ, ◌-◌, List, None, refl, sym, ap, ◌∙◌, subst, Vec, Global}
-use Rattle.std.specs.Arc.{arc_value}
-use Rattle.vpg_desk.specs.Book.{Book, Call, Keep, Forget, Spent, kept, forgotten}
+use Rattle.std.proofs.Common.{◌≡◌, ℕ, ◌-◌, List, None, refl, sym, subst, Vec, Global}
+use Rattle.vpg_desk.specs.Book.{Keep, Forget, Spent, kept, forgotten}
 use Rattle.vpg_desk.specs.Cuts.{cuts_of, cut_book, SuffixesBelow}
 use Rattle.vpg_desk.specs.DeskFields.{setting_in, book_in, desk_of, IsDesk}
 use Rattle.vpg_desk.specs.State.{Replies, IsStep, IsReached}
-use Rattle.vpg_desk.specs.Trail.{Cut as Saved, StandsFor, book_of, cuts_in_front_of}
+use Rattle.vpg_desk.specs.Trail.{Cut as Saved, StandsFor, cuts_in_front_of}
 use Rattle.vpg_desk.specs.declared.cuts.Cut.{Cut}
 use Rattle.vpg_desk.specs.declared.desk.Desk.TheInside.{Inside}
 use Rattle.vpg_desk.proofs.Reaching.{reached_step}

@@ -1,13 +1,17 @@
 -- Stacks of cuts, with the top last, against lists of cuts with the top first.
-use Rattle.std.proofs.Common.{◌≡◌, ℕ, zero, suc, ◌-◌, ◌+◌, ◌<◌, Bool, true, false, cond, ◌||◌, ◌==◌, List, [], ◌∷◌, ◌++◌, map, reverse, length, take, drop, slice_get, get_or, Option, Some, None, arith, refl, sym, ap, ◌∙◌, subst, ne_eqb, eq-eqb, append-nil, append_assoc, take_all}
+use Rattle.std.proofs.Common.{◌≡◌, ℕ, zero, suc, ◌-◌, ◌+◌, ◌<◌, Bool, true, false, cond, ◌||◌, ◌==◌, List, [], ◌∷◌, ◌++◌, map, reverse, length, take, drop, slice_get, get_or, Option, Some, None, All, IfSome, arith, refl, sym, ap, ◌∙◌, subst, ne_eqb, eq-eqb, append-nil, append_assoc, take_all}
 use Rattle.std.specs.List.{AllByRecursion, list_any}
 use Rattle.std.proofs.lemmas.Bool.{cond-false, cond-true}
+use Rattle.std.specs.Option.{option_to_list}
+use Rattle.std.proofs.lemmas.List.Elements.{All-pop, All-push, All-same}
 use Rattle.std.proofs.lemmas.List.{map-append, reverse-append, take_more, drop_more, drop_all}
-use Rattle.vpg_trail.proofs.PageLemmas.{any-append}
+use Rattle.vpg_trail.proofs.PageLemmas.{any-append, well_formed_parts}
 use Rattle.vpg_trail.specs.Page.{Entry as Step}
-use Rattle.vpg_trail.specs.Shown.{entry_of}
+use Rattle.vpg_trail.specs.Shown.{entry_of, VertexBelow}
+use Rattle.vpg_trail.specs.WellFormed.{IsWellFormed, LiftsStandAfter}
+use Rattle.vpg_trail.proofs.Lifting.{well_formed_lifts_stand}
 use Rattle.vpg_desk.specs.Book.{Kept, Refusal, Sealed, NotNewest, Overtaken, NotNext, refuses_undo, refuses_redo, has_serial}
-use Rattle.vpg_desk.specs.Cuts.{cut_of, cuts_of, serials_from_top, pages_of}
+use Rattle.vpg_desk.specs.Cuts.{cut_of, cuts_of, serials_from_top, pages_of, SuffixesBelow}
 use Rattle.vpg_desk.specs.Trail.{Cut as Saved, cuts_in_front_of, pages_over, spliced}
 use Rattle.vpg_desk.specs.declared.cuts.Cut.{Cut}
 use Rattle.vpg_desk.proofs.Changing.{cuts_of-push}
@@ -29,17 +33,30 @@ last_split (a ∷ xs) x e =
 pub cuts_of-last : (cuts : List Cut) (cut : Cut) → slice_get cuts (length cuts - 1) ≡ Some cut → cuts_of cuts ≡ cut_of cut ∷ cuts_of (take (length cuts - 1) cuts)
 cuts_of-last cuts cut e = ap cuts_of (last_split cuts cut e) ∙ cuts_of-push (take (length cuts - 1) cuts) cut
 
-module _ (entries : List Step) (cuts : List Cut) (cut : Cut) (top : slice_get cuts (length cuts - 1) ≡ Some cut) where
+module _ (entries : List Step) (cuts : List Cut) (cut : Cut) (further : List Saved) (top : cuts_of cuts ≡ cut_of cut ∷ further) where
   -- the nearest page, by the top of the stack
   pub nearest_page : (P : List Step → Type 0) → AllByRecursion (λ k. P k.page) (pages_of entries cuts) → P (spliced entries cut.place (map entry_of cut.suffix.items))
-  nearest_page P a = at (subst (λ (l : List Saved). AllByRecursion (λ (k : Kept). P k.page) (pages_over entries l)) (cuts_of-last cuts cut top) a)
+  nearest_page P a = at (subst (λ (l : List Saved). AllByRecursion (λ (k : Kept). P k.page) (pages_over entries l)) top a)
     where
-      at : AllByRecursion (λ (k : Kept). P k.page) (pages_over entries (cut_of cut ∷ cuts_of (take (length cuts - 1) cuts))) → P (spliced entries cut.place (map entry_of cut.suffix.items))
+      at : AllByRecursion (λ (k : Kept). P k.page) (pages_over entries (cut_of cut ∷ further)) → P (spliced entries cut.place (map entry_of cut.suffix.items))
       at b = b.0
 
+  -- its lifts stand
+  pub nearest_lifts : AllByRecursion (λ k. IsWellFormed k.page) (pages_of entries cuts) → LiftsStandAfter (take cut.place entries) (map entry_of cut.suffix.items)
+  nearest_lifts a =
+      well_formed_lifts_stand (take cut.place entries) (map entry_of cut.suffix.items)
+      (well_formed_parts [] (take cut.place entries) (map entry_of cut.suffix.items) (nearest_page IsWellFormed a)).1
+
   -- the first cut is the top
-  pub nearest_cut : (first : Saved) (further : List Saved) → cuts_of cuts ≡ first ∷ further → cut_of cut ≡ first
-  nearest_cut first further e = let both : cut_of cut ∷ cuts_of (take (length cuts - 1) cuts) ≡ first ∷ further = sym (cuts_of-last cuts cut top) ∙ e in cc
+  pub nearest_cut : (first : Saved) (others : List Saved) → cuts_of cuts ≡ first ∷ others → cut_of cut ≡ first
+  nearest_cut first others e = let both : cut_of cut ∷ further ≡ first ∷ others = sym top ∙ e in cc
+
+-- a cut is taken off, and one of the same entries is put back
+pub put_back_below : (n : ℕ) (cuts older after : List Cut) (r : Option Cut) (cut back : Cut) → cuts ≡ older ++ option_to_list r → r ≡ Some cut → after ≡ older ++ back ∷ [] → back.suffix.items ≡ cut.suffix.items → SuffixesBelow n cuts → SuffixesBelow n after
+put_back_below n cuts older after r cut back pops is pushes same a =
+    let t : All (λ (c : Cut). All (λ e. VertexBelow n (entry_of e)) c.suffix.items) older × IfSome r (λ (c : Cut). All (λ e. VertexBelow n (entry_of e)) c.suffix.items) = All-pop (λ (c : Cut). All (λ e. VertexBelow n (entry_of e)) c.suffix.items) cuts older r pops a in
+    All-same (λ (c : Cut). All (λ e. VertexBelow n (entry_of e)) c.suffix.items) after (older ++ back ∷ []) pushes
+    (All-push (λ (c : Cut). All (λ e. VertexBelow n (entry_of e)) c.suffix.items) older back t.0 (All-same (λ e. VertexBelow n (entry_of e)) back.suffix.items cut.suffix.items same (subst (λ (o : Option Cut). IfSome o (λ (c : Cut). All (λ e. VertexBelow n (entry_of e)) c.suffix.items)) is t.1)))
 
 or_comm : (a b : Bool) → (a || b) ≡ (b || a)
 or_comm true true = refl

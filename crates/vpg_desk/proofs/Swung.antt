@@ -1,12 +1,11 @@
 -- What a desk answers to undo and redo, and what accepted ones leave.
-use Rattle.std.proofs.Common.{◌≡◌, ℕ, List, [], ◌∷◌, map, reverse, Some, None, IfSome, refl, sym, ap, ◌∙◌, subst, Vec, Global}
-use Rattle.std.specs.Arc.{arc_value}
+use Rattle.std.proofs.Common.{◌≡◌, ℕ, List, [], ◌∷◌, map, reverse, None, IfSome, refl, sym, ap, ◌∙◌, subst, Vec, Global}
 use Rattle.std.specs.List.{AllByRecursion}
 use Rattle.vpg_diagram.proofs.Lists.{All-implies}
 use Rattle.vpg_trail.specs.Page.{Entry as Step, choices_of}
 use Rattle.vpg_trail.specs.Shown.{Track}
 use Rattle.vpg_trail.specs.WellFormed.{IsWellFormed}
-use Rattle.vpg_desk.specs.Book.{Book, Kept, Call, Reply, Undo, Redo, Undone, Redone, Refused, serials_of, refuses_undo, refuses_redo, undone, redone}
+use Rattle.vpg_desk.specs.Book.{Book, Kept, Undo, Redo, Undone, Redone, Refused, serials_of, refuses_undo, refuses_redo, undone, redone}
 use Rattle.vpg_desk.specs.Cuts.{cut_of, cuts_of, cut_book, serials_from_top, pages_of, SuffixesBelow, IsSwung}
 use Rattle.vpg_desk.specs.DeskFields.{setting_in, book_in, desk_of, IsDesk}
 use Rattle.vpg_desk.specs.Faults.{undo_refusal, redo_refusal}
@@ -14,7 +13,7 @@ use Rattle.vpg_desk.specs.Headline.{Tells}
 use Rattle.vpg_desk.specs.Setting.{HasConflict}
 use Rattle.vpg_desk.specs.Standing.{IsStanding}
 use Rattle.vpg_desk.specs.State.{Replies, IsStep, IsReached}
-use Rattle.vpg_desk.specs.Trail.{Cut as Saved, Trail as CutBook, FitOver, StandsFor, book_of, spliced, swung_back, swung_forth}
+use Rattle.vpg_desk.specs.Trail.{Cut as Saved, Trail as CutBook, StandsFor, spliced, swung_back, swung_forth}
 use Rattle.vpg_desk.specs.declared.cuts.Cut.{Cut}
 use Rattle.vpg_desk.specs.declared.desk.Desk.TheInside.{Inside}
 use Rattle.vpg_desk.specs.declared.fault.RedoFault.{RedoFault}

@@ -1,4 +1,4 @@
-use Rattle.std.proofs.Common.{◌≡◌, ◌≤◌, ◌++◌, ◌+◌, length, take, drop}
+use Rattle.std.proofs.Common.{◌≡◌, ◌≤◌, ◌++◌, length, take, drop}
 use Rattle.vpg_desk.specs.Cuts.{cuts_of}
 use Rattle.vpg_desk.specs.Trail.{cuts_in_front_of}
 use Rattle.vpg_desk.proofs.spending.up_to.Given as goal

@@ -1,16 +1,16 @@
-use Rattle.std.proofs.Common.{◌≡◌, ◌∙◌, ◌++◌, ◌-◌, ◌∷◌, IfOk, Result, Ok, Err, List, Some, length, map, slice_get, take, sym, ap, subst}
+use Rattle.std.proofs.Common.{◌≡◌, ◌∙◌, ◌++◌, ◌-◌, ◌∷◌, IfOk, Result, Ok, Err, List, length, map, take, sym, ap, subst}
 use Rattle.std.proofs.lemmas.List.{take-map}
 use Rattle.std.specs.Option.{option_copied}
 use Rattle.vpg_trail.specs.Page.{Entry as Step, choices_of}
 use Rattle.vpg_trail.specs.Shown.{entry_of}
-use Rattle.vpg_desk.specs.Cuts.{cuts_of}
+use Rattle.vpg_desk.specs.Cuts.{cut_of, cuts_of}
 use Rattle.vpg_desk.specs.Setting.{HasConflict}
 use Rattle.vpg_desk.specs.Standing.{IsStanding}
 use Rattle.vpg_desk.specs.State.{setting_between}
 use Rattle.vpg_desk.specs.Trail.{Cut as Saved, spliced}
 use Rattle.vpg_desk.specs.declared.cuts.Cut.{Cut}
 use Rattle.vpg_desk.specs.declared.standing.Standing.{Standing}
-use Rattle.vpg_desk.proofs.Stacks.{nearest_page, nearest_cut}
+use Rattle.vpg_desk.proofs.Stacks.{cuts_of-last, nearest_page, nearest_cut}
 use Rattle.vpg_desk.proofs.swing.standing_over.Goals as goal
 use Rattle.vpg_desk.proofs.swing.standing_over.Goals.{After-deref}
 
@@ -20,24 +20,24 @@ page c =
     ∙ ap (λ (l : List Step). l ++ map entry_of c.unwrap-cut.result.now.suffix.items) (take-map entry_of c.unwrap-cut.result.now.place c.entries.result.now)
     ∙ ap (λ l. map entry_of (take c.unwrap-cut.result.now.place c.entries.result.now) ++ map entry_of l) (sym c.deref.ensures.value)
 
-top : (c : After-deref) → slice_get c.args.cuts.now (length c.args.cuts.now - 1) ≡ Some c.unwrap-cut.result.now
-top c = sym c.last.ensures.value ∙ ap option_copied c.unwrap-cut.ensures
+top : (c : After-deref) → cuts_of c.args.cuts.now ≡ cut_of c.unwrap-cut.result.now ∷ cuts_of (take (length c.args.cuts.now - 1) c.args.cuts.now)
+top c = cuts_of-last c.args.cuts.now c.unwrap-cut.result.now (sym c.last.ensures.value ∙ ap option_copied c.unwrap-cut.ensures)
 
 -- what is so of the nearest page, by whichever cut is the first
-stands_if_ok : {E : Type 0} (P : List Step → Standing → Type 0) (entries : List Step) (cuts : List Cut) (cut : Cut) → slice_get cuts (length cuts - 1) ≡ Some cut → (nearest : List Step) → spliced entries cut.place (map entry_of cut.suffix.items) ≡ nearest → (r : Result Standing E) → IfOk r (P nearest) →
+stands_if_ok : {E : Type 0} (P : List Step → Standing → Type 0) (entries : List Step) (cuts : List Cut) (cut : Cut) (rest : List Saved) → cuts_of cuts ≡ cut_of cut ∷ rest → (nearest : List Step) → spliced entries cut.place (map entry_of cut.suffix.items) ≡ nearest → (r : Result Standing E) → IfOk r (P nearest) →
     IfOk r (λ s. (first : Saved) (further : List Saved) → cuts_of cuts ≡ first ∷ further → P (spliced entries first.place first.suffix) s)
-stands_if_ok P entries cuts cut e nearest is (Ok s) p = λ first further f.
-    subst (λ (l : List Step). P l s) (sym is ∙ ap (λ (x : Saved). spliced entries x.place x.suffix) (nearest_cut entries cuts cut e first further f)) p
-stands_if_ok P entries cuts cut e nearest is (Err x) p = tt
+stands_if_ok P entries cuts cut rest e nearest is (Ok s) p = λ first further f.
+    subst (λ (l : List Step). P l s) (sym is ∙ ap (λ (x : Saved). spliced entries x.place x.suffix) (nearest_cut entries cuts cut rest e first further f)) p
+stands_if_ok P entries cuts cut rest e nearest is (Err x) p = tt
 
 pub of_page-requires-clause-consistent : goal.of_page-requires-clause-consistent
 of_page-requires-clause-consistent c =
     let at = (goal.at.of_page-requires-clause-consistent c).After-deref in
     subst (λ (l : List Step). ¬ (HasConflict (setting_between c.args.game.now c.args.diagram.now) (choices_of l))) (page at)
-    (nearest_page c.args.trail.now.entries c.args.cuts.now c.unwrap-cut.result.now (top at) (λ l. ¬ (HasConflict (setting_between c.args.game.now c.args.diagram.now) (choices_of l))) c.requires.consistent)
+    (nearest_page c.args.trail.now.entries c.args.cuts.now c.unwrap-cut.result.now (cuts_of (take (length c.args.cuts.now - 1) c.args.cuts.now)) (top at) (λ l. ¬ (HasConflict (setting_between c.args.game.now c.args.diagram.now) (choices_of l))) c.requires.consistent)
 
 pub returns : goal.returns
 returns c =
     let at = (goal.at.returns c).After-deref in
-    stands_if_ok (λ l. IsStanding (setting_between c.args.game.now c.args.diagram.now) (choices_of l)) c.args.trail.now.entries c.args.cuts.now c.unwrap-cut.result.now (top at) (map entry_of (take c.unwrap-cut.result.now.place c.entries.result.now) ++ map entry_of c.deref.result.now) (page at) c.of_page.result
+    stands_if_ok (λ l. IsStanding (setting_between c.args.game.now c.args.diagram.now) (choices_of l)) c.args.trail.now.entries c.args.cuts.now c.unwrap-cut.result.now (cuts_of (take (length c.args.cuts.now - 1) c.args.cuts.now)) (top at) (map entry_of (take c.unwrap-cut.result.now.place c.entries.result.now) ++ map entry_of c.deref.result.now) (page at) c.of_page.result
     c.of_page.ensures

@@ -1,4 +1,4 @@
-use Rattle.std.proofs.Common.{◌≡◌, ◌∙◌, ◌-◌, List, ap, subst}
+use Rattle.std.proofs.Common.{◌≡◌, ◌∙◌, ◌-◌, ap, subst}
 use Rattle.vpg_desk.specs.Book.{Forget, Spent}
 use Rattle.vpg_desk.specs.Cuts.{cuts_of}
 use Rattle.vpg_desk.specs.DeskFields.{desk_of}

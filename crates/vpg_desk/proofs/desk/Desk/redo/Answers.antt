@@ -1,4 +1,4 @@
-use Rattle.std.proofs.Common.{◌≡◌, ◌∙◌, ℕ, sym, subst}
+use Rattle.std.proofs.Common.{◌∙◌, ℕ, sym, subst}
 use Rattle.vpg_desk.specs.Book.{Redo, Redone}
 use Rattle.vpg_desk.specs.State.{IsStep}
 use Rattle.vpg_desk.proofs.Restored.{redo_restored}
