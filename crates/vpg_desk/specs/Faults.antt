@@ -7,9 +7,11 @@ use Rattle.vpg_partial.specs.Known.{NamesConflict}
 use Rattle.vpg_partial.specs.KnownLaws.{HasConflictOf}
 use Rattle.vpg_desk.specs.declared.fault.OpenFault.{OpenFault}
 use Rattle.vpg_desk.specs.declared.fault.OpenFault.TheVariants.{AtLimit, Conflict as OpensInConflict, Memory as NoMemory}
-use Rattle.vpg_desk.specs.Book.{Refusal, UnknownFeature, AlreadyDecided, Conflict, TooManyChanges, Sealed, NotNewest, Overtaken, NotNext}
+use Rattle.vpg_desk.specs.Book.{Refusal, UnknownFeature, AlreadyDecided, Conflict, TooManyChanges, NotDecided, Sealed, NotNewest, Overtaken, NotNext}
 use Rattle.vpg_desk.specs.declared.fault.DecideFault.{DecideFault}
 use Rattle.vpg_desk.specs.declared.fault.DecideFault.TheVariants.{UnknownFeature as IsUnknown, AlreadyDecided as IsDecided, Conflict as HasConflict, TooManyChanges as IsTooMany, Memory}
+use Rattle.vpg_desk.specs.declared.fault.RetractFault.{RetractFault}
+use Rattle.vpg_desk.specs.declared.fault.RetractFault.TheVariants.{UnknownFeature as RetractUnknown, NotDecided as IsUndecided, TooManyChanges as RetractTooMany, Memory as RetractMemory}
 use Rattle.vpg_desk.specs.declared.fault.UndoFault.{UndoFault}
 use Rattle.vpg_desk.specs.declared.fault.UndoFault.TheVariants.{Sealed as IsSealed, NotNewest as IsNotNewest, Memory as UndoMemory}
 use Rattle.vpg_desk.specs.declared.fault.RedoFault.{RedoFault}
@@ -22,6 +24,12 @@ decide_refusal (IsDecided serial) = Some (AlreadyDecided serial)
 decide_refusal (HasConflict feature) = Some (Conflict feature)
 decide_refusal IsTooMany = Some TooManyChanges
 decide_refusal Memory = None
+
+abbrev pub retract_refusal : RetractFault → Option Refusal
+retract_refusal RetractUnknown = Some UnknownFeature
+retract_refusal IsUndecided = Some NotDecided
+retract_refusal RetractTooMany = Some TooManyChanges
+retract_refusal RetractMemory = None
 
 abbrev pub undo_refusal : UndoFault → Option Refusal
 undo_refusal IsSealed = Some Sealed

@@ -49,6 +49,22 @@ pub enum DecideFault {
     Memory,
 }
 
+/// Why a decision isn't retracted. `Memory` comes last, and only where a growth was refused.
+#[derive(Clone, Copy, Debug, PartialEq, Eq, Error)]
+pub enum RetractFault {
+    /// The diagram has no such feature.
+    #[error("UnknownFeature")]
+    UnknownFeature,
+    /// No decision of the present page is on the feature.
+    #[error("NotDecided")]
+    NotDecided,
+    /// The desk has made 1,048,576 changes.
+    #[error("TooManyChanges")]
+    TooManyChanges,
+    #[error("Memory")]
+    Memory,
+}
+
 /// Why a change isn't undone. `Memory` comes last, and only where a growth was refused.
 #[derive(Clone, Copy, Debug, PartialEq, Eq, Error)]
 pub enum UndoFault {
@@ -144,6 +160,17 @@ impl<T: Drop> From<AllocFailed<T>> for DecideFault {
 
     fn from(_: AllocFailed<T>) -> DecideFault {
         DecideFault::Memory
+    }
+}
+
+impl From<AllocError> for RetractFault {
+    ghost use Rattle.std.specs.Prelude.{◌≡◌};
+    ghost use Rattle.vpg_desk.specs.declared.fault.RetractFault.TheVariants.{Memory};
+
+    ghost from_gives = { λ _ fault. fault ≡ Memory };
+
+    fn from(_: AllocError) -> RetractFault {
+        RetractFault::Memory
     }
 }
 

@@ -1,0 +1,73 @@
+-- What an accepted retract leaves.
+use Rattle.std.proofs.Common.{◌≡◌, ℕ, ◌+◌, ◌<◌, ◌≤◌, Bool, true, not, cond, List, [], ◌∷◌, ◌++◌, length, take, drop, filter, Option, Some, None, refl, sym, ap, ◌∙◌, subst, arith, Vec, Global}
+use Rattle.std.proofs.lemmas.Bool.{lt-leb}
+use Rattle.std.specs.Arc.{arc_value}
+use Rattle.vpg_diagram.specs.FeatureDiagram.{feature_count}
+use Rattle.vpg_trail.specs.Page.{Entry as Step, choices_of, has_decided, assumes, before_decision, after_decision, reset_all, retracted}
+use Rattle.vpg_trail.specs.Shown.{Track}
+use Rattle.vpg_desk.specs.Book.{Refusal, Changed, Retract, UnknownFeature, NotDecided, TooManyChanges, most_changes, changed}
+use Rattle.vpg_desk.specs.Cuts.{cuts_of, cut_book, SuffixesBelow}
+use Rattle.vpg_desk.specs.DeskFields.{setting_in, book_in, desk_of, IsDesk}
+use Rattle.vpg_desk.specs.Setting.{HasConflict}
+use Rattle.vpg_desk.specs.Standing.{IsStanding}
+use Rattle.vpg_desk.specs.State.{Replies, IsStep, IsReached}
+use Rattle.vpg_desk.specs.Trail.{StandsFor, book_of}
+use Rattle.vpg_desk.specs.declared.cuts.Cut.{Cut}
+use Rattle.vpg_desk.specs.declared.desk.Desk.TheInside.{Inside}
+use Rattle.vpg_desk.specs.declared.standing.Standing.{Standing}
+use Rattle.vpg_desk.proofs.Decided.{limits}
+use Rattle.vpg_desk.proofs.Reaching.{reached_step, reached_tells}
+use Rattle.vpg_desk.proofs.Trail.{cut_is_change}
+
+-- the front and what stays of the later entries
+pub retracted_parts : (f : ℕ) (page front later kept : List Step) → front ≡ before_decision f page → later ≡ after_decision f page → kept ≡ reset_all front (filter (λ e. not (assumes f e)) later) → front ++ kept ≡ retracted f page
+retracted_parts f page front later kept b a e = ap (λ (l : List Step). front ++ l) e ∙ (λ k. b k ++ reset_all (b k) (filter (λ x. not (assumes f x)) (a k)))
+
+-- the refusal, by its three tests
+abbrev refusal_by : (unknown decided many : Bool) → Option Refusal
+refusal_by unknown decided many = cond unknown (Some UnknownFeature) (cond (not decided) (Some NotDecided) (cond many (Some TooManyChanges) None))
+
+pub retract_accepted : (d : Inside) → IsDesk d → (f : ℕ) → f < feature_count (arc_value d.diagram).lines → has_decided f d.trail.entries ≡ true → (d.changes ≡ 1048576 → ⊥) →
+    Replies (desk_of d) (Retract f) (Changed (d.changes + 1))
+retract_accepted d i f inside decided n = (None, (sym (λ k. refusal_by (lt-leb (feature_count (arc_value d.diagram).lines) f inside k) (decided k) (lt-leb most_changes d.changes room k)), refl))
+  where
+    room : d.changes < most_changes
+    room = omega (arith, (limits d i).1, n)
+
+-- ---- the page that is left
+
+module _ (d : Inside) (i : IsDesk d) (f : ℕ) (accepted : Replies (desk_of d) (Retract f) (Changed (d.changes + 1))) where
+  reached : IsReached (setting_in d) (changed (book_in d) (retracted f d.trail.entries))
+  reached = reached_step (setting_in d) (book_in d) 0 (Retract f) (Changed (d.changes + 1)) i.reached accepted tt
+
+  pub retracted_consistent : HasConflict (setting_in d) (choices_of (retracted f d.trail.entries)) → ⊥
+  retracted_consistent = (reached_tells (setting_in d) (changed (book_in d) (retracted f d.trail.entries)) i.opened.is_setting reached).present.consistent
+
+  module _ (session place : ℕ) (kept : List Step) (standing : Standing) (later : Vec Cut Global) (trail : Track) (future : Vec Cut Global)
+      (within : place ≤ length d.trail.entries)
+      (page_is : take place d.trail.entries ++ kept ≡ retracted f d.trail.entries)
+      (cuts : cuts_of later.items ≡ record { serial = d.changes + 1; place = place; suffix = drop place d.trail.entries } ∷ cuts_of d.past.items)
+      (below : SuffixesBelow d.trail.vertices d.past.items → SuffixesBelow d.trail.vertices later.items)
+      (trail_is : trail ≡ record { vertices = d.trail.vertices; entries = take place d.trail.entries ++ kept })
+      (emptied : future.items ≡ [])
+      (standing_is : IsStanding (setting_in d) (choices_of (retracted f d.trail.entries)) standing) where
+    stands : StandsFor (cut_book later.items trail.entries future.items (d.changes + 1) (d.tokens + 1)) (changed (book_in d) (retracted f d.trail.entries))
+    stands = coe 0 1 (k. StandsFor (record { past = sym cuts k; entries = (sym trail_is k).entries; future = cuts_of (sym emptied k); changes = d.changes + 1; tokens = d.tokens + 1 }) (changed (book_in d) (page_is k)))
+        (cut_is_change (cut_book d.past.items d.trail.entries d.future.items d.changes d.tokens) (book_in d) place kept (record { same = refl; past_fits = i.past_fits; future_fits = i.future_fits }) within)
+
+    pub retracted_step : IsStep (desk_of d) session (Retract f) (Changed (d.changes + 1)) (record { game = arc_value d.game; diagram = arc_value d.diagram; book = book_of (cut_book later.items trail.entries future.items (d.changes + 1) (d.tokens + 1)) })
+    retracted_step = record { step = (accepted, stands.same); game = refl; diagram = refl }
+
+    pub retracted_desk : IsDesk (record { game = d.game; diagram = d.diagram; hopeful_shape = d.hopeful_shape; dual_shape = d.dual_shape; standing = standing; trail = trail; past = later; future = future; changes = d.changes + 1; tokens = d.tokens + 1 })
+    retracted_desk = record {
+      opened = i.opened;
+      reached = subst (IsReached (setting_in d)) (sym stands.same) reached;
+      hopeful_shape = i.hopeful_shape;
+      dual_shape = i.dual_shape;
+      standing = subst (λ (l : List Step). IsStanding (setting_in d) (choices_of l) standing) (sym (ap (λ (t : Track). t.entries) trail_is ∙ page_is)) standing_is;
+      vertices = ap (λ (t : Track). t.vertices) trail_is ∙ i.vertices;
+      past_fits = stands.past_fits;
+      future_fits = stands.future_fits;
+      past_below = subst (λ (t : Track). SuffixesBelow t.vertices later.items) (sym trail_is) (below i.past_below);
+      future_below = subst (λ (l : List Cut). SuffixesBelow trail.vertices l) (sym emptied) (λ k x h. absurd (omega arith));
+    }

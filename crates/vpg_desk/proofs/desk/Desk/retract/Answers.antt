@@ -1,0 +1,69 @@
+use Rattle.std.proofs.Common.{◌≡◌, ◌∙◌, ◌+◌, ◌<◌, ◌++◌, ℕ, List, [], length, map, take, drop, sym, ap, subst, arith}
+use Rattle.std.proofs.lemmas.List.{take-map, length-map}
+use Rattle.vpg_diagram.specs.DiagramText.{NamedDiagram}
+use Rattle.vpg_diagram.specs.FeatureDiagram.{feature_count}
+use Rattle.vpg_trail.specs.Page.{Entry as Step, choices_of, has_decided, before_decision, after_decision, retracted}
+use Rattle.vpg_trail.specs.Shown.{entry_of}
+use Rattle.vpg_trail.specs.WellFormed.{LiftsStandAfter}
+use Rattle.vpg_desk.specs.Book.{Retract, Changed}
+use Rattle.vpg_desk.specs.DeskFields.{desk_of}
+use Rattle.vpg_desk.specs.Setting.{HasConflict}
+use Rattle.vpg_desk.specs.Standing.{IsStanding}
+use Rattle.vpg_desk.specs.State.{DeskState, Replies, IsStep, setting_between}
+use Rattle.vpg_desk.proofs.Decided.{limits}
+use Rattle.vpg_desk.proofs.Retracted.{retracted_parts, retract_accepted, retracted_consistent, retracted_step, retracted_desk}
+use Rattle.vpg_desk.proofs.desk.Desk.retract.Goals as goal
+use Rattle.vpg_desk.proofs.desk.Desk.retract.Goals.{After-deref-4}
+
+accepted : (c : After-deref-4) → Replies (desk_of c.self.inside) (Retract c.args.feature) (Changed (c.self.inside.changes + 1))
+accepted c =
+    retract_accepted c.self.inside c.self.invariant c.args.feature
+    (subst (λ (n : ℕ). c.args.feature < n) (c.features.ensures.count ∙ ap (λ (x : NamedDiagram). feature_count x.lines) c.deref.ensures) c.if-feature-features.false)
+    (sym (c.in-Some.ensures.decided ∙ ap (has_decided c.args.feature) c.entries-entries.ensures.entries)) c.if-self-eq-MOST_CHANGES.false
+
+-- the entries before the decision and what stays of those after it
+page : (c : After-deref-4) → map entry_of (take c.in-Some.place c.entries-entries.result.now) ++ map entry_of c.in_ok-kept.kept.items ≡ retracted c.args.feature c.self.inside.trail.entries
+page c =
+    retracted_parts c.args.feature c.self.inside.trail.entries (map entry_of (take c.in-Some.place c.entries-entries.result.now)) (map entry_of (drop (c.in-Some.place + 1) c.entries-entries.result.now)) (map entry_of c.in_ok-kept.kept.items)
+    (c.in-Some.ensures.before ∙ ap (before_decision c.args.feature) c.entries-entries.ensures.entries)
+    (c.in-Some.ensures.after ∙ ap (after_decision c.args.feature) c.entries-entries.ensures.entries)
+    c.in_ok-kept.ensures.kept
+
+shown : (c : After-deref-4) → map entry_of (take c.in-Some.place c.entries-entries.result.now) ++ map entry_of c.deref-4.result.now ≡ retracted c.args.feature c.self.inside.trail.entries
+shown c = ap (λ l. map entry_of (take c.in-Some.place c.entries-entries.result.now) ++ map entry_of l) c.deref-4.ensures.value ∙ page c
+
+left : (c : After-deref-4) → take c.in-Some.place c.self.inside.trail.entries ++ map entry_of c.in_ok-kept.kept.items ≡ retracted c.args.feature c.self.inside.trail.entries
+left c =
+    ap (λ (l : List Step). l ++ map entry_of c.in_ok-kept.kept.items) (ap (take c.in-Some.place) (sym c.entries-entries.ensures.entries) ∙ take-map entry_of c.in-Some.place c.entries-entries.result.now) ∙ page c
+
+pub of_page-requires-clause-consistent : goal.of_page-requires-clause-consistent
+of_page-requires-clause-consistent c =
+    coe 0 1 (k. HasConflict (setting_between (sym c.deref-2.ensures k) (sym c.deref-3.ensures k)) (choices_of (sym (shown c) k)) → ⊥)
+    (retracted_consistent c.self.inside c.self.invariant c.args.feature (accepted c))
+
+pub cut_out-requires-clause-lifts : goal.cut_out-requires-clause-lifts
+cut_out-requires-clause-lifts c =
+    coe 0 1 (k. LiftsStandAfter ((sym (take-map entry_of c.in-Some.place c.entries-entries.result.now) ∙ ap (take c.in-Some.place) c.entries-entries.ensures.entries) k) (map entry_of c.in_ok-kept.kept.items))
+    (c.in_ok-kept.ensures.lifts (subst (LiftsStandAfter []) (sym c.entries-entries.ensures.entries) c.entries-entries.ensures.lifts))
+
+pub overflow_add-serial : goal.overflow_add-serial
+overflow_add-serial c = omega (arith, (limits c.self.inside c.self.invariant).1)
+
+pub overflow_add-self : goal.overflow_add-self
+overflow_add-self c = omega (arith, (limits c.self.inside c.self.invariant).0, (limits c.self.inside c.self.invariant).1)
+
+pub invariant_of-self-2 : goal.invariant_of-self-2
+invariant_of-self-2 c =
+    let at = (goal.at.invariant_of-self-2 c).After-deref-4 in
+    retracted_desk c.self.inside c.self.invariant c.args.feature (accepted at) c.args.session c.in-Some.place (map entry_of c.in_ok-kept.kept.items) c.in_ok-standing.standing c.cut_out.new.past c.cut_out.new.trail c.clear.new.self
+    (omega (arith, c.in-Some.ensures.place, length-map c.entries-entries.result.now entry_of, ap length c.entries-entries.ensures.entries)) (left at) c.in_ok-cut_out.ensures.past c.in_ok-cut_out.ensures.below c.in_ok-cut_out.ensures.trail c.clear.ensures.items
+    (coe 0 1 (k. IsStanding (setting_between (c.deref-2.ensures k) (c.deref-3.ensures k)) (choices_of (shown at k)) c.in_ok-standing.standing) c.in_ok-standing.ensures)
+
+pub returns-clause-accepted : goal.returns-clause-accepted
+returns-clause-accepted c =
+    let at = (goal.at.returns-clause-accepted c).After-deref-4 in
+    subst (λ (n : ℕ). IsStep c.args.self.now c.args.session (Retract c.args.feature) (Changed n) (desk_of (record { game = c.self.inside.game; diagram = c.self.inside.diagram; hopeful_shape = c.self.inside.hopeful_shape; dual_shape = c.self.inside.dual_shape; standing = c.in_ok-standing.standing; trail = c.cut_out.new.trail; past = c.cut_out.new.past; future = c.clear.new.self; changes = c.self.inside.changes + 1; tokens = c.self.inside.tokens + 1 }))) (sym c.of.ensures)
+    (subst (λ (s : DeskState). IsStep s c.args.session (Retract c.args.feature) (Changed (c.self.inside.changes + 1)) (desk_of (record { game = c.self.inside.game; diagram = c.self.inside.diagram; hopeful_shape = c.self.inside.hopeful_shape; dual_shape = c.self.inside.dual_shape; standing = c.in_ok-standing.standing; trail = c.cut_out.new.trail; past = c.cut_out.new.past; future = c.clear.new.self; changes = c.self.inside.changes + 1; tokens = c.self.inside.tokens + 1 }))) c.self.view_is
+    (retracted_step c.self.inside c.self.invariant c.args.feature (accepted at) c.args.session c.in-Some.place (map entry_of c.in_ok-kept.kept.items) c.in_ok-standing.standing c.cut_out.new.past c.cut_out.new.trail c.clear.new.self
+    (omega (arith, c.in-Some.ensures.place, length-map c.entries-entries.result.now entry_of, ap length c.entries-entries.ensures.entries)) (left at) c.in_ok-cut_out.ensures.past c.in_ok-cut_out.ensures.below c.in_ok-cut_out.ensures.trail c.clear.ensures.items
+    (coe 0 1 (k. IsStanding (setting_between (c.deref-2.ensures k) (c.deref-3.ensures k)) (choices_of (shown at k)) c.in_ok-standing.standing) c.in_ok-standing.ensures)))

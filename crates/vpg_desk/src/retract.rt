@@ -1,0 +1,88 @@
+//! Retracting a decision.
+ghost use Rattle.std.specs.Prelude.{◌≡◌, ◌++◌, ◌∷◌, ◌≤◌, length, map, take, drop, All, IfOk, IfErr, OnOk, OnErr, IfSome};
+ghost use Rattle.vpg_trail.specs.Shown.{entry_of, VertexBelow};
+ghost use Rattle.vpg_trail.specs.WellFormed.{LiftsStandAfter};
+ghost use Rattle.vpg_desk.specs.Cuts.{cuts_of, SuffixesBelow};
+
+use crate::cuts::Cut;
+use crate::desk::{Desk, MOST_CHANGES};
+use crate::fault::RetractFault;
+use crate::standing::Standing;
+use crate::token::Undo;
+use std::alloc::{AllocError, Global};
+use vpg_trail::{Entry, Trail, kept_after, place_of};
+
+/// Puts the suffix, whose lifts stand, in place of the entries from a place on, and keeps the page before it under the serial.
+fn cut_out(
+    past: &mut Vec<Cut>,
+    trail: &mut Trail,
+    serial: u64,
+    place: usize,
+    suffix: Vec<Entry>,
+) -> Result<(), AllocError>
+    requires place { place ≤ length trail.old.entries }
+    requires vertices { All (λ e. VertexBelow trail.old.vertices (entry_of e)) suffix.items }
+    requires lifts { LiftsStandAfter (take place trail.old.entries) (map entry_of suffix.items) }
+    ensures past { OnOk result (cuts_of past.new.items ≡ record { serial = serial; place = place; suffix = drop place trail.old.entries } ∷ cuts_of past.old.items) }
+    ensures below { OnOk result (SuffixesBelow trail.old.vertices past.old.items → SuffixesBelow trail.old.vertices past.new.items) }
+    ensures trail { OnOk result (trail.new ≡ record { vertices = trail.old.vertices; entries = take place trail.old.entries ++ map entry_of suffix.items }) }
+    ensures err_past { OnErr result (past.new.items ≡ past.old.items) }
+    ensures err_trail { OnErr result (trail.new ≡ trail.old) }
+{
+    past.reserve(1)?;
+    let removed = trail.splice(place, suffix)?;
+    past.push(Cut {
+        serial,
+        place,
+        suffix: removed,
+    })
+    .unwrap();
+    Ok(())
+}
+
+impl Desk {
+    ghost use Rattle.vpg_desk.specs.Book.{Retract, Changed, Refused};
+    ghost use Rattle.vpg_desk.specs.Faults.{retract_refusal};
+    ghost use Rattle.vpg_desk.specs.State.{IsStep, Replies};
+
+    /// Takes the decision on a feature back, as the next change, and gives the change's token. Of the later entries it drops the
+    /// lifts that assumed the decision; the others stay, with the old values that the entries now before them give. Refused, in
+    /// this order: the diagram has no such feature; it isn't decided; the desk has made its most changes; want of memory. A
+    /// refusal changes nothing.
+    pub fn retract(
+        &mut self,
+        alloc: Global,
+        session: u32,
+        feature: u16,
+    ) -> Result<Undo, RetractFault>
+        ensures accepted { IfOk result (λ undo. IsStep self.old session (Retract feature) (Changed undo) self.new) }
+        ensures refused { IfErr result (λ fault. IfSome (retract_refusal fault) (λ refusal. Replies self.old (Retract feature) (Refused refusal))) }
+        ensures err { OnErr result (self.new ≡ self.old) }
+    {
+        if feature as usize >= self.diagram.features() {
+            return Err(RetractFault::UnknownFeature);
+        }
+        let entries = self.trail.entries();
+        let Some(place) = place_of(entries, feature) else {
+            return Err(RetractFault::NotDecided);
+        };
+        if self.changes == MOST_CHANGES {
+            return Err(RetractFault::TooManyChanges);
+        }
+        let kept = kept_after(alloc, entries, place, feature, self.trail.vertices())?;
+        let standing = Standing::of_page(
+            alloc,
+            &self.game,
+            &self.diagram,
+            &entries[..place],
+            &kept,
+        )?;
+        let serial = self.changes + 1;
+        cut_out(&mut self.past, &mut self.trail, serial, place, kept)?;
+        self.future.clear();
+        self.standing = standing;
+        self.changes = serial;
+        self.tokens += 1;
+        Ok(Undo::of(serial))
+    }
+}
