@@ -73,14 +73,14 @@ headline setting history is_setting legal lawful = record {
   undo = λ front rest session s split. undo_restores family front session s (legal_front family history front rest (undo_of session s) legal split);
   redo = λ front rest session s split. redo_restores family front session s (legal_front family history front rest (redo_of session s) legal split);
   pages = each_from (PageIsBelow family) (λ page. ¬ (HasConflict setting (choices_of page))) (Tells setting) (λ page below fine. page_tells setting (sound_of setting is_setting) page fine below)
-      (book_after family opened history) (pages_are_below family history monotone legal lawful) (no_page_has_conflict family history monotone legal);
+      (book_after family opened history) (pages_are_below family monotone history legal lawful) (no_page_has_conflict family monotone history legal);
   verdicts = λ front rest session v hopeless sure split inside. verdict_tells setting (front_page front rest (verdict_of session v hopeless sure) split) v inside hopeless sure
       (refused_none_verdict family (book_after family opened front) v hopeless sure (reply_at family history front rest (verdict_of session v hopeless sure) legal split));
   settled = λ front rest session b split. settled_tells family (book_after family opened front) b (reply_at family history front rest (settled_of session b) legal split);
   alone = λ other other_legal other_lawful there back settled other_settled.
-      settled_are_equal family (page_after family history) (page_after family other) monotone
-      (pages_are_below family history monotone legal lawful).present (pages_are_below family other monotone other_legal other_lawful).present
-      (no_page_has_conflict family history monotone legal).present (no_page_has_conflict family other monotone other_legal).present
+      settled_are_equal family monotone (page_after family history) (page_after family other)
+      (pages_are_below family monotone history legal lawful).present (pages_are_below family monotone other other_legal other_lawful).present
+      (no_page_has_conflict family monotone history legal).present (no_page_has_conflict family monotone other other_legal).present
       there back settled other_settled;
 }
   where
@@ -89,7 +89,7 @@ headline setting history is_setting legal lawful = record {
 
     front_page : (front rest : List Event) (e : Event) → history ≡ front ++ e ∷ rest → Tells setting (page_after (family_of setting) front)
     front_page front rest e split = page_tells setting (sound_of setting is_setting) (page_after (family_of setting) front)
-        (no_page_has_conflict (family_of setting) front (family_is_monotone setting is_setting) l).present (pages_are_below (family_of setting) front (family_is_monotone setting is_setting) l h).present
+        (no_page_has_conflict (family_of setting) (family_is_monotone setting is_setting) front l).present (pages_are_below (family_of setting) (family_is_monotone setting is_setting) front l h).present
       where
         l : IsLegal (family_of setting) front
         l = beginning_is_legal (family_of setting) front (e ∷ rest) (subst (IsLegal (family_of setting)) split legal)
