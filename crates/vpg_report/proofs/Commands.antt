@@ -4,11 +4,12 @@ use Rattle.vpg_report.specs.declared.command.Verb.{Verb}
 use Rattle.vpg_report.specs.Script.{command_of}
 use Rattle.vpg_report.specs.View.{texts}
 
--- no command has two arguments
-pub too_long : (verb : Verb) (args : List (Bor (List ℕ))) → 2 ≤ length args → None ≡ command_of verb (texts args)
+-- no command has three arguments
+pub too_long : (verb : Verb) (args : List (Bor (List ℕ))) → 3 ≤ length args → None ≡ command_of verb (texts args)
 too_long verb [] h = absurd (omega arith)
 too_long verb (a ∷ []) h = absurd (omega arith)
-too_long verb (a ∷ b ∷ args) h = refl
+too_long verb (a ∷ b ∷ []) h = absurd (omega arith)
+too_long verb (a ∷ b ∷ c ∷ args) h = refl
 
 pub capped : (above v w d : ℕ) → v ≡ min above w → min above (v * 10 + d) ≡ min above (w * 10 + d)
 capped above v w d h = omega arith

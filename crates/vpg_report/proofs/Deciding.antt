@@ -1,63 +1,50 @@
--- The answer to a decide.
-use Rattle.std.proofs.Common.{◌≡◌, ℕ, ◌<◌, Bool, true, false, List, [], ◌∷◌, ◌++◌, length, Option, Some, None, Result, Ok, Err, refl, sym, ap, ◌∙◌, subst}
-use Rattle.std.specs.Prelude.{codes, option_map, IfOk, IfErr, IfSome, OnOk, OnErr}
-use Rattle.vpg_diagram.specs.DiagramText.{NamedDiagram}
+-- The answers to decides and retractions.
+use Rattle.std.proofs.Common.{◌≡◌, ℕ, Bool, List, ◌++◌, Option, Some, None, Ok, refl, sym, ap, ◌∙◌, subst}
+use Rattle.std.specs.Prelude.{codes, IfSome}
 use Rattle.vpg_guards.specs.Names.{index_of}
-use Rattle.vpg_desk.specs.Book.{Family, Book, Decide, Changed, Refused, Refusal, Conflict, RefusesDecide, IsReply, Reply}
-use Rattle.vpg_desk.specs.Desk.{family_of}
-use Rattle.vpg_desk.specs.Faults.{decide_refusal}
-use Rattle.vpg_desk.specs.State.{DeskState, setting_of, IsStep, Replies}
-use Rattle.vpg_desk.specs.declared.fault.DecideFault.{DecideFault}
-use Rattle.vpg_desk.specs.declared.fault.DecideFault.TheVariants as faults
-use Rattle.vpg_report.specs.Script.{Request}
-use Rattle.vpg_report.specs.Answers.{NoFeature, own_text, refused_line, refusal_text, numbered, decide_named, deciding, decide_text, first_call}
-use Rattle.vpg_report.specs.Engine.{scene_at, AnswersTo}
-use Rattle.vpg_report.proofs.Asked.{unasked, named, decided, decide_refused}
+use Rattle.vpg_desk.specs.Book.{Family, Book, Decide, Retract, Changed, Refused, Refusal, Conflict, RefusesDecide, IsReply}
+use Rattle.vpg_desk.specs.State.{IsStep, Replies}
+use Rattle.vpg_report.specs.Script as script
+use Rattle.vpg_report.specs.Held.{after_change}
+use Rattle.vpg_report.specs.Answers.{NoFeature, own_text, refused_line, numbered, call_or, first_call}
+use Rattle.vpg_report.specs.Engine.{EngineState, scene_at, deciding, TellsRefusal, AnswersTo}
+use Rattle.vpg_report.proofs.Asked.{unasked, asked, refused, named_first, continues_decided}
 
-pub unknown : (desk : DeskState) (session : ℕ) (value : Bool) (name before after : List ℕ) → index_of desk.diagram.names name ≡ None →
-    after ≡ before ++ refused_line (own_text NoFeature) → AnswersTo desk (record { label = session; command = deciding value name }) before after desk
-unknown desk session value name before after none is = record {
-  text = refused_line (own_text NoFeature);
-  answer = unasked (scene_at desk) desk.book (record { label = session; command = deciding value name }) NoFeature (named (scene_at desk) value name None none);
-  appended = is;
-  game = refl;
-  diagram = refl;
-}
+module _ (old : EngineState) (session : ℕ) (name : List ℕ) where
+  pub decide_unknown : (value : Bool) (before after : List ℕ) → index_of old.desk.diagram.names name ≡ None → after ≡ before ++ refused_line (own_text NoFeature) →
+      AnswersTo old (record { label = session; command = deciding value name }) before after old
+  decide_unknown value before after none appended =
+      unasked old session (deciding value name) NoFeature before after (named_first (scene_at old) old.held value name ∙ ap (λ (x : Option ℕ). call_or NoFeature (λ f. Decide f value) x) none) appended
 
-pub on_ok : {E : Type 0} (r : Result (Unit {0}) E) (P Q : Type 0) → (P → Q) → OnOk r P → OnOk r Q
-on_ok (Ok done) P Q f p = f p
-on_ok (Err e) P Q f p = tt
+  pub retract_unknown : (before after : List ℕ) → index_of old.desk.diagram.names name ≡ None → after ≡ before ++ refused_line (own_text NoFeature) →
+      AnswersTo old (record { label = session; command = script.Retract name }) before after old
+  retract_unknown before after none appended = unasked old session (script.Retract name) NoFeature before after (ap (λ (x : Option ℕ). call_or NoFeature Retract x) none) appended
 
--- what a decide did, and what was told of it
-pub told : (old new : DeskState) (session f : ℕ) (value : Bool) (name before after : List ℕ) (names : List (List ℕ)) (result : Result ℕ DecideFault) → index_of old.diagram.names name ≡ Some f →
-    names ≡ new.diagram.names → IfOk result (λ serial. IsStep old session (Decide f value) (Changed serial) new) →
-    IfErr result (λ fault. IfSome (decide_refusal fault) (λ r. Replies old (Decide f value) (Refused r))) → OnErr result (new ≡ old) →
-    (text : List ℕ) × (decide_text names result ≡ Some text × (after ≡ before ++ text)) →
-    AnswersTo old (record { label = session; command = deciding value name }) before after new
-told old new session f value name before after names (Ok serial) found names_is done refused kept (text, (is, appended)) =
-    let same : numbered (codes "done") serial ≡ text = cc is in
-    record {
-      text = numbered (codes "done") serial;
-      answer = decided (scene_at old) old.book new.book session f serial value name found done.step;
-      appended = appended ∙ ap (λ (t : List ℕ). before ++ t) (sym same);
-      game = done.game;
-      diagram = done.diagram;
-    }
-told old new session f value name before after names (Err fault) found names_is done refused kept (text, (is, appended)) = go (decide_refusal fault) refused is
-  where
-    go : (r : Option Refusal) → IfSome r (λ r. Replies old (Decide f value) (Refused r)) → option_map (λ r. refused_line (refusal_text names r)) r ≡ Some text →
+  module _ (new : EngineState) (f : ℕ) (before after : List ℕ) (found : index_of old.desk.diagram.names name ≡ Some f) where
+    decide_first : (value : Bool) → first_call (scene_at old) old.held (deciding value name) ≡ Ok (Decide f value)
+    decide_first value = named_first (scene_at old) old.held value name ∙ ap (λ (x : Option ℕ). call_or NoFeature (λ f. Decide f value) x) found
+
+    pub decided : (value : Bool) (s : ℕ) → IsStep old.desk session (Decide f value) (Changed s) new.desk → new.held ≡ after_change old.held s → after ≡ before ++ numbered (codes "done") s →
         AnswersTo old (record { label = session; command = deciding value name }) before after new
-    go None e h = absurd (cc h)
-    go (Some r) e h =
-        let own : names ≡ old.diagram.names = names_is ∙ ap (λ (d : DeskState). d.diagram.names) kept in
-        let same : refused_line (refusal_text old.diagram.names r) ≡ text = ap (λ (ns : List (List ℕ)). refused_line (refusal_text ns r)) (sym own) ∙ cc h in
-        record {
-          text = refused_line (refusal_text old.diagram.names r);
-          answer = decide_refused (scene_at old) old.book new.book session f value name r found (e, ap (λ (d : DeskState). d.book) kept);
-          appended = appended ∙ ap (λ (t : List ℕ). before ++ t) (sym same);
-          game = ap (λ (d : DeskState). d.game) kept;
-          diagram = ap (λ (d : DeskState). d.diagram) kept;
-        }
+    decided value s step held appended =
+        asked old new session (deciding value name) (Decide f value) (Changed s) (numbered (codes "done") s) before after (decide_first value) step
+        (continues_decided (scene_at old) old.held new.held session s value name held) appended
+
+    pub decide_refused : (value : Bool) (refusal : Option Refusal) (names : List (List ℕ)) → IfSome refusal (λ r. Replies old.desk (Decide f value) (Refused r)) → new.desk ≡ old.desk → new.held ≡ old.held →
+        names ≡ new.desk.diagram.names → TellsRefusal names refusal before after → AnswersTo old (record { label = session; command = deciding value name }) before after new
+    decide_refused value refusal names reply desk held names_are told =
+        refused old new session (deciding value name) (Decide f value) refusal names before after (decide_first value) reply desk held names_are told
+
+    pub retracted : (s : ℕ) → IsStep old.desk session (Retract f) (Changed s) new.desk → new.held ≡ after_change old.held s → after ≡ before ++ numbered (codes "done") s →
+        AnswersTo old (record { label = session; command = script.Retract name }) before after new
+    retracted s step held appended =
+        asked old new session (script.Retract name) (Retract f) (Changed s) (numbered (codes "done") s) before after (ap (λ (x : Option ℕ). call_or NoFeature Retract x) found) step
+        (refl, refl, held) appended
+
+    pub retract_refused : (refusal : Option Refusal) (names : List (List ℕ)) → IfSome refusal (λ r. Replies old.desk (Retract f) (Refused r)) → new.desk ≡ old.desk → new.held ≡ old.held →
+        names ≡ new.desk.diagram.names → TellsRefusal names refusal before after → AnswersTo old (record { label = session; command = script.Retract name }) before after new
+    retract_refused refusal names reply desk held names_are told =
+        refused old new session (script.Retract name) (Retract f) refusal names before after (ap (λ (x : Option ℕ). call_or NoFeature Retract x) found) reply desk held names_are told
 
 -- a conflict names the feature itself
 pub conflict_is_own : (family : Family) (book : Book) (f g : ℕ) (value : Bool) → IsReply family book (Decide f value) (Refused (Conflict g)) → g ≡ f

@@ -1,12 +1,22 @@
 -- The calls of answered lines make a history.
-use Rattle.std.proofs.Common.{◌≡◌, ℕ, List, [], ◌∷◌, ◌++◌, Some, None, Ok, Err, refl, sym, ap, ◌∙◌, append_assoc, append-nil, subst}
-use Rattle.vpg_desk.specs.Book.{Family, Book, opened, next}
+use Rattle.std.proofs.Common.{◌≡◌, ℕ, zero, suc, ◌-◌, Bool, List, [], ◌∷◌, ◌++◌, Option, Some, None, Ok, Err, refl, sym, ap, ◌∙◌, append_assoc, append-nil, subst}
+use Rattle.std.specs.Prelude.{IfSome, slice_set}
+use Rattle.std.specs.List.{AllByRecursion}
+use Rattle.vpg_guards.specs.Names.{index_of}
+use Rattle.vpg_trail.specs.Page.{Which}
+use Rattle.vpg_desk.specs.Book.{Family, Book, Harvest, next, Call, Decide, Retract, Undo, Redo, Keep, Forget, Order, Commit, Settled, Page, Reply, Changed, Undone, Redone, Spent, Ordered, Added, IsSettled, VerdictIs, PageIs, Refused}
 use Rattle.vpg_desk.specs.History.{Event, IsLegalFrom, book_after}
 use Rattle.vpg_desk.specs.Desk.{family_of}
-use Rattle.vpg_report.specs.Script.{Said, said}
+use Rattle.vpg_desk.specs.Lawful.{IsLawful, HandsIn, AllHandIn}
+use Rattle.vpg_report.specs.Script as script
+use Rattle.vpg_report.specs.Script.{Said, Request, said}
 use Rattle.vpg_report.specs.Output.{Speaks, Answered}
+use Rattle.vpg_report.specs.Held.{Held, undo_meant, redo_meant, harvest_kept, after_change, after_undo, after_redo, after_keep, after_forget, with_harvest, without_harvest}
 use Rattle.vpg_report.specs.Scene.{Scene}
-use Rattle.vpg_report.specs.Run.{answering, asking, AnswersAreHistories}
+use Rattle.vpg_report.specs.Answers.{Own, NoFeature, NoToken, NoHarvest, NoVertex, vertex_of, call_or, first_call, Rest, Ends, Follows, Asks, TellsSettled, AsksSettled, TellsAdded, Sweeps, Keeps, Lifts, TellsChanged, TellsUndone, TellsRedone, TellsSpent, ShowsPage, Continues, Begins}
+use Rattle.vpg_report.specs.Run.{Between, begun, answering, Asked, asking, AnswersAreHistories}
+
+-- ---- lists of events
 
 legal_more : (family : Family) (book : Book) (events more : List Event) → IsLegalFrom family book events → IsLegalFrom family (book_after family book events) more → IsLegalFrom family book (events ++ more)
 legal_more family book [] more first then = then
@@ -16,48 +26,208 @@ after_more : (family : Family) (book : Book) (events more : List Event) → book
 after_more family book [] more = refl
 after_more family book (e ∷ events) more = after_more family (next family book e.session e.call e.reply) events more
 
--- the calls of one line
-record Line (scene : Scene) (old : Book) (before : List Event) (s : Said) (text : List ℕ) (new : Book) : Type 0 where
-  calls : List Event
-  legal : IsLegalFrom (family_of scene.setting) old calls
-  asked : Speaks (asking scene) before s text (before ++ calls)
-  left : new ≡ book_after (family_of scene.setting) old calls
+all_more : {X : Type 0} (P : X → Type 0) (xs ys : List X) → AllByRecursion P xs → AllByRecursion P ys → AllByRecursion P (xs ++ ys)
+all_more P [] ys first then = then
+all_more P (x ∷ xs) ys first then = (first.0, all_more P xs ys first.1 then)
 
-line_of : (scene : Scene) (old : Book) (before : List Event) (s : Said) (text : List ℕ) (new : Book) → Speaks (answering scene) old s text new → Line scene old before s text new
-line_of scene old before (Ok None) text new speaks =
-    record { calls = []; legal = tt; asked = (speaks.0, append-nil before); left = speaks.1 }
-line_of scene old before (Ok (Some request)) text new speaks =
-    record { calls = speaks.0; legal = speaks.1.1; asked = (speaks.0, (speaks.1.0, refl)); left = speaks.1.2 }
-line_of scene old before (Err fault) text new speaks = absurd speaks
+-- ---- lawful harvests alone are handed in
 
-record Lines (scene : Scene) (old : Book) (before : List Event) (lines : List (List ℕ)) (text : List ℕ) (new : Book) : Type 0 where
-  calls : List Event
-  legal : IsLegalFrom (family_of scene.setting) old calls
-  asked : Answered (asking scene) before lines text (before ++ calls)
-  left : new ≡ book_after (family_of scene.setting) old calls
+module _ (L : Harvest → Type 0) where
+  -- all that are kept are lawful
+  abbrev AreLawful : List (Option Harvest) → Type 0
+  AreLawful harvests = AllByRecursion (λ h. IfSome h L) harvests
 
-lines_of : (scene : Scene) (old : Book) (before : List Event) (lines : List (List ℕ)) (text : List ℕ) (new : Book) → Answered (answering scene) old lines text new → Lines scene old before lines text new
-lines_of scene old before [] text new answered =
-    record { calls = []; legal = tt; asked = (answered.0, append-nil before); left = answered.1 }
-lines_of scene old before (line ∷ lines) text new answered =
-    let family = family_of scene.setting in
-    let first : Line scene old before (said line) answered.1 answered.0 = line_of scene old before (said line) answered.1 answered.0 answered.3 in
-    let rest : Lines scene answered.0 (before ++ first.calls) lines answered.2 new = lines_of scene answered.0 (before ++ first.calls) lines answered.2 new answered.5 in
-    record {
-      calls = first.calls ++ rest.calls;
-      legal = legal_more family old first.calls rest.calls first.legal (subst (λ (b : Book). IsLegalFrom family b rest.calls) first.left rest.legal);
-      asked = (
-        before ++ first.calls,
-        answered.1,
-        answered.2,
-        first.asked,
-        answered.4,
-        subst (λ (h : List Event). Answered (asking scene) (before ++ first.calls) lines answered.2 h) (append_assoc before first.calls rest.calls) rest.asked,
-      );
-      left = rest.left ∙ ap (λ (b : Book). book_after family b rest.calls) first.left ∙ sym (after_more family old first.calls rest.calls);
-    }
+  kept_lawful : (harvests : List (Option Harvest)) (k : ℕ) (made : Harvest) → AreLawful harvests → harvest_kept harvests k ≡ Some made → L made
+  kept_lawful harvests zero made all is = absurd (cc is)
+  kept_lawful [] (suc k) made all is = absurd (cc is)
+  kept_lawful (h ∷ harvests) (suc zero) made all is = subst (λ (x : Option Harvest). IfSome x L) is all.0
+  kept_lawful (h ∷ harvests) (suc (suc k)) made all is = kept_lawful harvests (suc k) made all.1 is
+
+  gone_lawful : (harvests : List (Option Harvest)) (k : ℕ) → AreLawful harvests → AreLawful (slice_set harvests k None)
+  gone_lawful [] k all = tt
+  gone_lawful (h ∷ harvests) zero all = (tt, all.1)
+  gone_lawful (h ∷ harvests) (suc k) all = (all.0, gone_lawful harvests k all.1)
+
+  -- what the calls hand in is lawful, and so is what is kept then
+  abbrev IsFine : Rest → Type 0
+  IsFine R = (calls : List Event) (text : List ℕ) (new : Held) → R calls text new → AllHandIn L calls × AreLawful new.harvests
+
+  ends : (answer : List ℕ) (held : Held) → AreLawful held.harvests → IsFine (Ends answer held)
+  ends answer held all calls text new so =
+      (subst (λ (es : List Event). AllHandIn L es) (sym so.0) tt, subst (λ (h : Held). AreLawful h.harvests) (sym so.2) all)
+
+  module _ (scene : Scene) (held : Held) (all : AreLawful held.harvests) where
+    follows : (P : Reply → Rest) → ((reply : Reply) → IsFine (P reply)) → (reply : Reply) → IsFine (Follows scene held P reply)
+    follows P fine (Refused r) calls text new so = ends _ held all calls text new so
+    follows P fine (Changed s) calls text new so = fine (Changed s) calls text new so
+    follows P fine (Undone s) calls text new so = fine (Undone s) calls text new so
+    follows P fine (Redone s) calls text new so = fine (Redone s) calls text new so
+    follows P fine Spent calls text new so = fine Spent calls text new so
+    follows P fine (Ordered d h u) calls text new so = fine (Ordered d h u) calls text new so
+    follows P fine (Added n) calls text new so = fine (Added n) calls text new so
+    follows P fine (IsSettled b) calls text new so = fine (IsSettled b) calls text new so
+    follows P fine (VerdictIs a b) calls text new so = fine (VerdictIs a b) calls text new so
+    follows P fine (PageIs page) calls text new so = fine (PageIs page) calls text new so
+
+    asks : (label : ℕ) (call : Call) (P : Reply → Rest) → HandsIn L call → ((reply : Reply) → IsFine (P reply)) → IsFine (Asks scene held label call P)
+    asks label call P hands fine [] text new so = absurd so
+    asks label call P hands fine (e ∷ calls) text new so =
+        let rest : AllHandIn L calls × AreLawful new.harvests = follows P fine e.reply calls text new so.2 in
+        ((subst (λ (c : Call). HandsIn L c) (sym so.1) hands, rest.0), rest.1)
+
+  -- ---- after a line's replies
+
+  module _ (held : Held) (all : AreLawful held.harvests) where
+    tells_settled : (n : ℕ) (reply : Reply) → IsFine (TellsSettled held n reply)
+    tells_settled n (IsSettled b) calls text new so = ends _ held all calls text new so
+    tells_settled n _ calls text new so = absurd so
+
+    tells_added : (reply : Reply) → IsFine (TellsAdded held reply)
+    tells_added (Added n) calls text new so = ends _ held all calls text new so
+    tells_added _ calls text new so = absurd so
+
+    tells_changed : (reply : Reply) → IsFine (TellsChanged held reply)
+    tells_changed (Changed s) calls text new so = ends _ (after_change held s) all calls text new so
+    tells_changed _ calls text new so = absurd so
+
+    tells_undone : (reply : Reply) → IsFine (TellsUndone held reply)
+    tells_undone (Undone s) calls text new so = ends _ (after_undo held s) all calls text new so
+    tells_undone _ calls text new so = absurd so
+
+    tells_redone : (reply : Reply) → IsFine (TellsRedone held reply)
+    tells_redone (Redone s) calls text new so = ends _ (after_redo held s) all calls text new so
+    tells_redone _ calls text new so = absurd so
+
+    tells_spent : (answer : List ℕ) (reply : Reply) → IsFine (TellsSpent answer held reply)
+    tells_spent answer Spent calls text new so = ends answer held all calls text new so
+    tells_spent answer _ calls text new so = absurd so
+
+    shows_page : (scene : Scene) (reply : Reply) → IsFine (ShowsPage scene held reply)
+    shows_page scene (PageIs page) calls text new so = ends so.0 held all calls text new so.2
+    shows_page scene _ calls text new so = absurd so
+
+    asks_settled : (scene : Scene) (label : ℕ) (reply : Reply) → IsFine (AsksSettled scene held label reply)
+    asks_settled scene label (Added n) calls text new so = asks scene held all label Settled (TellsSettled held n) tt (tells_settled n) calls text new so
+    asks_settled scene label _ calls text new so = absurd so
+
+module _ (scene : Scene) (held : Held) where
+  abbrev L : Harvest → Type 0
+  L = IsLawful (family_of scene.setting)
+
+  module _ (all : AreLawful L held.harvests) where
+    sweeps : (label n : ℕ) (reply : Reply) → IsFine L (Sweeps scene held label n reply)
+    sweeps label n (Ordered d h u) calls text new so =
+        asks L scene held all label (Commit so.0) (AsksSettled scene held label) (λ _. so.1.of_order.lawful) (asks_settled L held all scene label) calls text new so.2
+    sweeps label n _ calls text new so = absurd so
+
+    keeps : (reply : Reply) → IsFine L (Keeps scene held reply)
+    keeps (Ordered d h u) calls text new so =
+        ends L _ (with_harvest held so.0) (all_more (λ h. IfSome h L) held.harvests (Some so.0 ∷ []) all (so.1.of_order.lawful, tt)) calls text new so.2
+    keeps _ calls text new so = absurd so
+
+    lifts : (label : ℕ) (table : Which) (identifier : ℕ) (reply : Reply) → IsFine L (Lifts scene held label table identifier reply)
+    lifts label table identifier (Ordered d h u) calls text new so =
+        asks L scene held all label (Commit so.1) (TellsAdded held) (λ _. so.3.of_order.lawful) (tells_added L held all) calls text new so.4
+    lifts label table identifier _ calls text new so = absurd so
+
+    continues : (label : ℕ) (command : script.Command) (reply : Reply) → IsFine L (Continues scene held label command reply)
+    continues label (script.Select name) reply calls text new so = tells_changed L held all reply calls text new so
+    continues label (script.Exclude name) reply calls text new so = tells_changed L held all reply calls text new so
+    continues label (script.Retract name) reply calls text new so = tells_changed L held all reply calls text new so
+    continues label (script.Undo s) reply calls text new so = tells_undone L held all reply calls text new so
+    continues label (script.Redo s) reply calls text new so = tells_redone L held all reply calls text new so
+    continues label (script.Keep s) reply calls text new so = tells_spent L (after_keep held s) all _ reply calls text new so
+    continues label (script.Forget s) reply calls text new so = tells_spent L (after_forget held s) all _ reply calls text new so
+    continues label (script.Lift table identifier) reply calls text new so = lifts label table identifier reply calls text new so
+    continues label script.Harvest reply calls text new so = keeps reply calls text new so
+    continues label (script.Commit k) reply calls text new so = tells_added L (without_harvest held k) (gone_lawful L held.harvests (k - 1) all) reply calls text new so
+    continues label (script.Settle n) reply calls text new so = sweeps label _ reply calls text new so
+    continues label script.Show reply calls text new so = shows_page L held all scene reply calls text new so
+
+    begins : (label : ℕ) (command : script.Command) (call : Call) → HandsIn L call → IsFine L (Begins scene held label command (Ok call))
+    begins label command call hands = asks L scene held all label call (Continues scene held label command) hands (continues label command)
+
+    begins_or : {X : Type 0} (label : ℕ) (command : script.Command) (own : Own) (call : X → Call) (found : Option X) → ((x : X) → found ≡ Some x → HandsIn L (call x)) →
+        IsFine L (Begins scene held label command (call_or own call found))
+    begins_or label command own call None hands calls text new so = ends L _ held all calls text new so
+    begins_or label command own call (Some x) hands calls text new so = begins label command (call x) (hands x refl) calls text new so
+
+    serves : (label : ℕ) (command : script.Command) → IsFine L (Begins scene held label command (first_call scene held command))
+    serves label (script.Select name) = begins_or label (script.Select name) NoFeature (λ f. Decide f Bool.true) (index_of scene.names name) (λ _ _. tt)
+    serves label (script.Exclude name) = begins_or label (script.Exclude name) NoFeature (λ f. Decide f Bool.false) (index_of scene.names name) (λ _ _. tt)
+    serves label (script.Retract name) = begins_or label (script.Retract name) NoFeature Retract (index_of scene.names name) (λ _ _. tt)
+    serves label (script.Undo s) = begins_or label (script.Undo s) NoToken Undo (undo_meant held.undos s) (λ _ _. tt)
+    serves label (script.Redo s) = begins_or label (script.Redo s) NoToken Redo (redo_meant held.redos s) (λ _ _. tt)
+    serves label (script.Keep s) = begins_or label (script.Keep s) NoToken Keep (undo_meant held.undos (Some s)) (λ _ _. tt)
+    serves label (script.Forget s) = begins_or label (script.Forget s) NoToken Forget (redo_meant held.redos (Some s)) (λ _ _. tt)
+    serves label (script.Lift table identifier) = begins_or label (script.Lift table identifier) NoVertex (λ v. Order) (vertex_of scene identifier) (λ _ _. tt)
+    serves label script.Harvest = begins label script.Harvest Order tt
+    serves label (script.Commit k) = begins_or label (script.Commit k) NoHarvest Commit (harvest_kept held.harvests k) (λ made is _. kept_lawful L held.harvests k made all is)
+    serves label (script.Settle n) = begins label (script.Settle n) Order tt
+    serves label script.Show = begins label script.Show Page tt
+
+-- ---- lines
+
+module _ (scene : Scene) where
+  abbrev family : Family
+  family = family_of scene.setting
+
+  -- the calls of one line, or of several
+  record Calls (Asks : Asked → Asked → Type 0) (old : Between) (before : List Event) (new : Between) : Type 0 where
+    calls : List Event
+    legal : IsLegalFrom family old.book calls
+    lawful : AllHandIn (IsLawful family) calls
+    kept : AreLawful (IsLawful family) new.held.harvests
+    asked : Asks (record { calls = before; held = old.held }) (record { calls = before ++ calls; held = new.held })
+    left : new.book ≡ book_after family old.book calls
+
+  line_of : (old : Between) (before : List Event) (s : Said) (text : List ℕ) (new : Between) → AreLawful (IsLawful family) old.held.harvests → Speaks (answering scene) old s text new →
+      Calls (λ a b. Speaks (asking scene) a s text b) old before new
+  line_of old before (Ok None) text new all speaks = record {
+    calls = [];
+    legal = tt;
+    lawful = tt;
+    kept = subst (λ (b : Between). AreLawful (IsLawful family) b.held.harvests) (sym speaks.1) all;
+    asked = (speaks.0, λ i. record { calls = append-nil before i; held = (speaks.1 i).held });
+    left = ap (λ (b : Between). b.book) speaks.1;
+  }
+  line_of old before (Ok (Some request)) text new all speaks =
+      let fine = serves scene old.held all request.label request.command speaks.0 text new.held speaks.1.0 in
+      record { calls = speaks.0; legal = speaks.1.1; lawful = fine.0; kept = fine.1; asked = (speaks.0, (speaks.1.0, refl)); left = speaks.1.2 }
+  line_of old before (Err fault) text new all speaks = absurd speaks
+
+  lines_of : (old : Between) (before : List Event) (lines : List (List ℕ)) (text : List ℕ) (new : Between) → AreLawful (IsLawful family) old.held.harvests → Answered (answering scene) old lines text new →
+      Calls (λ a b. Answered (asking scene) a lines text b) old before new
+  lines_of old before [] text new all answered = record {
+    calls = [];
+    legal = tt;
+    lawful = tt;
+    kept = subst (λ (b : Between). AreLawful (IsLawful family) b.held.harvests) (sym answered.1) all;
+    asked = (answered.0, λ i. record { calls = append-nil before i; held = (answered.1 i).held });
+    left = ap (λ (b : Between). b.book) answered.1;
+  }
+  lines_of old before (line ∷ lines) text new all answered =
+      let mid = answered.0 in
+      let first : Calls (λ a b. Speaks (asking scene) a (said line) answered.1 b) old before mid = line_of old before (said line) answered.1 mid all answered.3 in
+      let rest : Calls (λ a b. Answered (asking scene) a lines answered.2 b) mid (before ++ first.calls) new = lines_of mid (before ++ first.calls) lines answered.2 new first.kept answered.5 in
+      record {
+        calls = first.calls ++ rest.calls;
+        legal = legal_more family old.book first.calls rest.calls first.legal (subst (λ (b : Book). IsLegalFrom family b rest.calls) first.left rest.legal);
+        lawful = all_more _ first.calls rest.calls first.lawful rest.lawful;
+        kept = rest.kept;
+        asked = (
+          record { calls = before ++ first.calls; held = mid.held },
+          answered.1,
+          answered.2,
+          first.asked,
+          answered.4,
+          subst (λ (h : List Event). Answered (asking scene) (record { calls = before ++ first.calls; held = mid.held }) lines answered.2 (record { calls = h; held = new.held }))
+              (append_assoc before first.calls rest.calls) rest.asked,
+        );
+        left = rest.left ∙ ap (λ (b : Book). book_after family b rest.calls) first.left ∙ sym (after_more family old.book first.calls rest.calls);
+      }
 
 pub answers_are_histories : AnswersAreHistories
 answers_are_histories scene lines text new answered =
-    let all : Lines scene opened [] lines text new = lines_of scene opened [] lines text new answered in
-    (all.calls, (all.legal, all.asked, all.left))
+    let all = lines_of scene begun [] lines text new tt answered in
+    (all.calls, (record { legal = all.legal; lawful = all.lawful; leaves = sym all.left }, all.asked))

@@ -10,6 +10,13 @@ pub mod Shown
 pub mod Sweeps
 pub mod Deciding
 pub mod Paged
+pub mod Counted
+pub mod KeptHarvests
+pub mod Places
+pub mod Exchanging
+pub mod LiftedOnce
+pub mod Committing
+pub mod Enduring
 pub mod Settling
 pub mod Planned
 pub mod Within

@@ -19,7 +19,7 @@ use Rattle.vpg_desk.specs.State.{DeskState, setting_of}
 use Rattle.vpg_desk.proofs.Deciding.{choices_inside}
 use Rattle.vpg_report.specs.Script as script
 use Rattle.vpg_report.specs.Scene.{IsShown, scene_of}
-use Rattle.vpg_report.specs.Engine.{scene_at, AnswersTo}
+use Rattle.vpg_report.specs.Engine.{EngineState, AnswersTo}
 use Rattle.vpg_report.proofs.Asked.{shows}
 
 module _ (desk : DeskState) (tells : Tells (setting_of desk) desk.book.present) where
@@ -58,17 +58,11 @@ module _ (desk : DeskState) (tells : Tells (setting_of desk) desk.book.present) 
         subst (λ (g : NamedGame). All (λ n. n ≤ top_for which (graph_of g)) table) (sym same)
         (subst (λ (t : List ℕ). All (λ n. n ≤ top_for which (graph_of desk.game)) t) (sym is) (below which).is_table.within)
 
-pub show_answers : (desk : DeskState) (session : ℕ) (game : NamedGame) (diagram : NamedDiagram) (decisions : List Decision) (hopeful dual before after : List ℕ) →
-    game ≡ desk.game → diagram ≡ desk.diagram → decisions ≡ decisions_of desk.book.present → hopeful ≡ table_of Hopeful desk.book.present (length (graph_of desk.game)) →
-    dual ≡ table_of Dual desk.book.present (length (graph_of desk.game)) →
+pub show_answers : (old : EngineState) (session : ℕ) (game : NamedGame) (diagram : NamedDiagram) (decisions : List Decision) (hopeful dual before after : List ℕ) →
+    game ≡ old.desk.game → diagram ≡ old.desk.diagram → decisions ≡ decisions_of old.desk.book.present → hopeful ≡ table_of Hopeful old.desk.book.present (length (graph_of old.desk.game)) →
+    dual ≡ table_of Dual old.desk.book.present (length (graph_of old.desk.game)) →
     (text : List ℕ) × (IsShown (scene_of game diagram) decisions hopeful dual text × (after ≡ before ++ text)) →
-    AnswersTo desk (record { label = session; command = script.Show }) before after desk
-show_answers desk session game diagram decisions hopeful dual before after game_is diagram_is decisions_is hopeful_is dual_is (text, (shown, appended)) =
-    record {
-      text = text;
-      answer = shows (scene_at desk) desk.book session desk.book.present text (None, (refl, refl))
-          (coe 0 1 (k. IsShown (scene_of (game_is k) (diagram_is k)) (decisions_is k) (hopeful_is k) (dual_is k) text) shown);
-      appended = appended;
-      game = refl;
-      diagram = refl;
-    }
+    AnswersTo old (record { label = session; command = script.Show }) before after old
+show_answers old session game diagram decisions hopeful dual before after game_is diagram_is decisions_is hopeful_is dual_is (text, (shown, appended)) =
+    shows old session old.desk.book.present text before after (None, (refl, refl))
+    (coe 0 1 (k. IsShown (scene_of (game_is k) (diagram_is k)) (decisions_is k) (hopeful_is k) (dual_is k) text) shown) appended

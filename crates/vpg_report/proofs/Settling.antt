@@ -1,38 +1,37 @@
 -- A harvest that sweeps made, as the book sees it.
 use Rattle.std.proofs.Common.{◌≡◌, ℕ, ◌+◌, ◌<◌, ◌≤◌, List, [], ◌++◌, ◌∷◌, Option, Some, None, length, refl, sym, ap, ◌∙◌, inl, inr, arith, subst, Bool, true, false, eq-eqb}
-use Rattle.std.specs.Prelude.{sum, slice_index, unwrap_or, if◌then◌else◌, ◌⊎◌, ◌||◌, ◌&&◌, ◌==◌, map, IfSome}
+use Rattle.std.specs.Prelude.{codes, sum, unwrap_or, if◌then◌else◌, ◌⊎◌, ◌||◌, ◌&&◌, ◌==◌, map, IfSome}
 use Rattle.std.specs.Bool.{Decides, beq}
 use Rattle.std.proofs.lemmas.Bool.{or_right}
-use Rattle.std.proofs.lemmas.List.{length-map}
-use Rattle.vpg_guards.specs.declared.tri.Tri.{Tri}
 use Rattle.vpg_guards.specs.Known.{kleene}
-use Rattle.vpg_game.specs.Game.{NamedGame, unnamed, graph_of}
+use Rattle.vpg_game.specs.Game.{NamedGame, graph_of}
 use Rattle.vpg_diagram.specs.DiagramText.{NamedDiagram}
 use Rattle.vpg_partial.specs.Known.{literal_of}
 use Rattle.vpg_partial.specs.TableLaws.{IsKnownTable}
 use Rattle.vpg_partial.proofs.Tables.{conflicts_stay}
 use Rattle.vpg_measure.specs.declared.which.Which.{Which}
 use Rattle.vpg_measure.specs.declared.which.Which.TheVariants.{Hopeful, Dual}
-use Rattle.vpg_measure.specs.Lifts.{IsTableOf, IsProgressTable, IsBelowTable, after_rounds}
-use Rattle.vpg_measure.specs.Orders.{OrderView, HarvestView, IsOrder, IsHarvest, IsSameOrder, order_table, harvest_table, order_levels, order_arena}
+use Rattle.vpg_measure.specs.Lifts.{IsProgressTable, IsBelowTable, after_rounds}
+use Rattle.vpg_measure.specs.Orders.{OrderView, HarvestView, IsOrder, IsSameOrder, order_table, harvest_table, order_levels, order_arena}
 use Rattle.vpg_measure.specs.TwoGames.{IsTableBelow, IsProgressOf}
 use Rattle.vpg_measure.proofs.TwoGames.{arena_length}
 use Rattle.vpg_guards.specs.Formula.{Formula}
-use Rattle.vpg_desk.specs.Book.{Family, Harvest, Order, Ordered, Commit, Added, Settled, IsSettled, Refused, Refusal, IsReply, first_missing, outdated_at, refuses_commit}
-use Rattle.vpg_desk.specs.Setting.{Setting, IsSetting}
+use Rattle.vpg_desk.specs.Book.{Family, Harvest, Order, Ordered, Commit, Added, Settled, IsSettled, Refused, Refusal, first_missing, outdated_at, refuses_commit}
+use Rattle.vpg_desk.specs.Setting.{IsSetting}
 use Rattle.vpg_desk.specs.Desk.{family_of}
-use Rattle.vpg_desk.specs.Lawful.{IsLawful, harvested}
+use Rattle.vpg_desk.specs.Lawful.{harvested}
 use Rattle.vpg_desk.proofs.Lawful.{harvests_are_lawful}
 use Rattle.vpg_desk.proofs.Deciding.{setting_stands, known_is_consistent}
 use Rattle.vpg_desk.specs.State.{DeskState, setting_between, setting_of, Replies, IsStep}
 use Rattle.vpg_report.specs.Script as script
-use Rattle.vpg_report.specs.Engine.{scene_at, AnswersTo}
-use Rattle.vpg_report.proofs.Asked.{settles}
+use Rattle.vpg_report.specs.Held.{with_harvest}
+use Rattle.vpg_report.specs.Engine.{EngineState, AnswersTo}
+use Rattle.vpg_report.proofs.Asked.{settles, keeps}
 use Rattle.vpg_desk.specs.Commit.{commit_refusal, IsOrderOf, handed_in}
 use Rattle.vpg_desk.specs.declared.fault.CommitFault.{CommitFault}
 use Rattle.vpg_desk.specs.declared.fault.CommitFault.TheVariants.{OtherGame, Outdated, Memory}
 use Rattle.vpg_trail.specs.Page.{Literal, Decision, same_literal, stands, decisions_of, choices_of}
-use Rattle.vpg_report.specs.Answers.{IsOf, IsSwept, Checks, sweeps_of, settled_text}
+use Rattle.vpg_report.specs.Answers.{IsSwept, Checks, most_sweeps, sweeps_of, numbered, settled_text}
 use Rattle.vpg_measure.proofs.Rounds.{after_table, after_above, after_stays}
 use Rattle.vpg_report.proofs.Sweeps.{sums_rise, rounds_settle_or_move}
 
@@ -118,22 +117,24 @@ swept_seen desk order harvest sweeps game diagram is_order same settled =
     (swept order (handed_in true harvest) sweeps is_order refl same.decisions (made_tables order harvest (handed_in true harvest) sweeps settled refl refl)))
 
 -- an order of the desk is swept, its harvest is committed, and the page is told to be settled or not
-pub settle_answers : (old new : DeskState) (session added : ℕ) (sweeps : Option ℕ) (order : OrderView) (harvest : HarvestView) (b : Bool) (before after : List ℕ) →
-    Replies old Order (Ordered order.decisions order.hopeful order.dual) → order.game ≡ old.game → order.diagram ≡ old.diagram → IsOrder order → IsSameOrder harvest.order order →
+pub settle_answers : (old new : EngineState) (session added : ℕ) (sweeps : Option ℕ) (order : OrderView) (harvest : HarvestView) (b : Bool) (before after : List ℕ) →
+    Replies old.desk Order (Ordered order.decisions order.hopeful order.dual) → order.game ≡ old.desk.game → order.diagram ≡ old.desk.diagram → IsOrder order → IsSameOrder harvest.order order →
     ((which : Which) → harvest_table which harvest ≡ after_rounds (order_levels which order) (order_arena which order) (sweeps_of sweeps) (order_table which order)) →
-    IsStep old session (Commit (handed_in true harvest)) (Added added) new → Replies new Settled (IsSettled b) → after ≡ before ++ settled_text b added →
+    IsStep old.desk session (Commit (handed_in true harvest)) (Added added) new.desk → Replies new.desk Settled (IsSettled b) → new.held ≡ old.held → after ≡ before ++ settled_text b added →
     AnswersTo old (record { label = session; command = script.Settle sweeps }) before after new
-settle_answers old new session added sweeps order harvest b before after ordered game diagram is_order same settled step told appended =
-    record {
-      text = settled_text b added;
-      answer = settles (scene_at old) old.book new.book session added sweeps order.decisions order.hopeful order.dual (handed_in true harvest) b ordered
-          (swept_seen old order harvest (sweeps_of sweeps) game diagram is_order same settled) step.step
-          (subst (λ (g : NamedGame). IsReply (family_of (setting_between g old.diagram)) new.book Settled (IsSettled b)) step.game
-          (subst (λ (d : NamedDiagram). IsReply (family_of (setting_between new.game d)) new.book Settled (IsSettled b)) step.diagram told));
-      appended = appended;
-      game = step.game;
-      diagram = step.diagram;
-    }
+settle_answers old new session added sweeps order harvest b before after ordered game diagram is_order same settled step told held appended =
+    settles old new session added sweeps order.decisions order.hopeful order.dual (handed_in true harvest) b before after ordered
+    (swept_seen old.desk order harvest (sweeps_of sweeps) game diagram is_order same settled) step told held appended
+
+-- an order of the desk is swept, and its harvest is kept
+pub harvest_answers : (old new : EngineState) (session n : ℕ) (order : OrderView) (harvest : HarvestView) (before after : List ℕ) →
+    Replies old.desk Order (Ordered order.decisions order.hopeful order.dual) → order.game ≡ old.desk.game → order.diagram ≡ old.desk.diagram → IsOrder order → IsSameOrder harvest.order order →
+    ((which : Which) → harvest_table which harvest ≡ after_rounds (order_levels which order) (order_arena which order) most_sweeps (order_table which order)) →
+    new.desk ≡ old.desk → new.held ≡ with_harvest old.held (handed_in true harvest) → n ≡ length old.held.harvests + 1 → after ≡ before ++ numbered (codes "harvest") n →
+    AnswersTo old (record { label = session; command = script.Harvest }) before after new
+harvest_answers old new session n order harvest before after ordered game diagram is_order same settled desk held counted appended =
+    keeps old new session n order.decisions order.hopeful order.dual (handed_in true harvest) before after ordered
+    (swept_seen old.desk order harvest most_sweeps game diagram is_order same settled) desk held counted appended
 
 -- ---- what a harvest of the present page is not refused for
 

@@ -1,17 +1,23 @@
 -- What commands ask of a desk, and how its replies are written.
-use Rattle.std.specs.Prelude.{◌≡◌, ℕ, ◌+◌, ◌<◌, ◌≤◌, Bool, true, false, if◌then◌else◌, List, [], ◌∷◌, ◌++◌, length, map, sum, Option, Some, None, option_map, Result, Ok, Err, slice_index, codes}
+use Rattle.std.specs.Prelude.{◌≡◌, ℕ, ◌+◌, ◌<◌, ◌≤◌, ◌==◌, Bool, true, false, if◌then◌else◌, List, [], ◌∷◌, ◌++◌, length, map, sum, position, Option, Some, None, Result, Ok, Err, slice_index, codes}
+use Rattle.vpg_guards.specs.declared.tri.Tri.{Tri}
 use Rattle.vpg_guards.specs.Names.{index_of}
-use Rattle.vpg_trail.specs.Page.{Hopeful, Dual, Decision, literal_of, decisions_of, table_of}
-use Rattle.vpg_desk.specs.Book.{Family, Harvest, Call, Decide, Order, Commit, Settled, Page, Reply, Changed, Ordered, Added, IsSettled, PageIs, Refused, Refusal, UnknownFeature, AlreadyDecided, Conflict, TooManyChanges, NotDecided, Sealed, NotNewest, Overtaken, NotNext, OtherGame, Outdated}
+use Rattle.vpg_guards.specs.Known.{kleene}
+use Rattle.vpg_partial.specs.TableLaws.{IsKnownTable}
+use Rattle.vpg_measure.specs.Lifts.{raised}
+use Rattle.vpg_measure.specs.Orders.{other_table}
+use Rattle.vpg_measure.specs.TwoGames.{levels_for, arena_for}
+use Rattle.vpg_trail.specs.Page.{Which, Hopeful, Dual, Decision, literal_of, decisions_of, table_of}
+use Rattle.vpg_desk.specs.Book.{Family, Harvest, Call, Decide, Retract, Undo, Redo, Keep, Forget, Order, Commit, Settled, Page, Reply, Changed, Undone, Redone, Spent, Ordered, Added, IsSettled, PageIs, Refused, Refusal, UnknownFeature, AlreadyDecided, Conflict, TooManyChanges, NotDecided, Sealed, NotNewest, Overtaken, NotNext, OtherGame, Outdated}
 use Rattle.vpg_desk.specs.History.{Event}
-use Rattle.vpg_desk.specs.Lawful.{IsLawful}
+use Rattle.vpg_desk.specs.Lawful.{IsLawful, harvested}
+use Rattle.vpg_desk.specs.Setting.{Setting}
 use Rattle.vpg_desk.specs.Desk.{family_of}
-use Rattle.vpg_desk.specs.Faults.{decide_refusal}
-use Rattle.vpg_desk.specs.declared.fault.DecideFault.{DecideFault}
+use Rattle.vpg_report.specs.Held.{Held, undo_meant, redo_meant, harvest_kept, after_change, after_undo, after_redo, after_keep, after_forget, with_harvest, without_harvest}
 use Rattle.vpg_report.specs.Script as script
 use Rattle.vpg_report.specs.Script.{Request}
 use Rattle.vpg_report.specs.Text.{blank_number, blank_name}
-use Rattle.vpg_report.specs.Scene.{Scene, IsShown}
+use Rattle.vpg_report.specs.Scene.{Scene, table_in, IsShown}
 
 -- ---- the texts of replies
 
@@ -41,46 +47,45 @@ refusal_text names (Outdated f) = codes "Outdated" ++ blank_name names f
 abbrev pub settled_text : Bool → ℕ → List ℕ
 settled_text settled n = numbered (if settled then codes "settled" else codes "unsettled") n
 
--- the answer to a decide; none where memory ran out
-abbrev pub decide_text : List (List ℕ) → Result ℕ DecideFault → Option (List ℕ)
-decide_text names (Ok serial) = Some (numbered (codes "done") serial)
-decide_text names (Err fault) = option_map (λ r. refused_line (refusal_text names r)) (decide_refusal fault)
-
 -- ---- what commands ask
 
--- what is refused without a call: a name that the diagram lacks, a token or a harvest that isn't held
+-- What is refused without a call: a name that the diagram lacks, a token or a harvest that isn't held, an identifier without an entry.
 pub data Own : Type 0 where
   NoFeature : Own
   NoToken : Own
   NoHarvest : Own
+  NoVertex : Own
 
 abbrev pub own_text : Own → List ℕ
 own_text NoFeature = codes "UnknownFeature"
 own_text NoToken = codes "NoToken"
 own_text NoHarvest = codes "NoHarvest"
+own_text NoVertex = codes "NoVertex"
 
-abbrev pub decide_named : Bool → Option ℕ → Result Call Own
-decide_named value None = Err NoFeature
-decide_named value (Some f) = Ok (Decide f value)
+-- the vertex of an identifier
+abbrev pub vertex_of : Scene → ℕ → Option ℕ
+vertex_of scene identifier = position (λ n. n == identifier) scene.identifiers
 
--- the command that decides the feature of a name in or out
-abbrev pub deciding : Bool → List ℕ → script.Command
-deciding true name = script.Select name
-deciding false name = script.Exclude name
+abbrev pub call_or : {X : Type 0} → Own → (X → Call) → Option X → Result Call Own
+call_or own call None = Err own
+call_or own call (Some x) = Ok (call x)
 
--- The first call of a command, or why there is none. No command yet gives a token or a harvest.
-abbrev pub first_call : Scene → script.Command → Result Call Own
-first_call scene (script.Select name) = decide_named true (index_of scene.names name)
-first_call scene (script.Exclude name) = decide_named false (index_of scene.names name)
-first_call scene (script.Undo s) = Err NoToken
-first_call scene (script.Redo s) = Err NoToken
-first_call scene (script.Keep s) = Err NoToken
-first_call scene (script.Forget s) = Err NoToken
-first_call scene (script.Commit k) = Err NoHarvest
-first_call scene (script.Settle n) = Ok Order
-first_call scene script.Show = Ok Page
+-- the first call of a command, or why there is none
+abbrev pub first_call : Scene → Held → script.Command → Result Call Own
+first_call scene held (script.Select name) = call_or NoFeature (λ f. Decide f true) (index_of scene.names name)
+first_call scene held (script.Exclude name) = call_or NoFeature (λ f. Decide f false) (index_of scene.names name)
+first_call scene held (script.Retract name) = call_or NoFeature Retract (index_of scene.names name)
+first_call scene held (script.Undo s) = call_or NoToken Undo (undo_meant held.undos s)
+first_call scene held (script.Redo s) = call_or NoToken Redo (redo_meant held.redos s)
+first_call scene held (script.Keep s) = call_or NoToken Keep (undo_meant held.undos (Some s))
+first_call scene held (script.Forget s) = call_or NoToken Forget (redo_meant held.redos (Some s))
+first_call scene held (script.Lift table identifier) = call_or NoVertex (λ v. Order) (vertex_of scene identifier)
+first_call scene held script.Harvest = Ok Order
+first_call scene held (script.Commit k) = call_or NoHarvest Commit (harvest_kept held.harvests k)
+first_call scene held (script.Settle n) = Ok Order
+first_call scene held script.Show = Ok Page
 
--- ---- harvests that sweeps make
+-- ---- harvests that lines make
 
 -- a harvest of the order that was answered: lawful, on or above its tables
 pub record IsOf (family : Family) (decisions : List Decision) (hopeful dual : List ℕ) (made : Harvest) : Type 0 where
@@ -99,59 +104,118 @@ pub record IsSwept (family : Family) (sweeps : ℕ) (decisions : List Decision) 
   pub of_order : IsOf family decisions hopeful dual made
   pub moved : ¬ (Checks family made) → sum hopeful + sum dual + sweeps ≤ sum made.hopeful + sum made.dual
 
+-- the order's tables with one vertex of one table lifted once, where that is greater
+pub record IsLifted (setting : Setting) (table : Which) (v : ℕ) (decisions : List Decision) (hopeful dual : List ℕ) (made : Harvest) : Type 0 where
+  pub of_order : IsOf (family_of setting) decisions hopeful dual made
+  pub known : List Tri
+  pub known_is : IsKnownTable setting.lines (map literal_of decisions) known
+  pub lifted : harvested made table ≡ raised (levels_for table setting.game) (arena_for (kleene known) table setting.game) (table_in hopeful dual table) v
+  pub other_stays : harvested made (other_table table) ≡ table_in hopeful dual (other_table table)
+
+abbrev pub most_sweeps : ℕ
+most_sweeps = 1000000
+
 abbrev pub sweeps_of : Option ℕ → ℕ
-sweeps_of None = 1000000
+sweeps_of None = most_sweeps
 sweeps_of (Some n) = n
 
 -- ---- a line
 
--- no further call
-abbrev pub Ends : List ℕ → List Event → List ℕ → Type 0
-Ends answer calls text = (calls ≡ []) × (text ≡ answer)
+-- what may come after a reply: further calls, the line's answer, and what is held then
+abbrev pub Rest : Type 1
+Rest = List Event → List ℕ → Held → Type 0
 
--- a refused call answers the line; else what follows the reply
-abbrev pub Follows : Scene → (Reply → List Event → List ℕ → Type 0) → Reply → List Event → List ℕ → Type 0
-Follows scene P (Refused r) calls text = Ends (refused_line (refusal_text scene.names r)) calls text
-Follows scene P reply calls text = P reply calls text
+-- no further call
+abbrev pub Ends : List ℕ → Held → Rest
+Ends answer held calls text new = (calls ≡ []) × (text ≡ answer) × (new ≡ held)
+
+-- A refused call answers the line, and leaves what is held as it was; else what follows the reply.
+abbrev pub Follows : Scene → Held → (Reply → Rest) → Reply → Rest
+Follows scene held P (Refused r) calls text new = Ends (refused_line (refusal_text scene.names r)) held calls text new
+Follows scene held P reply calls text new = P reply calls text new
 
 -- one call more under the label, and what follows its reply
-abbrev pub Asks : Scene → ℕ → Call → (Reply → List Event → List ℕ → Type 0) → List Event → List ℕ → Type 0
-Asks scene label call P [] text = ⊥
-Asks scene label call P (e ∷ calls) text = (e.session ≡ label) × (e.call ≡ call) × Follows scene P e.reply calls text
+abbrev pub Asks : Scene → Held → ℕ → Call → (Reply → Rest) → Rest
+Asks scene held label call P [] text new = ⊥
+Asks scene held label call P (e ∷ calls) text new = (e.session ≡ label) × (e.call ≡ call) × Follows scene held P e.reply calls text new
 
-abbrev pub TellsSettled : ℕ → Reply → List Event → List ℕ → Type 0
-TellsSettled n (IsSettled b) calls text = Ends (settled_text b n) calls text
-TellsSettled n _ calls text = ⊥
+-- ---- after a line's replies
 
-abbrev pub AsksSettled : Scene → ℕ → Reply → List Event → List ℕ → Type 0
-AsksSettled scene label (Added n) calls text = Asks scene label Settled (TellsSettled n) calls text
-AsksSettled scene label _ calls text = ⊥
+abbrev pub TellsSettled : Held → ℕ → Reply → Rest
+TellsSettled held n (IsSettled b) calls text new = Ends (settled_text b n) held calls text new
+TellsSettled held n _ calls text new = ⊥
+
+-- after the commit of a settle
+abbrev pub AsksSettled : Scene → Held → ℕ → Reply → Rest
+AsksSettled scene held label (Added n) calls text new = Asks scene held label Settled (TellsSettled held n) calls text new
+AsksSettled scene held label _ calls text new = ⊥
+
+-- after another commit
+abbrev pub TellsAdded : Held → Reply → Rest
+TellsAdded held (Added n) calls text new = Ends (numbered (codes "added") n) held calls text new
+TellsAdded held _ calls text new = ⊥
 
 -- an order is swept, and what was made is committed
-abbrev pub Sweeps : Scene → ℕ → ℕ → Reply → List Event → List ℕ → Type 0
-Sweeps scene label sweeps (Ordered decisions hopeful dual) calls text =
-    (made : Harvest) × IsSwept (family_of scene.setting) sweeps decisions hopeful dual made × Asks scene label (Commit made) (AsksSettled scene label) calls text
-Sweeps scene label sweeps _ calls text = ⊥
+abbrev pub Sweeps : Scene → Held → ℕ → ℕ → Reply → Rest
+Sweeps scene held label sweeps (Ordered decisions hopeful dual) calls text new =
+    (made : Harvest) × IsSwept (family_of scene.setting) sweeps decisions hopeful dual made × Asks scene held label (Commit made) (AsksSettled scene held label) calls text new
+Sweeps scene held label sweeps _ calls text new = ⊥
 
-abbrev pub TellsChanged : Reply → List Event → List ℕ → Type 0
-TellsChanged (Changed s) calls text = Ends (numbered (codes "done") s) calls text
-TellsChanged _ calls text = ⊥
+-- an order is swept, and what was made is kept
+abbrev pub Keeps : Scene → Held → Reply → Rest
+Keeps scene held (Ordered decisions hopeful dual) calls text new =
+    (made : Harvest) × IsSwept (family_of scene.setting) most_sweeps decisions hopeful dual made
+    × Ends (numbered (codes "harvest") (length held.harvests + 1)) (with_harvest held made) calls text new
+Keeps scene held _ calls text new = ⊥
 
-abbrev pub ShowsPage : Scene → Reply → List Event → List ℕ → Type 0
-ShowsPage scene (PageIs page) calls text =
-    (calls ≡ []) × IsShown scene (decisions_of page) (table_of Hopeful page (length scene.setting.game)) (table_of Dual page (length scene.setting.game)) text
-ShowsPage scene _ calls text = ⊥
+-- a vertex of an order is lifted, and what was made is committed
+abbrev pub Lifts : Scene → Held → ℕ → Which → ℕ → Reply → Rest
+Lifts scene held label table identifier (Ordered decisions hopeful dual) calls text new =
+    (v : ℕ) × (made : Harvest) × (vertex_of scene identifier ≡ Some v) × IsLifted scene.setting table v decisions hopeful dual made
+    × Asks scene held label (Commit made) (TellsAdded held) calls text new
+Lifts scene held label table identifier _ calls text new = ⊥
+
+abbrev pub TellsChanged : Held → Reply → Rest
+TellsChanged held (Changed s) calls text new = Ends (numbered (codes "done") s) (after_change held s) calls text new
+TellsChanged held _ calls text new = ⊥
+
+abbrev pub TellsUndone : Held → Reply → Rest
+TellsUndone held (Undone s) calls text new = Ends (numbered (codes "undone") s) (after_undo held s) calls text new
+TellsUndone held _ calls text new = ⊥
+
+abbrev pub TellsRedone : Held → Reply → Rest
+TellsRedone held (Redone s) calls text new = Ends (numbered (codes "redone") s) (after_redo held s) calls text new
+TellsRedone held _ calls text new = ⊥
+
+-- a token is spent, with this answer
+abbrev pub TellsSpent : List ℕ → Held → Reply → Rest
+TellsSpent answer held Spent calls text new = Ends answer held calls text new
+TellsSpent answer held _ calls text new = ⊥
+
+abbrev pub ShowsPage : Scene → Held → Reply → Rest
+ShowsPage scene held (PageIs page) calls text new =
+    (shown : List ℕ) × IsShown scene (decisions_of page) (table_of Hopeful page (length scene.setting.game)) (table_of Dual page (length scene.setting.game)) shown × Ends shown held calls text new
+ShowsPage scene held _ calls text new = ⊥
 
 -- after the reply to a command's first call
-abbrev pub Continues : Scene → ℕ → script.Command → Reply → List Event → List ℕ → Type 0
-Continues scene label (script.Settle n) reply calls text = Sweeps scene label (sweeps_of n) reply calls text
-Continues scene label script.Show reply calls text = ShowsPage scene reply calls text
-Continues scene label command reply calls text = TellsChanged reply calls text
+abbrev pub Continues : Scene → Held → ℕ → script.Command → Reply → Rest
+Continues scene held label (script.Select name) reply calls text new = TellsChanged held reply calls text new
+Continues scene held label (script.Exclude name) reply calls text new = TellsChanged held reply calls text new
+Continues scene held label (script.Retract name) reply calls text new = TellsChanged held reply calls text new
+Continues scene held label (script.Undo s) reply calls text new = TellsUndone held reply calls text new
+Continues scene held label (script.Redo s) reply calls text new = TellsRedone held reply calls text new
+Continues scene held label (script.Keep s) reply calls text new = TellsSpent (numbered (codes "kept") s) (after_keep held s) reply calls text new
+Continues scene held label (script.Forget s) reply calls text new = TellsSpent (numbered (codes "forgotten") s) (after_forget held s) reply calls text new
+Continues scene held label (script.Lift table identifier) reply calls text new = Lifts scene held label table identifier reply calls text new
+Continues scene held label script.Harvest reply calls text new = Keeps scene held reply calls text new
+Continues scene held label (script.Commit k) reply calls text new = TellsAdded (without_harvest held k) reply calls text new
+Continues scene held label (script.Settle n) reply calls text new = Sweeps scene held label (sweeps_of n) reply calls text new
+Continues scene held label script.Show reply calls text new = ShowsPage scene held reply calls text new
 
-abbrev pub Begins : Scene → ℕ → script.Command → Result Call Own → List Event → List ℕ → Type 0
-Begins scene label command (Err own) calls text = Ends (refused_line (own_text own)) calls text
-Begins scene label command (Ok call) calls text = Asks scene label call (Continues scene label command) calls text
+abbrev pub Begins : Scene → Held → ℕ → script.Command → Result Call Own → Rest
+Begins scene held label command (Err own) calls text new = Ends (refused_line (own_text own)) held calls text new
+Begins scene held label command (Ok call) calls text new = Asks scene held label call (Continues scene held label command) calls text new
 
--- A request makes these calls with these replies, and gives this answer.
-abbrev pub Serves : Scene → Request → List Event → List ℕ → Type 0
-Serves scene request calls text = Begins scene request.label request.command (first_call scene request.command) calls text
+-- While this is held, a request makes these calls with these replies, gives this answer, and leaves so much held.
+abbrev pub Serves : Scene → Held → Request → Rest
+Serves scene held request calls text new = Begins scene held request.label request.command (first_call scene held request.command) calls text new

@@ -1,25 +1,56 @@
 -- What the engine does with a request.
-use Rattle.std.specs.Prelude.{◌≡◌, ℕ, List, [], ◌++◌, ⊤}
+use Rattle.std.specs.Prelude.{◌≡◌, ℕ, List, [], ◌++◌, ⊤, ◌==◌, Bool, true, false, position, Option, Some, None}
 use Rattle.vpg_diagram.specs.DiagramText.{NamedDiagram}
 use Rattle.vpg_game.specs.Game.{NamedGame, IsAtLimit}
 use Rattle.vpg_partial.specs.KnownLaws.{HasConflictOf}
+use Rattle.vpg_desk.specs.Book.{Refusal, opened}
+use Rattle.vpg_desk.specs.State.{DeskState}
 use Rattle.vpg_desk.specs.declared.fault.OpenFault.{OpenFault}
 use Rattle.vpg_desk.specs.declared.fault.OpenFault.TheVariants.{AtLimit, Conflict, Memory}
-use Rattle.vpg_report.specs.Run.{answering}
+use Rattle.vpg_report.specs.Answers.{refused_line, refusal_text}
+use Rattle.vpg_report.specs.Held.{Held, nothing_held}
+use Rattle.vpg_report.specs.Run.{Between, answering}
 use Rattle.vpg_report.specs.Scene.{Scene, scene_of}
+use Rattle.vpg_report.specs.Script as script
 use Rattle.vpg_report.specs.Script.{Request}
-use Rattle.vpg_desk.specs.State.{DeskState}
 
-abbrev pub scene_at : DeskState → Scene
-scene_at state = scene_of state.game state.diagram
+-- a desk, and what is held beside it
+pub record EngineState : Type 0 where
+  pub desk : DeskState
+  pub held : Held
 
--- A text is appended with which the desk's book answers the request; game and diagram stay.
-pub record AnswersTo (old : DeskState) (request : Request) (before after : List ℕ) (new : DeskState) : Type 0 where
+abbrev pub scene_at : EngineState → Scene
+scene_at state = scene_of state.desk.game state.desk.diagram
+
+abbrev pub between_of : EngineState → Between
+between_of state = record { book = state.desk.book; held = state.held }
+
+-- an engine whose desk was opened
+abbrev pub engine_of : NamedGame → NamedDiagram → EngineState
+engine_of game diagram = record { desk = record { game = game; diagram = diagram; book = opened }; held = nothing_held }
+
+-- A text is appended with which the engine answers the request; game and diagram stay.
+pub record AnswersTo (old : EngineState) (request : Request) (before after : List ℕ) (new : EngineState) : Type 0 where
   pub text : List ℕ
-  pub answer : answering (scene_at old) old.book request text new.book
+  pub answer : answering (scene_at old) (between_of old) request text (between_of new)
   pub appended : after ≡ before ++ text
-  pub game : new.game ≡ old.game
-  pub diagram : new.diagram ≡ old.diagram
+  pub game : new.desk.game ≡ old.desk.game
+  pub diagram : new.desk.diagram ≡ old.desk.diagram
+
+-- the command that decides the feature of a name in or out
+abbrev pub deciding : Bool → List ℕ → script.Command
+deciding true name = script.Select name
+deciding false name = script.Exclude name
+
+-- the place of the first serial that is the one meant
+abbrev pub IsPlaceOf : Option ℕ → List ℕ → Option ℕ → Type 0
+IsPlaceOf meant serials None = meant ≡ None
+IsPlaceOf meant serials (Some place) = (s : ℕ) × ((meant ≡ Some s) × (position (λ n. n == s) serials ≡ Some place))
+
+-- The answer to a refused call; want of memory has none.
+abbrev pub TellsRefusal : List (List ℕ) → Option Refusal → List ℕ → List ℕ → Type 0
+TellsRefusal names None before after = ⊥
+TellsRefusal names (Some refusal) before after = after ≡ before ++ refused_line (refusal_text names refusal)
 
 -- why a desk isn't opened
 abbrev pub IsOpenFault : NamedGame → NamedDiagram → OpenFault → Type 0

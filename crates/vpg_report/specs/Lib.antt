@@ -2,6 +2,7 @@ pub mod Answers
 pub mod Devices
 pub mod Engine
 pub mod EngineFields
+pub mod Held
 pub mod Lines
 pub mod Output
 pub mod Plan

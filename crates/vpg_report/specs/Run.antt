@@ -1,22 +1,42 @@
--- What a run of a script does to a desk's book, and what it writes.
+-- What a run of a script does to a desk's book, what the engine holds, and what it writes.
 use Rattle.std.specs.Prelude.{◌≡◌, ℕ, List, [], ◌++◌}
 use Rattle.vpg_desk.specs.Book.{Book, opened}
-use Rattle.vpg_desk.specs.History.{Event, IsLegal, IsLegalFrom, book_after}
+use Rattle.vpg_desk.specs.History.{Event, IsLegalFrom, book_after}
 use Rattle.vpg_desk.specs.Desk.{family_of}
+use Rattle.vpg_desk.specs.State.{IsHistoryOf}
+use Rattle.vpg_report.specs.Held.{Held, nothing_held}
 use Rattle.vpg_report.specs.Output.{Machine, Answered}
 use Rattle.vpg_report.specs.Scene.{Scene}
 use Rattle.vpg_report.specs.Answers.{Serves}
 
--- From a book a request makes calls, each with the reply that the book gives at that point, is answered with this text, and leaves the book after them.
-abbrev pub answering : Scene → Machine Book
+-- between two lines: the book of the desk, and what the engine holds
+pub record Between : Type 0 where
+  pub book : Book
+  pub held : Held
+
+-- before the first line
+abbrev pub begun : Between
+begun = record { book = opened; held = nothing_held }
+
+-- A request makes calls, each with the reply that the book gives at that point, is answered with this text, and leaves the book after them.
+abbrev pub answering : Scene → Machine Between
 answering scene old request text new =
-    (calls : List Event) × (Serves scene request calls text × IsLegalFrom (family_of scene.setting) old calls × (new ≡ book_after (family_of scene.setting) old calls))
+    (calls : List Event) × (Serves scene old.held request calls text new.held × IsLegalFrom (family_of scene.setting) old.book calls × (new.book ≡ book_after (family_of scene.setting) old.book calls))
+
+-- the calls so far, and what the engine holds
+pub record Asked : Type 0 where
+  pub calls : List Event
+  pub held : Held
+
+abbrev pub unasked : Asked
+unasked = record { calls = []; held = nothing_held }
 
 -- each request adds its calls to those before
-abbrev pub asking : Scene → Machine (List Event)
-asking scene old request text new = (calls : List Event) × (Serves scene request calls text × (new ≡ old ++ calls))
+abbrev pub asking : Scene → Machine Asked
+asking scene old request text new = (calls : List Event) × (Serves scene old.held request calls text new.held × (new.calls ≡ old.calls ++ calls))
 
--- What is written for lines without a fault are the answers to the calls of a legal history, which are exactly the calls of these lines in their order.
+-- What is written for lines without a fault are the answers to the calls of a legal history, into which lawful harvests alone were
+-- handed, which are exactly the calls of these lines in their order, and which leaves the book.
 abbrev pub AnswersAreHistories : Type 0
-AnswersAreHistories = (scene : Scene) (lines : List (List ℕ)) (text : List ℕ) (new : Book) → Answered (answering scene) opened lines text new →
-    (history : List Event) × (IsLegal (family_of scene.setting) history × Answered (asking scene) [] lines text history × (new ≡ book_after (family_of scene.setting) opened history))
+AnswersAreHistories = (scene : Scene) (lines : List (List ℕ)) (text : List ℕ) (new : Between) → Answered (answering scene) begun lines text new →
+    (history : List Event) × (IsHistoryOf scene.setting new.book history × Answered (asking scene) unasked lines text (record { calls = history; held = new.held }))

@@ -4,6 +4,8 @@ use Rattle.std.specs.List.{list_all, slice_split}
 use Rattle.std.specs.Char.{is_ascii_digit}
 use Rattle.std.specs.Str.Parse.{digits_value}
 use Rattle.vpg_guards.specs.Names.{starts_as_name, is_name_byte, constant_of}
+use Rattle.vpg_measure.specs.declared.which.Which.{Which}
+use Rattle.vpg_measure.specs.declared.which.Which.TheVariants.{Hopeful, Dual}
 use Rattle.vpg_report.specs.declared.command.Verb.{Verb}
 use Rattle.vpg_report.specs.declared.command.Verb.TheVariants as verbs
 use Rattle.vpg_report.specs.declared.command.LineFault.{LineFault}
@@ -35,6 +37,9 @@ number_of most w =
 abbrev pub largest_serial : ℕ
 largest_serial = 18446744073709551615
 
+abbrev pub largest_identifier : ℕ
+largest_identifier = 4294967295
+
 abbrev pub most_sweeps : ℕ
 most_sweeps = 1000000000
 
@@ -44,10 +49,13 @@ longest_line = 4096
 pub data Command : Type 0 where
   Select : (name : List ℕ) → Command
   Exclude : (name : List ℕ) → Command
+  Retract : (name : List ℕ) → Command
   Undo : (serial : Option ℕ) → Command
   Redo : (serial : Option ℕ) → Command
   Keep : (serial : ℕ) → Command
   Forget : (serial : ℕ) → Command
+  Lift : (table : Which) → (identifier : ℕ) → Command
+  Harvest : Command
   Commit : (number : ℕ) → Command
   Settle : (sweeps : Option ℕ) → Command
   Show : Command
@@ -57,10 +65,13 @@ abbrev pub verb_of : List ℕ → Option Verb
 verb_of w =
     if bytes_eq w (codes "select") then Some verbs.Select
     else if bytes_eq w (codes "exclude") then Some verbs.Exclude
+    else if bytes_eq w (codes "retract") then Some verbs.Retract
     else if bytes_eq w (codes "undo") then Some verbs.Undo
     else if bytes_eq w (codes "redo") then Some verbs.Redo
     else if bytes_eq w (codes "keep") then Some verbs.Keep
     else if bytes_eq w (codes "forget") then Some verbs.Forget
+    else if bytes_eq w (codes "lift") then Some verbs.Lift
+    else if bytes_eq w (codes "harvest") then Some verbs.Harvest
     else if bytes_eq w (codes "commit") then Some verbs.Commit
     else if bytes_eq w (codes "settle") then Some verbs.Settle
     else if bytes_eq w (codes "show") then Some verbs.Show
@@ -70,6 +81,7 @@ verb_of w =
 abbrev pub bare_command : Verb → Option Command
 bare_command verbs.Undo = Some (Undo None)
 bare_command verbs.Redo = Some (Redo None)
+bare_command verbs.Harvest = Some Harvest
 bare_command verbs.Settle = Some (Settle None)
 bare_command verbs.Show = Some Show
 bare_command _ = None
@@ -81,6 +93,7 @@ if_name command w = if is_feature_name w then Some (command w) else None
 abbrev pub command_with : Verb → List ℕ → Option Command
 command_with verbs.Select w = if_name Select w
 command_with verbs.Exclude w = if_name Exclude w
+command_with verbs.Retract w = if_name Retract w
 command_with verbs.Undo w = option_map (λ s. Undo (Some s)) (number_of largest_serial w)
 command_with verbs.Redo w = option_map (λ s. Redo (Some s)) (number_of largest_serial w)
 command_with verbs.Keep w = option_map Keep (number_of largest_serial w)
@@ -89,10 +102,27 @@ command_with verbs.Commit w = option_map Commit (number_of largest_serial w)
 command_with verbs.Settle w = option_map (λ n. Settle (Some n)) (number_of most_sweeps w)
 command_with _ w = None
 
+-- the table that a word names
+abbrev pub table_named : List ℕ → Option Which
+table_named w =
+    if bytes_eq w (codes "hopeful") then Some Hopeful
+    else if bytes_eq w (codes "dual") then Some Dual
+    else None
+
+abbrev pub lift_of : Option Which → Option ℕ → Option Command
+lift_of (Some table) (Some identifier) = Some (Lift table identifier)
+lift_of _ _ = None
+
+-- with two
+abbrev pub command_with_two : Verb → List ℕ → List ℕ → Option Command
+command_with_two verbs.Lift a b = lift_of (table_named a) (number_of largest_identifier b)
+command_with_two _ a b = None
+
 abbrev pub command_of : Verb → List (List ℕ) → Option Command
 command_of verb [] = bare_command verb
 command_of verb (a ∷ []) = command_with verb a
-command_of verb (a ∷ b ∷ args) = None
+command_of verb (a ∷ b ∷ []) = command_with_two verb a b
+command_of verb (a ∷ b ∷ c ∷ args) = None
 
 -- the label that a word is: a number from 1 to 64 and a colon
 abbrev pub if_positive : Option ℕ → Option ℕ

@@ -11,10 +11,13 @@ use Rattle.vpg_report.specs.declared.command.ReadFault.TheVariants as faults
 abbrev pub command_shown : Command → script.Command
 command_shown (commands.Select f) = script.Select f.now
 command_shown (commands.Exclude f) = script.Exclude f.now
+command_shown (commands.Retract f) = script.Retract f.now
 command_shown (commands.Undo s) = script.Undo s
 command_shown (commands.Redo s) = script.Redo s
 command_shown (commands.Keep s) = script.Keep s
 command_shown (commands.Forget s) = script.Forget s
+command_shown (commands.Lift table v) = script.Lift table v
+command_shown commands.Harvest = script.Harvest
 command_shown (commands.Commit k) = script.Commit k
 command_shown (commands.Settle n) = script.Settle n
 command_shown commands.Show = script.Show

@@ -1,11 +1,14 @@
 //! The lines that answer commands.
-ghost use Rattle.std.specs.Prelude.{◌≡◌, ◌++◌, ◌∷◌, ◌<◌, ℕ, List, length, codes, Some, Err, OnOk};
-ghost use Rattle.vpg_report.specs.Answers.{decide_text, numbered, refused_line, settled_text};
+ghost use Rattle.std.specs.Prelude.{◌≡◌, ◌++◌, ◌∷◌, ◌<◌, ℕ, List, length, codes, OnOk};
+ghost use Rattle.vpg_desk.specs.Commit.{commit_refusal};
+ghost use Rattle.vpg_desk.specs.Faults.{decide_refusal, retract_refusal, undo_refusal, redo_refusal};
+ghost use Rattle.vpg_report.specs.Answers.{numbered, refused_line, settled_text};
+ghost use Rattle.vpg_report.specs.Engine.{TellsRefusal};
 ghost use Rattle.vpg_report.specs.Text.{blank_number, blank_name};
 
 use crate::text;
 use std::alloc::AllocError;
-use vpg_desk::DecideFault;
+use vpg_desk::{CommitFault, DecideFault, RedoFault, RetractFault, UndoFault};
 use vpg_guards::Names;
 
 /// A word and a number.
@@ -40,7 +43,7 @@ pub(crate) fn refused(why: &[u8], out: &mut Vec<u8>) -> Result<(), AllocError>
 }
 
 /// A refusal that names a serial.
-pub(crate) fn refused_at(why: &[u8], serial: u64, out: &mut Vec<u8>) -> Result<(), AllocError>
+fn refused_at(why: &[u8], serial: u64, out: &mut Vec<u8>) -> Result<(), AllocError>
     ensures { OnOk result (out.new.items ≡ out.old.items ++ refused_line (why.now ++ blank_number serial)) }
 {
     out.extend_from_slice(b"refused ")?;
@@ -51,7 +54,7 @@ pub(crate) fn refused_at(why: &[u8], serial: u64, out: &mut Vec<u8>) -> Result<(
 }
 
 /// A refusal that names a feature.
-pub(crate) fn refused_feature(
+fn refused_feature(
     why: &[u8],
     names: &Names,
     feature: u16,
@@ -67,21 +70,82 @@ pub(crate) fn refused_feature(
     Ok(())
 }
 
-/// The answer to a decide.
-pub(crate) fn decided(
+/// Why a feature isn't decided.
+pub(crate) fn decide_refused(
     names: &Names,
-    decided: Result<u64, DecideFault>,
+    fault: DecideFault,
     out: &mut Vec<u8>,
 ) -> Result<(), AllocError>
-    requires { (feature : ℕ) → decided ≡ Err (DecideFault.Conflict feature) → feature < length names.now }
-    ensures { OnOk result ((text : List ℕ) × (decide_text names.now decided ≡ Some text × (out.new.items ≡ out.old.items ++ text))) }
+    requires { (feature : ℕ) → fault ≡ DecideFault.Conflict feature → feature < length names.now }
+    ensures { OnOk result (TellsRefusal names.now (decide_refusal fault) out.old.items out.new.items) }
 {
-    match decided {
-        Ok(serial) => numbered(b"done", serial, out),
-        Err(DecideFault::UnknownFeature) => refused(b"UnknownFeature", out),
-        Err(DecideFault::AlreadyDecided { serial }) => refused_at(b"AlreadyDecided", serial, out),
-        Err(DecideFault::Conflict { feature }) => refused_feature(b"Conflict", names, feature, out),
-        Err(DecideFault::TooManyChanges) => refused(b"TooManyChanges", out),
-        Err(DecideFault::Memory) => Err(AllocError),
+    match fault {
+        DecideFault::UnknownFeature => refused(b"UnknownFeature", out),
+        DecideFault::AlreadyDecided { serial } => refused_at(b"AlreadyDecided", serial, out),
+        DecideFault::Conflict { feature } => refused_feature(b"Conflict", names, feature, out),
+        DecideFault::TooManyChanges => refused(b"TooManyChanges", out),
+        DecideFault::Memory => Err(AllocError),
+    }
+}
+
+/// Why a feature isn't retracted.
+pub(crate) fn retract_refused(
+    names: &Names,
+    fault: RetractFault,
+    out: &mut Vec<u8>,
+) -> Result<(), AllocError>
+    ensures { OnOk result (TellsRefusal names.now (retract_refusal fault) out.old.items out.new.items) }
+{
+    match fault {
+        RetractFault::UnknownFeature => refused(b"UnknownFeature", out),
+        RetractFault::NotDecided => refused(b"NotDecided", out),
+        RetractFault::TooManyChanges => refused(b"TooManyChanges", out),
+        RetractFault::Memory => Err(AllocError),
+    }
+}
+
+/// Why a change isn't undone.
+pub(crate) fn undo_refused(
+    names: &Names,
+    fault: UndoFault,
+    out: &mut Vec<u8>,
+) -> Result<(), AllocError>
+    ensures { OnOk result (TellsRefusal names.now (undo_refusal fault) out.old.items out.new.items) }
+{
+    match fault {
+        UndoFault::Sealed => refused(b"Sealed", out),
+        UndoFault::NotNewest { newest } => refused_at(b"NotNewest", newest, out),
+        UndoFault::Memory => Err(AllocError),
+    }
+}
+
+/// Why a change isn't redone.
+pub(crate) fn redo_refused(
+    names: &Names,
+    fault: RedoFault,
+    out: &mut Vec<u8>,
+) -> Result<(), AllocError>
+    ensures { OnOk result (TellsRefusal names.now (redo_refusal fault) out.old.items out.new.items) }
+{
+    match fault {
+        RedoFault::Overtaken => refused(b"Overtaken", out),
+        RedoFault::NotNext { next } => refused_at(b"NotNext", next, out),
+        RedoFault::Memory => Err(AllocError),
+    }
+}
+
+/// Why a harvest isn't committed.
+pub(crate) fn commit_refused(
+    names: &Names,
+    fault: CommitFault,
+    out: &mut Vec<u8>,
+) -> Result<(), AllocError>
+    requires { (feature : ℕ) → fault ≡ CommitFault.Outdated feature → feature < length names.now }
+    ensures { OnOk result (TellsRefusal names.now (commit_refusal fault) out.old.items out.new.items) }
+{
+    match fault {
+        CommitFault::OtherGame => refused(b"OtherGame", out),
+        CommitFault::Outdated { feature } => refused_feature(b"Outdated", names, feature, out),
+        CommitFault::Memory => Err(AllocError),
     }
 }

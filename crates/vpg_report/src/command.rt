@@ -5,16 +5,19 @@ ghost use Rattle.std.specs.Char.{is_ascii_digit, digit_value};
 ghost use Rattle.std.specs.Str.Parse.{digits_value};
 ghost use Rattle.std.specs.Prelude.{bytes_eq, not, is_none};
 ghost use Rattle.vpg_guards.specs.Names.{starts_as_name, is_name_byte, constant_of};
-ghost use Rattle.vpg_report.specs.Script.{is_blank, is_nonempty, words, is_feature_name, number_of, verb_of, bare_command, command_with, command_of, label_of, is_comment};
+ghost use Rattle.vpg_report.specs.Script.{is_blank, is_nonempty, words, is_feature_name, number_of, verb_of, bare_command, command_with, table_named, command_with_two, command_of, label_of, is_comment};
 ghost use Rattle.vpg_report.specs.View.{command_shown, texts};
 
 use std::alloc::{AllocError, Global};
 use thiserror::Error;
+use vpg_measure::Which;
 
 /// The most bytes of a line before its end.
 pub const LONGEST_LINE: usize = 4096;
 
 const LARGEST_SERIAL: u64 = u64::MAX;
+
+const LARGEST_IDENTIFIER: u64 = u32::MAX as u64;
 
 const MOST_SWEEPS: u64 = 1_000_000_000;
 
@@ -25,10 +28,13 @@ const MOST_LABELS: u64 = 64;
 pub enum Verb {
     Select,
     Exclude,
+    Retract,
     Undo,
     Redo,
     Keep,
     Forget,
+    Lift,
+    Harvest,
     Commit,
     Settle,
     Show,
@@ -39,10 +45,14 @@ pub enum Verb {
 pub enum Command<'t> {
     Select(&'t [u8]),
     Exclude(&'t [u8]),
+    Retract(&'t [u8]),
     Undo(Option<u64>),
     Redo(Option<u64>),
     Keep(u64),
     Forget(u64),
+    /// A table, and the identifier of a vertex.
+    Lift(Which, u32),
+    Harvest,
     Commit(u64),
     Settle(Option<u64>),
     Show,
@@ -182,6 +192,8 @@ fn verb_named(word: &[u8]) -> Option<Verb>
         Some(Verb::Select)
     } else if same(word, b"exclude") {
         Some(Verb::Exclude)
+    } else if same(word, b"retract") {
+        Some(Verb::Retract)
     } else if same(word, b"undo") {
         Some(Verb::Undo)
     } else if same(word, b"redo") {
@@ -190,6 +202,10 @@ fn verb_named(word: &[u8]) -> Option<Verb>
         Some(Verb::Keep)
     } else if same(word, b"forget") {
         Some(Verb::Forget)
+    } else if same(word, b"lift") {
+        Some(Verb::Lift)
+    } else if same(word, b"harvest") {
+        Some(Verb::Harvest)
     } else if same(word, b"commit") {
         Some(Verb::Commit)
     } else if same(word, b"settle") {
@@ -208,9 +224,16 @@ fn bare_command<'t>(verb: Verb) -> Option<Command<'t>>
     match verb {
         Verb::Undo => Some(Command::Undo(None)),
         Verb::Redo => Some(Command::Redo(None)),
+        Verb::Harvest => Some(Command::Harvest),
         Verb::Settle => Some(Command::Settle(None)),
         Verb::Show => Some(Command::Show),
-        Verb::Select | Verb::Exclude | Verb::Keep | Verb::Forget | Verb::Commit => None,
+        Verb::Select
+        | Verb::Exclude
+        | Verb::Retract
+        | Verb::Keep
+        | Verb::Forget
+        | Verb::Lift
+        | Verb::Commit => None,
     }
 }
 
@@ -221,12 +244,39 @@ fn command_with(verb: Verb, word: &[u8]) -> Option<Command>
     match verb {
         Verb::Select if is_feature_name(word) => Some(Command::Select(word)),
         Verb::Exclude if is_feature_name(word) => Some(Command::Exclude(word)),
+        Verb::Retract if is_feature_name(word) => Some(Command::Retract(word)),
         Verb::Undo => Some(Command::Undo(Some(number(word, LARGEST_SERIAL)?))),
         Verb::Redo => Some(Command::Redo(Some(number(word, LARGEST_SERIAL)?))),
         Verb::Keep => Some(Command::Keep(number(word, LARGEST_SERIAL)?)),
         Verb::Forget => Some(Command::Forget(number(word, LARGEST_SERIAL)?)),
         Verb::Commit => Some(Command::Commit(number(word, LARGEST_SERIAL)?)),
         Verb::Settle => Some(Command::Settle(Some(number(word, MOST_SWEEPS)?))),
+        _ => None,
+    }
+}
+
+fn table_named(word: &[u8]) -> Option<Which>
+    ensures { result ≡ table_named word.now }
+{
+    if same(word, b"hopeful") {
+        Some(Which::Hopeful)
+    } else if same(word, b"dual") {
+        Some(Which::Dual)
+    } else {
+        None
+    }
+}
+
+/// A command with two arguments.
+fn command_with_two<'t>(verb: Verb, first: &[u8], second: &[u8]) -> Option<Command<'t>>
+    ensures { option_map command_shown result ≡ command_with_two verb first.now second.now }
+{
+    match verb {
+        Verb::Lift => {
+            let table = table_named(first)?;
+            let identifier = number(second, LARGEST_IDENTIFIER)?;
+            Some(Command::Lift(table, identifier as u32))
+        }
         _ => None,
     }
 }
@@ -238,7 +288,8 @@ fn command_of<'t>(verb: Verb, args: &[&'t [u8]]) -> Option<Command<'t>>
     match args {
         [] => bare_command(verb),
         [a] => command_with(verb, a),
-        [_, _, ..] => None,
+        [a, b] => command_with_two(verb, a, b),
+        [_, _, _, ..] => None,
     }
 }
 

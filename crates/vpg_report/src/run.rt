@@ -1,11 +1,10 @@
 //! Runs of scripts.
 ghost use Rattle.std.specs.Arc.{arc_value};
 ghost use Rattle.std.specs.Prelude.{◌≡◌, ◌⊎◌, true, IsErrOf};
-ghost use Rattle.vpg_desk.specs.Book.{opened};
 ghost use Rattle.vpg_diagram.specs.FeatureDiagram.{feature_count};
 ghost use Rattle.vpg_report.specs.Engine.{IsOpenFault};
 ghost use Rattle.vpg_report.specs.Output.{Outcome};
-ghost use Rattle.vpg_report.specs.Run.{answering};
+ghost use Rattle.vpg_report.specs.Run.{answering, begun};
 ghost use Rattle.vpg_report.specs.Scene.{scene_of};
 
 use crate::command::LineFault;
@@ -41,7 +40,7 @@ pub enum RunFault {
 /// Opens a desk on the game and the diagram, reads a script, and answers its lines in order, each before the next is read.
 ///
 /// `Open` comes before any line is read; `Line`, `Read` and `Write` as the run meets them, and `Memory` only where a growth was refused.
-/// What earlier lines wrote stays written.
+/// What earlier lines wrote stays written. At the script's end, and after each fault, all tokens are spent and the desk is closed.
 pub fn run<R: Source, W: Sink>(
     alloc: Global,
     game: Arc<GuardedGame>,
@@ -53,7 +52,7 @@ pub fn run<R: Source, W: Sink>(
     requires features { (arc_value game).features ≡ feature_count (arc_value diagram).lines }
 
     // What is written are the answers to the lines read, each by calls on the desk's book with the replies that it gives.
-    ensures output { Outcome (answering (scene_of (arc_value game) (arc_value diagram))) (IsOpenFault (arc_value game) (arc_value diagram)) opened (R.remaining reader.old) (R.remaining reader.new) (W.contents writer.old) (W.contents writer.new) result }
+    ensures output { Outcome (answering (scene_of (arc_value game) (arc_value diagram))) (IsOpenFault (arc_value game) (arc_value diagram)) begun (R.remaining reader.old) (R.remaining reader.new) (W.contents writer.old) (W.contents writer.new) result }
 
     // Read and Write come only where the device failed, or the reads were used up.
     ensures read { IsErrOf result RunFault.Read → (R.has_failed reader.new ≡ true) ⊎ (R.calls reader.new ≡ 16777216) }
@@ -64,5 +63,7 @@ pub fn run<R: Source, W: Sink>(
         Err(OpenFault::Memory) => return Err(RunFault::Memory),
         Err(fault) => return Err(RunFault::Open { fault }),
     };
-    answer_script(alloc, &mut engine, reader, writer)
+    let answered = answer_script(alloc, &mut engine, reader, writer);
+    engine.end();
+    answered
 }

@@ -2,9 +2,8 @@
 ghost use Rattle.std.specs.Prelude.{◌≡◌, ℕ, suc, List, [], ◌++◌, length, OnOk, OnErr, IfErr, IfOk, IsErrOf, Result, Ok, Err, Some, ◌⊎◌, true};
 ghost use Rattle.std.specs.Io.KnownBytes.{Appends, prepend_known};
 ghost use Rattle.vpg_report.specs.Devices.{AppendsSome};
-ghost use Rattle.vpg_desk.specs.Book.{Book};
 ghost use Rattle.vpg_report.specs.Scene.{Scene};
-ghost use Rattle.vpg_report.specs.Run.{answering};
+ghost use Rattle.vpg_report.specs.Run.{Between, answering};
 ghost use Rattle.vpg_report.specs.Script.{said};
 ghost use Rattle.vpg_report.specs.View.{request_shown};
 ghost use Rattle.vpg_report.specs.declared.command.LineFault.{LineFault as Fault};
@@ -21,8 +20,8 @@ pub trait Server {
     // The game, the diagram and their names.
     ghost scene: { Self → Scene };
 
-    // The book of its desk.
-    ghost book: { Self → Book };
+    // The book of its desk, and what it holds.
+    ghost between: { Self → Between };
 
     /// Carries a request out, and appends its answer.
     fn serve(
@@ -31,7 +30,7 @@ pub trait Server {
         request: &Request<'_>,
         out: &mut Vec<u8>,
     ) -> Result<(), AllocError>
-        ensures answer { OnOk result ((text : List ℕ) × (answering (scene self.old) (book self.old) (request_shown request.now) text (book self.new) × (out.new.items ≡ out.old.items ++ text))) }
+        ensures answer { OnOk result ((text : List ℕ) × (answering (scene self.old) (between self.old) (request_shown request.now) text (between self.new) × (out.new.items ≡ out.old.items ++ text))) }
         ensures scene { OnOk result (scene self.new ≡ scene self.old) };
 }
 
@@ -50,11 +49,11 @@ fn answer_line<V: Server, W: Sink>(
     line: &[u8],
     writer: &mut W,
 ) -> Result<(), LineStop>
-    ensures ok { OnOk result ((text : List ℕ) × (Speaks (answering (V.scene server.old)) (V.book server.old) (said line.now) text (V.book server.new) × Appends (W.contents writer.old) (W.contents writer.new) text)) }
+    ensures ok { OnOk result ((text : List ℕ) × (Speaks (answering (V.scene server.old)) (V.between server.old) (said line.now) text (V.between server.new) × Appends (W.contents writer.old) (W.contents writer.new) text)) }
     ensures scene { OnOk result (V.scene server.new ≡ V.scene server.old) }
     ensures fault { (f : Fault) → IsErrOf result (LineStop.Fault f) → (said line.now ≡ Err f) × (server.new ≡ server.old) × (writer.new ≡ writer.old) }
     ensures memory { IsErrOf result LineStop.Memory → writer.new ≡ writer.old }
-    ensures write { IsErrOf result LineStop.Write → (text : List ℕ) × (Speaks (answering (V.scene server.old)) (V.book server.old) (said line.now) text (V.book server.new) × AppendsSome (W.contents writer.old) (W.contents writer.new) text) }
+    ensures write { IsErrOf result LineStop.Write → (text : List ℕ) × (Speaks (answering (V.scene server.old)) (V.between server.old) (said line.now) text (V.between server.new) × AppendsSome (W.contents writer.old) (W.contents writer.new) text) }
     ensures write_failed { IsErrOf result LineStop.Write → W.has_failed writer.new ≡ true }
 {
     let request = match read_line(alloc, line) {
@@ -84,7 +83,7 @@ pub fn answer_script<V: Server, R: Source, W: Sink>(
 ) -> Result<(), RunFault>
     requires { R.calls reader.old ≡ 0 }
     // What is written is the output for the lines that were read.
-    ensures output { Outcome (answering (V.scene server.old)) (λ _. ⊥) (V.book server.old) (R.remaining reader.old) (R.remaining reader.new) (W.contents writer.old) (W.contents writer.new) result }
+    ensures output { Outcome (answering (V.scene server.old)) (λ _. ⊥) (V.between server.old) (R.remaining reader.old) (R.remaining reader.new) (W.contents writer.old) (W.contents writer.new) result }
     // Read and Write are answered only where the device failed, or the reads were used up.
     ensures read { IsErrOf result RunFault.Read → (R.has_failed reader.new ≡ true) ⊎ (R.calls reader.new ≡ 16777216) }
     ensures write { IsErrOf result RunFault.Write → W.has_failed writer.new ≡ true }

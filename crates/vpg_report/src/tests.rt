@@ -13,11 +13,11 @@ struct Refuser;
 
 impl Server for Refuser {
     ghost use Rattle.std.specs.Prelude.{[]};
-    ghost use Rattle.vpg_desk.specs.Book.{opened};
+    ghost use Rattle.vpg_report.specs.Run.{begun};
 
     ghost scene = { λ _. record { setting = record { game = []; lines = [] }; names = []; identifiers = [] } };
 
-    ghost book = { λ _. opened };
+    ghost between = { λ _. begun };
 
     fn serve(
         &mut self,

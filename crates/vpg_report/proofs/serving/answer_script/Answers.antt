@@ -12,7 +12,7 @@ use Rattle.vpg_report.proofs.serving.answer_script.Goals as goal
 
 pub lines-init : goal.lines-init
 lines-init g c =
-    let book = g.V.Server.book c.args.server.now in
+    let book = g.V.Server.between c.args.server.now in
     let serves = answering (g.V.Server.scene c.args.server.now) in
     let input = g.R.Source.remaining c.args.reader.now in
     let holds = g.W.Sink.contents c.args.writer.now in
@@ -42,8 +42,8 @@ lines-preserved g c =
     let fewer : lines_left c.next_line.new.reads (vec_len c.next_line.new.held) < lines_left c.lines.reads (vec_len c.lines.held) =
     subst (λ (n : Next). IsLine n → lines_left c.next_line.new.reads (vec_len c.next_line.new.held) < lines_left c.lines.reads (vec_len c.lines.held)) c.in-Line.is c.in-Ok.ensures.fewer tt in
     let first = c.args.server.now in
-    let before = g.V.Server.book c.lines.server in
-    let after = g.V.Server.book c.answer_line.new.server in
+    let before = g.V.Server.between c.lines.server in
+    let after = g.V.Server.between c.answer_line.new.server in
     let speaks : Speaks (answering (g.V.Server.scene first)) before (said line.items) ok.0 after =
     subst (λ (s : Scene). Speaks (answering s) before (said line.items) ok.0 after) c.lines.invariant.same
     (subst (λ (t : List ℕ). Speaks (answering (g.V.Server.scene c.lines.server)) before (said t) ok.0 after) c.deref.ensures.value ok.1.0) in
@@ -55,7 +55,7 @@ lines-preserved g c =
       wrote = (
         so.0 ++ line.items ∷ [],
         (
-          wrote_more (answering (g.V.Server.scene first)) (g.V.Server.book first) before after (g.R.Source.remaining c.args.reader.now) a b
+          wrote_more (answering (g.V.Server.scene first)) (g.V.Server.between first) before after (g.R.Source.remaining c.args.reader.now) a b
               (g.W.Sink.contents c.args.writer.now) (g.W.Sink.contents c.lines.writer) (g.W.Sink.contents c.answer_line.new.writer) so.0 line ok.0
               so.1.0 comes speaks ok.1.1,
           omega (arith, so.1.1, length-append so.0 (line.items ∷ [])),
@@ -68,10 +68,10 @@ returns-in-Err-Read-clause-output g c =
     let so = c.lines.invariant.wrote in
     let is = ap Err c.in-Err-Read.field-0-is in (
       so.0,
-      g.V.Server.book c.lines.server,
+      g.V.Server.between c.lines.server,
       c.next_line.new.held.items,
       (
-        wrote_kept (answering (g.V.Server.scene c.args.server.now)) (g.V.Server.book c.args.server.now) (g.V.Server.book c.lines.server) (g.R.Source.remaining c.args.reader.now)
+        wrote_kept (answering (g.V.Server.scene c.args.server.now)) (g.V.Server.between c.args.server.now) (g.V.Server.between c.lines.server) (g.R.Source.remaining c.args.reader.now)
             (prepend_known c.lines.held.items (g.R.Source.remaining c.lines.reader)) (prepend_known c.next_line.new.held.items (g.R.Source.remaining c.next_line.new.reader))
             (g.W.Sink.contents c.args.writer.now) (g.W.Sink.contents c.lines.writer) so.0 so.1.0 (c.in-Err-Read.ensures.read is),
         c.in-Err-Read.ensures.unended is,

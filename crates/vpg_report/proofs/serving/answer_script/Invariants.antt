@@ -10,7 +10,7 @@ invariant-lines g l = record {
   few : l.reads ≤ 16777216;
   calls : g.R.Source.calls l.reader ≡ l.reads;
   bound : l.number + lines_left l.reads (vec_len l.held) ≤ 16777216 * 8193 + 1;
-  wrote : (lines : List (List ℕ)) × (Wrote (answering (g.V.Server.scene l.fn.server)) (g.V.Server.book l.fn.server) (g.V.Server.book l.server) (g.R.Source.remaining l.fn.reader) (prepend_known l.held.items (g.R.Source.remaining l.reader))
+  wrote : (lines : List (List ℕ)) × (Wrote (answering (g.V.Server.scene l.fn.server)) (g.V.Server.between l.fn.server) (g.V.Server.between l.server) (g.R.Source.remaining l.fn.reader) (prepend_known l.held.items (g.R.Source.remaining l.reader))
       (g.W.Sink.contents l.fn.writer) (g.W.Sink.contents l.writer) lines × (l.number ≡ length lines + 1));
 }
 

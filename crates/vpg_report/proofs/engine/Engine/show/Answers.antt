@@ -1,9 +1,7 @@
-use Rattle.std.proofs.Common.{◌≡◌, ◌∙◌, subst}
+use Rattle.std.proofs.Common.{◌∙◌}
 use Rattle.vpg_trail.specs.Page.{Hopeful, Dual}
-use Rattle.vpg_desk.specs.State.{DeskState}
-use Rattle.vpg_report.specs.Script.{Show}
-use Rattle.vpg_report.specs.Engine.{AnswersTo}
-use Rattle.vpg_report.proofs.Deciding.{on_ok}
+use Rattle.vpg_report.specs.EngineFields.{engine_in}
+use Rattle.vpg_report.proofs.Asked.{on_same_view}
 use Rattle.vpg_report.proofs.Paged.{named, consistent, table_length, table_within, show_answers}
 use Rattle.vpg_report.proofs.engine.Engine.show.Goals as goal
 
@@ -33,6 +31,6 @@ show-requires-clause-dual_within c =
 
 pub returns : goal.returns
 returns c =
-    on_ok c.show.result _ _ (λ shown. subst (λ (d : DeskState). AnswersTo d (record { label = c.args.session; command = Show }) c.args.out.now.items c.show.new.out.items d) c.self.view_is
-    (show_answers c.self.inside.desk c.args.session c.deref.result.now c.deref-2.result.now c.in_ok-page.page.decisions c.in_ok-page.page.hopeful c.in_ok-page.page.dual c.args.out.now.items c.show.new.out.items
-    (c.deref.ensures ∙ c.self.invariant.game) (c.deref-2.ensures ∙ c.self.invariant.diagram) c.in_ok-page.ensures.decisions c.in_ok-page.ensures.hopeful c.in_ok-page.ensures.dual shown)) c.show.ensures.shown
+    on_same_view c.show.result _ (engine_in c.self.inside) _ _ _ _ c.self.view_is
+    (λ shown. show_answers (engine_in c.self.inside) c.args.session c.deref.result.now c.deref-2.result.now c.in_ok-page.page.decisions c.in_ok-page.page.hopeful c.in_ok-page.page.dual c.args.out.now.items c.show.new.out.items
+    (c.deref.ensures ∙ c.self.invariant.game) (c.deref-2.ensures ∙ c.self.invariant.diagram) c.in_ok-page.ensures.decisions c.in_ok-page.ensures.hopeful c.in_ok-page.ensures.dual shown) c.show.ensures.shown

@@ -1,0 +1,12 @@
+use Rattle.std.proofs.Common.{sym, ap}
+use Rattle.vpg_report.specs.Script as script
+use Rattle.vpg_report.specs.Script.{Request}
+use Rattle.vpg_report.specs.View.{command_shown, request_shown}
+use Rattle.vpg_report.proofs.Asked.{served}
+use Rattle.vpg_report.proofs.engine.EngineServer.serve.Goals as goal
+
+pub returns-in-Settle-clause-answer : goal.returns-in-Settle-clause-answer
+returns-in-Settle-clause-answer c =
+    let asks : script.Command → Request = λ command. record { label = c.args.request.now.label; command = command } in
+    served c.settle.result c.args.self.now c.settle.new.self (asks (script.Settle c.in-Settle.sweeps)) (request_shown c.args.request.now) c.args.out.now.items c.settle.new.out.items
+    (ap (λ command. asks (command_shown command)) (sym c.in-Settle.is)) c.settle.ensures
