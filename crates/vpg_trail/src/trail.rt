@@ -105,6 +105,14 @@ impl Trail {
         &self.dual
     }
 
+    /// Both tables.
+    pub fn tables(&self) -> (&Table, &Table)
+        ensures hopeful { result.0.now ≡ table_of Hopeful self.now.entries self.now.vertices }
+        ensures dual { result.1.now ≡ table_of Dual self.now.entries self.now.vertices }
+    {
+        (&self.hopeful, &self.dual)
+    }
+
     /// The number of decisions among the first entries.
     pub fn level(&self, place: usize) -> usize
         requires { place ≤ length self.now.entries }
