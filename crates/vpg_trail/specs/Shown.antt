@@ -24,10 +24,12 @@ pub record Track : Type 0 where
 
 -- ---- tables with one entry more, and with the last one taken back
 
+-- the table once the entry is put behind the page that gives it
 abbrev pub after_entry : Which → List ℕ → Step → List ℕ
 after_entry table values (Decided d) = values
 after_entry table values (Lifted l) = if same_table table l.table then slice_set values l.vertex (max (slice_index values l.vertex) l.new) else values
 
+-- the table once the entry is taken from behind the page that gives it
 abbrev pub before_entry : Which → List ℕ → Step → List ℕ
 before_entry table values (Decided d) = values
 before_entry table values (Lifted l) = if same_table table l.table then slice_set values l.vertex l.old else values
