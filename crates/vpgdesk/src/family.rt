@@ -1,14 +1,18 @@
 //! A product family: a game over the features of a diagram.
 ghost use Rattle.std.specs.Arc.{arc_value};
-ghost use Rattle.std.specs.Prelude.{◌≡◌, IfOk};
+ghost use Rattle.std.specs.Prelude.{◌≡◌, ◌<◌, length, vec_len, IfOk};
 ghost use Rattle.vpg_diagram.specs.FeatureDiagram.{feature_count};
+ghost use Rattle.vpgdesk.specs.Counts.{counts_text};
 
+use crate::counts::put_counts;
 use crate::fault::Fault;
-use std::alloc::Global;
+use std::alloc::{AllocError, Global};
 use std::sync::Arc;
 use vpg_desk::OpenFault;
 use vpg_diagram::{Diagram, DiagramFault};
 use vpg_game::{GameFault, GuardedGame};
+use vpg_guards::Names;
+use vpg_hope::{ProjectFault, project};
 use vpg_report::device::{Sink, Source};
 use vpg_report::run::{RunFault, run};
 
@@ -19,7 +23,8 @@ pub(crate) struct Family {
     diagram: Arc<Diagram>,
 }
 
-fn read_diagram(alloc: Global, text: &[u8]) -> Result<Diagram, Fault> {
+/// The diagram that a text spells.
+pub(crate) fn read_diagram(alloc: Global, text: &[u8]) -> Result<Diagram, Fault> {
     match Diagram::read(alloc, text) {
         Ok(diagram) => Ok(diagram),
         Err(DiagramFault::Memory) => Err(Fault::Memory),
@@ -27,7 +32,8 @@ fn read_diagram(alloc: Global, text: &[u8]) -> Result<Diagram, Fault> {
     }
 }
 
-fn read_game(alloc: Global, text: &[u8], diagram: &Diagram) -> Result<GuardedGame, Fault>
+/// The game over a diagram that a text spells.
+pub(crate) fn read_game(alloc: Global, text: &[u8], diagram: &Diagram) -> Result<GuardedGame, Fault>
     ensures { IfOk result (λ game. game.features ≡ feature_count diagram.now.lines) }
 {
     match GuardedGame::read(alloc, text, diagram.names()) {
@@ -57,6 +63,30 @@ fn conflict(alloc: Global, diagram: &Diagram, feature: u16) -> Fault {
     }
 }
 
+/// The index of a feature that a word names.
+fn feature(alloc: Global, names: &Names, word: &str) -> Result<u16, Fault>
+    ensures { IfOk result (λ f. f < length names.now) }
+{
+    match names.get(word.as_bytes()) {
+        Some(f) => Ok(f),
+        None => Err(Fault::UnknownFeature {
+            name: String::from_str(alloc, word)?,
+        }),
+    }
+}
+
+/// The set of the features that words name, each once or more.
+fn features_named(alloc: Global, names: &Names, words: &[&str]) -> Result<Vec<bool>, Fault>
+    ensures { IfOk result (λ set. vec_len set ≡ length names.now) }
+{
+    let mut set = vec![in alloc; false; names.len()]?;
+    for word in words {
+        let f = feature(alloc, names, word)?;
+        set[f as usize] = true;
+    }
+    Ok(set)
+}
+
 impl Family {
     /// The family that the texts of a diagram and a game spell.
     pub(crate) fn read(alloc: Global, diagram: &[u8], game: &[u8]) -> Result<Family, Fault>
@@ -64,6 +94,14 @@ impl Family {
     {
         let diagram = read_diagram(alloc, diagram)?;
         let game = read_game(alloc, game, &diagram)?;
+        Family::of(alloc, game, diagram)
+    }
+
+    /// A game and the diagram of its features.
+    pub(crate) fn of(alloc: Global, game: GuardedGame, diagram: Diagram) -> Result<Family, Fault>
+        requires { game.features ≡ feature_count diagram.lines }
+        ensures { IfOk result (λ family. (arc_value family.game).features ≡ feature_count (arc_value family.diagram).lines) }
+    {
         let (Ok(game), Ok(diagram)) = (Arc::new(alloc, game), Arc::new(alloc, diagram)) else {
             return Err(Fault::Memory);
         };
@@ -89,5 +127,30 @@ impl Family {
             Err(RunFault::Open { fault }) => Err(not_opened(alloc, &diagram, fault)),
             Err(RunFault::Memory) => Err(Fault::Memory),
         }
+    }
+
+    /// The text of the plain game of the product that has just these features.
+    pub(crate) fn projected(self, alloc: Global, words: &[&str]) -> Result<Vec<u8>, Fault>
+        requires { (arc_value self.game).features ≡ feature_count (arc_value self.diagram).lines }
+    {
+        let set = features_named(alloc, self.diagram.names(), words)?;
+        match project(alloc, &self.game, &self.diagram, &set) {
+            Ok(plain) => {
+                let mut text = Vec::new(alloc);
+                plain.write(alloc, &mut text)?;
+                Ok(text)
+            }
+            Err(ProjectFault::NotAProduct) => Err(Fault::NotAProduct),
+            Err(ProjectFault::Memory) => Err(Fault::Memory),
+        }
+    }
+
+    /// The line that counts the family.
+    pub(crate) fn counted(&self, alloc: Global) -> Result<Vec<u8>, AllocError>
+        ensures { IfOk result (λ text. text.items ≡ counts_text (arc_value self.now.game)) }
+    {
+        let mut text = Vec::new(alloc);
+        put_counts(&self.game, &mut text)?;
+        Ok(text)
     }
 }

@@ -8,10 +8,16 @@ use vpg_report::command::LineFault;
 /// A fault, with the text that is written of it.
 #[derive(Drop, Debug, Error)]
 pub(crate) enum Fault {
+    #[error("diagram unreadable")]
+    DiagramUnreadable,
     #[error("diagram {fault}")]
     Diagram { fault: DiagramFault },
+    #[error("game unreadable")]
+    GameUnreadable,
     #[error("game {fault}")]
     Game { fault: GameFault },
+    #[error("script unreadable")]
+    ScriptUnreadable,
     /// Some priority of the game is 65,536.
     #[error("game AtLimit")]
     AtLimit,
@@ -24,6 +30,12 @@ pub(crate) enum Fault {
     Read,
     #[error("Write")]
     Write,
+    /// The diagram has no feature of this name.
+    #[error("UnknownFeature {name}")]
+    UnknownFeature { name: String },
+    /// The features that were named are no product.
+    #[error("NotAProduct")]
+    NotAProduct,
     #[error("Memory")]
     Memory,
 }

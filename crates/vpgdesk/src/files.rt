@@ -1,0 +1,39 @@
+//! The files that the words name.
+use crate::family::{self, Family};
+use crate::fault::Fault;
+use crate::words::Paths;
+use std::alloc::Global;
+use std::fs::{self, File};
+use std::io::{Error, ErrorKind};
+
+/// Want of memory is told as such, each other failure by the fault.
+fn unreadable(error: Error, fault: Fault) -> Fault {
+    match error.kind() {
+        ErrorKind::OutOfMemory => Fault::Memory,
+        _ => fault,
+    }
+}
+
+/// The family of two files. The diagram is read, and refused, before the game.
+pub(crate) fn read_family(rt: &HostRuntime, alloc: Global, paths: Paths<'_>) -> Result<Family, Fault>
+{
+    let text = match fs::read(rt, paths.diagram) {
+        Ok(text) => text,
+        Err(error) => return Err(unreadable(error, Fault::DiagramUnreadable)),
+    };
+    let diagram = family::read_diagram(alloc, &text)?;
+    let text = match fs::read(rt, paths.game) {
+        Ok(text) => text,
+        Err(error) => return Err(unreadable(error, Fault::GameUnreadable)),
+    };
+    let game = family::read_game(alloc, &text, &diagram)?;
+    Family::of(alloc, game, diagram)
+}
+
+/// A script that is to be read.
+pub(crate) fn open_script(rt: &HostRuntime, path: &str) -> Result<File, Fault> {
+    match File::open(rt, path) {
+        Ok(file) => Ok(file),
+        Err(error) => Err(unreadable(error, Fault::ScriptUnreadable)),
+    }
+}
