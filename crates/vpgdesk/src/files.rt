@@ -15,8 +15,11 @@ fn unreadable(error: Error, fault: Fault) -> Fault {
 }
 
 /// The family of two files. The diagram is read, and refused, before the game.
-pub(crate) fn read_family(rt: &HostRuntime, alloc: Global, paths: Paths<'_>) -> Result<Family, Fault>
-{
+pub(crate) fn read_family(
+    rt: &HostRuntime,
+    alloc: Global,
+    paths: Paths<'_>,
+) -> Result<Family, Fault> {
     let text = match fs::read(rt, paths.diagram) {
         Ok(text) => text,
         Err(error) => return Err(unreadable(error, Fault::DiagramUnreadable)),

@@ -20,9 +20,8 @@ use crate::fault::Fault;
 use crate::files::{open_script, read_family};
 use crate::words::Task;
 use std::alloc::Global;
-use std::env;
-use std::io;
 use std::process::ExitCode;
+use std::{env, io};
 use vpg_report::device::{Device, Sink};
 
 /// The diagram that is built in: a root with two features, each of which may be left out.

@@ -15,14 +15,19 @@ pub(crate) enum Task<'a> {
     /// A script from standard input, on the family that is built in.
     BuiltIn,
     /// A script on a family.
-    Run { paths: Paths<'a>, script: &'a str },
+    Run {
+        paths: Paths<'a>,
+        script: &'a str,
+    },
     /// The plain game of the product that has just these features.
     Project {
         paths: Paths<'a>,
         features: Vec<&'a str>,
     },
     /// The counts of a family.
-    Check { paths: Paths<'a> },
+    Check {
+        paths: Paths<'a>,
+    },
 }
 
 /// A file that has to be named.
@@ -39,18 +44,28 @@ fn over_family<'a>(
     Command::new(alloc, name)
         .about(about)
         .arg(file(alloc, "GAME", "A guarded parity game"))?
-        .arg(file(alloc, "DIAGRAM", "The feature diagram that its guards speak of"))
+        .arg(file(
+            alloc,
+            "DIAGRAM",
+            "The feature diagram that its guards speak of",
+        ))
 }
 
 fn run_command<'a>(alloc: Global) -> Result<Command<'a>, AllocError> {
-    over_family(alloc, "run", "Carries a script out, and writes its answers")?
-        .arg(file(alloc, "SCRIPT", "One command a line, as `select F`, `settle` or `show`"))
+    over_family(alloc, "run", "Carries a script out, and writes its answers")?.arg(file(
+        alloc,
+        "SCRIPT",
+        "One command a line, as `select F`, `settle` or `show`",
+    ))
 }
 
 fn project_command<'a>(alloc: Global) -> Result<Command<'a>, AllocError> {
-    over_family(alloc, "project", "Writes the plain game of one product")?.arg(
-        file(alloc, "FEATURE", "All features of the product, the root among them").num_args(1..),
+    over_family(alloc, "project", "Writes the plain game of one product")?.arg(file(
+        alloc,
+        "FEATURE",
+        "All features of the product, the root among them",
     )
+    .num_args(1..))
 }
 
 fn check_command<'a>(alloc: Global) -> Result<Command<'a>, AllocError> {
@@ -66,7 +81,9 @@ pub(crate) fn command<'a>(alloc: Global) -> Result<Command<'a>, AllocError> {
     Command::new(alloc, "vpgdesk")
         .version("0.1.0")
         .about("Configures a product family whose behaviour is a variability parity game")
-        .after_help("Without words a script is read from standard input, on the family that is built in.")
+        .after_help(
+            "Without words a script is read from standard input, on the family that is built in.",
+        )
         .subcommand(run_command(alloc)?)?
         .subcommand(project_command(alloc)?)?
         .subcommand(check_command(alloc)?)
