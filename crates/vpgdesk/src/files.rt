@@ -1,4 +1,8 @@
 //! The files that the words name.
+ghost use Rattle.std.specs.Arc.{arc_value};
+ghost use Rattle.std.specs.Prelude.{◌≡◌, IfOk};
+ghost use Rattle.vpg_diagram.specs.FeatureDiagram.{feature_count};
+
 use crate::family::{self, Family};
 use crate::fault::Fault;
 use crate::words::Paths;
@@ -19,7 +23,9 @@ pub(crate) fn read_family(
     rt: &HostRuntime,
     alloc: Global,
     paths: Paths<'_>,
-) -> Result<Family, Fault> {
+) -> Result<Family, Fault>
+    ensures { IfOk result (λ family. (arc_value family.game).features ≡ feature_count (arc_value family.diagram).lines) }
+{
     let text = match fs::read(rt, paths.diagram) {
         Ok(text) => text,
         Err(error) => return Err(unreadable(error, Fault::DiagramUnreadable)),
