@@ -4,6 +4,7 @@ pub mod Edges
 pub mod Finite
 pub mod Guards
 pub mod Pages
+pub mod PlainAgain
 pub mod PlainTexts
 pub mod Reach
 pub mod Trails

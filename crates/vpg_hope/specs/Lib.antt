@@ -5,6 +5,7 @@ pub mod Hope
 pub mod Laws
 pub mod PageLaws
 pub mod Plain
+pub mod PlainLaws
 pub mod PlainParts
 pub mod Selection
 pub mod Strategies
