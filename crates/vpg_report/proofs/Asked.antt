@@ -4,14 +4,14 @@ use Rattle.std.specs.Prelude.{length, codes, IfSome, OnOk}
 use Rattle.vpg_guards.specs.Names.{index_of}
 use Rattle.vpg_diagram.specs.DiagramText.{NamedDiagram}
 use Rattle.vpg_game.specs.Game.{NamedGame}
-use Rattle.vpg_trail.specs.Page.{Which, Hopeful, Dual, Decision, Entry, decisions_of, table_of}
+use Rattle.vpg_trail.specs.Page.{Which, Decision, Entry}
 use Rattle.vpg_desk.specs.Book.{Book, Harvest, Call, Reply, Decide, Order, Commit, Settled, Page, Changed, Ordered, Added, IsSettled, PageIs, Refused, Refusal, IsReply}
 use Rattle.vpg_desk.specs.Desk.{family_of}
 use Rattle.vpg_desk.specs.State.{DeskState, setting_between, setting_of, IsStep, Replies}
 use Rattle.vpg_report.specs.Script as script
 use Rattle.vpg_report.specs.Script.{Request}
 use Rattle.vpg_report.specs.Held.{Held, with_harvest}
-use Rattle.vpg_report.specs.Scene.{Scene, IsShown}
+use Rattle.vpg_report.specs.Scene.{Scene}
 use Rattle.vpg_report.specs.Answers.{Own, NoFeature, NoVertex, own_text, refused_line, refusal_text, numbered, settled_text, call_or, vertex_of, first_call, IsSwept, IsLifted, most_sweeps, sweeps_of, Follows, Continues, Begins}
 use Rattle.vpg_report.specs.Run.{answering}
 use Rattle.vpg_report.specs.Engine.{EngineState, scene_at, between_of, deciding, TellsRefusal, AnswersTo}
@@ -158,13 +158,8 @@ keeps old new label n decisions hopeful dual made before after order swept desk 
 
 -- ---- a page
 
-pub shows : (old : EngineState) (label : ℕ) (page : List Entry) (text before after : List ℕ) → Replies old.desk Page (PageIs page) →
-    IsShown (scene_at old) (decisions_of page) (table_of Hopeful page (length (scene_at old).setting.game)) (table_of Dual page (length (scene_at old).setting.game)) text →
-    after ≡ before ++ text → AnswersTo old (record { label = label; command = script.Show }) before after old
-shows old label page text before after reply shown appended = record {
-  text = text;
-  answer = (record { session = label; call = Page; reply = PageIs page } ∷ [], ((refl, refl, (text, shown, (refl, refl, refl))), (reply, tt), refl));
-  appended = appended;
-  game = refl;
-  diagram = refl;
-}
+pub page_told : (old : EngineState) (label : ℕ) (command : script.Command) (page : List Entry) (text before after : List ℕ) → first_call (scene_at old) old.held command ≡ Ok Page →
+    Replies old.desk Page (PageIs page) → Continues (scene_at old) old.held label command (PageIs page) [] text old.held →
+    after ≡ before ++ text → AnswersTo old (record { label = label; command = command }) before after old
+page_told old label command page text before after first reply so appended =
+    asked old old label command Page (PageIs page) text before after first (record { step = (reply, refl); game = refl; diagram = refl }) so appended

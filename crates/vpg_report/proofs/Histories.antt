@@ -3,7 +3,7 @@ use Rattle.std.proofs.Common.{◌≡◌, ℕ, zero, suc, ◌-◌, Bool, List, []
 use Rattle.std.specs.Prelude.{IfSome, slice_set}
 use Rattle.std.specs.List.{AllByRecursion}
 use Rattle.vpg_guards.specs.Names.{index_of}
-use Rattle.vpg_trail.specs.Page.{Which}
+use Rattle.vpg_trail.specs.Page.{Which, Entry}
 use Rattle.vpg_desk.specs.Book.{Family, Book, Harvest, next, Call, Decide, Retract, Undo, Redo, Keep, Forget, Order, Commit, Settled, Page, Reply, Changed, Undone, Redone, Spent, Ordered, Added, IsSettled, VerdictIs, PageIs, Refused}
 use Rattle.vpg_desk.specs.History.{Event, IsLegalFrom, book_after}
 use Rattle.vpg_desk.specs.Desk.{family_of}
@@ -13,7 +13,7 @@ use Rattle.vpg_report.specs.Script.{Said, Request, said}
 use Rattle.vpg_report.specs.Output.{Speaks, Answered}
 use Rattle.vpg_report.specs.Held.{Held, undo_meant, redo_meant, harvest_kept, after_change, after_undo, after_redo, after_keep, after_forget, with_harvest, without_harvest}
 use Rattle.vpg_report.specs.Scene.{Scene}
-use Rattle.vpg_report.specs.Answers.{Own, NoFeature, NoToken, NoHarvest, NoVertex, vertex_of, call_or, first_call, Rest, Ends, Follows, Asks, TellsSettled, AsksSettled, TellsAdded, Sweeps, Keeps, Lifts, TellsChanged, TellsUndone, TellsRedone, TellsSpent, ShowsPage, Continues, Begins}
+use Rattle.vpg_report.specs.Answers.{Own, NoFeature, NoToken, NoHarvest, NoVertex, vertex_of, call_or, first_call, Rest, Ends, Follows, Asks, TellsSettled, AsksSettled, TellsAdded, Sweeps, Keeps, Lifts, TellsChanged, TellsUndone, TellsRedone, TellsSpent, ShowsPage, TellsEntries, TellsProducts, TellsPlan, TellsPage, Continues, Begins}
 use Rattle.vpg_report.specs.Run.{Between, begun, answering, Asked, asking, AnswersAreHistories}
 
 -- ---- lists of events
@@ -102,9 +102,9 @@ module _ (L : Harvest → Type 0) where
     tells_spent answer Spent calls text new so = ends answer held all calls text new so
     tells_spent answer _ calls text new so = absurd so
 
-    shows_page : (scene : Scene) (reply : Reply) → IsFine (ShowsPage scene held reply)
-    shows_page scene (PageIs page) calls text new so = ends so.0 held all calls text new so.2
-    shows_page scene _ calls text new so = absurd so
+    tells_page : (Tells : List Entry → List ℕ → Type 0) (reply : Reply) → IsFine (TellsPage Tells held reply)
+    tells_page Tells (PageIs page) calls text new so = ends text held all calls text new (so.1, refl, so.2)
+    tells_page Tells _ calls text new so = absurd so
 
     asks_settled : (scene : Scene) (label : ℕ) (reply : Reply) → IsFine (AsksSettled scene held label reply)
     asks_settled scene label (Added n) calls text new so = asks scene held all label Settled (TellsSettled held n) tt (tells_settled n) calls text new so
@@ -142,7 +142,10 @@ module _ (scene : Scene) (held : Held) where
     continues label script.Harvest reply calls text new so = keeps reply calls text new so
     continues label (script.Commit k) reply calls text new so = tells_added L (without_harvest held k) (gone_lawful L held.harvests (k - 1) all) reply calls text new so
     continues label (script.Settle n) reply calls text new so = sweeps label _ reply calls text new so
-    continues label script.Show reply calls text new so = shows_page L held all scene reply calls text new so
+    continues label script.Show reply calls text new so = tells_page L held all (ShowsPage scene) reply calls text new so
+    continues label script.Trail reply calls text new so = tells_page L held all (TellsEntries scene) reply calls text new so
+    continues label script.Products reply calls text new so = tells_page L held all (TellsProducts scene) reply calls text new so
+    continues label script.Plan reply calls text new so = tells_page L held all (TellsPlan scene) reply calls text new so
 
     begins : (label : ℕ) (command : script.Command) (call : Call) → HandsIn L call → IsFine L (Begins scene held label command (Ok call))
     begins label command call hands = asks L scene held all label call (Continues scene held label command) hands (continues label command)
@@ -165,6 +168,9 @@ module _ (scene : Scene) (held : Held) where
     serves label (script.Commit k) = begins_or label (script.Commit k) NoHarvest Commit (harvest_kept held.harvests k) (λ made is _. kept_lawful L held.harvests k made all is)
     serves label (script.Settle n) = begins label (script.Settle n) Order tt
     serves label script.Show = begins label script.Show Page tt
+    serves label script.Trail = begins label script.Trail Page tt
+    serves label script.Products = begins label script.Products Page tt
+    serves label script.Plan = begins label script.Plan Page tt
 
 -- ---- lines
 

@@ -1,26 +1,35 @@
 -- A desk's present page as it is shown.
-use Rattle.std.proofs.Common.{◌≡◌, ℕ, ◌≤◌, ◌++◌, List, length, All, None, refl, sym, ◌∙◌, subst, inr}
-use Rattle.std.specs.Prelude.{map}
+use Rattle.std.proofs.Common.{◌≡◌, ℕ, ◌≤◌, ◌++◌, List, length, All, Some, None, refl, sym, ap₂, ◌∙◌, subst, inl, inr}
+use Rattle.std.specs.Prelude.{map, codes}
 use Rattle.std.proofs.lemmas.List.{length-map}
 use Rattle.vpg_guards.specs.Formula.{Formula}
 use Rattle.vpg_guards.specs.Known.{kleene}
 use Rattle.vpg_guards.specs.declared.tri.Tri.{Tri}
 use Rattle.vpg_diagram.specs.DiagramText.{NamedDiagram}
-use Rattle.vpg_game.specs.Game.{NamedGame, unnamed, graph_of}
+use Rattle.vpg_game.specs.Game.{NamedGame, unnamed, graph_of, vertex_ids}
+use Rattle.vpg_diagram.specs.FeatureDiagram.{feature_count}
 use Rattle.vpg_partial.specs.KnownLaws.{HasConflictOf}
 use Rattle.vpg_partial.specs.TableLaws.{AreChoicesOf, IsKnownTable}
 use Rattle.vpg_partial.proofs.Closing.{table_exists}
 use Rattle.vpg_measure.specs.TwoGames.{top_for, IsTableBelow}
 use Rattle.vpg_measure.proofs.TwoGames.{arena_length}
-use Rattle.vpg_trail.specs.Page.{Which, Hopeful, Dual, Decision, literal_of, decisions_of, choices_of, table_of}
+use Rattle.vpg_trail.specs.Page.{Which, Hopeful, Dual, Decision, Entry, literal_of, decisions_of, choices_of, table_of}
+use Rattle.vpg_trail.specs.WellFormed.{IsWellFormed}
+use Rattle.vpg_desk.specs.Book.{Page as AsksPage, PageIs}
 use Rattle.vpg_desk.specs.Headline.{Tells}
 use Rattle.vpg_desk.specs.Setting.{IsSetting}
-use Rattle.vpg_desk.specs.State.{DeskState, setting_of}
+use Rattle.vpg_desk.specs.State.{DeskState, setting_of, IsReached, Replies}
 use Rattle.vpg_desk.proofs.Deciding.{choices_inside}
+use Rattle.vpg_desk.proofs.Reaching.{reached_well_formed}
 use Rattle.vpg_report.specs.Script as script
-use Rattle.vpg_report.specs.Scene.{IsShown, scene_of}
+use Rattle.vpg_report.specs.Plan.{IsPlanned, IsPlanFault}
+use Rattle.vpg_report.specs.declared.showing.plans.PlanFault.TheVariants.{NotFull, NotSettled}
+use Rattle.vpg_report.specs.Scene.{EntryIsWithin, IsShown, TellsKnown, scene_of}
+use Rattle.vpg_report.specs.Text.{trail_text}
+use Rattle.vpg_report.specs.Answers.{IsPlanAnswer, refused_line}
 use Rattle.vpg_report.specs.Engine.{EngineState, AnswersTo}
-use Rattle.vpg_report.proofs.Asked.{shows}
+use Rattle.vpg_report.proofs.Asked.{page_told}
+use Rattle.vpg_report.proofs.Within.{entries_within}
 
 module _ (desk : DeskState) (tells : Tells (setting_of desk) desk.book.present) where
   pub named : (diagram : NamedDiagram) (decisions : List Decision) → diagram ≡ desk.diagram → decisions ≡ decisions_of desk.book.present →
@@ -58,11 +67,50 @@ module _ (desk : DeskState) (tells : Tells (setting_of desk) desk.book.present) 
         subst (λ (g : NamedGame). All (λ n. n ≤ top_for which (graph_of g)) table) (sym same)
         (subst (λ (t : List ℕ). All (λ n. n ≤ top_for which (graph_of desk.game)) t) (sym is) (below which).is_table.within)
 
-pub show_answers : (old : EngineState) (session : ℕ) (game : NamedGame) (diagram : NamedDiagram) (decisions : List Decision) (hopeful dual before after : List ℕ) →
-    game ≡ old.desk.game → diagram ≡ old.desk.diagram → decisions ≡ decisions_of old.desk.book.present → hopeful ≡ table_of Hopeful old.desk.book.present (length (graph_of old.desk.game)) →
-    dual ≡ table_of Dual old.desk.book.present (length (graph_of old.desk.game)) →
-    (text : List ℕ) × (IsShown (scene_of game diagram) decisions hopeful dual text × (after ≡ before ++ text)) →
-    AnswersTo old (record { label = session; command = script.Show }) before after old
-show_answers old session game diagram decisions hopeful dual before after game_is diagram_is decisions_is hopeful_is dual_is (text, (shown, appended)) =
-    shows old session old.desk.book.present text before after (None, (refl, refl))
-    (coe 0 1 (k. IsShown (scene_of (game_is k) (diagram_is k)) (decisions_is k) (hopeful_is k) (dual_is k) text) shown) appended
+  -- the entries are those of the page
+  pub entries_are : (entries : List Entry) → Replies desk AsksPage (PageIs entries) → entries ≡ desk.book.present
+  entries_are entries (None, (refuses, told)) = cc told
+  entries_are entries (Some r, (refuses, told)) = absurd (cc told)
+
+  pub entries_are_within : IsSetting (setting_of desk) → IsReached (setting_of desk) desk.book → (game : NamedGame) (diagram : NamedDiagram) (entries : List Entry) → game ≡ desk.game → diagram ≡ desk.diagram →
+      Replies desk AsksPage (PageIs entries) → All (EntryIsWithin (feature_count diagram.lines) (length game.vertices)) entries
+  entries_are_within setting reached game diagram entries game_is diagram_is reply =
+      let page = desk.book.present in
+      let formed : IsWellFormed page = (reached_well_formed (setting_of desk) desk.book reached).present in
+      let within : All (EntryIsWithin (feature_count desk.diagram.lines) (length (graph_of desk.game))) page = entries_within (setting_of desk) setting page tells formed in
+      let counted = subst (λ (n : ℕ). All (EntryIsWithin (feature_count desk.diagram.lines) n) page) (length-map desk.game.vertices unnamed) within in
+      coe 0 1 (i. All (EntryIsWithin (feature_count (sym diagram_is i).lines) (length (sym game_is i).vertices)) (sym (entries_are entries reply) i)) counted
+
+-- what is told of a page, with the game, the diagram, the decisions and the tables as the code has them
+module _ (old : EngineState) (session : ℕ) (game : NamedGame) (diagram : NamedDiagram) (before after : List ℕ) (game_is : game ≡ old.desk.game) (diagram_is : diagram ≡ old.desk.diagram) where
+  pub trail_answers : (entries : List Entry) → Replies old.desk AsksPage (PageIs entries) → after ≡ before ++ trail_text diagram.names (vertex_ids game.vertices) entries →
+      AnswersTo old (record { label = session; command = script.Trail }) before after old
+  trail_answers entries reply appended =
+      page_told old session script.Trail entries (trail_text old.desk.diagram.names (vertex_ids old.desk.game.vertices) entries) before after refl reply (refl, refl, refl)
+      (appended ∙ ap₂ (λ (d : NamedDiagram) (g : NamedGame). before ++ trail_text d.names (vertex_ids g.vertices) entries) diagram_is game_is)
+
+  module _ (decisions : List Decision) (decisions_are : decisions ≡ decisions_of old.desk.book.present) where
+    pub products_answers : (text : List ℕ) × (TellsKnown (scene_of game diagram) decisions text × (after ≡ before ++ text)) → AnswersTo old (record { label = session; command = script.Products }) before after old
+    products_answers (text, (known, appended)) =
+        page_told old session script.Products old.desk.book.present text before after refl (None, (refl, refl))
+        (coe 0 1 (k. TellsKnown (scene_of (game_is k) (diagram_is k)) (decisions_are k) text) known, refl, refl) appended
+
+    module _ (hopeful dual : List ℕ) (hopeful_is : hopeful ≡ table_of Hopeful old.desk.book.present (length (graph_of old.desk.game))) (dual_is : dual ≡ table_of Dual old.desk.book.present (length (graph_of old.desk.game))) where
+      pub show_answers : (text : List ℕ) × (IsShown (scene_of game diagram) decisions hopeful dual text × (after ≡ before ++ text)) → AnswersTo old (record { label = session; command = script.Show }) before after old
+      show_answers (text, (shown, appended)) =
+          page_told old session script.Show old.desk.book.present text before after refl (None, (refl, refl))
+          (coe 0 1 (k. IsShown (scene_of (game_is k) (diagram_is k)) (decisions_are k) (hopeful_is k) (dual_is k) text) shown, refl, refl) appended
+
+      planned : (text : List ℕ) → IsPlanAnswer (scene_of game diagram) decisions hopeful dual text → after ≡ before ++ text → AnswersTo old (record { label = session; command = script.Plan }) before after old
+      planned text plan appended =
+          page_told old session script.Plan old.desk.book.present text before after refl (None, (refl, refl))
+          (coe 0 1 (k. IsPlanAnswer (scene_of (game_is k) (diagram_is k)) (decisions_are k) (hopeful_is k) (dual_is k) text) plan, refl, refl) appended
+
+      pub plan_answers : (text : List ℕ) × (IsPlanned (scene_of game diagram) decisions hopeful dual text × (after ≡ before ++ text)) → AnswersTo old (record { label = session; command = script.Plan }) before after old
+      plan_answers (text, (plan, appended)) = planned text (inl plan) appended
+
+      pub not_full : IsPlanFault (scene_of game diagram) decisions hopeful dual NotFull → after ≡ before ++ refused_line (codes "NotFull") → AnswersTo old (record { label = session; command = script.Plan }) before after old
+      not_full fault appended = planned (refused_line (codes "NotFull")) (inr (inl (fault, refl))) appended
+
+      pub not_settled : IsPlanFault (scene_of game diagram) decisions hopeful dual NotSettled → after ≡ before ++ refused_line (codes "NotSettled") → AnswersTo old (record { label = session; command = script.Plan }) before after old
+      not_settled fault appended = planned (refused_line (codes "NotSettled")) (inr (inr (fault, refl))) appended

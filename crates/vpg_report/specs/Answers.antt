@@ -1,5 +1,5 @@
 -- What commands ask of a desk, and how its replies are written.
-use Rattle.std.specs.Prelude.{◌≡◌, ℕ, ◌+◌, ◌<◌, ◌≤◌, ◌==◌, Bool, true, false, if◌then◌else◌, List, [], ◌∷◌, ◌++◌, length, map, sum, position, Option, Some, None, Result, Ok, Err, slice_index, codes}
+use Rattle.std.specs.Prelude.{◌≡◌, ◌⊎◌, ℕ, ◌+◌, ◌<◌, ◌≤◌, ◌==◌, Bool, true, false, if◌then◌else◌, List, [], ◌∷◌, ◌++◌, length, map, sum, position, Option, Some, None, Result, Ok, Err, slice_index, codes}
 use Rattle.vpg_guards.specs.declared.tri.Tri.{Tri}
 use Rattle.vpg_guards.specs.Names.{index_of}
 use Rattle.vpg_guards.specs.Known.{kleene}
@@ -7,7 +7,7 @@ use Rattle.vpg_partial.specs.TableLaws.{IsKnownTable}
 use Rattle.vpg_measure.specs.Lifts.{raised}
 use Rattle.vpg_measure.specs.Orders.{other_table}
 use Rattle.vpg_measure.specs.TwoGames.{levels_for, arena_for}
-use Rattle.vpg_trail.specs.Page.{Which, Hopeful, Dual, Decision, literal_of, decisions_of, table_of}
+use Rattle.vpg_trail.specs.Page.{Which, Hopeful, Dual, Decision, Entry, literal_of, decisions_of, table_of}
 use Rattle.vpg_desk.specs.Book.{Family, Harvest, Call, Decide, Retract, Undo, Redo, Keep, Forget, Order, Commit, Settled, Page, Reply, Changed, Undone, Redone, Spent, Ordered, Added, IsSettled, PageIs, Refused, Refusal, UnknownFeature, AlreadyDecided, Conflict, TooManyChanges, NotDecided, Sealed, NotNewest, Overtaken, NotNext, OtherGame, Outdated}
 use Rattle.vpg_desk.specs.History.{Event}
 use Rattle.vpg_desk.specs.Lawful.{IsLawful, harvested}
@@ -16,8 +16,10 @@ use Rattle.vpg_desk.specs.Desk.{family_of}
 use Rattle.vpg_report.specs.Held.{Held, undo_meant, redo_meant, harvest_kept, after_change, after_undo, after_redo, after_keep, after_forget, with_harvest, without_harvest}
 use Rattle.vpg_report.specs.Script as script
 use Rattle.vpg_report.specs.Script.{Request}
-use Rattle.vpg_report.specs.Text.{blank_number, blank_name}
-use Rattle.vpg_report.specs.Scene.{Scene, table_in, IsShown}
+use Rattle.vpg_report.specs.Plan.{IsPlanned, IsPlanFault}
+use Rattle.vpg_report.specs.declared.showing.plans.PlanFault.TheVariants.{NotFull, NotSettled}
+use Rattle.vpg_report.specs.Text.{blank_number, blank_name, trail_text}
+use Rattle.vpg_report.specs.Scene.{Scene, table_in, IsShown, TellsKnown}
 
 -- ---- the texts of replies
 
@@ -84,6 +86,9 @@ first_call scene held script.Harvest = Ok Order
 first_call scene held (script.Commit k) = call_or NoHarvest Commit (harvest_kept held.harvests k)
 first_call scene held (script.Settle n) = Ok Order
 first_call scene held script.Show = Ok Page
+first_call scene held script.Trail = Ok Page
+first_call scene held script.Products = Ok Page
+first_call scene held script.Plan = Ok Page
 
 -- ---- harvests that lines make
 
@@ -192,10 +197,31 @@ abbrev pub TellsSpent : List ℕ → Held → Reply → Rest
 TellsSpent answer held Spent calls text new = Ends answer held calls text new
 TellsSpent answer held _ calls text new = ⊥
 
-abbrev pub ShowsPage : Scene → Held → Reply → Rest
-ShowsPage scene held (PageIs page) calls text new =
-    (shown : List ℕ) × IsShown scene (decisions_of page) (table_of Hopeful page (length scene.setting.game)) (table_of Dual page (length scene.setting.game)) shown × Ends shown held calls text new
-ShowsPage scene held _ calls text new = ⊥
+-- ---- texts of a page
+
+abbrev pub ShowsPage : Scene → List Entry → List ℕ → Type 0
+ShowsPage scene page text = IsShown scene (decisions_of page) (table_of Hopeful page (length scene.setting.game)) (table_of Dual page (length scene.setting.game)) text
+
+abbrev pub TellsEntries : Scene → List Entry → List ℕ → Type 0
+TellsEntries scene page text = text ≡ trail_text scene.names scene.identifiers page
+
+abbrev pub TellsProducts : Scene → List Entry → List ℕ → Type 0
+TellsProducts scene page text = TellsKnown scene (decisions_of page) text
+
+-- a plan, or why there is none
+abbrev pub IsPlanAnswer : Scene → List Decision → (hopeful dual text : List ℕ) → Type 0
+IsPlanAnswer scene decisions hopeful dual text =
+    IsPlanned scene decisions hopeful dual text
+    ⊎ (IsPlanFault scene decisions hopeful dual NotFull × (text ≡ refused_line (codes "NotFull")))
+    ⊎ (IsPlanFault scene decisions hopeful dual NotSettled × (text ≡ refused_line (codes "NotSettled")))
+
+abbrev pub TellsPlan : Scene → List Entry → List ℕ → Type 0
+TellsPlan scene page text = IsPlanAnswer scene (decisions_of page) (table_of Hopeful page (length scene.setting.game)) (table_of Dual page (length scene.setting.game)) text
+
+-- one of these is told of the page
+abbrev pub TellsPage : (List Entry → List ℕ → Type 0) → Held → Reply → Rest
+TellsPage Tells held (PageIs page) calls text new = Tells page text × (calls ≡ []) × (new ≡ held)
+TellsPage Tells held _ calls text new = ⊥
 
 -- after the reply to a command's first call
 abbrev pub Continues : Scene → Held → ℕ → script.Command → Reply → Rest
@@ -210,7 +236,10 @@ Continues scene held label (script.Lift table identifier) reply calls text new =
 Continues scene held label script.Harvest reply calls text new = Keeps scene held reply calls text new
 Continues scene held label (script.Commit k) reply calls text new = TellsAdded (without_harvest held k) reply calls text new
 Continues scene held label (script.Settle n) reply calls text new = Sweeps scene held label (sweeps_of n) reply calls text new
-Continues scene held label script.Show reply calls text new = ShowsPage scene held reply calls text new
+Continues scene held label script.Show reply calls text new = TellsPage (ShowsPage scene) held reply calls text new
+Continues scene held label script.Trail reply calls text new = TellsPage (TellsEntries scene) held reply calls text new
+Continues scene held label script.Products reply calls text new = TellsPage (TellsProducts scene) held reply calls text new
+Continues scene held label script.Plan reply calls text new = TellsPage (TellsPlan scene) held reply calls text new
 
 abbrev pub Begins : Scene → Held → ℕ → script.Command → Result Call Own → Rest
 Begins scene held label command (Err own) calls text new = Ends (refused_line (own_text own)) held calls text new

@@ -59,6 +59,9 @@ pub data Command : Type 0 where
   Commit : (number : ℕ) → Command
   Settle : (sweeps : Option ℕ) → Command
   Show : Command
+  Trail : Command
+  Products : Command
+  Plan : Command
 
 -- the command that a word names
 abbrev pub verb_of : List ℕ → Option Verb
@@ -75,6 +78,9 @@ verb_of w =
     else if bytes_eq w (codes "commit") then Some verbs.Commit
     else if bytes_eq w (codes "settle") then Some verbs.Settle
     else if bytes_eq w (codes "show") then Some verbs.Show
+    else if bytes_eq w (codes "trail") then Some verbs.Trail
+    else if bytes_eq w (codes "products") then Some verbs.Products
+    else if bytes_eq w (codes "plan") then Some verbs.Plan
     else None
 
 -- a command without arguments
@@ -84,6 +90,9 @@ bare_command verbs.Redo = Some (Redo None)
 bare_command verbs.Harvest = Some Harvest
 bare_command verbs.Settle = Some (Settle None)
 bare_command verbs.Show = Some Show
+bare_command verbs.Trail = Some Trail
+bare_command verbs.Products = Some Products
+bare_command verbs.Plan = Some Plan
 bare_command _ = None
 
 abbrev pub if_name : (List ℕ → Command) → List ℕ → Option Command

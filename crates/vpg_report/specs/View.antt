@@ -21,6 +21,9 @@ command_shown commands.Harvest = script.Harvest
 command_shown (commands.Commit k) = script.Commit k
 command_shown (commands.Settle n) = script.Settle n
 command_shown commands.Show = script.Show
+command_shown commands.Trail = script.Trail
+command_shown commands.Products = script.Products
+command_shown commands.Plan = script.Plan
 
 abbrev pub texts : List (Bor (List ℕ)) → List (List ℕ)
 texts words = map (λ w. w.now) words

@@ -38,6 +38,9 @@ pub enum Verb {
     Commit,
     Settle,
     Show,
+    Trail,
+    Products,
+    Plan,
 }
 
 /// A command. Names stand in the line that was read.
@@ -56,6 +59,9 @@ pub enum Command<'t> {
     Commit(u64),
     Settle(Option<u64>),
     Show,
+    Trail,
+    Products,
+    Plan,
 }
 
 /// What is wrong with a line.
@@ -212,6 +218,12 @@ fn verb_named(word: &[u8]) -> Option<Verb>
         Some(Verb::Settle)
     } else if same(word, b"show") {
         Some(Verb::Show)
+    } else if same(word, b"trail") {
+        Some(Verb::Trail)
+    } else if same(word, b"products") {
+        Some(Verb::Products)
+    } else if same(word, b"plan") {
+        Some(Verb::Plan)
     } else {
         None
     }
@@ -227,6 +239,9 @@ fn bare_command<'t>(verb: Verb) -> Option<Command<'t>>
         Verb::Harvest => Some(Command::Harvest),
         Verb::Settle => Some(Command::Settle(None)),
         Verb::Show => Some(Command::Show),
+        Verb::Trail => Some(Command::Trail),
+        Verb::Products => Some(Command::Products),
+        Verb::Plan => Some(Command::Plan),
         Verb::Select
         | Verb::Exclude
         | Verb::Retract

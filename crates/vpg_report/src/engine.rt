@@ -8,7 +8,7 @@ ghost use Rattle.vpg_desk.specs.Book.{Commit as Commits, Added};
 ghost use Rattle.vpg_desk.specs.Commit.{IsOrderOf, handed_in};
 ghost use Rattle.vpg_desk.specs.State.{IsStep};
 ghost use Rattle.vpg_report.specs.Engine.{AnswersTo, IsOpenFault, deciding, between_of, engine_of, scene_at};
-ghost use Rattle.vpg_report.specs.Script.{Retract, Undo as Undoes, Redo as Redoes, Keep, Forget, Lift, Harvest as Harvests, Commit, Settle, Show};
+ghost use Rattle.vpg_report.specs.Script.{Retract, Undo as Undoes, Redo as Redoes, Keep, Forget, Lift, Harvest as Harvests, Commit, Settle, Show, Trail, Products, Plan};
 ghost use Rattle.vpg_report.specs.View.{request_shown};
 
 use crate::answer;
@@ -18,7 +18,7 @@ use crate::held::{
     undo_place,
 };
 use crate::serving::Server;
-use crate::showing::show;
+use crate::showing::{PlanFault, plan, products, show, trail};
 use std::alloc::{AllocError, Global};
 use std::marker::Model;
 use std::sync::Arc;
@@ -283,6 +283,35 @@ impl Engine {
         show(alloc, &page, &self.game, &self.diagram, out)
     }
 
+    /// Tells the entries of the present page.
+    fn trail(&mut self, alloc: Global, session: u32, out: &mut Vec<u8>) -> Result<(), AllocError>
+        ensures { OnOk result (AnswersTo self.old (record { label = session; command = Trail }) out.old.items out.new.items self.new) }
+    {
+        let page = self.desk.page(alloc)?;
+        trail(alloc, &page, &self.game, &self.diagram, out)
+    }
+
+    /// Tells what the present decisions make known of each feature.
+    fn products(&mut self, alloc: Global, session: u32, out: &mut Vec<u8>) -> Result<(), AllocError>
+        ensures { OnOk result (AnswersTo self.old (record { label = session; command = Products }) out.old.items out.new.items self.new) }
+    {
+        let page = self.desk.page(alloc)?;
+        products(alloc, &page, &self.game, &self.diagram, out)
+    }
+
+    /// Tells what Even does, where every feature is known and the present page is settled.
+    fn plan(&mut self, alloc: Global, session: u32, out: &mut Vec<u8>) -> Result<(), AllocError>
+        ensures { OnOk result (AnswersTo self.old (record { label = session; command = Plan }) out.old.items out.new.items self.new) }
+    {
+        let page = self.desk.page(alloc)?;
+        match plan(alloc, &page, &self.game, &self.diagram, out) {
+            Ok(()) => Ok(()),
+            Err(PlanFault::NotFull) => answer::refused(b"NotFull", out),
+            Err(PlanFault::NotSettled) => answer::refused(b"NotSettled", out),
+            Err(PlanFault::Memory) => Err(AllocError),
+        }
+    }
+
     /// A desk that was opened; nothing is held.
     pub(crate) fn open(
         alloc: Global,
@@ -351,6 +380,9 @@ impl Server for Engine {
             Command::Commit(number) => self.commit(alloc, session, number, out),
             Command::Settle(sweeps) => self.settle(alloc, session, sweeps, out),
             Command::Show => self.show(alloc, session, out),
+            Command::Trail => self.trail(alloc, session, out),
+            Command::Products => self.products(alloc, session, out),
+            Command::Plan => self.plan(alloc, session, out),
         }
     }
 }

@@ -32,5 +32,5 @@ show-requires-clause-dual_within c =
 pub returns : goal.returns
 returns c =
     on_same_view c.show.result _ (engine_in c.self.inside) _ _ _ _ c.self.view_is
-    (λ shown. show_answers (engine_in c.self.inside) c.args.session c.deref.result.now c.deref-2.result.now c.in_ok-page.page.decisions c.in_ok-page.page.hopeful c.in_ok-page.page.dual c.args.out.now.items c.show.new.out.items
-    (c.deref.ensures ∙ c.self.invariant.game) (c.deref-2.ensures ∙ c.self.invariant.diagram) c.in_ok-page.ensures.decisions c.in_ok-page.ensures.hopeful c.in_ok-page.ensures.dual shown) c.show.ensures.shown
+    (λ shown. show_answers (engine_in c.self.inside) c.args.session c.deref.result.now c.deref-2.result.now c.args.out.now.items c.show.new.out.items (c.deref.ensures ∙ c.self.invariant.game) (c.deref-2.ensures ∙ c.self.invariant.diagram)
+    c.in_ok-page.page.decisions c.in_ok-page.ensures.decisions c.in_ok-page.page.hopeful c.in_ok-page.page.dual c.in_ok-page.ensures.hopeful c.in_ok-page.ensures.dual shown) c.show.ensures.shown
