@@ -1,0 +1,340 @@
+//! Worked calls on desks. Features are numbered in the diagram's order: r is 0, f is 1, g is 2.
+ghost use Rattle.std.specs.Prelude.{◌≡◌};
+
+use crate::{
+    CommitFault, DecideFault, Desk, OpenFault, Redo, RedoFault, RedoRefused, RetractFault, Undo,
+    UndoFault, UndoRefused,
+};
+use std::alloc::Global;
+use std::process::Abort;
+use std::sync::Arc;
+use std::test::*;
+use vpg_diagram::Diagram;
+use vpg_game::GuardedGame;
+use vpg_measure::{Harvest, Order, Verdict, Which};
+
+/// The diagram and the game of most examples.
+const DIAGRAM: &[u8] = b"root r\noptional r f\noptional r g\n";
+
+const GAME: &[u8] = b"parity 1; 0 1 0 1[f],0; 1 2 1 0[g],1;";
+
+const F: u16 = 1;
+
+const G: u16 = 2;
+
+fn read_diagram(alloc: Global, text: &[u8]) -> Option<Diagram> {
+    Diagram::read(alloc, text).ok()
+}
+
+fn read_game(alloc: Global, text: &[u8], diagram: &Diagram) -> Option<GuardedGame> {
+    GuardedGame::read(alloc, text, diagram.names()).ok()
+}
+
+/// A desk on these texts, or why there is none.
+fn open(alloc: Global, game: &[u8], diagram: &[u8]) -> Option<Result<Desk, OpenFault>> {
+    let diagram = read_diagram(alloc, diagram)?;
+    let game = read_game(alloc, game, &diagram)?;
+    open_on(alloc, game, diagram)
+}
+
+fn open_on(alloc: Global, game: GuardedGame, diagram: Diagram) -> Option<Result<Desk, OpenFault>> {
+    if game.features() != diagram.features() {
+        return None;
+    }
+    let game = Arc::new(alloc, game).ok()?;
+    let diagram = Arc::new(alloc, diagram).ok()?;
+    match Desk::open(alloc, game, diagram) {
+        Ok(desk) => Some(Ok(desk)),
+        Err(refused) => {
+            let same = refused.game.features() == refused.diagram.features();
+            if same { Some(Err(refused.fault)) } else { None }
+        }
+    }
+}
+
+/// A desk on the family of most examples.
+fn desk(rt: &(impl Abort + AllocGlobal)) -> Desk {
+    match open(rt.alloc(), GAME, DIAGRAM) {
+        Some(Ok(desk)) => desk,
+        _ => panic!(rt; "no desk"),
+    }
+}
+
+fn decide(rt: &(impl Abort + AllocGlobal), desk: &mut Desk, feature: u16, value: bool) -> Undo {
+    match desk.decide(rt.alloc(), 1, feature, value) {
+        Ok(token) => token,
+        Err(fault) => panic!(rt; "{fault}"),
+    }
+}
+
+fn retract(rt: &(impl Abort + AllocGlobal), desk: &mut Desk, feature: u16) -> Undo {
+    match desk.retract(rt.alloc(), 2, feature) {
+        Ok(token) => token,
+        Err(fault) => panic!(rt; "{fault}"),
+    }
+}
+
+/// The token of the redo, or the refused one and why.
+fn try_undo(
+    rt: &(impl Abort + AllocGlobal),
+    desk: &mut Desk,
+    token: Undo,
+) -> Result<Redo, (UndoFault, Undo)> {
+    assert!(rt; desk.tokens() > 0);
+    match desk.undo(rt.alloc(), token) {
+        Ok(token) => Ok(token),
+        Err(UndoRefused { fault, token }) => Err((fault, token)),
+    }
+}
+
+fn try_redo(
+    rt: &(impl Abort + AllocGlobal),
+    desk: &mut Desk,
+    token: Redo,
+) -> Result<Undo, (RedoFault, Redo)> {
+    assert!(rt; desk.tokens() > 0);
+    match desk.redo(rt.alloc(), token) {
+        Ok(token) => Ok(token),
+        Err(RedoRefused { fault, token }) => Err((fault, token)),
+    }
+}
+
+fn undo(rt: &(impl Abort + AllocGlobal), desk: &mut Desk, token: Undo) -> Redo {
+    match try_undo(rt, desk, token) {
+        Ok(token) => token,
+        Err((fault, _)) => panic!(rt; "{fault}"),
+    }
+}
+
+fn redo(rt: &(impl Abort + AllocGlobal), desk: &mut Desk, token: Redo) -> Undo {
+    match try_redo(rt, desk, token) {
+        Ok(token) => token,
+        Err((fault, _)) => panic!(rt; "{fault}"),
+    }
+}
+
+fn keep(rt: &(impl Abort + AllocGlobal), desk: &mut Desk, token: Undo) {
+    assert!(rt; desk.tokens() > 0);
+    desk.keep(token);
+}
+
+fn forget(rt: &(impl Abort + AllocGlobal), desk: &mut Desk, token: Redo) {
+    assert!(rt; desk.tokens() > 0);
+    desk.forget(token);
+}
+
+fn order(rt: &(impl Abort + AllocGlobal), desk: &Desk) -> Order
+    ensures { result.game ≡ desk.now.game }
+{
+    match desk.order(rt.alloc()) {
+        Ok(order) => order,
+        Err(_) => panic!(rt; "no order"),
+    }
+}
+
+/// The number of entries that a harvest adds, or why it is refused. It comes back then.
+fn commit(
+    rt: &(impl Abort + AllocGlobal),
+    desk: &mut Desk,
+    harvest: Harvest,
+) -> Result<u32, (CommitFault, Harvest)> {
+    match desk.commit(rt.alloc(), harvest) {
+        Ok(added) => Ok(added),
+        Err(refused) => Err((refused.fault, refused.harvest)),
+    }
+}
+
+fn added(rt: &(impl Abort + AllocGlobal), desk: &mut Desk, harvest: Harvest) -> u32 {
+    match commit(rt, desk, harvest) {
+        Ok(added) => added,
+        Err((fault, _)) => panic!(rt; "{fault}"),
+    }
+}
+
+fn settle(rt: &(impl Abort + AllocGlobal), desk: &mut Desk) -> u32 {
+    let harvest = Harvest::alone(order(rt, desk), 100);
+    added(rt, desk, harvest)
+}
+
+/// One vertex of the present page's first table lifted once.
+fn lift(rt: &(impl Abort + AllocGlobal), desk: &mut Desk, v: u32) -> u32 {
+    let order = order(rt, desk);
+    assert!(rt; (v as usize) < order.game().vertices());
+    added(rt, desk, Harvest::one(order, Which::Hopeful, v))
+}
+
+/// How many entries the present page has, and its two tables.
+fn page(rt: &(impl Abort + AllocGlobal), desk: &Desk) -> (usize, [u64; 2], [u64; 2]) {
+    let Ok(page) = desk.page(rt.alloc()) else {
+        panic!(rt; "no page")
+    };
+    let (hopeful, dual) = (page.hopeful.values(), page.dual.values());
+    assert!(rt; hopeful.len() == 2);
+    assert!(rt; dual.len() == 2);
+    (
+        page.entries.as_slice().len(),
+        [hopeful[0], hopeful[1]],
+        [dual[0], dual[1]],
+    )
+}
+
+fn verdict(rt: &(impl Abort + AllocGlobal), desk: &Desk, v: u32) -> Verdict {
+    let order = order(rt, desk);
+    assert!(rt; (v as usize) < order.game().vertices());
+    desk.verdict(v)
+}
+
+#[test]
+fn openings_are_refused(rt: HostRuntime) -> Result<(), Fail> {
+    let alloc = rt.alloc();
+    let in_conflict = open(alloc, b"0 0 0 0;", b"root r\nmandatory r a\nexcludes r a\n");
+    assert!(&rt; matches!(in_conflict, Some(Err(OpenFault::Conflict { feature: 0 }))));
+    let diagram = read_diagram(alloc, DIAGRAM);
+    let game = diagram
+        .as_ref()
+        .and_then(|diagram| read_game(alloc, b"0 65535 0 0;", diagram));
+    let dual = game.and_then(|game| game.dual(alloc).ok());
+    let (Some(diagram), Some(dual)) = (diagram, dual) else {
+        panic!(&rt; "no dual")
+    };
+    assert!(&rt; matches!(open_on(alloc, dual, diagram), Some(Err(OpenFault::AtLimit))));
+    Ok(())
+}
+
+#[test]
+fn tokens_are_spent(rt: HostRuntime) -> Result<(), Fail> {
+    let mut desk = desk(&rt);
+    let first = decide(&rt, &mut desk, F, true);
+    assert!(&rt; first.serial() == 1);
+    let first = undo(&rt, &mut desk, first);
+    let second = decide(&rt, &mut desk, G, true);
+    assert!(&rt; second.serial() == 2);
+    match try_redo(&rt, &mut desk, first) {
+        Ok(_) => panic!(&rt; "redone"),
+        Err((fault, first)) => {
+            assert!(&rt; fault == RedoFault::Overtaken);
+            keep(&rt, &mut desk, second);
+            match desk.close() {
+                Ok(()) => panic!(&rt; "closed"),
+                Err(out) => {
+                    assert!(&rt; out.tokens == 1);
+                    let mut desk = out.desk;
+                    forget(&rt, &mut desk, first);
+                    assert!(&rt; desk.close().is_ok());
+                }
+            }
+        }
+    }
+    Ok(())
+}
+
+#[test]
+fn pages_come_back(rt: HostRuntime) -> Result<(), Fail> {
+    let mut desk = desk(&rt);
+    let change = decide(&rt, &mut desk, F, false);
+    assert!(&rt; settle(&rt, &mut desk) == 2);
+    let change = undo(&rt, &mut desk, change);
+    assert!(&rt; page(&rt, &desk) == (0, [0, 0], [0, 0]));
+    assert!(&rt; lift(&rt, &mut desk, 0) == 1);
+    let change = redo(&rt, &mut desk, change);
+    assert!(&rt; page(&rt, &desk) == (3, [2, 0], [0, 1]));
+    assert!(&rt; desk.settled());
+    let change = undo(&rt, &mut desk, change);
+    assert!(&rt; page(&rt, &desk) == (1, [1, 0], [0, 0]));
+    forget(&rt, &mut desk, change);
+    assert!(&rt; desk.close().is_ok());
+    Ok(())
+}
+
+#[test]
+fn retracting_drops_what_was_assumed(rt: HostRuntime) -> Result<(), Fail> {
+    let mut desk = desk(&rt);
+    let f = decide(&rt, &mut desk, F, true);
+    let g = decide(&rt, &mut desk, G, true);
+    assert!(&rt; settle(&rt, &mut desk) == 3);
+    assert!(&rt;
+        verdict(&rt, &desk, 0)
+            == Verdict {
+                hopeless: false,
+                sure: true
+            }
+    );
+    let back = retract(&rt, &mut desk, F);
+    assert!(&rt; page(&rt, &desk) == (1, [0, 0], [0, 0]));
+    assert!(&rt; !desk.settled());
+    assert!(&rt; settle(&rt, &mut desk) == 2);
+    assert!(&rt;
+        verdict(&rt, &desk, 0)
+            == Verdict {
+                hopeless: false,
+                sure: false
+            }
+    );
+    match desk.retract(rt.alloc(), 1, F) {
+        Ok(_) => panic!(&rt; "retracted twice"),
+        Err(fault) => assert!(&rt; fault == RetractFault::NotDecided),
+    }
+    keep(&rt, &mut desk, back);
+    keep(&rt, &mut desk, g);
+    keep(&rt, &mut desk, f);
+    assert!(&rt; desk.close().is_ok());
+    Ok(())
+}
+
+#[test]
+fn harvests_come_late(rt: HostRuntime) -> Result<(), Fail> {
+    let mut desk = desk(&rt);
+    let first = decide(&rt, &mut desk, F, false);
+    let harvest = Harvest::alone(order(&rt, &desk), 100);
+    let second = retract(&rt, &mut desk, F);
+    keep(&rt, &mut desk, second);
+    keep(&rt, &mut desk, first);
+    match commit(&rt, &mut desk, harvest) {
+        Ok(_) => panic!(&rt; "committed"),
+        Err((fault, harvest)) => {
+            assert!(&rt; fault == CommitFault::Outdated { feature: F });
+            for _ in 0..100 {
+                let token = decide(&rt, &mut desk, F, false);
+                keep(&rt, &mut desk, token);
+                let token = retract(&rt, &mut desk, F);
+                keep(&rt, &mut desk, token);
+            }
+            let token = decide(&rt, &mut desk, F, false);
+            keep(&rt, &mut desk, token);
+            assert!(&rt; added(&rt, &mut desk, harvest) == 2);
+        }
+    }
+    Ok(())
+}
+
+#[test]
+fn harvests_of_other_games_come_back(rt: HostRuntime) -> Result<(), Fail> {
+    let mut desk = desk(&rt);
+    let Some(Ok(other)) = open(rt.alloc(), b"parity 0; 0 0 0 0[f];", DIAGRAM) else {
+        panic!(&rt; "no desk")
+    };
+    let harvest = Harvest::alone(order(&rt, &other), 100);
+    match commit(&rt, &mut desk, harvest) {
+        Ok(_) => panic!(&rt; "committed"),
+        Err((fault, harvest)) => {
+            assert!(&rt; fault == CommitFault::OtherGame);
+            assert!(&rt; harvest.order().game().vertices() == 1);
+        }
+    }
+    Ok(())
+}
+
+#[test]
+fn changes_are_limited(rt: HostRuntime) -> Result<(), Fail> {
+    let mut desk = desk(&rt);
+    for _ in 0..1_048_576 {
+        let token = decide(&rt, &mut desk, F, true);
+        let token = undo(&rt, &mut desk, token);
+        forget(&rt, &mut desk, token);
+    }
+    match desk.decide(rt.alloc(), 1, F, true) {
+        Ok(_) => panic!(&rt; "decided"),
+        Err(fault) => assert!(&rt; fault == DecideFault::TooManyChanges),
+    }
+    Ok(())
+}
