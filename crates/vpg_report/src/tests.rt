@@ -1,3 +1,8 @@
+//! Lines and devices over a server that refuses, and worked scripts.
+
+mod devices;
+mod rows;
+
 use crate::command::{Command, LineFault, Request};
 use crate::device::Device;
 use crate::run::RunFault;

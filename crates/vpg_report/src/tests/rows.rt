@@ -1,0 +1,349 @@
+//! Worked scripts, each with its whole output. Lines are separated by ` / `.
+use crate::device::Device;
+use crate::run::{RunFault, run};
+use std::alloc::Global;
+use std::sync::Arc;
+use std::test::*;
+use vpg_diagram::Diagram;
+use vpg_game::GuardedGame;
+
+/// The diagram and the game of most examples.
+const DIAGRAM: &str = "root r / optional r f / optional r g";
+
+const GAME: &str = "parity 1; 0 1 0 1[f],0; 1 2 1 0[g],1;";
+
+/// A game of one vertex that Even wins.
+const DOT: &str = "0 0 0 0;";
+
+/// A script on a family, and what it answers.
+struct Row {
+    diagram: &'static str,
+    game: &'static str,
+    script: &'static str,
+    answers: &'static str,
+}
+
+/// The text with a line feed in place of each ` / ` and at its end.
+fn lines(alloc: Global, text: &str) -> Option<Vec<u8>> {
+    let mut out = Vec::new(alloc);
+    for (n, line) in text.split(" / ").enumerate() {
+        if n > 0 {
+            out.push(b'\n').ok()?;
+        }
+        out.extend_from_slice(line.as_bytes()).ok()?;
+    }
+    out.push(b'\n').ok()?;
+    Some(out)
+}
+
+fn diagram_of(alloc: Global, text: &str) -> Option<Diagram> {
+    Diagram::read(alloc, &lines(alloc, text)?).ok()
+}
+
+fn game_of(alloc: Global, text: &str, diagram: &Diagram) -> Option<GuardedGame> {
+    GuardedGame::read(alloc, text.as_bytes(), diagram.names()).ok()
+}
+
+fn carry_out(
+    alloc: Global,
+    game: GuardedGame,
+    diagram: Diagram,
+    script: &[u8],
+) -> Option<(Result<(), RunFault>, Vec<u8>)> {
+    if game.features() != diagram.features() {
+        return None;
+    }
+    let game = Arc::new(alloc, game).ok()?;
+    let diagram = Arc::new(alloc, diagram).ok()?;
+    let mut reader = Device::reader(script);
+    let mut writer = Device::writer(Vec::new(alloc));
+    let result = run(alloc, game, diagram, &mut reader, &mut writer);
+    Some((result, writer.into_writer()))
+}
+
+/// The family of most examples.
+pub(super) fn family(alloc: Global) -> Option<(Arc<GuardedGame>, Arc<Diagram>)> {
+    let diagram = diagram_of(alloc, DIAGRAM)?;
+    let game = game_of(alloc, GAME, &diagram)?;
+    Some((Arc::new(alloc, game).ok()?, Arc::new(alloc, diagram).ok()?))
+}
+
+pub(super) fn outcome(
+    alloc: Global,
+    diagram: &str,
+    game: &str,
+    script: &str,
+) -> Option<(Result<(), RunFault>, Vec<u8>)> {
+    let diagram = diagram_of(alloc, diagram)?;
+    let game = game_of(alloc, game, &diagram)?;
+    carry_out(alloc, game, diagram, &lines(alloc, script)?)
+}
+
+/// Whether the script ends without a fault, and answers just this.
+fn holds(alloc: Global, row: &Row) -> bool {
+    let Some((result, got)) = outcome(alloc, row.diagram, row.game, row.script) else {
+        return false;
+    };
+    let Some(wanted) = lines(alloc, row.answers) else {
+        return false;
+    };
+    result.is_ok() && got.as_slice() == wanted.as_slice()
+}
+
+/// The place of the first row that doesn't hold.
+fn first_wrong(alloc: Global, rows: &[Row]) -> Option<usize> {
+    rows.iter().position(|row| !holds(alloc, row))
+}
+
+static SETTLING: [Row; 9] = [
+    Row {
+        diagram: DIAGRAM,
+        game: GAME,
+        script: "settle / show / products",
+        answers: "settled 2 / decisions / full no / settled yes / 0 1 0 possible unsure / 1 0 1 possible unsure / in r / out / open f g",
+    },
+    Row {
+        diagram: DIAGRAM,
+        game: GAME,
+        script: "exclude f / settle / show / trail",
+        answers: "done 1 / settled 2 / decisions -f / full no / settled yes / 0 2 0 hopeless unsure / 1 0 1 possible unsure / exclude f 1 / hopeful 0 0 2 -f / dual 1 0 1 -f / entries 3",
+    },
+    Row {
+        diagram: DIAGRAM,
+        game: GAME,
+        script: "select f / settle / show",
+        answers: "done 1 / settled 3 / decisions +f / full no / settled yes / 0 1 2 possible sure / 1 0 2 possible sure",
+    },
+    Row {
+        diagram: DIAGRAM,
+        game: GAME,
+        script: "exclude f / select g / select r / settle / show / products / plan",
+        answers: "done 1 / done 2 / done 3 / settled 3 / decisions -f +g +r / full yes / settled yes / 0 2 0 hopeless unsure / 1 2 1 hopeless unsure / in r g / out f / open / plans 0",
+    },
+    Row {
+        diagram: DIAGRAM,
+        game: "parity 0; 0 0 0 0[f];",
+        script: "exclude f / settle / show",
+        answers: "done 1 / settled 1 / decisions -f / full no / settled yes / 0 1 0 hopeless unsure",
+    },
+    Row {
+        diagram: DIAGRAM,
+        game: "parity 0; 0 1 1 0[f];",
+        script: "settle / show",
+        answers: "settled 0 / decisions / full no / settled yes / 0 0 0 possible unsure",
+    },
+    Row {
+        diagram: DIAGRAM,
+        game: "parity 0; 0 1 1 0[f];",
+        script: "exclude f / settle / show",
+        answers: "done 1 / settled 1 / decisions -f / full no / settled yes / 0 0 1 possible sure",
+    },
+    Row {
+        diagram: DIAGRAM,
+        game: "parity 0; 0 1 1 0[f];",
+        script: "select f / settle / show",
+        answers: "done 1 / settled 1 / decisions +f / full no / settled yes / 0 2 0 hopeless unsure",
+    },
+    Row {
+        diagram: DIAGRAM,
+        game: "parity 1; 0 1 0 1[f & !g]; 1 2 0 1;",
+        script: "select g / settle / show",
+        answers: "done 1 / settled 2 / decisions +g / full no / settled yes / 0 2 0 hopeless unsure / 1 0 2 possible sure",
+    },
+];
+
+static CHANGES: [Row; 8] = [
+    Row {
+        diagram: DIAGRAM,
+        game: GAME,
+        script: "exclude f / settle / undo / trail / lift hopeful 0 / redo / trail / undo / trail",
+        answers: "done 1 / settled 2 / undone 1 / entries 0 / added 1 / redone 1 / exclude f 1 / hopeful 0 0 2 -f / dual 1 0 1 -f / entries 3 / undone 1 / hopeful 0 0 1 / entries 1",
+    },
+    Row {
+        diagram: DIAGRAM,
+        game: GAME,
+        script: "select f / select g / settle / retract f / trail / settle / show",
+        answers: "done 1 / done 2 / settled 3 / done 3 / select g 2 / entries 1 / settled 2 / decisions +g / full no / settled yes / 0 1 0 possible unsure / 1 0 1 possible unsure",
+    },
+    Row {
+        diagram: DIAGRAM,
+        game: GAME,
+        script: "select f / select g / settle / retract f / undo / show / trail",
+        answers: "done 1 / done 2 / settled 3 / done 3 / undone 3 / decisions +f +g / full yes / settled yes / 0 1 2 possible sure / 1 0 2 possible sure / select f 1 / select g 2 / hopeful 0 0 1 +f +g / dual 0 0 2 +f +g / dual 1 0 2 +f +g / entries 5",
+    },
+    Row {
+        diagram: DIAGRAM,
+        game: GAME,
+        script: "select f / 2: select f / 2: exclude f / retract g / retract r / select x",
+        answers: "done 1 / refused AlreadyDecided 1 / refused AlreadyDecided 1 / refused NotDecided / refused NotDecided / refused UnknownFeature",
+    },
+    Row {
+        diagram: DIAGRAM,
+        game: GAME,
+        script: "select f / select g / undo 1 / keep 2 / undo 1",
+        answers: "done 1 / done 2 / refused NotNewest 2 / kept 2 / refused Sealed",
+    },
+    Row {
+        diagram: DIAGRAM,
+        game: GAME,
+        script: "select f / undo / select g / redo / forget 1 / redo",
+        answers: "done 1 / undone 1 / done 2 / refused Overtaken / forgotten 1 / refused NoToken",
+    },
+    Row {
+        diagram: DIAGRAM,
+        game: GAME,
+        script: "select f / select g / undo / undo / redo 2 / redo / redo / undo / undo / forget 1 / redo 2",
+        answers: "done 1 / done 2 / undone 2 / undone 1 / refused NotNext 1 / redone 1 / redone 2 / undone 2 / undone 1 / forgotten 1 / refused Overtaken",
+    },
+    Row {
+        diagram: DIAGRAM,
+        game: GAME,
+        script: "lift dual 1 / lift hopeful 9 / commit 7",
+        answers: "added 1 / refused NoVertex / refused NoHarvest",
+    },
+];
+
+static HARVESTS: [Row; 8] = [
+    Row {
+        diagram: DIAGRAM,
+        game: GAME,
+        script: "exclude f / harvest / retract f / commit 1 / 2: exclude f / commit 1 / show",
+        answers: "done 1 / harvest 1 / done 2 / refused Outdated f / done 3 / added 2 / decisions -f / full no / settled yes / 0 2 0 hopeless unsure / 1 0 1 possible unsure",
+    },
+    Row {
+        diagram: DIAGRAM,
+        game: GAME,
+        script: "exclude f / harvest / select g / commit 1",
+        answers: "done 1 / harvest 1 / done 2 / added 2",
+    },
+    Row {
+        diagram: DIAGRAM,
+        game: GAME,
+        script: "exclude f / harvest / undo / commit 1 / redo / commit 1",
+        answers: "done 1 / harvest 1 / undone 1 / refused Outdated f / redone 1 / added 2",
+    },
+    Row {
+        diagram: DIAGRAM,
+        game: GAME,
+        script: "exclude f / harvest / retract f / select f / commit 1",
+        answers: "done 1 / harvest 1 / done 2 / done 3 / refused Outdated f",
+    },
+    Row {
+        diagram: DIAGRAM,
+        game: GAME,
+        script: "exclude f / harvest / keep 1 / commit 1",
+        answers: "done 1 / harvest 1 / kept 1 / added 2",
+    },
+    Row {
+        diagram: DIAGRAM,
+        game: GAME,
+        script: "exclude f / harvest / settle / commit 1 / commit 1",
+        answers: "done 1 / harvest 1 / settled 2 / added 0 / refused NoHarvest",
+    },
+    Row {
+        diagram: DIAGRAM,
+        game: GAME,
+        script: "harvest / exclude f / commit 1 / retract f / trail",
+        answers: "harvest 1 / done 1 / added 2 / done 2 / hopeful 0 0 1 / dual 1 0 1 / entries 2",
+    },
+    Row {
+        diagram: DIAGRAM,
+        game: GAME,
+        script: "exclude f / harvest / select g / lift hopeful 0 / commit 1 / retract g / trail / undo / trail",
+        answers: "done 1 / harvest 1 / done 2 / added 1 / added 2 / done 3 / exclude f 1 / hopeful 0 0 2 -f / dual 1 0 1 -f / entries 3 / undone 3 / exclude f 1 / select g 2 / hopeful 0 0 1 -f +g / hopeful 0 1 2 -f / dual 1 0 1 -f / entries 5",
+    },
+];
+
+static KNOWLEDGE: [Row; 9] = [
+    Row {
+        diagram: DIAGRAM,
+        game: GAME,
+        script: "select f / select g / show",
+        answers: "done 1 / done 2 / decisions +f +g / full yes / settled no / 0 0 0 possible unsure / 1 0 0 possible unsure",
+    },
+    Row {
+        diagram: DIAGRAM,
+        game: GAME,
+        script: "exclude r",
+        answers: "refused Conflict r",
+    },
+    Row {
+        diagram: "root r / alternative r: a b",
+        game: DOT,
+        script: "select a / products / select b / products",
+        answers: "done 1 / in r a / out b / open / refused Conflict b / in r a / out b / open",
+    },
+    Row {
+        diagram: "root r / group r 1 1: a b",
+        game: DOT,
+        script: "select a / products / select b / products",
+        answers: "done 1 / in r a / out b / open / refused Conflict b / in r a / out b / open",
+    },
+    Row {
+        diagram: "root r / alternative r: a b / alternative r: c d / excludes a c / excludes a d / excludes b c / excludes b d",
+        game: DOT,
+        script: "select a / exclude a",
+        answers: "refused Conflict a / refused Conflict a",
+    },
+    Row {
+        diagram: "root r / or r: a b / group r 1 2: c d e",
+        game: DOT,
+        script: "exclude a / products / exclude b / select c / select d / products / select e",
+        answers: "done 1 / in r b / out a / open c d e / refused Conflict b / done 2 / done 3 / in r b c d / out a e / open / refused Conflict e",
+    },
+    Row {
+        diagram: "root r / or r: a b / group r 1 2: c d e",
+        game: DOT,
+        script: "exclude c / exclude d / products",
+        answers: "done 1 / done 2 / in r e / out c d / open a b",
+    },
+    Row {
+        diagram: "root r / optional r p / group p 2 2: a b",
+        game: DOT,
+        script: "exclude a / products",
+        answers: "done 1 / in r / out p a b / open",
+    },
+    Row {
+        diagram: "root r / group r 0 0: a",
+        game: DOT,
+        script: "select a",
+        answers: "refused Conflict a",
+    },
+];
+
+static PLANS: [Row; 1] = [Row {
+    diagram: DIAGRAM,
+    game: GAME,
+    script: "plan / select f / select g / plan / settle / plan",
+    answers: "refused NotFull / done 1 / done 2 / refused NotSettled / settled 3 / plan 0 1 / plans 1",
+}];
+
+#[test]
+fn settling_and_showing(rt: HostRuntime) -> Result<(), Fail> {
+    assert_eq!(rt; first_wrong(rt.alloc(), &SETTLING), None);
+    Ok(())
+}
+
+#[test]
+fn changes_undone_and_redone(rt: HostRuntime) -> Result<(), Fail> {
+    assert_eq!(rt; first_wrong(rt.alloc(), &CHANGES), None);
+    Ok(())
+}
+
+#[test]
+fn harvests_that_come_late(rt: HostRuntime) -> Result<(), Fail> {
+    assert_eq!(rt; first_wrong(rt.alloc(), &HARVESTS), None);
+    Ok(())
+}
+
+#[test]
+fn what_decisions_make_known(rt: HostRuntime) -> Result<(), Fail> {
+    assert_eq!(rt; first_wrong(rt.alloc(), &KNOWLEDGE), None);
+    Ok(())
+}
+
+#[test]
+fn plans_on_full_settled_pages(rt: HostRuntime) -> Result<(), Fail> {
+    assert_eq!(rt; first_wrong(rt.alloc(), &PLANS), None);
+    Ok(())
+}
