@@ -1,102 +1,208 @@
 //! Games worked by hand.
+ghost use Rattle.std.specs.Prelude.{◌↔◌, ◌<◌, IsTrue, All};
+
 use super::*;
-use crate::selection::Selection;
+use std::alloc::Global;
 use std::fmt::Write;
 use std::test::*;
+use vpg_diagram::Diagram;
 use vpg_game::GuardedGame;
-use vpg_guards::{Names, Tri};
+use vpg_guards::Names;
+use vpg_partial::{Decision, Partial, PartialFault};
 
-const SMALL: &[u8] = b"parity 1; 0 1 0 1[f],0; 1 2 1 0[g],1;";
+// The features are `r`, `f` and `g`.
+const FREE: &[u8] = b"root r\noptional r f\noptional r g\n";
 
-const LOOP: &[u8] = b"parity 0; 0 1 1 0[f];";
+const SMALL: &str = "parity 1; 0 1 0 1[f],0; 1 2 1 0[g],1;";
 
-const ENDS: &[u8] = b"7 3 1 7[f]; 4 0 0;";
+const ODD: &str = "parity 0; 0 1 1 0[f];";
 
-// A game over the features `r`, `f` and `g`.
-fn game_of(rt: &HostRuntime, text: &[u8]) -> Result<GuardedGame, Fail> {
-    let mut names = Names::new(rt.alloc())?;
-    names.add(rt.alloc(), b"r")?;
-    names.add(rt.alloc(), b"f")?;
-    names.add(rt.alloc(), b"g")?;
-    Ok(GuardedGame::read(rt.alloc(), text, &names)?)
+const EVEN: &str = "parity 0; 0 1 0 0[f];";
+
+const BOTH: &str = "0 3 0 1[f & !g],0[f | g]; 1 4 1 0[f & !g],1[f | g];";
+
+const ENDS: &str = "7 3 1 7[f]; 4 0 0;";
+
+fn diagram_of(rt: &HostRuntime, text: &[u8]) -> Result<Diagram, Fail> {
+    Ok(Diagram::read(rt.alloc(), text)?)
 }
 
-fn kept_text(rt: &HostRuntime, arena: &Arena) -> Result<String, Fail> {
+// The game that a text spells.
+fn game_of(rt: &HostRuntime, names: &Names, text: &str) -> Result<GuardedGame, Fail> {
+    Ok(GuardedGame::read(rt.alloc(), text.as_bytes(), names)?)
+}
+
+// Whether each decision is of one of this many features.
+fn are_below(features: usize, decisions: &[Decision]) -> bool
+    ensures { IsTrue result ↔ All (λ d. d.feature < features) decisions.now }
+{
+    decisions.iter().all(|d| (d.feature as usize) < features)
+}
+
+// What the decisions make known, where each is of a feature of the diagram.
+fn close_checked(
+    alloc: Global,
+    diagram: &Diagram,
+    decisions: &[Decision],
+) -> Option<Result<Partial, PartialFault>> {
+    if !are_below(diagram.features(), decisions) {
+        return None;
+    }
+    Some(Partial::close(alloc, diagram, decisions))
+}
+
+// The decisions of a line as `+f -g`.
+fn decisions_of(rt: &HostRuntime, names: &Names, line: &str) -> Result<Vec<Decision>, Fail> {
+    let mut decisions = Vec::new(rt.alloc());
+    for word in line.split_whitespace() {
+        let value = word.as_bytes().first().copied() == Some(b'+');
+        let name = &word.as_bytes()[word.len().min(1)..];
+        let feature = names.get(name).ok_or("feature")?;
+        decisions.push(Decision {
+            serial: 1,
+            session: 1,
+            feature,
+            value,
+        })?;
+    }
+    Ok(decisions)
+}
+
+// What they make known.
+fn known_of(rt: &HostRuntime, diagram: &Diagram, line: &str) -> Result<Partial, Fail> {
+    let decisions = decisions_of(rt, diagram.names(), line)?;
+    let known = close_checked(rt.alloc(), diagram, &decisions).ok_or("feature")?;
+    Ok(known?)
+}
+
+// Owner, priority and kept successors of each vertex.
+fn shown(rt: &HostRuntime, arena: &Arena) -> Result<String, Fail> {
     let mut text = String::new(rt.alloc());
     for v in 0..arena.vertices() {
+        let owner = arena.owner(v);
         let kept = arena.kept(v);
-        write!(text, "{kept:?}")?;
+        write!(text, "{owner:?} {} {kept:?};", arena.priority(v))?;
     }
     Ok(text)
 }
 
-// Whether these are the kept edges of both games of what is known.
-fn are_kept(
-    rt: &HostRuntime,
-    text: &[u8],
-    known: &[Tri],
-    hopeful: &str,
-    dual: &str,
-) -> Result<bool, Fail> {
-    let game = game_of(rt, text)?;
-    if known.len() != game.features() {
-        return Ok(false);
+// The two games of what decisions make known.
+fn both_of(rt: &HostRuntime, text: &str, words: &str) -> Result<(Arena, Arena), Fail> {
+    let diagram = diagram_of(rt, FREE)?;
+    let game = game_of(rt, diagram.names(), text)?;
+    let known = known_of(rt, &diagram, words)?;
+    if known.values().len() != game.features() {
+        return Err(Fail::new("features"));
     }
-    let arena = Arena::selected(rt.alloc(), &game, Selection::Hopeful(known))?;
-    let of_dual = Arena::selected(rt.alloc(), &game, Selection::HopefulOfDual(known))?;
-    let text = kept_text(rt, &arena)?;
-    let text_of_dual = kept_text(rt, &of_dual)?;
-    Ok(text.as_str() == hopeful && text_of_dual.as_str() == dual)
-}
-
-// Whether this is written behind `plain: ` as the game of a set of features.
-fn is_written(rt: &HostRuntime, text: &[u8], set: &[bool], plain: &str) -> Result<bool, Fail> {
-    let game = game_of(rt, text)?;
-    if set.len() != game.features() {
-        return Ok(false);
-    }
-    let projected = PlainGame::of(rt.alloc(), &game, set)?;
-    let mut out = Vec::from_slice(rt.alloc(), b"plain: ")?;
-    projected.write(rt.alloc(), &mut out)?;
-    Ok(out.as_slice() == plain.as_bytes())
+    let hopeful = Arena::hopeful(rt.alloc(), &game, &known)?;
+    let dual = Arena::hopeful_of_dual(rt.alloc(), &game, &known)?;
+    Ok((hopeful, dual))
 }
 
 #[test]
-fn kept_edges(rt: HostRuntime) -> Result<(), Fail> {
-    for (text, f, g, hopeful, dual) in [
-        (LOOP, Tri::Unknown, Tri::Unknown, "[]", "[0]"),
-        (LOOP, Tri::Yes, Tri::Unknown, "[0]", "[0]"),
-        (LOOP, Tri::No, Tri::Unknown, "[]", "[]"),
-        (SMALL, Tri::Unknown, Tri::Unknown, "[1, 0][1]", "[0][0, 1]"),
-        (SMALL, Tri::Yes, Tri::Unknown, "[1, 0][1]", "[1, 0][0, 1]"),
-        (SMALL, Tri::No, Tri::Unknown, "[0][1]", "[0][0, 1]"),
-        (SMALL, Tri::Unknown, Tri::Yes, "[1, 0][0, 1]", "[0][0, 1]"),
-        (SMALL, Tri::Unknown, Tri::No, "[1, 0][1]", "[0][1]"),
+fn hopeful_games(rt: HostRuntime) -> Result<(), Fail> {
+    for (text, words, expected) in [
+        (ODD, "", "Odd 1 [];"),
+        (ODD, "+f", "Odd 1 [0];"),
+        (ODD, "-f", "Odd 1 [];"),
+        (EVEN, "", "Even 1 [0];"),
+        (EVEN, "+f", "Even 1 [0];"),
+        (EVEN, "-f", "Even 1 [];"),
+        (SMALL, "", "Even 1 [1, 0];Odd 2 [1];"),
+        (SMALL, "-f", "Even 1 [0];Odd 2 [1];"),
+        (SMALL, "+g", "Even 1 [1, 0];Odd 2 [0, 1];"),
+        (BOTH, "+f", "Even 3 [1, 0];Odd 4 [1];"),
+        (BOTH, "+g", "Even 3 [0];Odd 4 [1];"),
+        (BOTH, "-f -g", "Even 3 [];Odd 4 [];"),
+        (ENDS, "", "Odd 3 [];Even 0 [];"),
     ] {
-        assert!(rt; are_kept(&rt, text, &[Tri::Yes, f, g], hopeful, dual)?);
+        let (hopeful, _) = both_of(&rt, text, words)?;
+        let found = shown(&rt, &hopeful)?;
+        assert_eq!(rt; found.as_str(), expected, "{text} {words}");
     }
     Ok(())
 }
 
 #[test]
+fn hopeful_games_of_duals(rt: HostRuntime) -> Result<(), Fail> {
+    for (text, words, expected) in [
+        (ODD, "", "Even 2 [0];"),
+        (ODD, "+f", "Even 2 [0];"),
+        (ODD, "-f", "Even 2 [];"),
+        (EVEN, "", "Odd 2 [];"),
+        (EVEN, "+f", "Odd 2 [0];"),
+        (EVEN, "-f", "Odd 2 [];"),
+        (SMALL, "", "Odd 2 [0];Even 3 [0, 1];"),
+        (SMALL, "+f", "Odd 2 [1, 0];Even 3 [0, 1];"),
+        (SMALL, "-g", "Odd 2 [0];Even 3 [1];"),
+        (BOTH, "+f", "Odd 4 [0];Even 5 [0, 1];"),
+        (ENDS, "+f", "Even 4 [0];Odd 1 [];"),
+    ] {
+        let (_, dual) = both_of(&rt, text, words)?;
+        let found = shown(&rt, &dual)?;
+        assert_eq!(rt; found.as_str(), expected, "{text} {words}");
+    }
+    Ok(())
+}
+
+// What is written of a plain game behind `plain: `.
+fn text_of(rt: &HostRuntime, plain: &PlainGame) -> Result<String, Fail> {
+    let mut out = Vec::from_slice(rt.alloc(), b"plain: ")?;
+    plain.write(rt.alloc(), &mut out)?;
+    Ok(String::from_utf8(out)?)
+}
+
+// The game of a set of features, where there is a value for each.
+fn project_checked(
+    alloc: Global,
+    game: &GuardedGame,
+    diagram: &Diagram,
+    set: &[bool],
+) -> Option<Result<PlainGame, ProjectFault>> {
+    if diagram.features() != game.features() || set.len() != game.features() {
+        return None;
+    }
+    Some(project(alloc, game, diagram, set))
+}
+
+// What is written of the game of a set of features, or the fault.
+fn projected(rt: &HostRuntime, text: &str, set: &[bool]) -> Result<String, Fail> {
+    let diagram = diagram_of(rt, FREE)?;
+    let game = game_of(rt, diagram.names(), text)?;
+    match project_checked(rt.alloc(), &game, &diagram, set).ok_or("features")? {
+        Ok(plain) => text_of(rt, &plain),
+        Err(fault) => Ok(format!(in rt.alloc(); "{fault}")?),
+    }
+}
+
+#[test]
 fn projections(rt: HostRuntime) -> Result<(), Fail> {
-    for (text, f, g, plain) in [
+    for (text, set, expected) in [
         (
             SMALL,
-            false,
-            true,
+            [true, false, true],
             "plain: parity 1;\n0 1 0 0;\n1 2 1 0,1;\n",
         ),
         (
             SMALL,
-            true,
-            true,
+            [true, true, true],
             "plain: parity 1;\n0 1 0 1,0;\n1 2 1 0,1;\n",
         ),
-        (ENDS, true, false, "plain: parity 7;\n7 3 1 7;\n4 0 0;\n"),
-        (ENDS, false, false, "plain: parity 7;\n7 3 1;\n4 0 0;\n"),
+        (
+            ENDS,
+            [true, true, false],
+            "plain: parity 7;\n7 3 1 7;\n4 0 0;\n",
+        ),
+        (
+            ENDS,
+            [true, false, false],
+            "plain: parity 7;\n7 3 1;\n4 0 0;\n",
+        ),
+        (SMALL, [false, false, true], "NotAProduct"),
+        (SMALL, [false, false, false], "NotAProduct"),
     ] {
-        assert!(rt; is_written(&rt, text, &[true, f, g], plain)?);
+        let found = projected(&rt, text, &set)?;
+        assert_eq!(rt; found.as_str(), expected, "{text} {set:?}");
     }
     Ok(())
 }
