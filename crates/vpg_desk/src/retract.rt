@@ -1,5 +1,5 @@
 //! Retracting a decision.
-ghost use Rattle.std.specs.Prelude.{◌≡◌, ◌++◌, ◌∷◌, ◌≤◌, length, map, take, drop, All, IfOk, IfErr, OnOk, OnErr, IfSome};
+ghost use Rattle.std.specs.Prelude.{◌≡◌, ◌+◌, ◌++◌, ◌∷◌, ◌≤◌, length, map, take, drop, All, IfOk, IfErr, OnOk, OnErr, IfSome};
 ghost use Rattle.vpg_trail.specs.Shown.{entry_of, VertexBelow};
 ghost use Rattle.vpg_trail.specs.WellFormed.{LiftsStandAfter};
 ghost use Rattle.vpg_desk.specs.Cuts.{cuts_of, SuffixesBelow};
@@ -57,6 +57,7 @@ impl Desk {
     ) -> Result<Undo, RetractFault>
         ensures accepted { IfOk result (λ undo. IsStep self.old session (Retract feature) (Changed undo) self.new) }
         ensures refused { IfErr result (λ fault. IfSome (retract_refusal fault) (λ refusal. Replies self.old (Retract feature) (Refused refusal))) }
+        ensures last { IfErr result (λ fault. fault ≡ RetractFault.Memory → Replies self.old (Retract feature) (Changed (self.old.book.changes + 1))) }
         ensures err { OnErr result (self.new ≡ self.old) }
     {
         if feature as usize >= self.diagram.features() {

@@ -1,4 +1,4 @@
-use Rattle.std.proofs.Common.{◌≡◌, ◌∙◌, ◌+◌, ◌<◌, ◌++◌, ℕ, List, [], length, map, take, drop, sym, ap, subst, arith}
+use Rattle.std.proofs.Common.{◌≡◌, IfErr, Result, Ok, Err, ◌∙◌, ◌+◌, ◌<◌, ◌++◌, ℕ, List, [], length, map, take, drop, sym, ap, subst, arith}
 use Rattle.std.proofs.lemmas.List.{take-map, length-map}
 use Rattle.vpg_diagram.specs.DiagramText.{NamedDiagram}
 use Rattle.vpg_diagram.specs.FeatureDiagram.{feature_count}
@@ -10,12 +10,13 @@ use Rattle.vpg_desk.specs.DeskFields.{desk_of}
 use Rattle.vpg_desk.specs.Setting.{HasConflict}
 use Rattle.vpg_desk.specs.Standing.{IsStanding}
 use Rattle.vpg_desk.specs.State.{DeskState, Replies, IsStep, setting_between}
+use Rattle.vpg_desk.specs.declared.fault.RetractFault.TheVariants.{Memory}
 use Rattle.vpg_desk.proofs.Decided.{limits}
 use Rattle.vpg_desk.proofs.Retracted.{retracted_parts, retract_accepted, retracted_consistent, retracted_step, retracted_desk}
 use Rattle.vpg_desk.proofs.desk.Desk.retract.Goals as goal
-use Rattle.vpg_desk.proofs.desk.Desk.retract.Goals.{After-deref-4}
+use Rattle.vpg_desk.proofs.desk.Desk.retract.Goals.{After-vertices, After-deref-4}
 
-accepted : (c : After-deref-4) → Replies (desk_of c.self.inside) (Retract c.args.feature) (Changed (c.self.inside.changes + 1))
+accepted : (c : After-vertices) → Replies (desk_of c.self.inside) (Retract c.args.feature) (Changed (c.self.inside.changes + 1))
 accepted c =
     retract_accepted c.self.inside c.self.invariant c.args.feature
     (subst (λ (n : ℕ). c.args.feature < n) (c.features.ensures.count ∙ ap (λ (x : NamedDiagram). feature_count x.lines) c.deref.ensures) c.if-feature-features.false)
@@ -39,7 +40,7 @@ left c =
 pub of_page-requires-clause-consistent : goal.of_page-requires-clause-consistent
 of_page-requires-clause-consistent c =
     coe 0 1 (k. HasConflict (setting_between (sym c.deref-2.ensures k) (sym c.deref-3.ensures k)) (choices_of (sym (shown c) k)) → ⊥)
-    (retracted_consistent c.self.inside c.self.invariant c.args.feature (accepted c))
+    (retracted_consistent c.self.inside c.self.invariant c.args.feature (accepted (goal.at.of_page-requires-clause-consistent c).After-vertices))
 
 pub cut_out-requires-clause-lifts : goal.cut_out-requires-clause-lifts
 cut_out-requires-clause-lifts c =
@@ -55,7 +56,7 @@ overflow_add-self c = omega (arith, (limits c.self.inside c.self.invariant).0, (
 pub invariant_of-self-2 : goal.invariant_of-self-2
 invariant_of-self-2 c =
     let at = (goal.at.invariant_of-self-2 c).After-deref-4 in
-    retracted_desk c.self.inside c.self.invariant c.args.feature (accepted at) c.args.session c.in-Some.place (map entry_of c.in_ok-kept.kept.items) c.in_ok-standing.standing c.cut_out.new.past c.cut_out.new.trail c.clear.new.self
+    retracted_desk c.self.inside c.self.invariant c.args.feature (accepted (goal.at.invariant_of-self-2 c).After-vertices) c.args.session c.in-Some.place (map entry_of c.in_ok-kept.kept.items) c.in_ok-standing.standing c.cut_out.new.past c.cut_out.new.trail c.clear.new.self
     (omega (arith, c.in-Some.ensures.place, length-map c.entries-entries.result.now entry_of, ap length c.entries-entries.ensures.entries)) (left at) c.in_ok-cut_out.ensures.past c.in_ok-cut_out.ensures.below c.in_ok-cut_out.ensures.trail c.clear.ensures.items
     (coe 0 1 (k. IsStanding (setting_between (c.deref-2.ensures k) (c.deref-3.ensures k)) (choices_of (shown at k)) c.in_ok-standing.standing) c.in_ok-standing.ensures)
 
@@ -64,6 +65,23 @@ returns-clause-accepted c =
     let at = (goal.at.returns-clause-accepted c).After-deref-4 in
     subst (λ (n : ℕ). IsStep c.args.self.now c.args.session (Retract c.args.feature) (Changed n) (desk_of (record { game = c.self.inside.game; diagram = c.self.inside.diagram; hopeful_shape = c.self.inside.hopeful_shape; dual_shape = c.self.inside.dual_shape; standing = c.in_ok-standing.standing; trail = c.cut_out.new.trail; past = c.cut_out.new.past; future = c.clear.new.self; changes = c.self.inside.changes + 1; tokens = c.self.inside.tokens + 1 }))) (sym c.of.ensures)
     (subst (λ (s : DeskState). IsStep s c.args.session (Retract c.args.feature) (Changed (c.self.inside.changes + 1)) (desk_of (record { game = c.self.inside.game; diagram = c.self.inside.diagram; hopeful_shape = c.self.inside.hopeful_shape; dual_shape = c.self.inside.dual_shape; standing = c.in_ok-standing.standing; trail = c.cut_out.new.trail; past = c.cut_out.new.past; future = c.clear.new.self; changes = c.self.inside.changes + 1; tokens = c.self.inside.tokens + 1 }))) c.self.view_is
-    (retracted_step c.self.inside c.self.invariant c.args.feature (accepted at) c.args.session c.in-Some.place (map entry_of c.in_ok-kept.kept.items) c.in_ok-standing.standing c.cut_out.new.past c.cut_out.new.trail c.clear.new.self
+    (retracted_step c.self.inside c.self.invariant c.args.feature (accepted (goal.at.returns-clause-accepted c).After-vertices) c.args.session c.in-Some.place (map entry_of c.in_ok-kept.kept.items) c.in_ok-standing.standing c.cut_out.new.past c.cut_out.new.trail c.clear.new.self
     (omega (arith, c.in-Some.ensures.place, length-map c.entries-entries.result.now entry_of, ap length c.entries-entries.ensures.entries)) (left at) c.in_ok-cut_out.ensures.past c.in_ok-cut_out.ensures.below c.in_ok-cut_out.ensures.trail c.clear.ensures.items
     (coe 0 1 (k. IsStanding (setting_between (c.deref-2.ensures k) (c.deref-3.ensures k)) (choices_of (shown at k)) c.in_ok-standing.standing) c.in_ok-standing.ensures)))
+
+-- want of memory comes where nothing else refuses
+unrefused : {T E X : Type 0} (fault : E) (r : Result T E) → X → IfErr r (λ f. f ≡ fault → X)
+unrefused fault (Ok t) x = tt
+unrefused fault (Err f) x = λ _. x
+
+would : (c : After-vertices) → Replies c.args.self.now (Retract c.args.feature) (Changed (c.args.self.now.book.changes + 1))
+would c = subst (λ (s : DeskState). Replies s (Retract c.args.feature) (Changed (s.book.changes + 1))) c.self.view_is (accepted c)
+
+pub returns-in_err-kept-clause-last : goal.returns-in_err-kept-clause-last
+returns-in_err-kept-clause-last c = unrefused Memory c.from_residual.result (would (goal.at.returns-in_err-kept-clause-last c).After-vertices)
+
+pub returns-in_err-standing-clause-last : goal.returns-in_err-standing-clause-last
+returns-in_err-standing-clause-last c = unrefused Memory c.from_residual-in_err-standing.result (would (goal.at.returns-in_err-standing-clause-last c).After-vertices)
+
+pub returns-in_err-cut_out-clause-last : goal.returns-in_err-cut_out-clause-last
+returns-in_err-cut_out-clause-last c = unrefused Memory c.from_residual-in_err-cut_out.result (would (goal.at.returns-in_err-cut_out-clause-last c).After-vertices)
