@@ -12,7 +12,7 @@ use crate::cuts::Cut;
 use crate::desk::{Desk, MOST_CHANGES};
 use crate::fault::DecideFault;
 use crate::standing::Standing;
-use crate::token::Undo;
+use crate::undo_token::Undo;
 use std::alloc::{AllocError, Global};
 use vpg_diagram::Diagram;
 use vpg_partial::{Decision, Partial, PartialFault};

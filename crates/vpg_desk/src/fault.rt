@@ -1,7 +1,8 @@
 //! Why calls of a desk are refused.
 
 use crate::desk::Desk;
-use crate::token::{Redo, Undo};
+use crate::redo_token::Redo;
+use crate::undo_token::Undo;
 use std::alloc::{AllocError, AllocFailed};
 use std::sync::Arc;
 use thiserror::Error;

@@ -1,12 +1,12 @@
-//! Spending tokens without going to another page, and closing a desk.
-ghost use Rattle.std.specs.Prelude.{◌≡◌, ◌<◌, ◌≤◌, ℕ, length, drop, IfErr, OnOk};
+//! Spending tokens without going to another page.
+ghost use Rattle.std.specs.Prelude.{◌≡◌, ◌<◌, ◌≤◌, ℕ, length, drop};
 ghost use Rattle.vpg_desk.specs.Cuts.{cuts_of, SuffixesBelow};
 ghost use Rattle.vpg_desk.specs.Trail.{cuts_in_front_of};
 
 use crate::cuts::Cut;
 use crate::desk::Desk;
-use crate::fault::TokensOut;
-use crate::token::{Redo, Undo};
+use crate::redo_token::Redo;
+use crate::undo_token::Undo;
 
 /// How many cuts lie at the one of this serial and beyond it; none where none has it.
 fn up_to(cuts: &[Cut], serial: u64) -> usize
@@ -54,27 +54,5 @@ impl Desk {
     {
         drop_up_to(&mut self.future, token.spend());
         self.tokens -= 1;
-    }
-
-    /// The number of tokens that are out.
-    pub fn tokens(&self) -> u64
-        ensures { result ≡ self.now.book.tokens }
-    {
-        self.tokens
-    }
-
-    /// Ends the desk. It comes back where tokens are out.
-    pub fn close(self) -> Result<(), TokensOut>
-        ensures closed { OnOk result (self.book.tokens ≡ 0) }
-        ensures out { IfErr result (λ out. (out.tokens ≡ self.book.tokens) × (0 < out.tokens)) }
-        ensures back { IfErr result (λ out. out.desk ≡ self) }
-    {
-        if self.tokens == 0 {
-            return Ok(());
-        }
-        Err(TokensOut {
-            tokens: self.tokens,
-            desk: self,
-        })
     }
 }

@@ -3,8 +3,9 @@ ghost use Rattle.std.specs.Prelude.{◌≡◌, ◌<◌, ℕ, IfOk, IfErr, OnOk, 
 
 use crate::desk::Desk;
 use crate::fault::{RedoFault, RedoRefused, UndoFault, UndoRefused};
+use crate::redo_token::Redo;
 use crate::swing::{redo_fault, standing_over, swing, undo_fault};
-use crate::token::{Redo, Undo};
+use crate::undo_token::Undo;
 use std::alloc::Global;
 
 impl Desk {
@@ -21,6 +22,7 @@ impl Desk {
         ensures accepted { IfOk result (λ redo. (session : ℕ) → IsStep self.old session (AsksUndo token) (Undone redo) self.new) }
         ensures restores { OnOk result (Restores gives_undo self.old token self.new) }
         ensures refused { IfErr result (λ r. IfSome (undo_refusal r.fault) (λ refusal. Replies self.old (AsksUndo token) (Refused refusal))) }
+        ensures last { IfErr result (λ r. r.fault ≡ UndoFault.Memory → Replies self.old (AsksUndo token) (Undone token)) }
         ensures err { OnErr result (self.new ≡ self.old) }
         ensures back { IfErr result (λ r. r.token ≡ token) }
     {
@@ -38,6 +40,7 @@ impl Desk {
         ensures accepted { IfOk result (λ undo. (session : ℕ) → IsStep self.old session (AsksRedo token) (Redone undo) self.new) }
         ensures restores { OnOk result (Restores gives_redo self.old token self.new) }
         ensures refused { IfErr result (λ r. IfSome (redo_refusal r.fault) (λ refusal. Replies self.old (AsksRedo token) (Refused refusal))) }
+        ensures last { IfErr result (λ r. r.fault ≡ RedoFault.Memory → Replies self.old (AsksRedo token) (Redone token)) }
         ensures err { OnErr result (self.new ≡ self.old) }
         ensures back { IfErr result (λ r. r.token ≡ token) }
     {
@@ -51,6 +54,7 @@ impl Desk {
     fn swing_back(&mut self, alloc: Global, serial: u64) -> Result<(), UndoFault>
         ensures accepted { OnOk result ((session : ℕ) → IsStep self.old session (AsksUndo serial) (Undone serial) self.new) }
         ensures refused { IfErr result (λ fault. IfSome (undo_refusal fault) (λ refusal. Replies self.old (AsksUndo serial) (Refused refusal))) }
+        ensures last { IfErr result (λ fault. fault ≡ UndoFault.Memory → Replies self.old (AsksUndo serial) (Undone serial)) }
         ensures err { OnErr result (self.new ≡ self.old) }
     {
         if let Some(fault) = undo_fault(&self.past, serial) {
@@ -66,6 +70,7 @@ impl Desk {
     fn swing_forth(&mut self, alloc: Global, serial: u64) -> Result<(), RedoFault>
         ensures accepted { OnOk result ((session : ℕ) → IsStep self.old session (AsksRedo serial) (Redone serial) self.new) }
         ensures refused { IfErr result (λ fault. IfSome (redo_refusal fault) (λ refusal. Replies self.old (AsksRedo serial) (Refused refusal))) }
+        ensures last { IfErr result (λ fault. fault ≡ RedoFault.Memory → Replies self.old (AsksRedo serial) (Redone serial)) }
         ensures err { OnErr result (self.new ≡ self.old) }
     {
         if let Some(fault) = redo_fault(&self.future, serial) {

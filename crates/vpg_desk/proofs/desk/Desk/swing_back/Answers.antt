@@ -1,4 +1,4 @@
-use Rattle.std.proofs.Common.{◌≡◌, ◌∙◌, ◌∷◌, IfSome, List, None, ap, sym, subst}
+use Rattle.std.proofs.Common.{◌≡◌, ◌∙◌, ◌∷◌, IfSome, IfErr, List, None, Result, Ok, Err, ap, sym, subst}
 use Rattle.std.specs.List.{AllByRecursion}
 use Rattle.vpg_trail.specs.Page.{choices_of}
 use Rattle.vpg_desk.specs.Book.{Undo, Undone, Refused, refuses_undo}
@@ -10,7 +10,8 @@ use Rattle.vpg_desk.specs.Standing.{IsStanding}
 use Rattle.vpg_desk.specs.State.{DeskState, IsStep, Replies, setting_between}
 use Rattle.vpg_desk.specs.Trail.{Cut as Saved, spliced}
 use Rattle.vpg_desk.specs.declared.cuts.Cut.{Cut}
-use Rattle.vpg_desk.proofs.Swung.{undo_refused, past_consistent, past_well_formed, undone_step, undone_desk}
+use Rattle.vpg_desk.specs.declared.fault.UndoFault.TheVariants.{Memory}
+use Rattle.vpg_desk.proofs.Swung.{undo_refused, undo_accepted, past_consistent, past_well_formed, undone_step, undone_desk}
 use Rattle.vpg_desk.proofs.desk.Desk.swing_back.Goals as goal
 use Rattle.vpg_desk.proofs.desk.Desk.swing_back.Goals.{After-swing}
 
@@ -44,3 +45,24 @@ returns-clause-accepted c session =
     let at = (goal.at.returns-clause-accepted c).After-swing in
     subst (λ (s : DeskState). IsStep s session (Undo c.args.serial) (Undone c.args.serial) (desk_of (record c.self.inside { standing = c.in_ok-standing.standing; trail = c.swing.new.trail; past = c.swing.new.from; future = c.swing.new.to }))) c.self.view_is
     (undone_step c.self.inside c.self.invariant c.args.serial c.in_ok-standing.standing c.swing.new.from c.swing.new.to c.swing.new.trail c.swing.ensures.vertices c.swing.ensures.from_below (c.swing.ensures.to_below c.self.invariant.future_below) (accepted at) c.in_ok-swing.ensures.swung (known at) session)
+
+pub returns-in-Some-clause-last : goal.returns-in-Some-clause-last
+returns-in-Some-clause-last c m =
+    subst (λ (s : DeskState). Replies s (Undo c.args.serial) (Undone c.args.serial)) c.self.view_is
+    (undo_accepted c.self.inside c.self.invariant c.args.serial (ap (λ (l : List Cut). refuses_undo c.args.serial (serials_from_top l)) (sym c.deref.ensures.value) ∙ c.in-Some.ensures ∙ ap undo_refusal m))
+
+-- where it isn't refused, any fault may come
+unrefused : {T E X : Type 0} (fault : E) (r : Result T E) → X → IfErr r (λ f. f ≡ fault → X)
+unrefused fault (Ok t) x = tt
+unrefused fault (Err f) x = λ _. x
+
+pub returns-in_err-standing-clause-last : goal.returns-in_err-standing-clause-last
+returns-in_err-standing-clause-last c =
+    unrefused Memory c.from_residual.result
+    (subst (λ (s : DeskState). Replies s (Undo c.args.serial) (Undone c.args.serial)) c.self.view_is
+    (undo_accepted c.self.inside c.self.invariant c.args.serial (ap (λ (l : List Cut). refuses_undo c.args.serial (serials_from_top l)) (sym c.deref.ensures.value) ∙ c.in_default.ensures)))
+
+pub returns-in_err-swing-clause-last : goal.returns-in_err-swing-clause-last
+returns-in_err-swing-clause-last c =
+    unrefused Memory c.from_residual-in_err-swing.result
+    (subst (λ (s : DeskState). Replies s (Undo c.args.serial) (Undone c.args.serial)) c.self.view_is (undo_accepted c.self.inside c.self.invariant c.args.serial (accepted (goal.at.returns-in_err-swing-clause-last c).After-swing)))

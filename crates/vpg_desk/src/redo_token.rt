@@ -1,0 +1,40 @@
+//! Tokens of changes that were undone.
+ghost use Rattle.std.specs.Prelude.{◌≡◌};
+
+use std::marker::Model;
+
+/// Stands for a change that was undone. It can be neither copied nor let go: `Desk::redo` or `Desk::forget` spends it.
+pub struct Redo {
+    serial: u64,
+}
+
+impl Model for Redo {
+    ghost use Rattle.std.specs.Prelude.{ℕ};
+
+    ghost Value = { ℕ };
+
+    ghost view = { λ token. token.serial };
+}
+
+impl Redo {
+    pub(crate) fn of(serial: u64) -> Redo
+        ensures { result ≡ serial }
+    {
+        Redo { serial }
+    }
+
+    /// The serial of the change.
+    pub fn serial(&self) -> u64
+        ensures { result ≡ self.now }
+    {
+        self.serial
+    }
+
+    /// Ends the token.
+    pub(crate) fn spend(self) -> u64
+        ensures { result ≡ self }
+    {
+        let Redo { serial } = self;
+        serial
+    }
+}
