@@ -8,7 +8,7 @@ use crate::cuts::Cut;
 use crate::desk::{Desk, MOST_CHANGES};
 use crate::fault::RetractFault;
 use crate::standing::Standing;
-use crate::token::Undo;
+use crate::undo_token::Undo;
 use std::alloc::{AllocError, Global};
 use vpg_trail::{Entry, Trail, kept_after, place_of};
 
