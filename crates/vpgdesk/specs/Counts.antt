@@ -6,7 +6,7 @@ use Rattle.vpg_game.specs.Game.{NamedGame, edges_in, priorities_of, top_in, dual
 abbrev pub labelled : List ℕ → ℕ → List ℕ
 labelled word n = word ++ 32 ∷ decimal n
 
--- `vertices V edges E features F top T1 T2`
+-- `vertices V edges E features F top TOP DUALTOP`
 abbrev pub counts_text : NamedGame → List ℕ
 counts_text game =
     labelled (codes "vertices") (length game.vertices)
