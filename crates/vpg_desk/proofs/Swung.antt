@@ -1,12 +1,13 @@
 -- What a desk answers to undo and redo, and what accepted ones leave.
-use Rattle.std.proofs.Common.{◌≡◌, ℕ, List, [], ◌∷◌, map, reverse, None, IfSome, refl, sym, ap, ◌∙◌, subst, Vec, Global}
+use Rattle.std.proofs.Common.{◌≡◌, ℕ, ◌<◌, List, [], ◌∷◌, map, reverse, Some, None, IfSome, refl, sym, ap, ◌∙◌, subst, Vec, Global}
 use Rattle.std.specs.List.{AllByRecursion}
 use Rattle.vpg_diagram.proofs.Lists.{All-implies}
 use Rattle.vpg_trail.specs.Page.{Entry as Step, choices_of}
 use Rattle.vpg_trail.specs.Shown.{Track}
 use Rattle.vpg_trail.specs.WellFormed.{IsWellFormed}
-use Rattle.vpg_desk.specs.Book.{Book, Kept, Undo, Redo, Undone, Redone, Refused, serials_of, refuses_undo, refuses_redo, undone, redone}
+use Rattle.vpg_desk.specs.Book.{Book, Kept, Undo, Redo, Undone, Redone, Refused, NotNewest as IsNotNewest, NotNext as IsNotNext, IsReply, serials_of, refuses_undo, refuses_redo, undone, redone}
 use Rattle.vpg_desk.specs.Cuts.{cut_of, cuts_of, cut_book, serials_from_top, pages_of, SuffixesBelow, IsSwung}
+use Rattle.vpg_desk.specs.Desk.{family_of}
 use Rattle.vpg_desk.specs.DeskFields.{setting_in, book_in, desk_of, IsDesk}
 use Rattle.vpg_desk.specs.Faults.{undo_refusal, redo_refusal}
 use Rattle.vpg_desk.specs.Headline.{Tells}
@@ -22,6 +23,7 @@ use Rattle.vpg_desk.specs.declared.fault.UndoFault.{UndoFault}
 use Rattle.vpg_desk.specs.declared.fault.UndoFault.TheVariants.{Sealed, NotNewest, Memory as UndoMemory}
 use Rattle.vpg_desk.specs.declared.standing.Standing.{Standing}
 use Rattle.vpg_desk.proofs.Reaching.{reached_step, reached_tells, reached_well_formed}
+use Rattle.vpg_desk.proofs.Refusals.{not_newest_tells, not_next_tells}
 use Rattle.vpg_desk.proofs.Trail.{serials_agree, swing_back_is_undo, swing_forth_is_redo}
 
 -- the serials of the pages are those of the cuts
@@ -67,6 +69,17 @@ module _ (d : Inside) (i : IsDesk d) where
 
     pub redo_accepted : refuses_redo s (serials_from_top d.future.items) ≡ None → Replies (desk_of d) (Redo s) (Redone s)
     redo_accepted e = (None, (sym (ap (refuses_redo s) future_serials ∙ e), refl))
+
+    -- the newest past serial is above the token's, the nearest future one below it
+    pub newest_above : (n : ℕ) → refuses_undo s (serials_from_top d.past.items) ≡ Some (IsNotNewest n) → s < n
+    newest_above n e =
+        (not_newest_tells (family_of (setting_in d)) i.reached.0 s n i.reached.1.legal
+        (subst (λ (b : Book). IsReply (family_of (setting_in d)) b (Undo s) (Refused (IsNotNewest n))) (sym i.reached.1.leaves) (Some (IsNotNewest n), (sym (ap (refuses_undo s) past_serials ∙ e), refl)))).1
+
+    pub nearest_below : (n : ℕ) → refuses_redo s (serials_from_top d.future.items) ≡ Some (IsNotNext n) → n < s
+    nearest_below n e =
+        (not_next_tells (family_of (setting_in d)) i.reached.0 s n i.reached.1.legal
+        (subst (λ (b : Book). IsReply (family_of (setting_in d)) b (Redo s) (Refused (IsNotNext n))) (sym i.reached.1.leaves) (Some (IsNotNext n), (sym (ap (refuses_redo s) future_serials ∙ e), refl)))).1
 
   -- ---- the desks that are left
 

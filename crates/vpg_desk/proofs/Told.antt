@@ -1,8 +1,12 @@
 -- What a page whose tables are below every progress table says of the game.
-use Rattle.std.proofs.Common.{refl, ◌≡◌, ℕ, ◌<◌, ◌≤◌, ◌⊎◌, inl, inr, Bool, List, length, slice_index, sym, ◌∙◌, subst, arith}
+use Rattle.std.proofs.Common.{refl, ◌≡◌, ℕ, zero, suc, ◌<◌, ◌≤◌, ◌⊎◌, inl, inr, Bool, List, [], ◌∷◌, Option, Some, length, slice_get, slice_index, sym, ap, ◌∙◌, subst, arith}
 use Rattle.std.proofs.lemmas.Bool.{cases_lt}
 use Rattle.std.proofs.lemmas.List.Elements.{All-from_get_or}
-use Rattle.vpg_measure.specs.Lifts.{IsTableOf}
+use Rattle.vpg_measure.specs.Lifts.{IsTableOf, IsProgressTable, AreChoices, choice_of}
+use Rattle.vpg_measure.specs.Views.{strategy_of}
+use Rattle.vpg_hope.specs.Arena.{Vertex as Node, vertex_at}
+use Rattle.vpg_hope.specs.Strategies.{Strategy}
+use Rattle.vpg_game.specs.declared.levels.Level.{Level}
 use Rattle.vpg_game.specs.declared.player.Player.{Player}
 use Rattle.vpg_guards.specs.declared.tri.Tri.{Tri}
 use Rattle.vpg_hope.specs.Hope.{IsFullOf}
@@ -22,9 +26,33 @@ use Rattle.vpg_desk.specs.Setting.{Setting, HasConflict}
 use Rattle.vpg_desk.proofs.Sound.{IsSound}
 use Rattle.vpg_measure.specs.TwoGames.{levels_for, arena_for, top_for, IsProgressOf}
 use Rattle.vpg_desk.specs.Desk.{IsProgressUnder, family_of, IsLeastUnder}
-use Rattle.vpg_desk.specs.Headline.{IsTopAt, NeverWins, Determines, Tells}
+use Rattle.vpg_desk.specs.Headline.{IsTopAt, NeverWins, WinsIn, AreChoicesAt, Determines, Tells}
 use Rattle.vpg_measure.proofs.TwoGames.{arena_length, arena_closed, tops, tops_progress, top_bounds}
 use Rattle.vpg_measure.proofs.TwoGames.{progress_earlier}
+
+-- the first values of a function
+abbrev first_of : {X : Type 0} → (ℕ → X) → ℕ → List X
+first_of f zero = []
+first_of f (suc n) = f 0 ∷ first_of (λ v. f (suc v)) n
+
+length-first_of : {X : Type 0} (f : ℕ → X) (n : ℕ) → length (first_of f n) ≡ n
+length-first_of f zero = refl
+length-first_of f (suc n) = ap (λ (k : ℕ). suc k) (length-first_of (λ v. f (suc v)) n)
+
+get-first_of : {X : Type 0} (f : ℕ → X) (n v : ℕ) → v < n → slice_get (first_of f n) v ≡ Some (f v)
+get-first_of f zero v l = absurd (omega (arith, l))
+get-first_of f (suc n) zero l = refl
+get-first_of f (suc n) (suc v) l = get-first_of (λ v. f (suc v)) n v (omega (arith, l))
+
+-- choices can be made at each table
+choices_exist : (levels : List Level) (arena : List Node) (table : List ℕ) → (choices : List (Option ℕ)) × AreChoices levels arena table choices
+choices_exist levels arena table = (
+  first_of (λ v. choice_of levels table (vertex_at arena v) (slice_index table v)) (length arena),
+  (
+    length-first_of (λ v. choice_of levels table (vertex_at arena v) (slice_index table v)) (length arena),
+    λ v l. get-first_of (λ v. choice_of levels table (vertex_at arena v) (slice_index table v)) (length arena) v l,
+  ),
+)
 
 module _ (setting : Setting) (sound : IsSound setting) (page : List Entry) (fine : ¬ (HasConflict setting (choices_of page))) (below : PageIsBelow (family_of setting) page) where
   module _ (known : List Tri) (is_known : IsKnownTable setting.lines (choices_of page) known) where
@@ -102,18 +130,33 @@ module _ (setting : Setting) (sound : IsSound setting) (page : List Entry) (fine
           record {
             remaining = s.1;
             only = s.3;
-            possible = λ choices are v l t. possible_number Formula (kleene known) (truth s.0) setting.game s.2 (levels_for Hopeful setting.game) (arena_for (kleene known) Hopeful setting.game)
-                (table_of Hopeful page (length setting.game)) choices refl (arena_closed Formula (kleene known) Hopeful setting.game sound.is_setting.closed)
-                (is_table Hopeful) (settled_table Hopeful (settled Hopeful)).settled are v (inside Hopeful v l) (low Hopeful v l t);
-            unsure = λ choices are v l t. unsure_number Formula (kleene known) (truth s.0) setting.game s.2 (levels_for Dual setting.game) (arena_for (kleene known) Dual setting.game)
-                (table_of Dual page (length setting.game)) choices refl (arena_closed Formula (kleene known) Dual setting.game sound.is_setting.closed) sound.is_setting.closed
-                (is_table Dual) (settled_table Dual (settled Dual)).settled are v (inside Dual v l) (low Dual v l t);
+            possible = possible;
+            unsure = unsure;
+            even_wins = λ v l t. of_choices Player.Even Hopeful possible v l t;
+            odd_wins = λ v l t. of_choices Player.Odd Dual unsure v l t;
             not_both = λ v l t u. not_both_numbers Formula (kleene known) (truth s.0) setting.game s.2 sound.is_setting.closed (levels_for Hopeful setting.game) (levels_for Dual setting.game)
                 (arena_for (kleene known) Hopeful setting.game) (arena_for (kleene known) Dual setting.game) (table_of Hopeful page (length setting.game)) (table_of Dual page (length setting.game))
                 refl refl
                 (is_table Hopeful) (settled_table Hopeful (settled Hopeful)).settled (is_table Dual) (settled_table Dual (settled Dual)).settled v l (low Hopeful v l t) (low Dual v l u);
           },
         )
+          where
+            possible : (choices : List (Option ℕ)) → AreChoicesAt setting known page Hopeful choices → (v : ℕ) → v < length setting.game → ¬ (IsTopAt setting page Hopeful v) → WinsIn setting s.0 Player.Even (strategy_of choices) v
+            possible choices are v l t = possible_number Formula (kleene known) (truth s.0) setting.game s.2 (levels_for Hopeful setting.game) (arena_for (kleene known) Hopeful setting.game)
+                (table_of Hopeful page (length setting.game)) choices refl (arena_closed Formula (kleene known) Hopeful setting.game sound.is_setting.closed)
+                (is_table Hopeful) (settled_table Hopeful (settled Hopeful)).settled are v (inside Hopeful v l) (low Hopeful v l t)
+
+            unsure : (choices : List (Option ℕ)) → AreChoicesAt setting known page Dual choices → (v : ℕ) → v < length setting.game → ¬ (IsTopAt setting page Dual v) → WinsIn setting s.0 Player.Odd (strategy_of choices) v
+            unsure choices are v l t = unsure_number Formula (kleene known) (truth s.0) setting.game s.2 (levels_for Dual setting.game) (arena_for (kleene known) Dual setting.game)
+                (table_of Dual page (length setting.game)) choices refl (arena_closed Formula (kleene known) Dual setting.game sound.is_setting.closed) sound.is_setting.closed
+                (is_table Dual) (settled_table Dual (settled Dual)).settled are v (inside Dual v l) (low Dual v l t)
+
+            of_choices : (player : Player) (which : Which) →
+                ((choices : List (Option ℕ)) → AreChoicesAt setting known page which choices → (v : ℕ) → v < length setting.game → ¬ (IsTopAt setting page which v) → WinsIn setting s.0 player (strategy_of choices) v) →
+                (v : ℕ) → v < length setting.game → ¬ (IsTopAt setting page which v) → (strategy : Strategy) × WinsIn setting s.0 player strategy v
+            of_choices player which wins v l t =
+                let c : (choices : List (Option ℕ)) × AreChoicesAt setting known page which choices = choices_exist (levels_for which setting.game) (arena_for (kleene known) which setting.game) (table_of which page (length setting.game)) in
+                (strategy_of c.0, wins c.0 c.1 v l t)
 
   pub page_tells : Tells setting page
   page_tells = record {

@@ -1,10 +1,11 @@
 -- The headline, for every setting.
-use Rattle.std.proofs.Common.{◌≡◌, ℕ, ◌<◌, ◌==◌, Bool, Option, Some, None, IsTrue, List, [], ◌∷◌, ◌++◌, length, refl, sym, ap, ◌∙◌, subst, eqb-true}
+use Rattle.std.proofs.Common.{◌≡◌, ◌↔◌, ℕ, ◌<◌, ◌==◌, Bool, Option, Some, None, IsTrue, List, [], ◌∷◌, ◌++◌, length, slice_index, refl, sym, ap, ◌∙◌, subst, eqb-true}
 use Rattle.std.specs.List.{AllByRecursion}
 use Rattle.std.specs.Bool.{Decides}
 use Rattle.vpg_game.specs.declared.player.Player.{Player}
 use Rattle.vpg_diagram.proofs.Lists.{All-front}
-use Rattle.vpg_trail.specs.Page.{Hopeful, Dual, Entry, choices_of, value_at}
+use Rattle.vpg_trail.specs.Page.{Which, Hopeful, Dual, Entry, choices_of, AllStand, value_at, table_of}
+use Rattle.vpg_trail.proofs.PageLemmas.{table_of-at}
 use Rattle.vpg_desk.specs.Book.{Family, Book, Kept, opened, IsSettledPage, Refusal, Verdict, VerdictIs, Settled, IsSettled, IsReply, Told}
 use Rattle.vpg_desk.specs.History.{Event, IsLegal, book_after, page_after, undo_of, redo_of}
 use Rattle.vpg_desk.specs.Lawful.{EachPage, PageIsBelow, IsMonotone, IsLawful, HandsIn, AllHandIn}
@@ -14,7 +15,7 @@ use Rattle.vpg_desk.specs.Setting.{Setting, HasConflict}
 use Rattle.vpg_desk.proofs.Sound.{sound_of}
 use Rattle.vpg_measure.specs.TwoGames.{top_for}
 use Rattle.vpg_desk.specs.Desk.{family_of}
-use Rattle.vpg_desk.specs.Headline.{NeverWins, Tells, HeadlineHolds, verdict_of, settled_of}
+use Rattle.vpg_desk.specs.Headline.{IsTopAt, NeverWins, Tells, HeadlineHolds, verdict_of, settled_of}
 use Rattle.vpg_desk.proofs.Family.{family_is_monotone}
 use Rattle.vpg_desk.proofs.Told.{page_tells}
 
@@ -68,6 +69,14 @@ verdict_tells setting {page} tells v inside hopeless sure e = (
   (λ h. tells.sure v inside (eqb-true (value_at Dual v page) (top_for Dual setting.game) (sym e.1 ∙ h))),
 )
 
+-- equal tables have the same tops
+same_tops : (setting : Setting) (one other : List Entry) (which : Which) (v : ℕ) → v < length setting.game → table_of which one (length setting.game) ≡ table_of which other (length setting.game) →
+    IsTopAt setting one which v ↔ IsTopAt setting other which v
+same_tops setting one other which v inside e = ((λ t. sym same ∙ t), (λ t. same ∙ t))
+  where
+    same : value_at which v one ≡ value_at which v other
+    same = sym (table_of-at which one (length setting.game) v inside) ∙ ap (λ (l : List ℕ). slice_index l v) e ∙ table_of-at which other (length setting.game) v inside
+
 pub headline : HeadlineHolds
 headline setting history is_setting legal lawful = record {
   undo = λ front rest session s split. undo_restores family front session s (legal_front family history front rest (undo_of session s) legal split);
@@ -77,13 +86,22 @@ headline setting history is_setting legal lawful = record {
   verdicts = λ front rest session v hopeless sure split inside. verdict_tells setting (front_page front rest (verdict_of session v hopeless sure) split) v inside hopeless sure
       (refused_none_verdict family (book_after family opened front) v hopeless sure (reply_at family history front rest (verdict_of session v hopeless sure) legal split));
   settled = λ front rest session b split. settled_tells family (book_after family opened front) b (reply_at family history front rest (settled_of session b) legal split);
-  alone = λ other other_legal other_lawful there back settled other_settled.
-      settled_are_equal family monotone (page_after family history) (page_after family other)
-      (pages_are_below family monotone history legal lawful).present (pages_are_below family monotone other other_legal other_lawful).present
-      (no_page_has_conflict family monotone history legal).present (no_page_has_conflict family monotone other other_legal).present
-      there back settled other_settled;
+  alone = same_tables;
+  same_verdicts = λ other other_legal other_lawful there back settled other_settled which v inside.
+      same_tops setting (page_after family history) (page_after family other) which v inside (same_tables other other_legal other_lawful there back settled other_settled which);
 }
   where
+    same_tables : (other : List Event) → IsLegal (family_of setting) other → AllHandIn (IsLawful (family_of setting)) other →
+        AllStand (choices_of (page_after (family_of setting) history)) (choices_of (page_after (family_of setting) other)) →
+        AllStand (choices_of (page_after (family_of setting) other)) (choices_of (page_after (family_of setting) history)) →
+        IsSettledPage (family_of setting) (page_after (family_of setting) history) → IsSettledPage (family_of setting) (page_after (family_of setting) other) →
+        (which : Which) → table_of which (page_after (family_of setting) history) (length setting.game) ≡ table_of which (page_after (family_of setting) other) (length setting.game)
+    same_tables other other_legal other_lawful there back settled other_settled =
+        settled_are_equal (family_of setting) (family_is_monotone setting is_setting) (page_after (family_of setting) history) (page_after (family_of setting) other)
+        (pages_are_below (family_of setting) (family_is_monotone setting is_setting) history legal lawful).present (pages_are_below (family_of setting) (family_is_monotone setting is_setting) other other_legal other_lawful).present
+        (no_page_has_conflict (family_of setting) (family_is_monotone setting is_setting) history legal).present (no_page_has_conflict (family_of setting) (family_is_monotone setting is_setting) other other_legal).present
+        there back settled other_settled
+
     family : Family
     family = family_of setting
 

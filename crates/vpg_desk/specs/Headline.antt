@@ -1,5 +1,5 @@
 -- What holds of every legal history of a desk.
-use Rattle.std.specs.Prelude.{◌≡◌, ℕ, ◌<◌, Bool, Option, List, [], ◌∷◌, ◌++◌, length, map, IsTrue}
+use Rattle.std.specs.Prelude.{◌≡◌, ◌↔◌, ℕ, ◌<◌, Bool, Option, List, [], ◌∷◌, ◌++◌, length, map, IsTrue}
 use Rattle.std.specs.Bool.{Decides}
 use Rattle.vpg_measure.specs.Lifts.{AreChoices}
 use Rattle.vpg_game.specs.declared.player.Player.{Player}
@@ -47,7 +47,10 @@ pub record Determines (setting : Setting) (page : List Entry) (known : List Tri)
   -- Odd wins from each unsure one, by those of the second
   pub unsure : (choices : List (Option ℕ)) → AreChoicesAt setting known page Dual choices →
       (v : ℕ) → v < length setting.game → ¬ (IsTopAt setting page Dual v) → WinsIn setting set Player.Odd (strategy_of choices) v
-  -- so none is both
+  -- so Even has a winning strategy from each possible vertex, and Odd from each unsure one
+  pub even_wins : (v : ℕ) → v < length setting.game → ¬ (IsTopAt setting page Hopeful v) → (strategy : Strategy) × WinsIn setting set Player.Even strategy v
+  pub odd_wins : (v : ℕ) → v < length setting.game → ¬ (IsTopAt setting page Dual v) → (strategy : Strategy) × WinsIn setting set Player.Odd strategy v
+  -- and none is both
   pub not_both : (v : ℕ) → v < length setting.game → ¬ (IsTopAt setting page Hopeful v) → ¬ (IsTopAt setting page Dual v) → ⊥
 
 -- what a page says of the game
@@ -89,6 +92,12 @@ pub record Headline (setting : Setting) (history : List Event) : Type 0 where
       AllStand (choices_of (page_after (family_of setting) other)) (choices_of (page_after (family_of setting) history)) →
       IsSettledPage (family_of setting) (page_after (family_of setting) history) → IsSettledPage (family_of setting) (page_after (family_of setting) other) →
       (which : Which) → table_of which (page_after (family_of setting) history) (length setting.game) ≡ table_of which (page_after (family_of setting) other) (length setting.game)
+  -- and so are the verdicts
+  pub same_verdicts : (other : List Event) → IsLegal (family_of setting) other → AllHandIn (IsLawful (family_of setting)) other →
+      AllStand (choices_of (page_after (family_of setting) history)) (choices_of (page_after (family_of setting) other)) →
+      AllStand (choices_of (page_after (family_of setting) other)) (choices_of (page_after (family_of setting) history)) →
+      IsSettledPage (family_of setting) (page_after (family_of setting) history) → IsSettledPage (family_of setting) (page_after (family_of setting) other) →
+      (which : Which) (v : ℕ) → v < length setting.game → IsTopAt setting (page_after (family_of setting) history) which v ↔ IsTopAt setting (page_after (family_of setting) other) which v
 
 -- A harvest is lawful where its tables are below every progress table of the two games that its own decisions give.
 abbrev pub HarvestsAreLawful : Type 0

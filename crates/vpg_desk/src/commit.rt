@@ -1,6 +1,6 @@
 //! Committing what lifters bring back.
 ghost use Rattle.std.specs.Bool.{Decides};
-ghost use Rattle.std.specs.Prelude.{◌≡◌, ℕ, Bool, true, length, map, All, IfOk, IfErr, OnOk, OnErr, IfSome};
+ghost use Rattle.std.specs.Prelude.{◌≡◌, ℕ, Bool, true, length, map, None, All, IfOk, IfErr, OnOk, OnErr, IfSome};
 ghost use Rattle.vpg_trail.specs.Page.{literal_of, choices_of, stands};
 ghost use Rattle.vpg_trail.specs.Shown.{entry_of, VertexBelow};
 ghost use Rattle.vpg_desk.specs.Book.{first_missing as missing_among};
@@ -93,7 +93,7 @@ fn raise(alloc: Global, trail: &Trail, harvest: &Harvest) -> Result<Vec<Entry>, 
 }
 
 impl Desk {
-    ghost use Rattle.vpg_desk.specs.Book.{Commit, Added, Refused};
+    ghost use Rattle.vpg_desk.specs.Book.{Commit, Added, Refused, refuses_commit};
     ghost use Rattle.vpg_desk.specs.Commit.{IsOrderOf, handed_in, commit_refusal};
     ghost use Rattle.vpg_desk.specs.State.{IsStep, Replies};
 
@@ -104,6 +104,7 @@ impl Desk {
         ensures accepted { IfOk result (λ added. (session : ℕ) → IsStep self.old session (Commit (handed_in true harvest)) (Added added) self.new) }
         ensures same { OnOk result (IsOrderOf self.old harvest.order) }
         ensures refused { IfErr result (λ r. IfSome (commit_refusal r.fault) (λ refusal. (b : Bool) × (Decides b (IsOrderOf self.old harvest.order) × Replies self.old (Commit (handed_in b harvest)) (Refused refusal)))) }
+        ensures last { IfErr result (λ r. r.fault ≡ CommitFault.Memory → IsOrderOf self.old harvest.order × (refuses_commit self.old.book (handed_in true harvest) ≡ None)) }
         ensures err { OnErr result (self.new ≡ self.old) }
         ensures back { IfErr result (λ r. r.harvest ≡ harvest) }
     {
@@ -117,6 +118,7 @@ impl Desk {
         ensures accepted { IfOk result (λ added. (session : ℕ) → IsStep self.old session (Commit (handed_in true harvest.now)) (Added added) self.new) }
         ensures same { OnOk result (IsOrderOf self.old harvest.now.order) }
         ensures refused { IfErr result (λ fault. IfSome (commit_refusal fault) (λ refusal. (b : Bool) × (Decides b (IsOrderOf self.old harvest.now.order) × Replies self.old (Commit (handed_in b harvest.now)) (Refused refusal)))) }
+        ensures last { IfErr result (λ fault. fault ≡ CommitFault.Memory → IsOrderOf self.old harvest.now.order × (refuses_commit self.old.book (handed_in true harvest.now) ≡ None)) }
         ensures err { OnErr result (self.new ≡ self.old) }
     {
         let order = harvest.order();

@@ -1,9 +1,9 @@
 //! Deciding a feature.
-ghost use Rattle.std.specs.Prelude.{◌≡◌, ◌<◌, ◌++◌, ◌∷◌, [], length, map, IfOk, IfErr, OnOk, OnErr, IfSome};
+ghost use Rattle.std.specs.Prelude.{◌≡◌, ◌<◌, ◌++◌, ◌∷◌, [], length, map, None, IfOk, IfErr, OnOk, OnErr, IfSome};
 ghost use Rattle.std.specs.List.{AllByRecursion};
 ghost use Rattle.vpg_diagram.specs.FeatureDiagram.{feature_count};
 ghost use Rattle.vpg_partial.specs.TableLaws.{IsKnownTable};
-ghost use Rattle.vpg_trail.specs.Page.{Decided, choices_of, decisions_of};
+ghost use Rattle.vpg_trail.specs.Page.{Decided, choices_of, decisions_of, decision_on};
 ghost use Rattle.vpg_trail.specs.Shown.{entry_of};
 ghost use Rattle.vpg_desk.specs.Cuts.{cuts_of, SuffixesBelow};
 ghost use Rattle.vpg_desk.specs.Faults.{ClosesWith};
@@ -71,7 +71,10 @@ impl Desk {
     ghost use Rattle.vpg_desk.specs.State.{IsStep, Replies};
 
     /// Decides a feature in or out, as the next change, and gives the change's token. A feature that is known but not decided may
-    /// be decided the same way. A refusal changes nothing; want of memory comes after the others.
+    /// be decided the same way. Refused, in this order: the diagram has no such feature; it is decided already; the decision
+    /// contradicts the diagram and the present decisions; the desk has made its most changes; want of memory. It takes
+    /// memory to tell whether there is a contradiction, so want of it may come in the place of the last two. A refusal changes
+    /// nothing.
     pub fn decide(
         &mut self,
         alloc: Global,
@@ -81,6 +84,7 @@ impl Desk {
     ) -> Result<Undo, DecideFault>
         ensures accepted { IfOk result (λ undo. IsStep self.old session (Decide feature value) (Changed undo) self.new) }
         ensures refused { IfErr result (λ fault. IfSome (decide_refusal fault) (λ refusal. Replies self.old (Decide feature value) (Refused refusal))) }
+        ensures last { IfErr result (λ fault. fault ≡ DecideFault.Memory → (feature < feature_count self.old.diagram.lines) × (decision_on feature self.old.book.present ≡ None)) }
         ensures err { OnErr result (self.new ≡ self.old) }
     {
         if feature as usize >= self.diagram.features() {

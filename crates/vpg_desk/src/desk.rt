@@ -1,6 +1,6 @@
 //! The desk: sessions decide features of a product family on it, and lifters bring harvests.
 ghost use Rattle.std.specs.Arc.{arc_value};
-ghost use Rattle.std.specs.Prelude.{◌≡◌, ◌<◌, ◌↔◌, ℕ, [], length, IsTrue, IfOk, IfErr};
+ghost use Rattle.std.specs.Prelude.{◌≡◌, ◌<◌, ◌↔◌, ℕ, [], length, IsTrue, IfOk, IfErr, OnOk};
 ghost use Rattle.vpg_diagram.specs.FeatureDiagram.{feature_count};
 ghost use Rattle.vpg_partial.specs.KnownLaws.{HasConflictOf};
 ghost use Rattle.vpg_game.specs.Game.{graph_of, IsAtLimit};
@@ -11,7 +11,7 @@ ghost use Rattle.vpg_desk.specs.Desk.{family_of, IsLeastUnder};
 ghost use Rattle.vpg_desk.specs.Headline.{NeverWins, Tells};
 ghost use Rattle.vpg_desk.specs.Lawful.{PageIsBelow};
 ghost use Rattle.vpg_desk.specs.Setting.{IsSetting};
-ghost use Rattle.vpg_desk.specs.State.{IsReached, Replies, setting_of};
+ghost use Rattle.vpg_desk.specs.State.{IsOpened, IsReached, Replies, setting_of};
 
 use crate::cuts::Cut;
 use crate::fault::{OpenFault, OpenRefused};
@@ -72,6 +72,7 @@ impl Desk {
         ensures opened { IfOk result (λ desk. desk.book ≡ opened) }
         ensures game { IfOk result (λ desk. desk.game ≡ arc_value game) }
         ensures diagram { IfOk result (λ desk. desk.diagram ≡ arc_value diagram) }
+        ensures fits { OnOk result (IsOpened (arc_value game) (arc_value diagram)) }
         ensures at_limit { IfErr result (λ refused. (refused.fault ≡ OpenFault.AtLimit) ↔ IsAtLimit (arc_value game)) }
         ensures conflict { IfErr result (λ refused. (f : ℕ) → refused.fault ≡ OpenFault.Conflict f → HasConflictOf (arc_value diagram).lines [] × (f ≡ 0)) }
         ensures game_back { IfErr result (λ refused. arc_value refused.game ≡ arc_value game) }

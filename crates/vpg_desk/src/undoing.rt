@@ -22,6 +22,7 @@ impl Desk {
         ensures accepted { IfOk result (λ redo. (session : ℕ) → IsStep self.old session (AsksUndo token) (Undone redo) self.new) }
         ensures restores { OnOk result (Restores gives_undo self.old token self.new) }
         ensures refused { IfErr result (λ r. IfSome (undo_refusal r.fault) (λ refusal. Replies self.old (AsksUndo token) (Refused refusal))) }
+        ensures newer { IfErr result (λ r. (n : ℕ) → r.fault ≡ UndoFault.NotNewest n → token < n) }
         ensures last { IfErr result (λ r. r.fault ≡ UndoFault.Memory → Replies self.old (AsksUndo token) (Undone token)) }
         ensures err { OnErr result (self.new ≡ self.old) }
         ensures back { IfErr result (λ r. r.token ≡ token) }
@@ -40,6 +41,7 @@ impl Desk {
         ensures accepted { IfOk result (λ undo. (session : ℕ) → IsStep self.old session (AsksRedo token) (Redone undo) self.new) }
         ensures restores { OnOk result (Restores gives_redo self.old token self.new) }
         ensures refused { IfErr result (λ r. IfSome (redo_refusal r.fault) (λ refusal. Replies self.old (AsksRedo token) (Refused refusal))) }
+        ensures nearer { IfErr result (λ r. (n : ℕ) → r.fault ≡ RedoFault.NotNext n → n < token) }
         ensures last { IfErr result (λ r. r.fault ≡ RedoFault.Memory → Replies self.old (AsksRedo token) (Redone token)) }
         ensures err { OnErr result (self.new ≡ self.old) }
         ensures back { IfErr result (λ r. r.token ≡ token) }
@@ -54,6 +56,7 @@ impl Desk {
     fn swing_back(&mut self, alloc: Global, serial: u64) -> Result<(), UndoFault>
         ensures accepted { OnOk result ((session : ℕ) → IsStep self.old session (AsksUndo serial) (Undone serial) self.new) }
         ensures refused { IfErr result (λ fault. IfSome (undo_refusal fault) (λ refusal. Replies self.old (AsksUndo serial) (Refused refusal))) }
+        ensures newer { IfErr result (λ fault. (n : ℕ) → fault ≡ UndoFault.NotNewest n → serial < n) }
         ensures last { IfErr result (λ fault. fault ≡ UndoFault.Memory → Replies self.old (AsksUndo serial) (Undone serial)) }
         ensures err { OnErr result (self.new ≡ self.old) }
     {
@@ -70,6 +73,7 @@ impl Desk {
     fn swing_forth(&mut self, alloc: Global, serial: u64) -> Result<(), RedoFault>
         ensures accepted { OnOk result ((session : ℕ) → IsStep self.old session (AsksRedo serial) (Redone serial) self.new) }
         ensures refused { IfErr result (λ fault. IfSome (redo_refusal fault) (λ refusal. Replies self.old (AsksRedo serial) (Refused refusal))) }
+        ensures nearer { IfErr result (λ fault. (n : ℕ) → fault ≡ RedoFault.NotNext n → n < serial) }
         ensures last { IfErr result (λ fault. fault ≡ RedoFault.Memory → Replies self.old (AsksRedo serial) (Redone serial)) }
         ensures err { OnErr result (self.new ≡ self.old) }
     {

@@ -1,4 +1,4 @@
-use Rattle.std.proofs.Common.{◌≡◌, ◌∙◌, ◌+◌, ◌<◌, ◌≤◌, ◌++◌, ◌∷◌, [], ℕ, IfSome, refl, sym, ap, subst, arith, map}
+use Rattle.std.proofs.Common.{◌≡◌, ◌∙◌, ◌+◌, ◌<◌, ◌≤◌, ◌++◌, ◌∷◌, [], ℕ, None, Result, Ok, Err, IfErr, IfSome, refl, sym, ap, subst, arith, map}
 use Rattle.std.proofs.lemmas.Result.{err_from_is_err_and}
 use Rattle.std.specs.Arc.{arc_value}
 use Rattle.std.specs.List.{AllByRecursion}
@@ -14,9 +14,10 @@ use Rattle.vpg_desk.specs.Book.{Decide, Changed, Refused, UnknownFeature, Alread
 use Rattle.vpg_desk.specs.DeskFields.{desk_of}
 use Rattle.vpg_desk.specs.Faults.{decide_refusal, ClosesWith}
 use Rattle.vpg_desk.specs.State.{DeskState, Replies, IsStep}
+use Rattle.vpg_desk.specs.declared.fault.DecideFault.TheVariants.{Memory}
 use Rattle.vpg_desk.proofs.Decided.{decide_unknown, decide_already, decide_too_many, decide_accepted, closes_refuses, decisions_inside, limits, decided_step, decided_desk}
 use Rattle.vpg_desk.proofs.desk.Desk.decide.Goals as goal
-use Rattle.vpg_desk.proofs.desk.Desk.decide.Goals.{After-features, After-clear}
+use Rattle.vpg_desk.proofs.desk.Desk.decide.Goals.{After-features, After-close_with, After-clear}
 
 count : (c : After-features) → c.features.result ≡ feature_count (arc_value c.self.inside.diagram).lines
 count c = c.features.ensures.count ∙ ap (λ (x : NamedDiagram). feature_count x.lines) c.deref.ensures
@@ -88,3 +89,24 @@ returns-clause-accepted c =
     (c.in_ok-standing.ensures.hopeful ∙ ap (λ (g : NamedGame). arena_for (kleene c.in_ok-known.known) Hopeful (graph_of g)) c.deref-3.ensures)
     (c.in_ok-standing.ensures.dual ∙ ap (λ (g : NamedGame). arena_for (kleene c.in_ok-known.known) Dual (graph_of g)) c.deref-3.ensures)
     (known_table at)))
+
+-- want of memory comes only of a known feature that isn't decided
+unrefused : {T E X : Type 0} (fault : E) (r : Result T E) → X → IfErr r (λ f. f ≡ fault → X)
+unrefused fault (Ok t) x = tt
+unrefused fault (Err f) x = λ _. x
+
+fresh : (c : After-close_with) → (c.args.feature < feature_count c.args.self.now.diagram.lines) × (decision_on c.args.feature c.args.self.now.book.present ≡ None)
+fresh c =
+    subst (λ (s : DeskState). (c.args.feature < feature_count s.diagram.lines) × (decision_on c.args.feature s.book.present ≡ None)) c.self.view_is (
+      subst (λ (n : ℕ). c.args.feature < n) (c.features.ensures.count ∙ ap (λ (x : NamedDiagram). feature_count x.lines) c.deref.ensures) c.if-feature-features.false,
+      sym (c.in_default.ensures ∙ ap (decision_on c.args.feature) c.entries.ensures.entries),
+    )
+
+pub returns-in_err-known-clause-last : goal.returns-in_err-known-clause-last
+returns-in_err-known-clause-last c = unrefused Memory c.from_residual.result (fresh (goal.at.returns-in_err-known-clause-last c).After-close_with)
+
+pub returns-in_err-standing-clause-last : goal.returns-in_err-standing-clause-last
+returns-in_err-standing-clause-last c = unrefused Memory c.from_residual-in_err-standing.result (fresh (goal.at.returns-in_err-standing-clause-last c).After-close_with)
+
+pub returns-in_err-push_decision-clause-last : goal.returns-in_err-push_decision-clause-last
+returns-in_err-push_decision-clause-last c = unrefused Memory c.from_residual-in_err-push_decision.result (fresh (goal.at.returns-in_err-push_decision-clause-last c).After-close_with)

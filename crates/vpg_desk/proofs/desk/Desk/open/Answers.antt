@@ -1,3 +1,4 @@
+use Rattle.vpg_desk.specs.State.{IsOpened}
 use Rattle.vpg_desk.proofs.Opened.{limit_told, conflict_told}
 use Rattle.vpg_desk.proofs.desk.Desk.open.Goals as goal
 
@@ -6,3 +7,6 @@ returns-in-Err-clause-at_limit c = limit_told _ _ c.in-Err.fault c.deref.ensures
 
 pub returns-in-Err-clause-conflict : goal.returns-in-Err-clause-conflict
 returns-in-Err-clause-conflict c f e = conflict_told _ _ c.in-Err.fault f c.deref-2.ensures (c.in-Err.ensures.conflict f) e
+
+pub returns-in-Ok-clause-fits : goal.returns-in-Ok-clause-fits
+returns-in-Ok-clause-fits c = coe 0 1 (k. IsOpened (c.deref.ensures k) (c.deref-2.ensures k)) c.in-Ok.ensures.opening.opened

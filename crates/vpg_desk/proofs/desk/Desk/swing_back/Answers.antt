@@ -11,7 +11,7 @@ use Rattle.vpg_desk.specs.State.{DeskState, IsStep, Replies, setting_between}
 use Rattle.vpg_desk.specs.Trail.{Cut as Saved, spliced}
 use Rattle.vpg_desk.specs.declared.cuts.Cut.{Cut}
 use Rattle.vpg_desk.specs.declared.fault.UndoFault.TheVariants.{Memory}
-use Rattle.vpg_desk.proofs.Swung.{undo_refused, undo_accepted, past_consistent, past_well_formed, undone_step, undone_desk}
+use Rattle.vpg_desk.proofs.Swung.{undo_refused, undo_accepted, newest_above, past_consistent, past_well_formed, undone_step, undone_desk}
 use Rattle.vpg_desk.proofs.desk.Desk.swing_back.Goals as goal
 use Rattle.vpg_desk.proofs.desk.Desk.swing_back.Goals.{After-swing}
 
@@ -66,3 +66,7 @@ pub returns-in_err-swing-clause-last : goal.returns-in_err-swing-clause-last
 returns-in_err-swing-clause-last c =
     unrefused Memory c.from_residual-in_err-swing.result
     (subst (λ (s : DeskState). Replies s (Undo c.args.serial) (Undone c.args.serial)) c.self.view_is (undo_accepted c.self.inside c.self.invariant c.args.serial (accepted (goal.at.returns-in_err-swing-clause-last c).After-swing)))
+
+pub returns-in-Some-clause-newer : goal.returns-in-Some-clause-newer
+returns-in-Some-clause-newer c n e =
+    newest_above c.self.inside c.self.invariant c.args.serial n (ap (λ (l : List Cut). refuses_undo c.args.serial (serials_from_top l)) (sym c.deref.ensures.value) ∙ c.in-Some.ensures ∙ ap undo_refusal e)

@@ -11,7 +11,7 @@ use Rattle.vpg_desk.specs.State.{DeskState, IsStep, Replies, setting_between}
 use Rattle.vpg_desk.specs.Trail.{Cut as Saved, spliced}
 use Rattle.vpg_desk.specs.declared.cuts.Cut.{Cut}
 use Rattle.vpg_desk.specs.declared.fault.RedoFault.TheVariants.{Memory}
-use Rattle.vpg_desk.proofs.Swung.{redo_refused, redo_accepted, future_consistent, future_well_formed, redone_step, redone_desk}
+use Rattle.vpg_desk.proofs.Swung.{redo_refused, redo_accepted, nearest_below, future_consistent, future_well_formed, redone_step, redone_desk}
 use Rattle.vpg_desk.proofs.desk.Desk.swing_forth.Goals as goal
 use Rattle.vpg_desk.proofs.desk.Desk.swing_forth.Goals.{After-swing}
 
@@ -66,3 +66,7 @@ pub returns-in_err-swing-clause-last : goal.returns-in_err-swing-clause-last
 returns-in_err-swing-clause-last c =
     unrefused Memory c.from_residual-in_err-swing.result
     (subst (λ (s : DeskState). Replies s (Redo c.args.serial) (Redone c.args.serial)) c.self.view_is (redo_accepted c.self.inside c.self.invariant c.args.serial (accepted (goal.at.returns-in_err-swing-clause-last c).After-swing)))
+
+pub returns-in-Some-clause-nearer : goal.returns-in-Some-clause-nearer
+returns-in-Some-clause-nearer c n e =
+    nearest_below c.self.inside c.self.invariant c.args.serial n (ap (λ (l : List Cut). refuses_redo c.args.serial (serials_from_top l)) (sym c.deref.ensures.value) ∙ c.in-Some.ensures ∙ ap redo_refusal e)

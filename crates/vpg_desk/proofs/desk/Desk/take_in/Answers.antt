@@ -1,17 +1,18 @@
-use Rattle.std.proofs.Common.{◌≡◌, ◌∙◌, ◌++◌, ◌≤◌, Bool, List, None, true, length, map, sym, ap, subst, arith}
+use Rattle.std.proofs.Common.{◌≡◌, ◌∙◌, ◌++◌, ◌≤◌, Bool, List, None, Result, Ok, Err, IfErr, true, length, map, sym, ap, subst, arith}
 use Rattle.std.proofs.lemmas.List.{length-map}
 use Rattle.std.specs.Bool.{Decides}
 use Rattle.vpg_trail.specs.Page.{Entry as Step, literal_of, choices_of}
 use Rattle.vpg_trail.specs.Shown.{entry_of}
 use Rattle.vpg_trail.specs.WellFormed.{LiftsStandAfter}
 use Rattle.vpg_measure.specs.Orders.{OrderView}
-use Rattle.vpg_desk.specs.Book.{Commit, Added, Refused, OtherGame, Outdated, first_missing}
+use Rattle.vpg_desk.specs.Book.{Commit, Added, Refused, OtherGame, Outdated, first_missing, outdated_at, refuses_commit}
 use Rattle.vpg_desk.specs.Commit.{IsOrderOf, handed_in, raised_by}
 use Rattle.vpg_desk.specs.DeskFields.{desk_of}
 use Rattle.vpg_desk.specs.State.{DeskState, IsStep, Replies}
+use Rattle.vpg_desk.specs.declared.fault.CommitFault.TheVariants.{Memory}
 use Rattle.vpg_desk.proofs.Committed.{other_refused, outdated_refused, few, lifts_stand, committed_step, committed_desk}
 use Rattle.vpg_desk.proofs.desk.Desk.take_in.Goals as goal
-use Rattle.vpg_desk.proofs.desk.Desk.take_in.Goals.{After-is_order_of, After-first_missing, After-len-added}
+use Rattle.vpg_desk.proofs.desk.Desk.take_in.Goals.{After-is_order_of, After-first_missing, After-raise, After-len-added}
 
 told : (c : After-is_order_of) → Decides c.is_order_of.result (IsOrderOf (desk_of c.self.inside) c.args.harvest.now.order)
 told c = coe 0 1 (k. Decides c.is_order_of.result (((c.order-order.ensures.order k).game ≡ c.deref.ensures k) × ((c.order-order.ensures.order k).diagram ≡ c.deref-2.ensures k))) c.is_order_of.ensures
@@ -66,3 +67,22 @@ returns-clause-accepted c session =
     subst (λ (s : DeskState). IsStep s session (Commit (handed_in true c.args.harvest.now)) (Added c.len-added.result) (desk_of (record c.self.inside { trail = c.extend.new.self }))) c.self.view_is
     (committed_step c.self.inside c.self.invariant c.args.harvest.now c.order-order.ensures.harvest (ours at) (none at) c.extend.new.self
     (c.in_ok-extend.ensures.extended ∙ ap (λ (l : List Step). record { vertices = c.self.inside.trail.vertices; entries = c.self.inside.trail.entries ++ l }) c.in_ok-raised.ensures.lifts) c.len-added.result (added at) session)
+
+-- want of memory comes only where nothing else refuses
+unrefused : {T E X : Type 0} (fault : E) (r : Result T E) → X → IfErr r (λ f. f ≡ fault → X)
+unrefused fault (Ok t) x = tt
+unrefused fault (Err f) x = λ _. x
+
+taken : (c : After-raise) → IsOrderOf c.args.self.now c.args.harvest.now.order × (refuses_commit c.args.self.now.book (handed_in true c.args.harvest.now) ≡ None)
+taken c =
+    subst (λ (s : DeskState). IsOrderOf s c.args.harvest.now.order × (refuses_commit s.book (handed_in true c.args.harvest.now) ≡ None)) c.self.view_is (
+      coe 0 1 (k. ((c.order-order.ensures.order k).game ≡ c.deref.ensures k) × ((c.order-order.ensures.order k).diagram ≡ c.deref-2.ensures k)) (c.is_order_of.ensures.0 c.if-not-is_order_of.false),
+      ap outdated_at (sym (c.in_default.ensures ∙ ap (λ (page : List Step). first_missing (choices_of page) (map literal_of c.decisions.result.now)) c.entries.ensures.entries
+          ∙ ap (λ l. first_missing (choices_of c.self.inside.trail.entries) (map literal_of l)) (c.decisions.ensures.decisions ∙ ap (λ (o : OrderView). o.decisions) c.order-order.ensures.order))),
+    )
+
+pub returns-in_err-raised-clause-last : goal.returns-in_err-raised-clause-last
+returns-in_err-raised-clause-last c = unrefused Memory c.from_residual.result (taken (goal.at.returns-in_err-raised-clause-last c).After-raise)
+
+pub returns-in_err-extend-clause-last : goal.returns-in_err-extend-clause-last
+returns-in_err-extend-clause-last c = unrefused Memory c.from_residual-in_err-extend.result (taken (goal.at.returns-in_err-extend-clause-last c).After-raise)
