@@ -64,6 +64,8 @@ module _ (order : OrderView) (harvest : HarvestView) (is_order : IsOrder order) 
     of_this_desk = refl;
     same_decisions = same.decisions;
     lawful = harvests_are_lawful (setting_between order.game order.diagram) (handed_in true harvest) order.known (order_setting order is_order) known_made below;
+    hopeful_len = (below Hopeful).is_table.len ∙ arena_length Formula (kleene order.known) Hopeful (graph_of order.game);
+    dual_len = (below Dual).is_table.len ∙ arena_length Formula (kleene order.known) Dual (graph_of order.game);
     hopeful_above = λ w l. (lawful Hopeful).above.1 w (within Hopeful w l);
     dual_above = λ w l. (lawful Dual).above.1 w (within Dual w l);
   }

@@ -7,7 +7,7 @@ use Rattle.vpg_report.specs.declared.lines.Next.TheVariants as next
 use Rattle.vpg_report.specs.declared.command.LineFault.{LineFault}
 use Rattle.vpg_report.specs.declared.command.LineFault.TheVariants as faults
 use Rattle.vpg_report.specs.Lines.{ComesKnown}
-use Rattle.vpg_report.specs.Output.{Machine, Speaks, Answered, NextLine, ReadLines, ReadKnown, Wrote, IsEmptyKnown, FaultyKnown, Outcome}
+use Rattle.vpg_report.specs.Output.{Machine, Speaks, Answered, NextLine, ReadLines, ReadKnown, Wrote, NextKnown, IsEmptyKnown, FaultyKnown, Outcome}
 use Rattle.vpg_desk.specs.declared.fault.OpenFault.{OpenFault}
 use Rattle.vpg_report.specs.declared.run.RunFault.{RunFault}
 use Rattle.vpg_report.specs.declared.run.RunFault.TheVariants as stops
@@ -62,6 +62,11 @@ wrote_more serves old mid new input a b before w after lines line one so comes s
       answered = answered_more serves old lines so.text mid line.items one new so.answered speaks;
       written = appends_twice before w after so.text one so.written appends;
     }
+
+pub next_known : (a b : Option (List ℕ)) (line : Vec ℕ) → ComesKnown (next.Line line) a b → NextKnown a line.items
+next_known None b line comes = tt
+next_known (Some text) None line comes = absurd comes
+next_known (Some text) (Some rest) line comes = (rest, comes)
 
 pub ends_empty : (a b : Option (List ℕ)) → ComesKnown next.End a b → IsEmptyKnown a
 ends_empty None b comes = tt

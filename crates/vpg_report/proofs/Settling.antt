@@ -102,6 +102,8 @@ module _ (order : OrderView) (made : Harvest) (sweeps : ℕ) (is_order : IsOrder
       of_this_desk = ours;
       same_decisions = decisions;
       lawful = harvests_are_lawful (setting_between order.game order.diagram) made order.known (order_setting order is_order) known_made below;
+      hopeful_len = (below Hopeful).is_table.len ∙ arena_length Formula (kleene order.known) Hopeful (graph_of order.game);
+      dual_len = (below Dual).is_table.len ∙ arena_length Formula (kleene order.known) Dual (graph_of order.game);
       hopeful_above = λ v l. (above Hopeful).1 v (within Hopeful v l);
       dual_above = λ v l. (above Dual).1 v (within Dual v l);
     };

@@ -92,11 +92,13 @@ first_call scene held script.Plan = Ok Page
 
 -- ---- harvests that lines make
 
--- a harvest of the order that was answered: lawful, on or above its tables
+-- a harvest of the order that was answered: lawful, with one value for each vertex, on or above its tables
 pub record IsOf (family : Family) (decisions : List Decision) (hopeful dual : List ℕ) (made : Harvest) : Type 0 where
   pub of_this_desk : made.is_of_this_desk ≡ true
   pub same_decisions : made.decisions ≡ decisions
   pub lawful : IsLawful family made
+  pub hopeful_len : length made.hopeful ≡ family.vertices
+  pub dual_len : length made.dual ≡ family.vertices
   pub hopeful_above : (v : ℕ) → v < family.vertices → slice_index hopeful v ≤ slice_index made.hopeful v
   pub dual_above : (v : ℕ) → v < family.vertices → slice_index dual v ≤ slice_index made.dual v
 

@@ -55,5 +55,10 @@ TellsRefusal names (Some refusal) before after = after ≡ before ++ refused_lin
 -- why a desk isn't opened
 abbrev pub IsOpenFault : NamedGame → NamedDiagram → OpenFault → Type 0
 IsOpenFault game diagram AtLimit = IsAtLimit game
-IsOpenFault game diagram (Conflict f) = HasConflictOf diagram.lines [] × (f ≡ 0)
+IsOpenFault game diagram (Conflict f) = (¬ IsAtLimit game) × HasConflictOf diagram.lines [] × (f ≡ 0)
 IsOpenFault game diagram Memory = ⊤
+
+-- the same, where want of memory is told otherwise
+abbrev pub IsOpenRefusal : NamedGame → NamedDiagram → OpenFault → Type 0
+IsOpenRefusal game diagram Memory = ⊥
+IsOpenRefusal game diagram fault = IsOpenFault game diagram fault

@@ -50,6 +50,11 @@ pub record Wrote {S : Type 0} (serves : Machine S) (old new : S) (input rest : O
   pub answered : Answered serves old lines text new
   pub written : Appends before after text
 
+-- this line comes next
+abbrev pub NextKnown : Option (List ℕ) → List ℕ → Type 0
+NextKnown None line = ⊤
+NextKnown (Some rest) line = (more : List ℕ) × NextLine rest line more
+
 -- the rest has nothing, or it begins with a line with this fault
 abbrev pub IsEmptyKnown : Option (List ℕ) → Type 0
 IsEmptyKnown None = ⊤
@@ -82,12 +87,12 @@ Outcome {S} serves Refuses old input left before after (Err (stops.Line n fault)
 -- all lines with their ends that were read were answered; what was read behind them is a line without its end
 Outcome {S} serves Refuses old input left before after (Err stops.Read) =
     (lines : List (List ℕ)) × (new : S) × (held : List ℕ) × (Wrote serves old new input (prepend_known held left) before after lines × IsUnended held)
--- some first lines were answered; where a write failed, a front of the answer to one more was written
+-- some first lines were answered; where a write failed, a front of the answer to the line after them was written
 Outcome {S} serves Refuses old input left before after (Err stops.Memory) =
     (lines : List (List ℕ)) × (new : S) × (rest : Option (List ℕ)) × Wrote serves old new input rest before after lines
 Outcome {S} serves Refuses old input left before after (Err stops.Write) =
     (lines : List (List ℕ)) × (new : S) × (rest : Option (List ℕ)) × (mid : Option (List ℕ)) × (text : List ℕ)
-    × (Wrote serves old new input rest before mid lines × (last : S) × (line : List ℕ) × (Speaks serves new (said line) text last × AppendsSome mid after text))
+    × (Wrote serves old new input rest before mid lines × (last : S) × (line : List ℕ) × (NextKnown rest line × Speaks serves new (said line) text last × AppendsSome mid after text))
 Outcome {S} serves Refuses old input left before after (Err (stops.Open fault)) = Refuses fault × (left ≡ input) × (after ≡ before)
 
 -- Lines that were read one by one, and the lines of the rest, are the lines of the text.

@@ -95,7 +95,7 @@ fn first_wrong(alloc: Global, rows: &[Row]) -> Option<usize> {
     rows.iter().position(|row| !holds(alloc, row))
 }
 
-static SETTLING: [Row; 9] = [
+static SETTLING: [Row; 11] = [
     Row {
         diagram: DIAGRAM,
         game: GAME,
@@ -143,6 +143,18 @@ static SETTLING: [Row; 9] = [
         game: "parity 0; 0 1 1 0[f];",
         script: "select f / settle / show",
         answers: "done 1 / settled 1 / decisions +f / full no / settled yes / 0 2 0 hopeless unsure",
+    },
+    Row {
+        diagram: DIAGRAM,
+        game: GAME,
+        script: "settle 0 / settle 1 / settle 0 / trail",
+        answers: "unsettled 0 / settled 2 / settled 0 / hopeful 0 0 1 / dual 1 0 1 / entries 2",
+    },
+    Row {
+        diagram: DIAGRAM,
+        game: GAME,
+        script: "exclude f / settle 1 / settle 1 / settle 1",
+        answers: "done 1 / unsettled 2 / settled 1 / settled 0",
     },
     Row {
         diagram: DIAGRAM,

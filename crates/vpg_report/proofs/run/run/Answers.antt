@@ -1,7 +1,7 @@
 use Rattle.std.proofs.Common.{[], subst}
 use Rattle.std.specs.Arc.{arc_value}
 use Rattle.std.specs.Io.KnownBytes.{prepend_known}
-use Rattle.vpg_report.specs.Engine.{EngineState, IsOpenFault, between_of, scene_at}
+use Rattle.vpg_report.specs.Engine.{EngineState, IsOpenRefusal, between_of, scene_at}
 use Rattle.vpg_report.specs.Output.{Outcome}
 use Rattle.vpg_report.specs.Run.{answering, begun}
 use Rattle.vpg_report.specs.Scene.{scene_of}
@@ -19,5 +19,5 @@ returns-clause-output g c =
     let left = g.R.Source.remaining c.answer_script-answered.new.reader in
     let before = g.W.Sink.contents c.args.writer.now in
     let after = g.W.Sink.contents c.answer_script-answered.new.writer in
-    never_refused (answering (scene_of (arc_value c.args.game) (arc_value c.args.diagram))) (IsOpenFault (arc_value c.args.game) (arc_value c.args.diagram)) begun input left before after c.answer_script-answered.result
+    never_refused (answering (scene_of (arc_value c.args.game) (arc_value c.args.diagram))) (IsOpenRefusal (arc_value c.args.game) (arc_value c.args.diagram)) begun input left before after c.answer_script-answered.result
     (subst (λ (e : EngineState). Outcome (answering (scene_at e)) (λ _. ⊥) (between_of e) input left before after c.answer_script-answered.result) c.in-Ok.ensures.opened c.answer_script-answered.ensures.output)
