@@ -30,6 +30,7 @@ pub enum StrategyFault {
     /// The table is no progress table.
     #[error("NotSettled")]
     NotSettled,
+    /// A growth was refused.
     #[error("Memory")]
     Memory,
 }

@@ -11,6 +11,7 @@ pub enum PartialFault {
     /// the diagram alone has one.
     #[error("Conflict {feature}")]
     Conflict { feature: u16 },
+    /// A growth was refused.
     #[error("Memory")]
     Memory,
 }

@@ -11,7 +11,7 @@ use vpg_partial::Decision;
 /// Decisions in their order.
 #[derive(Drop)]
 pub struct Decisions {
-    items: Vec<Decision>,
+    decisions: Vec<Decision>,
 }
 
 impl Model for Decisions {
@@ -20,28 +20,28 @@ impl Model for Decisions {
 
     ghost Value = { List Decision };
 
-    ghost view = { λ d. d.items.items };
+    ghost view = { λ d. d.decisions.items };
 }
 
 impl Decisions {
     /// Made from a list, without memory.
-    pub fn new(items: Vec<Decision>) -> Decisions
-        ensures { result ≡ items.items }
+    pub fn new(decisions: Vec<Decision>) -> Decisions
+        ensures { result ≡ decisions.items }
     {
-        Decisions { items }
+        Decisions { decisions }
     }
 
     /// The list itself.
     pub fn into_vec(self) -> Vec<Decision>
         ensures { result.items ≡ self }
     {
-        self.items
+        self.decisions
     }
 
     pub fn as_slice(&self) -> &[Decision]
         ensures { result.now ≡ self.now }
     {
-        self.items.as_slice()
+        self.decisions.as_slice()
     }
 }
 
