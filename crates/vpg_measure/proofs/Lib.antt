@@ -1,6 +1,7 @@
 mod Examples
 pub mod Above
 pub mod Below
+pub mod BestValues
 pub mod Choices
 pub mod Conflicts
 pub mod Cycles

@@ -3,7 +3,8 @@
 //! A measure of a parity game has one component for each odd priority that occurs, at most the number of vertices of that
 //! priority, or it is top (Jurdzinski 2000, mirrored so that the greatest priority decides). Read in mixed radix it is one `u64`
 //! of at most 2^62: a `Shape` has the radices, a `Table` one number for each vertex. `prog` and `lift` compute on the numbers,
-//! `settle_alone` lifts in rounds, `strategy` reads a winning strategy from a settled table.
+//! `settle_alone` lifts in rounds, `strategy` reads a winning strategy from a settled table; `folding` lifts from values that come one
+//! after another.
 //!
 //! An `Order` holds all that lifters need of a page: both shapes and arenas, both tables, and room for two raised ones. So a
 //! `Harvest`, the order with raised tables, is made without memory. The layers above rest on what every harvest keeps: each of
@@ -16,6 +17,7 @@
 #![tactic(auto)]
 
 mod fault;
+pub mod folding;
 mod ground;
 pub mod harvest;
 pub mod laws;
