@@ -1,0 +1,10 @@
+pub mod Totals
+pub mod Tables
+pub mod Halves
+pub mod Measures
+pub mod Claiming
+pub mod Known
+pub mod Atomic
+pub mod Ending
+pub mod Distinct
+pub mod Loads

@@ -1,0 +1,63 @@
+-- A run of a board: any list of steps of any lifters. This project's own.
+use Rattle.std.specs.Prelude.{◌≡◌, ◌≢◌, ℕ, ◌+◌, ◌<◌, true, max, List, [], ◌∷◌, ◌++◌, length, slice_index, slice_index_or, slice_set}
+use Rattle.vpg_measure.specs.Orders.{OrderView}
+use Rattle.vpg_board.specs.declared.lifter.Lifter.{Lifter}
+use Rattle.vpg_board.specs.Places.{places, values, lift_at}
+use Rattle.vpg_board.specs.Lifters.{opener, spent, sees, claims, splits, newcomer, both}
+
+-- the claim number, the measures, and what each lifter knows
+pub record BoardState : Type 0 where
+  pub claimed : ℕ
+  pub measures : List ℕ
+  pub lifters : List Lifter
+
+-- a step: the lifter's number, and the place, or the number of the lifter that it takes in
+pub data Move : Type 0 where
+  load : ℕ → ℕ → Move
+  raise : ℕ → ℕ → Move
+  claim : ℕ → Move
+  split : ℕ → Move
+  join : ℕ → ℕ → Move
+
+abbrev pub lifter : BoardState → ℕ → Lifter
+lifter b i = slice_index_or b.lifters i spent
+
+-- the lifter is there, and no other took it in
+abbrev pub IsHere : BoardState → ℕ → Type 0
+IsHere b i = (i < length b.lifters) × (0 < (lifter b i).stands)
+
+abbrev pub opened : OrderView → BoardState
+opened order = record { claimed = 0; measures = values order; lifters = opener order ∷ [] }
+
+module _ (order : OrderView) where
+  -- what a raise leaves in the word: the greater of it and the lift of what the lifter has seen
+  abbrev pub raised_to : BoardState → ℕ → ℕ → ℕ
+  raised_to b i p = max (slice_index b.measures p) (lift_at order (lifter b i).seen p)
+
+  abbrev pub after : BoardState → Move → BoardState
+  after b (load i p) = record b { lifters = slice_set b.lifters i (sees (lifter b i) p (slice_index b.measures p)) }
+  after b (raise i p) = record b { measures = slice_set b.measures p (raised_to b i p); lifters = slice_set b.lifters i (sees (lifter b i) p (raised_to b i p)) }
+  after b (claim i) = record b { claimed = b.claimed + 1; lifters = slice_set b.lifters i (claims (places order) (lifter b i) b.claimed) }
+  after b (split i) = record b { lifters = slice_set b.lifters i (splits (lifter b i)) ++ newcomer (lifter b i) ∷ [] }
+  after b (join i j) = record b { lifters = slice_set (slice_set b.lifters i (both (lifter b i) (lifter b j))) j spent }
+
+  -- a lifter claims until it found none left; the opening one, or the one that took it in, splits, 63 times; none takes in itself
+  abbrev pub May : BoardState → Move → Type 0
+  May b (load i p) = IsHere b i × (p < places order)
+  May b (raise i p) = IsHere b i × (p < places order)
+  May b (claim i) = IsHere b i × ((lifter b i).empty ≡ 0)
+  May b (split i) = IsHere b i × ((lifter b i).opening ≡ true) × ((lifter b i).splits < 63)
+  May b (join i j) = IsHere b i × IsHere b j × (j ≢ i)
+
+  -- the board after these steps, the last one first
+  abbrev pub ran : List Move → BoardState
+  ran [] = opened order
+  ran (m ∷ ms) = after (ran ms) m
+
+  abbrev pub IsRun : List Move → Type 0
+  IsRun [] = Unit {0}
+  IsRun (m ∷ ms) = IsRun ms × May (ran ms) m
+
+  -- some run leads to this board
+  abbrev pub Reached : BoardState → Type 0
+  Reached b = (ms : List Move) × IsRun ms × (ran ms ≡ b)
