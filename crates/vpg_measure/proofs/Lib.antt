@@ -22,9 +22,12 @@ pub mod Plays
 pub mod Priorities
 pub mod Products
 pub mod Progs
+pub mod RaisedTables
+pub mod Refuted
 pub mod Rounds
 pub mod Shapes
 pub mod Signature
+pub mod Supported
 pub mod TwoGames
 pub mod Verdicts
 pub mod Winning

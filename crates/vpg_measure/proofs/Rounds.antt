@@ -79,7 +79,7 @@ set_below table other v y h le = (
 pub raised_above : (ls : List Level) (arena : List Vertex) (table : List ℕ) (v : ℕ) → IsBelowTable table (raised ls arena table v)
 raised_above ls arena table v = set_above table v _ (omega arith)
 
-raised_stays : (ls : List Level) (arena : List Vertex) (table other : List ℕ) (v : ℕ) → IsTableOf ls arena table → IsTableOf ls arena other →
+pub raised_stays : (ls : List Level) (arena : List Vertex) (table other : List ℕ) (v : ℕ) → IsTableOf ls arena table → IsTableOf ls arena other →
     IsProgressTable ls arena other → v < length arena → IsBelowTable table other → IsBelowTable (raised ls arena table v) other
 raised_stays ls arena table other v t o p less h =
     set_below table other v _ h

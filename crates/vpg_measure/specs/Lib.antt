@@ -1,3 +1,5 @@
+pub mod BoundLaws
+pub mod Bounds
 pub mod Faults
 pub mod Least
 pub mod Lifts

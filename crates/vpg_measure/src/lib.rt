@@ -4,7 +4,8 @@
 //! priority, or it is top (Jurdzinski 2000, mirrored so that the greatest priority decides). Read in mixed radix it is one `u64`
 //! of at most 2^62: a `Shape` has the radices, a `Table` one number for each vertex. `prog` and `lift` compute on the numbers,
 //! `settle_alone` lifts in rounds, `strategy` reads a winning strategy from a settled table; `folding` lifts from values that come one
-//! after another.
+//! after another. `raise_to_bounds` raises a table at once to values that a certificate supports: whatever was guessed, the table
+//! stays below every progress table.
 //!
 //! An `Order` holds all that lifters need of a page: both shapes and arenas, both tables, and room for two raised ones. So a
 //! `Harvest`, the order with raised tables, is made without memory. The layers above rest on what every harvest keeps: each of
@@ -12,10 +13,11 @@
 //!
 //! Definitions: `specs/Measures` and `specs/Tables` (measures as tuples, what fits, progress measures), `specs/Numbers` (the
 //! number of a measure), `specs/Lifts` (the same on tables of numbers, lifts, rounds, choices), `specs/Least` (below every
-//! progress table), `specs/TwoGames` (the two hopeful games of a guarded game), `specs/Orders` (orders and harvests). What holds
-//! of them stands in `laws`.
+//! progress table), `specs/Bounds` (bounds and what certifies them), `specs/TwoGames` (the two hopeful games of a guarded game),
+//! `specs/Orders` (orders and harvests). What holds of them stands in `laws`.
 #![tactic(auto)]
 
+pub mod bounds;
 mod fault;
 pub mod folding;
 mod ground;
@@ -28,6 +30,7 @@ pub mod table;
 mod verdict;
 pub mod which;
 
+pub use bounds::{Certificate, raise_to_bounds};
 pub use fault::OrderFault;
 pub use harvest::Harvest;
 pub use lifts::{Outcome, StrategyFault, is_progress, lift, settle_alone, strategy};

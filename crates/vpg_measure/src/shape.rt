@@ -1,8 +1,8 @@
 //! Shapes: the odd priorities of a game, and the numbers of its measures.
 
-ghost use Rattle.std.specs.Prelude.{◌≡◌, ◌+◌, ◌≤◌, ◌↔◌, ℕ, IfOk, map};
+ghost use Rattle.std.specs.Prelude.{◌≡◌, ◌+◌, ◌≤◌, ◌↔◌, ℕ, suc, IfOk, map};
 ghost use Rattle.vpg_game.specs.Game.{graph_of};
-ghost use Rattle.vpg_game.specs.Guarded.{guarded_priorities};
+ghost use Rattle.vpg_game.specs.Guarded.{guarded_priorities, dual};
 ghost use Rattle.vpg_game.specs.Levels.{top_of, weight_of, levels_of, prog_of};
 ghost use Rattle.vpg_measure.specs.Lifts.{NumberFitsEdge};
 ghost use Rattle.vpg_measure.specs.TwoGames.{levels_for};
@@ -36,7 +36,7 @@ impl Model for Shape {
 
 // The priorities of a game, each raised by the same number.
 fn priorities(alloc: Global, game: &GuardedGame, raise: u32) -> Result<Vec<u32>, AllocError>
-    requires { raise ≤ 1 }
+    requires { raise ≤ 2 }
     ensures priorities { IfOk result (λ priorities. priorities.items ≡ map (λ p. p + raise) (guarded_priorities (graph_of game.now))) }
     ensures limit { IfOk result (λ priorities. top_of (levels_of priorities.items) ≤ TOP_LIMIT) }
 {
@@ -62,6 +62,14 @@ impl Shape {
         ensures { IfOk result (λ shape. shape ≡ levels_for Which.Dual (graph_of game.now)) }
     {
         let priorities = priorities(alloc, game, 1)?;
+        Shape::over(alloc, &priorities)
+    }
+
+    /// The shape of the measures of the dual's dual: the game's with each priority two greater, so with the game's top.
+    pub fn of_dual_of_dual(alloc: Global, game: &GuardedGame) -> Result<Shape, AllocError>
+        ensures { IfOk result (λ shape. shape ≡ levels_of (guarded_priorities (dual (dual (graph_of game.now))))) }
+    {
+        let priorities = priorities(alloc, game, 2)?;
         Shape::over(alloc, &priorities)
     }
 
@@ -101,7 +109,8 @@ impl Shape {
         self.top
     }
 
-    fn weight(&self, priority: u32) -> u64
+    /// The product of the radices of the odd priorities below this one: what one more at it counts.
+    pub fn weight(&self, priority: u64) -> u64
         ensures { result ≡ weight_of priority self.now }
     {
         let at = priority as usize;
@@ -113,7 +122,7 @@ impl Shape {
     }
 
     // The formula in mixed radix: what stands below the priority is cut off, and an odd priority counts one more.
-    fn cut(&self, priority: u32, value: u64) -> u64
+    fn cut(&self, priority: u64, value: u64) -> u64
         requires { value ≤ top_of self.now }
         ensures prog { result ≡ prog_of self.now priority value }
         ensures within { result ≤ top_of self.now }
@@ -140,5 +149,14 @@ pub fn prog(shape: &Shape, priority: u32, value: u64) -> u64
     // The numbers that fit the edge are those from the result on.
     ensures least { (n : ℕ) → n ≤ top_of shape.now → NumberFitsEdge shape.now priority n value ↔ (result ≤ n) }
 {
-    shape.cut(priority, value)
+    shape.cut(priority as u64, value)
+}
+
+/// `prog` at the next priority, which is that of the same vertex in the dual.
+pub fn next_prog(shape: &Shape, priority: u32, value: u64) -> u64
+    requires { value ≤ top_of shape.now }
+    ensures prog { result ≡ prog_of shape.now (suc priority) value }
+    ensures within { result ≤ top_of shape.now }
+{
+    shape.cut(priority as u64 + 1, value)
 }
