@@ -1,0 +1,218 @@
+//! Flat parity games: what guesses are made over.
+use crate::per_vertex::PerVertex;
+use std::alloc::{AllocError, Global};
+use vpg_game::Player;
+use vpg_hope::Arena;
+
+/// A list for each vertex, one after another.
+#[derive(Drop)]
+struct Lists {
+    // where each list ends
+    ends: Vec<usize>,
+    items: Vec<u32>,
+}
+
+impl Lists {
+    fn of(&self, v: u32) -> &[u32] {
+        let start = match (v as usize).checked_sub(1) {
+            Some(before) => self.end(before),
+            None => 0,
+        };
+        let end = self.end(v as usize);
+        if start <= end && end <= self.items.len() {
+            &self.items[start..end]
+        } else {
+            &[]
+        }
+    }
+
+    fn end(&self, at: usize) -> usize {
+        match self.ends.get(at) {
+            Some(end) => *end,
+            None => 0,
+        }
+    }
+
+    // In how many lists each vertex stands.
+    fn counts(&self, alloc: Global, vertices: u32) -> Result<PerVertex<usize>, AllocError> {
+        let mut counts = PerVertex::of(alloc, vertices, 0usize)?;
+        for w in &self.items {
+            counts.set(*w, counts.get(*w).saturating_add(1));
+        }
+        Ok(counts)
+    }
+
+    // For each vertex those in whose lists it stands.
+    fn reversed(&self, alloc: Global, vertices: u32) -> Result<Lists, AllocError> {
+        let mut places = self.counts(alloc, vertices)?;
+        let mut before = 0usize;
+        for v in 0..vertices {
+            let count = places.get(v);
+            places.set(v, before);
+            before = before.saturating_add(count);
+        }
+        let mut items = vec![in alloc; 0u32; self.items.len()]?;
+        let mut ends = Vec::with_capacity(alloc, vertices as usize)?;
+        for v in 0..vertices {
+            self.put_back(v, &mut places, &mut items);
+        }
+        for v in 0..vertices {
+            ends.push(places.get(v))?;
+        }
+        Ok(Lists { ends, items })
+    }
+
+    // Writes v to the next place of each of its list.
+    fn put_back(&self, v: u32, places: &mut PerVertex<usize>, items: &mut Vec<u32>) {
+        for w in self.of(v) {
+            let place = places.get(*w);
+            places.set(*w, place.saturating_add(1));
+            if place < items.len() {
+                items[place] = v;
+            }
+        }
+    }
+}
+
+/// A game that is being written down, vertex by vertex.
+#[derive(Drop)]
+pub(crate) struct Draft {
+    count: u32,
+    owners: Vec<Player>,
+    priorities: Vec<u32>,
+    successors: Lists,
+}
+
+impl Draft {
+    pub(crate) fn new(alloc: Global) -> Draft {
+        Draft {
+            count: 0,
+            owners: Vec::new(alloc),
+            priorities: Vec::new(alloc),
+            successors: Lists {
+                ends: Vec::new(alloc),
+                items: Vec::new(alloc),
+            },
+        }
+    }
+
+    /// An edge of the vertex that comes next.
+    pub(crate) fn edge(&mut self, to: u32) -> Result<(), AllocError> {
+        self.successors.items.push(to)?;
+        Ok(())
+    }
+
+    /// A vertex with the edges since the last one.
+    pub(crate) fn vertex(&mut self, owner: Player, priority: u32) -> Result<(), AllocError> {
+        self.owners.push(owner)?;
+        self.priorities.push(priority)?;
+        self.successors.ends.push(self.successors.items.len())?;
+        self.count = self.count.saturating_add(1);
+        Ok(())
+    }
+
+    pub(crate) fn finish(self, alloc: Global) -> Result<Graph, AllocError> {
+        let Draft {
+            count,
+            owners,
+            priorities,
+            successors,
+        } = self;
+        let predecessors = successors.reversed(alloc, count)?;
+        Ok(Graph {
+            count,
+            owners,
+            priorities,
+            successors,
+            predecessors,
+        })
+    }
+}
+
+/// A parity game with the edges of each vertex both ways.
+#[derive(Drop)]
+pub(crate) struct Graph {
+    count: u32,
+    owners: Vec<Player>,
+    priorities: Vec<u32>,
+    successors: Lists,
+    predecessors: Lists,
+}
+
+// Whether each priority up to the greatest occurs.
+fn occurring(alloc: Global, arena: &Arena) -> Result<PerVertex<bool>, AllocError> {
+    let mut greatest = 0;
+    for v in 0..arena.vertices() {
+        greatest = greatest.max(arena.priority(v));
+    }
+    let mut occurs = PerVertex::of(alloc, greatest.saturating_add(1), false)?;
+    for v in 0..arena.vertices() {
+        occurs.set(arena.priority(v), true);
+    }
+    Ok(occurs)
+}
+
+// For each priority one of the same parity, where priorities of one parity with none of the other between them are the same.
+fn merged(alloc: Global, occurs: &PerVertex<bool>) -> Result<PerVertex<u32>, AllocError> {
+    let mut merged = PerVertex::of(alloc, occurs.count(), 0)?;
+    let mut last = 0u32;
+    for p in 0..occurs.count() {
+        if occurs.get(p) {
+            last = last.saturating_add((last % 2 + p % 2) % 2);
+            merged.set(p, last);
+        }
+    }
+    Ok(merged)
+}
+
+impl Graph {
+    /// The game of an arena, with as few priorities as have the same winners.
+    pub(crate) fn of(alloc: Global, arena: &Arena) -> Result<Graph, AllocError> {
+        let merged = merged(alloc, &occurring(alloc, arena)?)?;
+        let mut draft = Draft::new(alloc);
+        for v in 0..arena.vertices() {
+            draft.successors.items.extend_from_slice(arena.kept(v))?;
+            draft.vertex(arena.owner(v), merged.get(arena.priority(v)))?;
+        }
+        draft.finish(alloc)
+    }
+
+    pub(crate) fn vertices(&self) -> u32 {
+        self.count
+    }
+
+    pub(crate) fn edges(&self) -> usize {
+        self.successors.items.len()
+    }
+
+    pub(crate) fn owner(&self, v: u32) -> Player {
+        match self.owners.get(v as usize) {
+            Some(owner) => *owner,
+            None => Player::Even,
+        }
+    }
+
+    pub(crate) fn priority(&self, v: u32) -> u32 {
+        match self.priorities.get(v as usize) {
+            Some(priority) => *priority,
+            None => 0,
+        }
+    }
+
+    pub(crate) fn successors(&self, v: u32) -> &[u32] {
+        self.successors.of(v)
+    }
+
+    pub(crate) fn predecessors(&self, v: u32) -> &[u32] {
+        self.predecessors.of(v)
+    }
+
+    /// The greatest priority of some vertices.
+    pub(crate) fn greatest_priority(&self, vertices: &[u32]) -> u32 {
+        let mut greatest = 0;
+        for v in vertices {
+            greatest = greatest.max(self.priority(*v));
+        }
+        greatest
+    }
+}

@@ -1,0 +1,43 @@
+//! One value for each vertex, read and written without a condition.
+use std::alloc::{AllocError, Global};
+
+/// One value for each vertex. Past the last vertex it reads as the value that it began with, and a write is lost.
+#[derive(Drop)]
+pub(crate) struct PerVertex<T> {
+    values: Vec<T>,
+    rest: T,
+    count: u32,
+}
+
+impl<T: Copy> PerVertex<T> {
+    /// This value at each of so many vertices.
+    pub(crate) fn of(alloc: Global, vertices: u32, rest: T) -> Result<PerVertex<T>, AllocError> {
+        let mut values = Vec::with_capacity(alloc, vertices as usize)?;
+        for _ in 0..vertices {
+            values.push(rest)?;
+        }
+        Ok(PerVertex {
+            values,
+            rest,
+            count: vertices,
+        })
+    }
+
+    /// How many vertices there are.
+    pub(crate) fn count(&self) -> u32 {
+        self.count
+    }
+
+    pub(crate) fn get(&self, v: u32) -> T {
+        match self.values.get(v as usize) {
+            Some(value) => *value,
+            None => self.rest,
+        }
+    }
+
+    pub(crate) fn set(&mut self, v: u32, value: T) {
+        if (v as usize) < self.values.len() {
+            self.values[v as usize] = value;
+        }
+    }
+}

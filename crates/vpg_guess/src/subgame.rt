@@ -1,0 +1,104 @@
+//! Games over some of a graph's vertices.
+use crate::graph::{Draft, Graph};
+use crate::per_vertex::PerVertex;
+use crate::regions::{Regions, solve_regions};
+use std::alloc::{AllocError, Global};
+use vpg_game::Player;
+
+/// Some vertices of a graph under numbers of their own, and behind them a dead end of Even, where Odd wins.
+#[derive(Drop)]
+pub(crate) struct Subgame {
+    pub(crate) vertices: Vec<u32>,
+    places: PerVertex<Option<u32>>,
+    sink: u32,
+    draft: Draft,
+}
+
+impl Subgame {
+    pub(crate) fn new(
+        alloc: Global,
+        graph: &Graph,
+        vertices: Vec<u32>,
+    ) -> Result<Subgame, AllocError> {
+        let mut places = PerVertex::of(alloc, graph.vertices(), None)?;
+        let mut sink = 0u32;
+        for v in &vertices {
+            places.set(*v, Some(sink));
+            sink = sink.saturating_add(1);
+        }
+        Ok(Subgame {
+            vertices,
+            places,
+            sink,
+            draft: Draft::new(alloc),
+        })
+    }
+
+    pub(crate) fn has(&self, v: u32) -> bool {
+        self.places.get(v).is_some()
+    }
+
+    /// An edge of the vertex that comes next; to the dead end where w is not in the game.
+    pub(crate) fn edge(&mut self, w: u32) -> Result<(), AllocError> {
+        self.draft.edge(self.places.get(w).unwrap_or(self.sink))
+    }
+
+    /// The next vertex, with the edges since the last one.
+    pub(crate) fn vertex(&mut self, graph: &Graph, v: u32) -> Result<(), AllocError> {
+        self.draft.vertex(graph.owner(v), graph.priority(v))
+    }
+
+    /// Solves the game.
+    pub(crate) fn solve(self, alloc: Global, budget: u64) -> Result<Solved, AllocError> {
+        let Subgame {
+            vertices,
+            places,
+            sink: _,
+            draft,
+        } = self;
+        let mut draft = draft;
+        draft.vertex(Player::Even, 0)?;
+        let graph = draft.finish(alloc)?;
+        let regions = solve_regions(alloc, &graph, budget)?;
+        let work = regions.work.saturating_add(graph.edges() as u64);
+        Ok(Solved {
+            vertices,
+            places,
+            regions,
+            work,
+        })
+    }
+}
+
+/// A game over some vertices and who wins where.
+#[derive(Drop)]
+pub(crate) struct Solved {
+    vertices: Vec<u32>,
+    places: PerVertex<Option<u32>>,
+    regions: Regions,
+    pub(crate) work: u64,
+}
+
+impl Solved {
+    pub(crate) fn vertices(&self) -> &[u32] {
+        &self.vertices
+    }
+
+    pub(crate) fn winner(&self, v: u32) -> Option<Player> {
+        match self.places.get(v) {
+            Some(place) => self.regions.winner(place),
+            None => None,
+        }
+    }
+
+    /// The winner's choice, where it stays in the game.
+    pub(crate) fn choice(&self, v: u32) -> Option<u32> {
+        let place = self.places.get(v)?;
+        let chosen = self.regions.choice(place)?;
+        self.vertices.get(chosen as usize).copied()
+    }
+
+    pub(crate) fn has(&self, v: u32) -> bool {
+        self.places.get(v).is_some()
+    }
+}
