@@ -19,7 +19,7 @@ fn edges(game: &GuardedGame) -> u32
 }
 
 /// Appends a word, a blank and a number.
-fn put_labelled(word: &[u8], n: u64, out: &mut Vec<u8>) -> Result<(), AllocError>
+pub(crate) fn put_labelled(word: &[u8], n: u64, out: &mut Vec<u8>) -> Result<(), AllocError>
     ensures { OnOk result (out.new.items ≡ out.old.items ++ labelled word.now n) }
 {
     let mut buffer = Buffer::new();

@@ -1,8 +1,11 @@
 //! A product family: a game over the features of a diagram.
 ghost use Rattle.std.specs.Arc.{arc_value};
-ghost use Rattle.std.specs.Prelude.{◌≡◌, ◌<◌, length, vec_len, IfOk};
+ghost use Rattle.std.specs.Prelude.{◌≡◌, ◌<◌, length, vec_len, IfOk, IfErr, OnErr};
+ghost use Rattle.vpg_diagram.specs.DiagramText.{IsTextOf};
 ghost use Rattle.vpg_diagram.specs.FeatureDiagram.{feature_count};
+ghost use Rattle.vpg_game.specs.Game.{SpellsGame};
 ghost use Rattle.vpgdesk.specs.Counts.{counts_text};
+ghost use Rattle.vpgdesk.specs.Families.{IsDiagramFault, IsGameFault, SpellsFamily, IsFamilyFault, IsUnknown, IsProjected};
 
 use crate::counts::put_counts;
 use crate::fault::Fault;
@@ -24,7 +27,10 @@ pub(crate) struct Family {
 }
 
 /// The diagram that a text spells.
-pub(crate) fn read_diagram(alloc: Global, text: &[u8]) -> Result<Diagram, Fault> {
+pub(crate) fn read_diagram(alloc: Global, text: &[u8]) -> Result<Diagram, Fault>
+    ensures found { IfOk result (IsTextOf text.now) }
+    ensures refused { IfErr result (IsDiagramFault text.now) }
+{
     match Diagram::read(alloc, text) {
         Ok(diagram) => Ok(diagram),
         Err(DiagramFault::Memory) => Err(Fault::Memory),
@@ -34,7 +40,9 @@ pub(crate) fn read_diagram(alloc: Global, text: &[u8]) -> Result<Diagram, Fault>
 
 /// The game over a diagram that a text spells.
 pub(crate) fn read_game(alloc: Global, text: &[u8], diagram: &Diagram) -> Result<GuardedGame, Fault>
-    ensures { IfOk result (λ game. game.features ≡ feature_count diagram.now.lines) }
+    ensures found { IfOk result (SpellsGame diagram.now.names text.now) }
+    ensures features { IfOk result (λ game. game.features ≡ feature_count diagram.now.lines) }
+    ensures refused { IfErr result (IsGameFault diagram.now.names text.now) }
 {
     match GuardedGame::read(alloc, text, diagram.names()) {
         Ok(game) => Ok(game),
@@ -65,7 +73,8 @@ fn conflict(alloc: Global, diagram: &Diagram, feature: u16) -> Fault {
 
 /// The index of a feature that a word names.
 fn feature(alloc: Global, names: &Names, word: &str) -> Result<u16, Fault>
-    ensures { IfOk result (λ f. f < length names.now) }
+    ensures found { IfOk result (λ f. f < length names.now) }
+    ensures unknown { IfErr result (IsUnknown names.now) }
 {
     match names.get(word.as_bytes()) {
         Some(f) => Ok(f),
@@ -75,9 +84,10 @@ fn feature(alloc: Global, names: &Names, word: &str) -> Result<u16, Fault>
     }
 }
 
-/// The set of the features that words name, each once or more.
+/// The set of the features that words name, each once or more. The first word that names none is told.
 fn features_named(alloc: Global, names: &Names, words: &[&str]) -> Result<Vec<bool>, Fault>
-    ensures { IfOk result (λ set. vec_len set ≡ length names.now) }
+    ensures size { IfOk result (λ set. vec_len set ≡ length names.now) }
+    ensures unknown { IfErr result (IsUnknown names.now) }
 {
     let mut set = vec![in alloc; false; names.len()]?;
     for word in words {
@@ -88,9 +98,11 @@ fn features_named(alloc: Global, names: &Names, words: &[&str]) -> Result<Vec<bo
 }
 
 impl Family {
-    /// The family that the texts of a diagram and a game spell.
+    /// The family that the texts of a diagram and a game spell. A fault of the diagram is told before any of the game.
     pub(crate) fn read(alloc: Global, diagram: &[u8], game: &[u8]) -> Result<Family, Fault>
-        ensures { IfOk result (λ family. (arc_value family.game).features ≡ feature_count (arc_value family.diagram).lines) }
+        ensures found { IfOk result (λ family. SpellsFamily diagram.now game.now (arc_value family.diagram) (arc_value family.game)) }
+        ensures features { IfOk result (λ family. (arc_value family.game).features ≡ feature_count (arc_value family.diagram).lines) }
+        ensures refused { IfErr result (IsFamilyFault diagram.now game.now) }
     {
         let diagram = read_diagram(alloc, diagram)?;
         let game = read_game(alloc, game, &diagram)?;
@@ -100,7 +112,8 @@ impl Family {
     /// A game and the diagram of its features.
     pub(crate) fn of(alloc: Global, game: GuardedGame, diagram: Diagram) -> Result<Family, Fault>
         requires { game.features ≡ feature_count diagram.lines }
-        ensures { IfOk result (λ family. (arc_value family.game).features ≡ feature_count (arc_value family.diagram).lines) }
+        ensures both { IfOk result (λ family. (arc_value family.game ≡ game) × (arc_value family.diagram ≡ diagram)) }
+        ensures refused { OnErr result (result ≡ Err Fault.Memory) }
     {
         let (Ok(game), Ok(diagram)) = (Arc::new(alloc, game), Arc::new(alloc, diagram)) else {
             return Err(Fault::Memory);
@@ -129,9 +142,10 @@ impl Family {
         }
     }
 
-    /// The text of the plain game of the product that has just these features.
+    /// The text of the plain game of the product that has just these features. An unknown feature is told before that they are no product.
     pub(crate) fn projected(self, alloc: Global, words: &[&str]) -> Result<Vec<u8>, Fault>
         requires { (arc_value self.game).features ≡ feature_count (arc_value self.diagram).lines }
+        ensures text { IfOk result (λ text. IsProjected (arc_value self.diagram) (arc_value self.game) text.items) }
     {
         let set = features_named(alloc, self.diagram.names(), words)?;
         match project(alloc, &self.game, &self.diagram, &set) {

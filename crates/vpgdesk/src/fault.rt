@@ -1,46 +1,40 @@
-//! Why the program fails, as it tells it.
+//! Why the program fails.
+ghost use Rattle.std.specs.Prelude.{◌≡◌};
+ghost use Rattle.vpgdesk.specs.declared.fault.Fault.TheVariants.{Memory};
+
 use std::alloc::AllocError;
-use thiserror::Error;
 use vpg_diagram::DiagramFault;
 use vpg_game::GameFault;
 use vpg_report::command::LineFault;
 
-/// A fault, with the text that is written of it.
-#[derive(Drop, Debug, Error)]
+/// A fault. What is told of each stands in `specs/Faults`.
+#[derive(Drop, Debug)]
 pub(crate) enum Fault {
-    #[error("diagram unreadable")]
     DiagramUnreadable,
-    #[error("diagram {fault}")]
     Diagram { fault: DiagramFault },
-    #[error("game unreadable")]
     GameUnreadable,
-    #[error("game {fault}")]
     Game { fault: GameFault },
-    #[error("script unreadable")]
     ScriptUnreadable,
     /// Some priority of the game is 65,536.
-    #[error("game AtLimit")]
     AtLimit,
     /// The diagram alone has a conflict, which names its root.
-    #[error("Conflict {feature}")]
     Conflict { feature: String },
-    #[error("script Line {line} {fault}")]
+    /// The line of this number, from 1, is no command.
     Line { line: u64, fault: LineFault },
-    #[error("script Read")]
+    /// The script's reader failed.
     Read,
-    #[error("Write")]
+    /// Standard output failed.
     Write,
-    /// The diagram has no feature of this name.
-    #[error("UnknownFeature {name}")]
+    /// The diagram has no feature of this name, which is any word.
     UnknownFeature { name: String },
     /// The features that were named are no product.
-    #[error("NotAProduct")]
     NotAProduct,
-    #[error("Memory")]
     Memory,
 }
 
 impl From<AllocError> for Fault {
+    ghost from_gives = { λ _ fault. fault ≡ Memory };
+
     fn from(_: AllocError) -> Fault {
         Fault::Memory
     }

@@ -13,12 +13,15 @@ mod counts;
 mod family;
 mod fault;
 mod files;
+mod telling;
 mod words;
 
 use crate::family::Family;
 use crate::fault::Fault;
 use crate::files::{open_script, read_family};
+use crate::telling::line_of;
 use crate::words::Task;
+use clap::error::ErrorKind;
 use std::alloc::Global;
 use std::process::ExitCode;
 use std::{env, io};
@@ -71,35 +74,55 @@ fn carry_out(rt: &HostRuntime, alloc: Global, task: &Task<'_>) -> Result<(), Fau
     }
 }
 
-/// The status of a task that was done, or tells of the fault.
-fn status(rt: &HostRuntime, done: Result<(), Fault>) -> ExitCode {
-    match done {
-        Ok(()) => ExitCode::SUCCESS,
-        Err(fault) => {
-            // Where this fails too, the status is all that tells of the fault.
-            let _ = eprintln!(rt; "vpgdesk: {fault}");
-            ExitCode::FAILURE
+/// Tells of a fault, in one line on standard error.
+fn tell(rt: &HostRuntime, alloc: Global, fault: &Fault) {
+    let mut writer = Device::writer(rt.stderr().lock());
+    let told = match line_of(alloc, fault) {
+        Ok(line) => writer.put(&line),
+        Err(_) => writer.put(b"vpgdesk: Memory\n"),
+    };
+    // Where this fails too, the status is all that tells of the fault.
+    let _ = told;
+}
+
+/// Prints what is told of the words: help and the version to standard output, what is wrong with them to standard error.
+fn print(rt: &HostRuntime, told: &clap::Error) -> Result<ExitCode, Fault> {
+    match told.kind() {
+        ErrorKind::OutOfMemory => Err(Fault::Memory),
+        ErrorKind::DisplayHelp | ErrorKind::DisplayVersion => match told.print(rt) {
+            Ok(()) => Ok(ExitCode::SUCCESS),
+            Err(_) => Err(Fault::Write),
+        },
+        _ => {
+            // Where this fails, the status is all that tells of the words.
+            let _ = told.print(rt);
+            Ok(ExitCode::from(WRONG_WORDS))
         }
     }
 }
 
 /// Reads the words, and does what they ask for.
-fn obey(rt: &HostRuntime, alloc: Global) -> io::Result<ExitCode> {
-    let words: Vec<String> = env::args(rt)?.collect(alloc)?;
+fn obey(rt: &HostRuntime, alloc: Global) -> Result<ExitCode, Fault> {
+    let words: Vec<String> = match env::args(rt) {
+        Ok(words) => words.collect(alloc)?,
+        Err(error) if error.kind() == io::ErrorKind::OutOfMemory => return Err(Fault::Memory),
+        Err(_) => return print(rt, &words::not_text(alloc)?),
+    };
     match words::read(alloc, &words) {
-        Ok(Some(task)) => Ok(status(rt, carry_out(rt, alloc, &task))),
-        Ok(None) => Ok(ExitCode::from(WRONG_WORDS)),
-        // help and the version are told in this way too
-        Err(told) => {
-            told.print(rt)?;
-            Ok(ExitCode::from(told.exit_code() as u8))
+        Ok(task) => {
+            carry_out(rt, alloc, &task)?;
+            Ok(ExitCode::SUCCESS)
         }
+        Err(told) => print(rt, &told),
     }
 }
 
 fn main(rt: HostRuntime) -> ExitCode {
     match obey(&rt, rt.alloc()) {
         Ok(status) => status,
-        Err(_) => ExitCode::FAILURE,
+        Err(fault) => {
+            tell(&rt, rt.alloc(), &fault);
+            ExitCode::FAILURE
+        }
     }
 }

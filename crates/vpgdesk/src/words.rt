@@ -1,4 +1,5 @@
 //! The words that the program is called with.
+use clap::error::ErrorKind;
 use clap::{Arg, ArgMatches, Command, Error};
 use std::alloc::{AllocError, Global};
 
@@ -30,6 +31,55 @@ pub(crate) enum Task<'a> {
     },
 }
 
+/// What the program is for, in a few lines.
+const ABOUT: &str = "\
+Configures a product family whose behaviour is a variability parity game.
+
+The family is a parity game whose edges carry guards over features, and a feature diagram that says which sets of
+features are products. A script selects and excludes features, takes decisions back, and settles two tables of progress
+measures. They show for each vertex whether it is hopeless (Even wins it in no product that is left) and whether it is
+sure (Odd wins it in none). What cannot be shown is called possible, or unsure.";
+
+/// What the words leave open: scripts, statuses, examples.
+const AFTER: &str = "\
+Without a command a script is read from standard input and carried out on a small family that is built in: the features
+r (the root), f and g, and the vertices 0 and 1.
+
+Scripts, one command a line (F a feature, S a change's number, V a vertex, K a harvest's number, N a number):
+  select F, exclude F, retract F        decide that F is in or out; take that decision back
+  undo [S], redo [S]                    the latest change, or the change S
+  keep S, forget S                      give up the right to undo S; to redo S
+  settle [N]                            raise both tables until they are settled, or in at most N sweeps
+  lift hopeful V, lift dual V           raise one vertex of one table
+  harvest, commit K                     settle copies of the tables; take them into the page
+  show, trail, products, plan           verdicts; the page's entries; known features; Even's moves (where all is known)
+  # ..                                  a comment; `N: COMMAND` says that session N (1 to 64) gives the command
+
+Status: 0; 1 where something is refused or fails, told by one line on standard error; 2 where the words are wrong.
+
+Examples:
+  printf 'exclude f\\nsettle\\nshow\\n' | vpgdesk
+  vpgdesk check examples/elevator/game examples/elevator/diagram
+  vpgdesk run examples/elevator/game examples/elevator/diagram examples/elevator/script
+  vpgdesk project examples/elevator/game examples/elevator/diagram lift sensor overload
+
+All formats, commands, answers and faults: docs/FORMATS.md";
+
+/// The same in one line each.
+const SHORT_AFTER: &str = "\
+Without a command a script is read from standard input, on a small family that is built in.
+`vpgdesk --help` tells of scripts, statuses and examples.";
+
+const GAME_HELP: &str =
+    "A file with a parity game in PGSolver's format, with guards, as `0 2 1 1[f & !g],0;`";
+
+const DIAGRAM_HELP: &str =
+    "A file with the feature diagram that the guards speak of, as `root r`, `optional r f`, a line each";
+
+const SCRIPT_HELP: &str = "A file with one command a line, as `select f`, `settle` or `show`";
+
+const FEATURE_HELP: &str = "The features of the product, all of them, the root among them";
+
 /// A file that has to be named.
 fn file<'a>(alloc: Global, id: &'a str, help: &'a str) -> Arg<'a> {
     Arg::new(alloc, id).required(true).help(help)
@@ -43,50 +93,57 @@ fn over_family<'a>(
 ) -> Result<Command<'a>, AllocError> {
     Command::new(alloc, name)
         .about(about)
-        .arg(file(alloc, "GAME", "A guarded parity game"))?
-        .arg(file(
-            alloc,
-            "DIAGRAM",
-            "The feature diagram that its guards speak of",
-        ))
+        .arg(file(alloc, "GAME", GAME_HELP))?
+        .arg(file(alloc, "DIAGRAM", DIAGRAM_HELP))
 }
 
 fn run_command<'a>(alloc: Global) -> Result<Command<'a>, AllocError> {
-    over_family(alloc, "run", "Carries a script out, and writes its answers")?.arg(file(
+    over_family(
         alloc,
-        "SCRIPT",
-        "One command a line, as `select F`, `settle` or `show`",
-    ))
+        "run",
+        "Carries a script out on a family, and writes the answers to its commands",
+    )?
+    .arg(file(alloc, "SCRIPT", SCRIPT_HELP))
 }
 
 fn project_command<'a>(alloc: Global) -> Result<Command<'a>, AllocError> {
-    over_family(alloc, "project", "Writes the plain game of one product")?.arg(file(
+    over_family(
         alloc,
-        "FEATURE",
-        "All features of the product, the root among them",
-    )
-    .num_args(1..))
+        "project",
+        "Writes the plain parity game of one product",
+    )?
+    .arg(file(alloc, "FEATURE", FEATURE_HELP).num_args(1..))
 }
 
 fn check_command<'a>(alloc: Global) -> Result<Command<'a>, AllocError> {
     over_family(
         alloc,
         "check",
-        "Counts vertices, edges and features, and tells the top measures of the game and of its dual",
+        "Reads a family, and writes how many vertices, edges and features it has, and the top measures of the game and of its dual",
     )
 }
 
 /// All that the program may be called with.
-pub(crate) fn command<'a>(alloc: Global) -> Result<Command<'a>, AllocError> {
+fn command<'a>(alloc: Global) -> Result<Command<'a>, AllocError> {
     Command::new(alloc, "vpgdesk")
         .version("0.1.0")
         .about("Configures a product family whose behaviour is a variability parity game")
-        .after_help(
-            "Without words a script is read from standard input, on the family that is built in.",
-        )
+        .long_about(ABOUT)
+        .after_help(SHORT_AFTER)
+        .after_long_help(AFTER)
         .subcommand(run_command(alloc)?)?
         .subcommand(project_command(alloc)?)?
         .subcommand(check_command(alloc)?)
+}
+
+/// What is told of words that no text in UTF-8 spells.
+pub(crate) fn not_text(alloc: Global) -> Result<Error, AllocError> {
+    command(alloc)?.error(ErrorKind::ValueValidation, "a word is not text in UTF-8")
+}
+
+/// What is told where a command lacks a word. The parser refuses such words before.
+fn lacking(alloc: Global) -> Result<Error, AllocError> {
+    command(alloc)?.error(ErrorKind::MissingRequiredArgument, "a word is missing")
 }
 
 /// The files that a command names. It has them where it was accepted.
@@ -105,25 +162,38 @@ fn features<'a>(alloc: Global, matches: &ArgMatches<'a>) -> Result<Vec<&'a str>,
     Ok(features)
 }
 
-/// What the words ask for, or why they don't.
-pub(crate) fn read<'a>(alloc: Global, words: &'a [String]) -> Result<Option<Task<'a>>, Error> {
-    let matches = command(alloc)?.try_get_matches_from(words)?;
-    let Some((name, inner)) = matches.subcommand() else {
-        return Ok(Some(Task::BuiltIn));
-    };
-    let Some(paths) = paths_of(inner) else {
+/// The task of a command over a family, `None` where it lacks a word.
+fn task_of<'a>(
+    alloc: Global,
+    name: &str,
+    matches: &ArgMatches<'a>,
+) -> Result<Option<Task<'a>>, AllocError> {
+    let Some(paths) = paths_of(matches) else {
         return Ok(None);
     };
     match name {
-        "run" => match inner.get_str("SCRIPT") {
-            Some(script) => Ok(Some(Task::Run { paths, script })),
-            None => Ok(None),
-        },
+        "run" => Ok(
+            matches
+                .get_str("SCRIPT")
+                .map(|script| Task::Run { paths, script }),
+        ),
         "project" => Ok(Some(Task::Project {
             paths,
-            features: features(alloc, inner)?,
+            features: features(alloc, matches)?,
         })),
         "check" => Ok(Some(Task::Check { paths })),
         _ => Ok(None),
+    }
+}
+
+/// What the words ask for, the first of them being the program's name; else what is told of them, help and the version among it.
+pub(crate) fn read<'a>(alloc: Global, words: &'a [String]) -> Result<Task<'a>, Error> {
+    let matches = command(alloc)?.try_get_matches_from(words)?;
+    let Some((name, inner)) = matches.subcommand() else {
+        return Ok(Task::BuiltIn);
+    };
+    match task_of(alloc, name, inner)? {
+        Some(task) => Ok(task),
+        None => Err(lacking(alloc)?),
     }
 }

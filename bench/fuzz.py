@@ -1,0 +1,384 @@
+#!/usr/bin/env python3
+"""Runs the program on malformed games, diagrams, scripts and words, and checks how each run ends.
+
+    fuzz.py PROGRAM CASES [SEED] [PROCESSES]     e.g. fuzz.py vpgdesk 100000 1 2
+
+Each case begins with a sound family (built in, an example, or a random one), and damages its files, its words or its devices. A run has to end
+within the time limit with status 0, 1 or 2 and never by a signal:
+  0  with nothing on standard error;
+  1  with one line there, which is one of the texts that docs/FORMATS.md lists;
+  2  with the parser's message about wrong words there, and nothing on standard output.
+Whatever stands on standard output has to be whole lines of the forms that docs/FORMATS.md gives. A game that `project` wrote has to be read again.
+Cases that end otherwise are kept in the folder fuzz-findings, with their words; then the status is 1. A case depends on SEED and its number alone.
+"""
+import collections
+import multiprocessing
+import os
+import random
+import re
+import shutil
+import subprocess
+import sys
+import tempfile
+import time
+
+import oracle
+
+TIME_LIMIT = 20
+HERE = os.path.dirname(os.path.abspath(__file__))
+EXAMPLES = os.path.join(HERE, os.pardir, "examples")
+FINDINGS = "fuzz-findings"
+
+# ---- how a run may end
+
+N = rb"(?:0|[1-9][0-9]*)"
+NAME = rb"[A-Za-z_][A-Za-z0-9_]{0,63}"
+SIGNED = rb"(?: [+-]" + NAME + rb")*"
+
+FAULTS = {
+    "unreadable": rb"(?:game|diagram|script) unreadable",
+    "diagram refused": rb"diagram (?:NoRoot|(?:Syntax|TwoRoots|UnknownFeature|TwoParents|TooMany|BadRange) " + N + rb")",
+    "game refused": rb"game (?:(?:Syntax|BadOwner|PriorityTooLarge|TooMany|DoubleVertex|MissingVertex) " + N + rb"|Guard " + N
+    + rb" (?:Syntax|UnknownFeature|TooDeep) " + N + rb"|TooWide)",
+    "opening refused": rb"Conflict " + NAME,
+    "script line": rb"script Line [1-9][0-9]* (?:Word|Args|TooLong)",
+    "script read": rb"script Read",
+    "write": rb"Write",
+    "project": rb"UnknownFeature [^\x00-\x1f\x7f]*|NotAProduct",
+}
+FAULTS = {kind: re.compile(rb"\Avpgdesk: (?:" + text + rb")\n\Z") for kind, text in FAULTS.items()}
+
+WRONG_WORDS = re.compile(rb"\Aerror: .*\n\nFor more information, try '--help'\.\n\Z", re.S)
+
+REFUSED = (
+    rb"refused (?:UnknownFeature|AlreadyDecided " + N + rb"|Conflict " + NAME + rb"|NotDecided|TooManyChanges|Sealed|NotNewest " + N
+    + rb"|Overtaken|NotNext " + N + rb"|Outdated " + NAME + rb"|LogFull|NotFull|NotSettled|NoToken|NoHarvest|NoVertex)"
+)
+ANSWERS = re.compile(
+    rb"(?:(?:(?:(?:done|undone|redone|kept|forgotten|added|harvest|settled|unsettled|entries|plans) " + N + rb"|" + REFUSED
+    + rb"|decisions" + SIGNED + rb"|(?:full|settled) (?:yes|no)|" + N + rb" " + N + rb" " + N + rb" (?:hopeless|possible) (?:sure|unsure)"
+    + rb"|(?:select|exclude) " + NAME + rb" " + N + rb"|(?:hopeful|dual) " + N + rb" " + N + rb" " + N + SIGNED
+    + rb"|(?:in|out|open)(?: " + NAME + rb")*|plan " + N + rb" " + N + rb")\n)*)\Z"
+)
+PLAIN = re.compile(rb"\Aparity " + N + rb";\n(?:" + N + rb" " + N + rb" [01](?: " + N + rb"(?:," + N + rb")*)?;\n)+\Z")
+COUNTS = re.compile(rb"\Avertices " + N + rb" edges " + N + rb" features " + N + rb" top " + N + rb" " + N + rb"\n\Z")
+TOLD = re.compile(rb"\A(?:Configures|Carries|Writes|Reads|Print|vpgdesk [0-9])")
+
+
+def kind_of(words, status, out, err):
+    """What kind of end this is, or None where it is none of those allowed."""
+    task = os.fsencode(words[0]) if words else b""
+    if status == 0 and not err:
+        # a lone `--` is as no word
+        forms = {b"": ANSWERS, b"--": ANSWERS, b"run": ANSWERS, b"project": PLAIN, b"check": COUNTS}
+        if task in forms and forms[task].match(out):
+            return "done"
+        return "help or version" if TOLD.match(out) else None
+    if status == 1 and ANSWERS.match(out):
+        return next((kind for kind, text in FAULTS.items() if text.match(err)), None)
+    if status == 2 and not out and WRONG_WORDS.match(err):
+        return "wrong words"
+    return None
+
+
+# ---- sound families
+
+BUILT_IN = (b"parity 1; 0 1 0 1[f],0; 1 2 1 0[g],1;", b"root r\noptional r f\noptional r g\n", b"exclude f\nsettle\nshow\nundo\nredo\ntrail\n")
+
+RICH = (
+    b'parity 9; start 1;\n1 1 0 2[a & !(b | c)],3 "one";\n2 4 1 1[!a],3[d],3[!d & true];\n3 3 0 3[(a | b) & (c | d)],1;\n9 0 1;\n',
+    b"root r\nmandatory r a\noptional r b\nalternative b: c d\nor a: e f g\ngroup r 1 2: h i j\nrequires c e\nexcludes d h\n",
+    b"2: select b\nsettle 3\nharvest\n64: exclude c\ncommit 1\nlift dual 9\nkeep 1\nplan\nproducts\nretract b\nsettle\nshow\n",
+)
+
+
+def read(*path):
+    with open(os.path.join(*path), "rb") as file:
+        return file.read()
+
+
+def examples():
+    for family in sorted(os.listdir(EXAMPLES)):
+        folder = os.path.join(EXAMPLES, family)
+        if os.path.isdir(folder):
+            yield tuple(read(folder, name) for name in ("game", "diagram", "script"))
+
+
+def random_family(rng):
+    diagram, names = oracle.random_diagram(rng)
+    game, ids = oracle.random_game(rng, names)
+    return tuple(text.encode() for text in (game, diagram, oracle.random_script(rng, names, ids)))
+
+
+# ---- damage
+
+TOKENS = re.compile(rb"[A-Za-z0-9_]+|[^A-Za-z0-9_]")
+DICTIONARY = (
+    b"0 1 2 7 00 01 64 65 4096 65535 65536 65537 4294967295 4294967296 1000000000 1000000001 18446744073709551615 18446744073709551616 4611686018427387904 -1 +1 1.5 0x10 "
+    b"parity start root mandatory optional alternative or group requires excludes true false select exclude retract undo redo keep forget lift harvest commit settle show trail "
+    b"products plan hopeful dual r f g a b 1: 65: 0: : ; , [ ] ( ) ! & | # \" \\ { } \xc3\xa9 \xff \x00 \x0b \x1a"
+).split(b" ") + [b"9" * 40, b"9" * 5000, b"x" * 64, b"x" * 65, b" ", b"\t", b"\n", b"\r", b"\r\n", b""]
+
+
+def flip(rng, text):
+    text = bytearray(text)
+    for _ in range(rng.choice([1, 1, 1, 2, 5, 20])):
+        if text:
+            text[rng.randrange(len(text))] ^= 1 << rng.randrange(8)
+    return bytes(text)
+
+
+def truncate(rng, text):
+    return text[: rng.randint(0, len(text))]
+
+
+def cut(rng, text):
+    i, j = sorted(rng.randint(0, len(text)) for _ in range(2))
+    return text[:i] + text[j:]
+
+
+def double(rng, text):
+    i, j = sorted(rng.randint(0, len(text)) for _ in range(2))
+    return text[:j] + text[i:j] * rng.choice([1, 2, 10]) + text[j:]
+
+
+def insert(rng, text):
+    i = rng.randint(0, len(text))
+    return text[:i] + rng.choice(DICTIONARY) + text[i:]
+
+
+def replace_tokens(rng, text):
+    tokens = TOKENS.findall(text)
+    for _ in range(rng.choice([1, 1, 2, 4])):
+        if tokens:
+            tokens[rng.randrange(len(tokens))] = rng.choice(DICTIONARY)
+    return b"".join(tokens)
+
+
+def shuffle_tokens(rng, text):
+    tokens = TOKENS.findall(text)
+    i = rng.randint(0, len(tokens))
+    part = tokens[i : i + rng.choice([3, 8, 1000])]
+    rng.shuffle(part)
+    return b"".join(tokens[:i] + part + tokens[i + len(part) :])
+
+
+def shuffle_lines(rng, text):
+    lines = text.splitlines(True)
+    rng.shuffle(lines)
+    return b"".join(lines)
+
+
+def repeat_line(rng, text):
+    lines = text.splitlines(True) or [b"\n"]
+    i = rng.randrange(len(lines))
+    return b"".join(lines[:i] + [lines[i]] * rng.choice([2, 3, 50, 600]) + lines[i:])
+
+
+def number_lines(rng, text):
+    """Many lines that differ in a number."""
+    form = rng.choice([b"optional r z%d\n", b"requires r r\n# %d\n", b"%d 1 0 0;\n", b"%d 3 1 %d[f];\n", b"select z%d\n", b"undo %d\n", b"lift hopeful %d\n"])
+    return text + b"".join(form.replace(b"%d", b"%d" % i) for i in range(rng.choice([20, 70, 513, 1200])))
+
+
+def nest(rng, text):
+    deep = rng.choice([1, 63, 64, 65, 66, 500, 20000])
+    guard = rng.choice([b"(" * deep + b"f" + b")" * deep, b"!" * deep + b"f", b"(!" * (deep // 2) + b"f" + b")" * (deep // 2), b"(" * deep, b"f" + b")" * deep])
+    i = text.find(b"[", rng.randint(0, len(text)))
+    return text[: i + 1] + guard + text[i + 1 :] if i >= 0 else text + guard
+
+
+def carriage_returns(rng, text):
+    return text.replace(b"\n", rng.choice([b"\r\n", b"\r", b"\n\r", b"\r\r\n"]))
+
+
+def zeros(rng, text):
+    for _ in range(rng.choice([1, 3])):
+        i = rng.randint(0, len(text))
+        text = text[:i] + b"\0" * rng.choice([1, 1, 8, 5000]) + text[i:]
+    return text
+
+
+def long_line(rng, text):
+    lines = text.splitlines(True) or [b""]
+    i = rng.randrange(len(lines))
+    lines[i] = lines[i].rstrip(b"\n") + rng.choice([b" ", b"#", b"x", b"\t"]) * rng.choice([4000, 4096, 4097, 9000]) + b"\n"
+    return b"".join(lines)
+
+
+def noise(rng, _text):
+    return rng.randbytes(rng.choice([0, 1, 2, 10, 100, 3000]))
+
+
+DAMAGES = [flip, flip, truncate, cut, double, insert, insert, replace_tokens, replace_tokens, replace_tokens, shuffle_tokens, shuffle_lines, repeat_line, number_lines, nest, carriage_returns, zeros, long_line, noise]
+
+
+def damaged(rng, text):
+    for _ in range(rng.choice([1, 1, 1, 2, 3])):
+        text = rng.choice(DAMAGES)(rng, text)[:200000]
+    return text
+
+
+# ---- words and devices
+
+STRANGE_WORDS = [
+    "", " ", "-", "--", "-h", "--help", "-V", "--version", "--lifters", "--lifters=4", "0", "64", "65", "run", "project", "check", "help", "rum", "RUN", "--runn", "-x", "é", "game", "script",
+    "no/such", ".", "/", "a\nb", "a\tb", "\x1b[31m", "r", "f", "x" * 65, "x" * 5000, "=", "--=", "-hV", b"\xff", b"\xc3", b"f\x80",
+]
+
+
+def damaged_words(rng, words):
+    words = list(words)
+    for _ in range(rng.choice([1, 1, 2, 3])):
+        kind, i = rng.randrange(5), rng.randint(0, len(words))
+        if kind == 0:
+            words.insert(i, rng.choice(STRANGE_WORDS))
+        elif kind == 1 and words:
+            words.pop(min(i, len(words) - 1))
+        elif kind == 2 and words:
+            words[min(i, len(words) - 1)] = rng.choice(STRANGE_WORDS)
+        elif kind == 3:
+            rng.shuffle(words)
+        elif words:
+            words.insert(i, rng.choice(words))
+    return words
+
+
+def words_of(rng, diagram):
+    task = rng.choice(["", "run", "run", "run", "project", "check"])
+    if task == "run":
+        return ["run", "game", "diagram", "script"]
+    if task == "check":
+        return ["check", "game", "diagram"]
+    if task == "project":
+        names = [name.decode() for name in set(re.findall(rb"[A-Za-z_][A-Za-z0-9_]*", diagram))]
+        return ["project", "game", "diagram"] + [name for name in sorted(names) if rng.random() < 0.7] + ["r"]
+    return []
+
+
+class Case:
+    """What a case gives to the program."""
+
+    def __init__(self, seed, number, families):
+        rng = random.Random(f"{seed} {number}")
+        family = list(rng.choice(families + [None] * 4) or random_family(rng))
+        self.words = words_of(rng, family[1])
+        what = rng.randrange(20)
+        if what < 16:
+            i = rng.randrange(3) if self.words else 2
+            family[i] = damaged(rng, family[i])
+        if what in (14, 15):
+            family = [damaged(rng, text) for text in family]
+        if what >= 16:
+            self.words = damaged_words(rng, self.words)
+        self.files = dict(zip(("game", "diagram", "script"), family))
+        self.gone = rng.choice(["game", "diagram", "script"]) if rng.random() < 0.03 else None
+        self.folder_instead = self.gone and rng.random() < 0.5
+        self.input = rng.choices(["script", "folder", "closed"], [40, 1, 1])[0]
+        self.output = rng.choices(["pipe", "full", "closed"], [60, 1, 1])[0]
+
+    def write(self, folder):
+        for name, text in self.files.items():
+            path = os.path.join(folder, name)
+            if os.path.isdir(path):
+                os.rmdir(path)
+            with open(path, "wb") as file:
+                file.write(text)
+        if self.gone:
+            os.remove(os.path.join(folder, self.gone))
+            if self.folder_instead:
+                os.mkdir(os.path.join(folder, self.gone))
+
+    def run(self, program, folder):
+        """The status, standard output (empty where it is no pipe) and standard error."""
+        script = os.path.join(folder, "script")
+        source = folder if self.input == "folder" or not os.path.exists(script) else script
+        stdin = os.open(source, os.O_RDONLY)
+        stdout = os.open("/dev/full", os.O_WRONLY) if self.output == "full" else subprocess.PIPE
+        closed = [fd for fd, how in ((0, self.input), (1, self.output)) if how == "closed"]
+        try:
+            ended = subprocess.run(
+                [program, *self.words],
+                stdin=stdin,
+                stdout=stdout,
+                stderr=subprocess.PIPE,
+                cwd=folder,
+                timeout=TIME_LIMIT,
+                preexec_fn=(lambda: [os.close(fd) for fd in closed]) if closed else None,
+            )
+            return ended.returncode, ended.stdout or b"", ended.stderr
+        finally:
+            os.close(stdin)
+            if stdout != subprocess.PIPE:
+                os.close(stdout)
+
+
+def ends(program, folder, case):
+    """The kind of a case's end, or None and why it is a finding."""
+    try:
+        status, out, err = case.run(program, folder)
+    except subprocess.TimeoutExpired:
+        return None, f"no end within {TIME_LIMIT} seconds"
+    kind = kind_of(case.words, status, out, err)
+    if case.output != "pipe" and status in (0, 1) and kind is None:
+        kind = "help or version" if status == 0 or not err else None
+    if kind is None:
+        return None, f"status {status}, standard error {err[:300]!r}, end of standard output {out[-200:]!r}"
+    if kind == "done" and case.words[:1] == ["project"] and case.output == "pipe":
+        with open(os.path.join(folder, "plain"), "wb") as file:
+            file.write(out)
+        again = subprocess.run([program, "check", "plain", case.words[2]], capture_output=True, cwd=folder, timeout=TIME_LIMIT)
+        if again.returncode != 0:
+            return None, f"the projected game is not read again: {again.stderr!r}"
+    return kind, None
+
+
+# ---- the run
+
+
+def keep(case, number, folder, why):
+    kept = os.path.join(FINDINGS, str(number))
+    shutil.rmtree(kept, ignore_errors=True)
+    shutil.copytree(folder, kept)
+    with open(os.path.join(kept, "case"), "w") as out:
+        out.write(f"words {case.words!r}\ninput {case.input}\noutput {case.output}\n{why}\n")
+
+
+def work(program, seed, first, step, cases):
+    os.nice(15)
+    families = [BUILT_IN, RICH, *examples()]
+    counts, findings, slowest = collections.Counter(), 0, 0.0
+    with tempfile.TemporaryDirectory() as folder:
+        for number in range(first, cases, step):
+            case = Case(seed, number, families)
+            case.write(folder)
+            began = time.monotonic()
+            kind, why = ends(program, folder, case)
+            slowest = max(slowest, time.monotonic() - began)
+            counts[kind or "FINDING"] += 1
+            if why:
+                findings += 1
+                print(f"case {number}: {why}", flush=True)
+                if findings <= 20:
+                    keep(case, number, folder, why)
+    return counts, slowest
+
+
+def main():
+    if len(sys.argv) not in (3, 4, 5):
+        sys.exit(__doc__)
+    program, cases = os.path.abspath(sys.argv[1]), int(sys.argv[2])
+    seed = sys.argv[3] if len(sys.argv) > 3 else "1"
+    processes = int(sys.argv[4]) if len(sys.argv) > 4 else 2
+    began = time.monotonic()
+    with multiprocessing.Pool(processes) as pool:
+        parts = pool.starmap(work, [(program, seed, i, processes, cases) for i in range(processes)])
+    total = sum((counts for counts, _ in parts), collections.Counter())
+    for kind, n in sorted(total.items(), key=lambda item: -item[1]):
+        print(f"{n:8} {kind}")
+    print(f"{sum(total.values()):8} cases, seed {seed}, {time.monotonic() - began:.0f} seconds, the slowest {max(s for _, s in parts):.2f} seconds, {total['FINDING']} findings")
+    sys.exit(1 if total["FINDING"] else 0)
+
+
+if __name__ == "__main__":
+    main()
