@@ -65,3 +65,14 @@ returns-in-Err c =
     on_view c.commit_refused.result _ old _ _ _ _ _ c.self.view_is
     (λ told. commit_refused old c.args.session c.args.number hs refl c.args.out.now.items _ _ harvest c.in-Some.ensures.kept (commit_refusal c.in-Err.field-0.fault) c.names.result.now (own.game, own.diagram) c.in-Err.ensures.refused c.in-Err.ensures.err
     (ap holds again) c.names.ensures told) c.commit_refused.ensures
+
+pub invariant_of-self-in-Err : goal.invariant_of-self-in-Err
+invariant_of-self-in-Err c =
+    let e = c.self.inside in
+    let hs = e.harvests.items in
+    let same = c.in-Err.ensures.err in
+    let again = c.return_harvest.ensures ∙ ap₂ (λ (xs : List (Option HarvestView)) (h : HarvestView). slice_set xs (c.args.number - 1) (Some h)) c.in-Some.ensures.gone c.in-Err.ensures.back
+    ∙ put_back hs c.args.number c.in-Some.harvest (sym c.in-Some.ensures.kept) in
+    endures e _ c.self.invariant refl refl (ap (λ (d : DeskState). d.game) same) (ap (λ (d : DeskState). d.diagram) same)
+    (c.self.invariant.tokens ∙ sym (ap (λ (d : DeskState). d.book.tokens) same))
+    (subst (λ (xs : List (Option HarvestView)). AreOwnHarvests e.desk.game e.desk.diagram xs) (sym again) c.self.invariant.harvests)
