@@ -20,3 +20,4 @@ pub mod Enduring
 pub mod Settling
 pub mod Planned
 pub mod Within
+pub mod Results

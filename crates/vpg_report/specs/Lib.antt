@@ -6,6 +6,7 @@ pub mod Held
 pub mod Lines
 pub mod Output
 pub mod Plan
+pub mod Results
 pub mod Run
 pub mod Scene
 pub mod Script

@@ -6,7 +6,7 @@ ghost use Rattle.vpg_guards.specs.Names.{index_of};
 ghost use Rattle.vpg_trail.specs.Page.{decisions_of};
 ghost use Rattle.vpg_desk.specs.Book.{Commit as Commits, Added};
 ghost use Rattle.vpg_desk.specs.Commit.{IsOrderOf, handed_in};
-ghost use Rattle.vpg_desk.specs.State.{IsStep};
+ghost use Rattle.vpg_desk.specs.State.{IsOpened, IsStep};
 ghost use Rattle.vpg_report.specs.Engine.{AnswersTo, IsOpenFault, deciding, between_of, engine_of, scene_at};
 ghost use Rattle.vpg_report.specs.Script.{Retract, Undo as Undoes, Redo as Redoes, Keep, Forget, Lift, Harvest as Harvests, Commit, Settle, Show, Trail, Products, Plan};
 ghost use Rattle.vpg_report.specs.View.{request_shown};
@@ -320,6 +320,7 @@ impl Engine {
     ) -> Result<Engine, OpenFault>
         requires { (arc_value game).features ≡ feature_count (arc_value diagram).lines }
         ensures opened { IfOk result (λ engine. engine ≡ engine_of (arc_value game) (arc_value diagram)) }
+        ensures fits { OnOk result (IsOpened (arc_value game) (arc_value diagram)) }
         ensures refused { IfErr result (IsOpenFault (arc_value game) (arc_value diagram)) }
     {
         let Ok((own_game, own_diagram)) = shared(&game, &diagram) else {

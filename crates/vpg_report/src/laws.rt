@@ -7,7 +7,8 @@ pub fn read_lines_are_the_lines()
     ensures { ReadIsWhole }
 {}
 
-/// The answers to lines are those of a legal history of their calls.
+/// The answers to lines are those of a legal history of their calls, into which lawful harvests alone are handed. Of each history
+/// that a run leaves, `vpg_desk::laws::headline` holds with no further premise: by its clause `opened`, game and diagram are a setting.
 pub fn answers_are_histories()
     ensures { AnswersAreHistories }
 {}

@@ -2,8 +2,10 @@
 ghost use Rattle.std.specs.Arc.{arc_value};
 ghost use Rattle.std.specs.Prelude.{◌≡◌, ◌⊎◌, true, IsErrOf};
 ghost use Rattle.vpg_diagram.specs.FeatureDiagram.{feature_count};
+ghost use Rattle.vpg_desk.specs.State.{IsOpened};
 ghost use Rattle.vpg_report.specs.Engine.{IsOpenRefusal};
 ghost use Rattle.vpg_report.specs.Output.{Outcome};
+ghost use Rattle.vpg_report.specs.Results.{Opens};
 ghost use Rattle.vpg_report.specs.Run.{answering, begun};
 ghost use Rattle.vpg_report.specs.Scene.{scene_of};
 
@@ -53,6 +55,9 @@ pub fn run<R: Source, W: Sink>(
 
     // What is written are the answers to the lines read, each by calls on the desk's book with the replies that it gives.
     ensures output { Outcome (answering (scene_of (arc_value game) (arc_value diagram))) (IsOpenRefusal (arc_value game) (arc_value diagram)) begun (R.remaining reader.old) (R.remaining reader.new) (W.contents writer.old) (W.contents writer.new) result }
+
+    // Unless it ends in Open, or in Memory, a desk was opened: game and diagram are a setting, of which the laws of `vpg_desk` speak.
+    ensures opened { Opens result (IsOpened (arc_value game) (arc_value diagram)) }
 
     // Read and Write come only where the device failed, or the reads were used up.
     ensures read { IsErrOf result RunFault.Read → (R.has_failed reader.new ≡ true) ⊎ (R.calls reader.new ≡ 16777216) }

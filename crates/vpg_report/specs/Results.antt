@@ -1,0 +1,10 @@
+-- What the result of a run says.
+use Rattle.std.specs.Prelude.{Result, Err, ⊤}
+use Rattle.vpg_report.specs.declared.run.RunFault.{RunFault}
+use Rattle.vpg_report.specs.declared.run.RunFault.TheVariants as stops
+
+-- This holds of a run that opened a desk: of each but one that ends in Open, or in Memory, which may have come before.
+abbrev pub Opens : Result (Unit {0}) RunFault → Type 0 → Type 0
+Opens (Err (stops.Open fault)) P = ⊤
+Opens (Err stops.Memory) P = ⊤
+Opens result P = P
