@@ -20,4 +20,8 @@ pub mod Enduring
 pub mod Settling
 pub mod Planned
 pub mod Within
+pub mod Replies
+pub mod LeastHarvests
+pub mod OneText
+pub mod OneRun
 pub mod Results

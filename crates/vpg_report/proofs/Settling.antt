@@ -157,7 +157,7 @@ all_stand present (c ∷ choices) h =
     same_first c choices = ap (λ (b : Bool). b || stands choices c) (same_self c)
 
 -- no choice of a list is missing in itself
-none_missing : (choices : List Literal) → first_missing choices choices ≡ None
+pub none_missing : (choices : List Literal) → first_missing choices choices ≡ None
 none_missing choices = all_stand choices choices (λ c s. s)
 
 never_refused : (desk : DeskState) (harvest : HarvestView) (b : Bool) (r : Refusal) → harvest.order.decisions ≡ decisions_of desk.book.present → b ≡ true →

@@ -10,5 +10,6 @@ pub mod Results
 pub mod Run
 pub mod Scene
 pub mod Script
+pub mod Settling
 pub mod Text
 pub mod View

@@ -1,5 +1,5 @@
 -- What the result of a run says.
-use Rattle.std.specs.Prelude.{Result, Err, ⊤}
+use Rattle.std.specs.Prelude.{Result, Ok, Err, ⊤}
 use Rattle.vpg_report.specs.declared.run.RunFault.{RunFault}
 use Rattle.vpg_report.specs.declared.run.RunFault.TheVariants as stops
 
@@ -8,3 +8,9 @@ abbrev pub Opens : Result (Unit {0}) RunFault → Type 0 → Type 0
 Opens (Err (stops.Open fault)) P = ⊤
 Opens (Err stops.Memory) P = ⊤
 Opens result P = P
+
+-- The run ends at the script's end or at a line's fault: neither a device nor memory stopped it.
+abbrev pub IsThrough : Result (Unit {0}) RunFault → Type 0
+IsThrough (Ok done) = ⊤
+IsThrough (Err (stops.Line n fault)) = ⊤
+IsThrough _ = ⊥

@@ -1,6 +1,7 @@
 //! Laws of reading and answering.
 ghost use Rattle.vpg_report.specs.Output.{ReadIsWhole};
 ghost use Rattle.vpg_report.specs.Run.{AnswersAreHistories};
+ghost use Rattle.vpg_report.specs.Settling.{SettledAnswersAreOne, SettledRunsAreOne};
 
 /// Lines that are read one by one are the lines of the whole text.
 pub fn read_lines_are_the_lines()
@@ -11,4 +12,12 @@ pub fn read_lines_are_the_lines()
 /// that a run leaves, `vpg_desk::laws::headline` holds with no further premise: by its clause `opened`, game and diagram are a setting.
 pub fn answers_are_histories()
     ensures { AnswersAreHistories }
+{}
+
+/// Whichever lawful harvests its lines made, a script is answered with one text, where every settle was answered `settled` and
+/// every harvest that a line kept passes `check`: what is written, and the line with a fault, are one function of the game, the
+/// diagram and the script.
+pub fn settled_answers_are_one()
+    ensures lines { SettledAnswersAreOne }
+    ensures runs { SettledRunsAreOne }
 {}

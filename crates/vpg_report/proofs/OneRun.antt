@@ -1,0 +1,193 @@
+-- A known script is read in one way, so a run through it is one.
+use Rattle.std.proofs.Common.{◌≡◌, ◌≢◌, ℕ, ◌+◌, ◌-◌, ◌<◌, ◌≤◌, Bool, true, false, List, [], ◌∷◌, ◌++◌, length, take, Option, Some, None, Result, Ok, Err, refl, sym, ap, ap₂, ◌∙◌, subst, arith, inl, inr, length-append}
+use Rattle.std.specs.Prelude.{⊤, ◌==◌, ◌&&◌, if◌then◌else◌, slice_index}
+use Rattle.std.specs.List.{list_all, AllByRecursion}
+use Rattle.std.specs.Str.Lines.{strip_carriage_return}
+use Rattle.std.proofs.lemmas.Bool.{lt-ltb}
+use Rattle.std.proofs.lemmas.List.{length-take}
+use Rattle.vpg_report.specs.Lines.{is_within_line, IsUnended, BeginsTooLong}
+use Rattle.vpg_report.specs.Output.{Machine, Speaks, Answered, NextLine, ReadLines, Wrote, IsEmptyKnown, BeginsFaulty, FaultyKnown, Outcome}
+use Rattle.vpg_report.specs.Results.{IsThrough}
+use Rattle.vpg_report.specs.Run.{Between, begun}
+use Rattle.vpg_report.specs.Settling.{settling, SettledRunsAreOne}
+use Rattle.vpg_report.specs.Scene.{Scene}
+use Rattle.vpg_report.specs.Script.{Said, said, said_by, words, longest_line}
+use Rattle.vpg_report.specs.declared.command.LineFault.{LineFault}
+use Rattle.vpg_report.specs.declared.command.LineFault.TheVariants as faults
+use Rattle.vpg_report.specs.declared.run.RunFault.{RunFault}
+use Rattle.vpg_report.specs.declared.run.RunFault.TheVariants as stops
+use Rattle.vpg_report.proofs.OneText.{lines_one}
+
+-- ---- the first line of a text
+
+both : (a b : Bool) → (a && b) ≡ true → (a ≡ true) × (b ≡ true)
+both true b h = (refl, h)
+both false b h = absurd cc
+
+-- a line feed isn't within a line
+not_within : (b : ℕ) (line : List ℕ) → b ≡ 10 → IsUnended (b ∷ line) → ⊥
+not_within b line is h = absurd (cc (subst (λ (c : ℕ). is_within_line c ≡ true) is (both (is_within_line b) (list_all is_within_line line) h).0))
+
+behind : (b : ℕ) (line : List ℕ) → IsUnended (b ∷ line) → IsUnended line
+behind b line h = (both (is_within_line b) (list_all is_within_line line) h).1
+
+head_of : (a b : ℕ) (xs ys : List ℕ) → a ∷ xs ≡ b ∷ ys → a ≡ b
+head_of a b xs ys e = cc e
+
+tail_of : (a b : ℕ) (xs ys : List ℕ) → a ∷ xs ≡ b ∷ ys → xs ≡ ys
+tail_of a b xs ys e = cc e
+
+one_front : (front other more rest : List ℕ) → IsUnended front → IsUnended other → front ++ 10 ∷ more ≡ other ++ 10 ∷ rest → (front ≡ other) × (more ≡ rest)
+one_front [] [] more rest h k e = (refl, tail_of 10 10 more rest e)
+one_front [] (b ∷ other) more rest h k e = absurd (not_within b other (sym (head_of 10 b more (other ++ 10 ∷ rest) e)) k)
+one_front (a ∷ front) [] more rest h k e = absurd (not_within a front (head_of a 10 (front ++ 10 ∷ more) rest e) h)
+one_front (a ∷ front) (b ∷ other) more rest h k e =
+    let same : (front ≡ other) × (more ≡ rest) = one_front front other more rest (behind a front h) (behind b other k) (tail_of a b (front ++ 10 ∷ more) (other ++ 10 ∷ rest) e) in
+    (ap₂ (λ (x : ℕ) (xs : List ℕ). x ∷ xs) (head_of a b (front ++ 10 ∷ more) (other ++ 10 ∷ rest) e) same.0, same.1)
+
+-- a front without a line feed is no longer than the line
+short_front : (front line more rest : List ℕ) → IsUnended front → front ++ more ≡ line ++ 10 ∷ rest → length front ≤ length line
+short_front [] line more rest h e = omega arith
+short_front (a ∷ front) [] more rest h e = absurd (not_within a front (head_of a 10 (front ++ more) rest e) h)
+short_front (a ∷ front) (b ∷ line) more rest h e =
+    omega (arith, short_front front line more rest (behind a front h) (tail_of a b (front ++ more) (line ++ 10 ∷ rest) e))
+
+feed_ends : (front rest : List ℕ) → IsUnended (front ++ 10 ∷ rest) → ⊥
+feed_ends [] rest h = not_within 10 rest refl h
+feed_ends (a ∷ front) rest h = feed_ends front rest (behind a (front ++ 10 ∷ rest) h)
+
+next_one : (text line other more rest : List ℕ) → NextLine text line more → NextLine text other rest → (line ≡ other) × (more ≡ rest)
+next_one text line other more rest (inl a) (inl b) =
+    let same : (a.front ≡ b.front) × (more ≡ rest) = one_front a.front b.front more rest a.unended b.unended (sym a.text_is ∙ b.text_is) in
+    (a.line_is ∙ ap strip_carriage_return same.0 ∙ sym b.line_is, same.1)
+next_one text line other more rest (inl a) (inr b) = absurd (feed_ends a.front more (subst IsUnended (sym b.text_is ∙ a.text_is) b.unended))
+next_one text line other more rest (inr a) (inl b) = absurd (feed_ends b.front rest (subst IsUnended (sym a.text_is ∙ b.text_is) a.unended))
+next_one text line other more rest (inr a) (inr b) = (sym a.text_is ∙ b.text_is, a.rest_is ∙ sym b.rest_is)
+
+some_text : (front rest : List ℕ) → 0 < length (front ++ 10 ∷ rest)
+some_text front rest = omega (arith, length-append front (10 ∷ rest))
+
+no_line : (text line more : List ℕ) → text ≡ [] → NextLine text line more → ⊥
+no_line text line more is (inl a) = absurd (omega (arith, ap (λ (t : List ℕ). length t) (sym is ∙ a.text_is), some_text a.front more))
+no_line text line more is (inr a) = absurd (omega (arith, ap (λ (t : List ℕ). length t) (sym is ∙ a.text_is), a.some))
+
+-- ---- a line that is too long
+
+strip_length : (line : List ℕ) → length line ≤ length (strip_carriage_return line) + 1
+strip_length line = go (slice_index line (length line - 1) == 13)
+  where
+    go : (b : Bool) → length line ≤ length (if b then take (length line - 1) line else line) + 1
+    go true = omega (arith, length-take (length line - 1) line)
+    go false = omega arith
+
+long_said : (line : List ℕ) → 4096 < length line → said line ≡ Err faults.TooLong
+long_said line long = ap (λ (b : Bool). if b then Err faults.TooLong else said_by (words line)) (lt-ltb longest_line (length line) long)
+
+too_long_said : (text line more : List ℕ) → BeginsTooLong text → NextLine text line more → said line ≡ Err faults.TooLong
+too_long_said text line more begins (inl a) =
+    long_said line (omega (arith, begins.long, short_front begins.front a.front begins.rest more begins.unended (sym begins.text_is ∙ a.text_is), strip_length a.front, ap (λ (l : List ℕ). length l) a.line_is))
+too_long_said text line more begins (inr a) =
+    long_said line (omega (arith, begins.long, ap (λ (l : List ℕ). length l) (sym a.text_is ∙ begins.text_is), length-append begins.front begins.rest))
+
+-- ---- the lines that are read, and where they stop
+
+-- nothing is left, or a line with this fault
+abbrev Stops : Option LineFault → List ℕ → Type 0
+Stops None rest = rest ≡ []
+Stops (Some fault) rest = BeginsFaulty fault rest
+
+abbrev AreFaultless : List (List ℕ) → Type 0
+AreFaultless lines = AllByRecursion (λ line. (fault : LineFault) → said line ≢ Err fault) lines
+
+-- where a line without a fault comes, it doesn't stop
+goes_on : (text line more : List ℕ) (stop : Option LineFault) → NextLine text line more → ((fault : LineFault) → said line ≢ Err fault) → Stops stop text → ⊥
+goes_on text line more None next fine stops_here = no_line text line more stops_here next
+goes_on text line more (Some fault) next fine (inl (other, rest, (comes, is))) =
+    fine fault (ap said (next_one text line other more rest next comes).0 ∙ is)
+goes_on text line more (Some fault) next fine (inr (is, begins)) = fine faults.TooLong (too_long_said text line more begins next)
+
+fault_one : (text : List ℕ) (one other : LineFault) → BeginsFaulty one text → BeginsFaulty other text → one ≡ other
+fault_one text one other (inl (line, more, (comes, is))) (inl (last, rest, (next, are))) = cc (ap said (next_one text line last more rest comes next).0, is, are)
+fault_one text one other (inl (line, more, (comes, is))) (inr (are, begins)) = cc (too_long_said text line more begins comes, is, are)
+fault_one text one other (inr (is, begins)) (inl (last, rest, (next, are))) = cc (too_long_said text last rest begins next, is, are)
+fault_one text one other (inr (is, begins)) (inr (are, starts)) = is ∙ sym are
+
+not_empty : (text : List ℕ) (fault : LineFault) → text ≡ [] → BeginsFaulty fault text → ⊥
+not_empty text fault is (inl (line, more, (comes, said_is))) = no_line text line more is comes
+not_empty text fault is (inr (too_long, begins)) = absurd (omega (arith, begins.long, ap (λ (l : List ℕ). length l) (sym is ∙ begins.text_is), length-append begins.front begins.rest))
+
+stop_one : (text : List ℕ) (one other : Option LineFault) → Stops one text → Stops other text → one ≡ other
+stop_one text None None a b = refl
+stop_one text None (Some fault) a b = absurd (not_empty text fault a b)
+stop_one text (Some fault) None a b = absurd (not_empty text fault b a)
+stop_one text (Some one) (Some other) a b = ap (λ (f : LineFault). Some f) (fault_one text one other a b)
+
+read_one : (script : List ℕ) (lines others : List (List ℕ)) (rest left : List ℕ) (one other : Option LineFault) → ReadLines script lines rest → ReadLines script others left →
+    AreFaultless lines → AreFaultless others → Stops one rest → Stops other left → (lines ≡ others) × (one ≡ other)
+read_one script [] [] rest left one other a b fine well stop ends = (refl, stop_one script one other (subst (Stops one) (sym a) stop) (subst (Stops other) (sym b) ends))
+read_one script [] (line ∷ others) rest left one other a b fine well stop ends = absurd (goes_on script line b.0 one b.1 well.0 (subst (Stops one) (sym a) stop))
+read_one script (line ∷ lines) [] rest left one other a b fine well stop ends = absurd (goes_on script line a.0 other a.1 fine.0 (subst (Stops other) (sym b) ends))
+read_one script (line ∷ lines) (last ∷ others) rest left one other a b fine well stop ends =
+    let same : (line ≡ last) × (a.0 ≡ b.0) = next_one script line last a.0 b.0 a.1 b.1 in
+    let more : (lines ≡ others) × (one ≡ other) = read_one a.0 lines others rest left one other a.2 (subst (λ (t : List ℕ). ReadLines t others left) (sym same.1) b.2) fine.1 well.1 stop ends in
+    (ap₂ (λ (x : List ℕ) (xs : List (List ℕ)). x ∷ xs) same.0 more.0, more.1)
+
+-- ---- runs
+
+speaks_faultless : {S : Type 0} (serves : Machine S) (s new : S) (line text : List ℕ) (says : Said) → said line ≡ says → Speaks serves s says text new → (fault : LineFault) → said line ≢ Err fault
+speaks_faultless serves s new line text (Ok r) is speaks fault also = absurd (cc (is, also))
+speaks_faultless serves s new line text (Err f) is speaks fault also = absurd speaks
+
+answered_faultless : {S : Type 0} (serves : Machine S) (s new : S) (lines : List (List ℕ)) (text : List ℕ) → Answered serves s lines text new → AreFaultless lines
+answered_faultless serves s new [] text answered = tt
+answered_faultless serves s new (line ∷ lines) text answered =
+    (speaks_faultless serves s answered.0 line answered.1 (said line) refl answered.3, answered_faultless serves answered.0 new lines answered.2 answered.5)
+
+-- a run through a known script: its lines, their answers, and where it stops
+record Through (scene : Scene) (script before after : List ℕ) (lines : List (List ℕ)) (stop : Option LineFault) : Type 0 where
+  rest : List ℕ
+  read : ReadLines script lines rest
+  stops_at : Stops stop rest
+  new : Between
+  text : List ℕ
+  answered : Answered (settling scene) begun lines text new
+  written : after ≡ before ++ text
+
+through_one : (scene : Scene) (script before after later : List ℕ) (lines others : List (List ℕ)) (one other : Option LineFault) → Through scene script before after lines one →
+    Through scene script before later others other → (after ≡ later) × (lines ≡ others) × (one ≡ other)
+through_one scene script before after later lines others one other a b =
+    let same : (lines ≡ others) × (one ≡ other) = read_one script lines others a.rest b.rest one other a.read b.read (answered_faultless (settling scene) begun a.new lines a.text a.answered)
+    (answered_faultless (settling scene) begun b.new others b.text b.answered) a.stops_at b.stops_at in
+    let texts : (a.text ≡ b.text) × (a.new ≡ b.new) = lines_one scene begun lines a.text b.text a.new b.new a.answered
+    (subst (λ (ls : List (List ℕ)). Answered (settling scene) begun ls b.text b.new) (sym same.0) b.answered) in
+    (a.written ∙ ap (λ (t : List ℕ). before ++ t) texts.0 ∙ sym b.written, same.0, same.1)
+
+-- the result of a run through these lines, with this stop
+abbrev result_of : List (List ℕ) → Option LineFault → Result (Unit {0}) RunFault
+result_of lines None = Ok tt
+result_of lines (Some fault) = Err (stops.Line (length lines + 1) fault)
+
+module _ (scene : Scene) (script before after : List ℕ) (left : Option (List ℕ)) where
+  made : (lines : List (List ℕ)) (stop : Option LineFault) (rest : Option (List ℕ)) (new : Between) → Wrote (settling scene) begun new (Some script) rest (Some before) (Some after) lines →
+      ((r : List ℕ) → rest ≡ Some r → Stops stop r) → Through scene script before after lines stop
+  made lines stop None new wrote stops_here = absurd wrote.read
+  made lines stop (Some r) new wrote stops_here =
+      record { rest = r; read = wrote.read; stops_at = stops_here r refl; new = new; text = wrote.text; answered = wrote.answered; written = wrote.written }
+
+  through : (result : Result (Unit {0}) RunFault) → IsThrough result → Outcome (settling scene) (λ _. ⊤) begun (Some script) left (Some before) (Some after) result →
+      (lines : List (List ℕ)) × (stop : Option LineFault) × (Through scene script before after lines stop × (result ≡ result_of lines stop))
+  through (Ok done) is (lines, new, rest, (wrote, empty)) =
+      (lines, None, (made lines None rest new wrote (λ r here. subst IsEmptyKnown here empty), refl))
+  through (Err (stops.Line n fault)) is (lines, new, rest, (wrote, faulty, counted)) =
+      (lines, Some fault, (made lines (Some fault) rest new wrote (λ r here. subst (FaultyKnown fault) here faulty), ap (λ (k : ℕ). Err (stops.Line k fault)) counted))
+  through (Err stops.Read) is outcome = absurd is
+  through (Err stops.Write) is outcome = absurd is
+  through (Err (stops.Open fault)) is outcome = absurd is
+  through (Err stops.Memory) is outcome = absurd is
+
+pub settled_runs_are_one : SettledRunsAreOne
+settled_runs_are_one scene script before after later left rest result other whole ends all full =
+    let a = through scene script before after left result whole ends in
+    let b = through scene script before later rest other all full in
+    let same : (after ≡ later) × (a.0 ≡ b.0) × (a.1 ≡ b.1) = through_one scene script before after later a.0 b.0 a.1 b.1 a.2.0 b.2.0 in
+    (same.0, a.2.1 ∙ ap₂ (λ (ls : List (List ℕ)) (s : Option LineFault). result_of ls s) same.1 same.2 ∙ sym b.2.1)

@@ -1,0 +1,332 @@
+-- Settled answers are one text.
+use Rattle.std.proofs.Common.{◌≡◌, ◌≢◌, ℕ, ◌<◌, Bool, true, false, List, [], ◌∷◌, ◌++◌, length, get_or, Option, Some, None, Ok, Err, refl, sym, ap, ap₂, ◌∙◌, subst, inl, inr}
+use Rattle.std.specs.Prelude.{IfSome, map, not, if◌then◌else◌}
+use Rattle.std.specs.Bool.{one_answer}
+use Rattle.std.proofs.lemmas.List.{same_lists}
+use Rattle.std.proofs.lemmas.Option.{get_or_from_slice_get}
+use Rattle.vpg_guards.specs.Names.{index_of}
+use Rattle.vpg_guards.specs.Known.{kleene}
+use Rattle.vpg_guards.specs.declared.tri.Tri.{Tri}
+use Rattle.vpg_diagram.proofs.Lists.{All-back}
+use Rattle.vpg_measure.specs.Lifts.{raised}
+use Rattle.vpg_measure.specs.Orders.{other_table}
+use Rattle.vpg_measure.specs.TwoGames.{levels_for, arena_for}
+use Rattle.vpg_trail.specs.Page.{Which, Hopeful, Dual, Decision, Entry, literal_of, decisions_of, choices_of, table_of}
+use Rattle.vpg_desk.specs.Book.{Family, Book, Harvest, IsSettledPage, raises_of, next, Call, Decide, Retract, Undo, Redo, Keep, Forget, Order, Commit, Settled, Page, Reply, Changed, Undone, Redone, Spent, Ordered, Added, IsSettled, VerdictIs, PageIs, Refused, Refusal, OtherGame, first_missing, outdated_at, refuses_commit, IsReply}
+use Rattle.vpg_desk.specs.History.{Event, IsLegalFrom, book_after}
+use Rattle.vpg_desk.specs.Desk.{family_of}
+use Rattle.vpg_desk.specs.Lawful.{harvested}
+use Rattle.vpg_report.specs.Script as script
+use Rattle.vpg_report.specs.Script.{Said, Request, said}
+use Rattle.vpg_report.specs.Output.{Speaks, Answered}
+use Rattle.vpg_report.specs.Plan.{PlansUnder}
+use Rattle.vpg_report.specs.Text.{plan_text, show_text}
+use Rattle.vpg_report.specs.Held.{Held, undo_meant, redo_meant, harvest_kept, after_change, after_undo, after_redo, after_keep, after_forget, with_harvest, without_harvest}
+use Rattle.vpg_report.specs.Scene.{Scene, UnderKnown, IsShown, TellsKnown, table_in}
+use Rattle.vpg_report.specs.Answers.{Own, NoFeature, NoToken, NoHarvest, NoVertex, Checks, IsOf, IsLifted, IsPlanAnswer, vertex_of, call_or, first_call, Rest, Ends, Follows, Asks, TellsSettled, AsksSettled, TellsAdded, Sweeps, Keeps, Lifts, TellsChanged, TellsUndone, TellsRedone, TellsSpent, ShowsPage, TellsEntries, TellsProducts, TellsPlan, TellsPage, Continues, Begins}
+use Rattle.vpg_report.specs.Run.{Between, begun}
+use Rattle.vpg_report.specs.Settling.{settling, AreSettled, AreChecked, SettledAnswersAreOne}
+use Rattle.vpg_report.proofs.Planned.{known_is_one}
+use Rattle.vpg_report.proofs.Replies.{reply_one}
+use Rattle.vpg_report.proofs.LeastHarvests.{same_harvests, checked_are_one, settling_are_one}
+use Rattle.vpg_report.proofs.Settling.{none_missing}
+
+-- ---- texts of a page
+
+module _ (scene : Scene) (decisions : List Decision) where
+  under_one : {X : Type 0} (P Q : List Tri → Type 0) → ((known : List Tri) → P known → Q known → X) → UnderKnown scene decisions P → UnderKnown scene decisions Q → X
+  under_one P Q k a b =
+      k a.0 a.1.1 (subst Q (known_is_one scene.setting.lines (map literal_of decisions) b.0 a.0 b.1.0 a.1.0) b.1.1)
+
+  shown_one : (hopeful dual one other : List ℕ) → IsShown scene decisions hopeful dual one → IsShown scene decisions hopeful dual other → one ≡ other
+  shown_one hopeful dual one other =
+      under_one _ _ (λ known a b.
+      a.text_is ∙ ap₂ (λ (full settled : Bool). show_text scene.names scene.identifiers _ _ (map literal_of decisions) full settled hopeful dual)
+      (one_answer a.full b.full a.full_is b.full_is) (one_answer a.settled b.settled a.settled_is b.settled_is) ∙ sym b.text_is)
+
+  products_one : (one other : List ℕ) → TellsKnown scene decisions one → TellsKnown scene decisions other → one ≡ other
+  products_one one other = under_one _ _ (λ known a b. a ∙ sym b)
+
+  chosen_one : (known : List Tri) (hopeful dual one other : List ℕ) → PlansUnder scene known hopeful dual one → PlansUnder scene known hopeful dual other → one ≡ other
+  chosen_one known hopeful dual one other a b =
+      a.text_is ∙ ap (plan_text scene.identifiers) (same_lists a.chosen b.chosen (a.chosen_are.0 ∙ sym b.chosen_are.0) same) ∙ sym b.text_is
+    where
+      same : (v : ℕ) (d : Option ℕ) → v < length a.chosen → get_or a.chosen v d ≡ get_or b.chosen v d
+      same v d l =
+          let within : v < length (arena_for (kleene known) Hopeful scene.setting.game) = subst (λ (n : ℕ). v < n) a.chosen_are.0 l in
+          get_or_from_slice_get a.chosen v _ d (a.chosen_are.1 v within) ∙ sym (get_or_from_slice_get b.chosen v _ d (b.chosen_are.1 v within))
+
+  planned_one : (hopeful dual one other : List ℕ) → IsPlanAnswer scene decisions hopeful dual one → IsPlanAnswer scene decisions hopeful dual other → one ≡ other
+  planned_one hopeful dual one other (inl a) (inl b) = under_one _ _ (λ known p q. chosen_one known hopeful dual one other p q) a b
+  planned_one hopeful dual one other (inl a) (inr (inl b)) = absurd (under_one _ _ (λ known p q. q p.full) a b.0)
+  planned_one hopeful dual one other (inl a) (inr (inr b)) = absurd (under_one _ _ (λ known p q. q.1 p.settled) a b.0)
+  planned_one hopeful dual one other (inr (inl a)) (inl b) = absurd (under_one _ _ (λ known p q. p q.full) a.0 b)
+  planned_one hopeful dual one other (inr (inl a)) (inr (inl b)) = a.1 ∙ sym b.1
+  planned_one hopeful dual one other (inr (inl a)) (inr (inr b)) = absurd (under_one _ _ (λ known p q. p q.0) a.0 b.0)
+  planned_one hopeful dual one other (inr (inr a)) (inl b) = absurd (under_one _ _ (λ known p q. p.1 q.settled) a.0 b)
+  planned_one hopeful dual one other (inr (inr a)) (inr (inl b)) = absurd (under_one _ _ (λ known p q. q p.0) a.0 b.0)
+  planned_one hopeful dual one other (inr (inr a)) (inr (inr b)) = a.1 ∙ sym b.1
+
+-- ---- one lift
+
+module _ (scene : Scene) (decisions : List Decision) (hopeful dual : List ℕ) where
+  abbrev family : Family
+  family = family_of scene.setting
+
+  lifted_one : (table : Which) (v : ℕ) (one other : Harvest) → IsLifted scene.setting table v decisions hopeful dual one → IsLifted scene.setting table v decisions hopeful dual other → one ≡ other
+  lifted_one table v one other a b = same_harvests family decisions hopeful dual one other a.of_order b.of_order (both table lifted (a.other_stays ∙ sym b.other_stays))
+    where
+      lifted : harvested one table ≡ harvested other table
+      lifted = a.lifted
+          ∙ ap (λ (known : List Tri). raised (levels_for table scene.setting.game) (arena_for (kleene known) table scene.setting.game) (table_in hopeful dual table) v)
+          (known_is_one scene.setting.lines (map literal_of decisions) a.known b.known a.known_is b.known_is) ∙ sym b.lifted
+
+      both : (t : Which) → harvested one t ≡ harvested other t → harvested one (other_table t) ≡ harvested other (other_table t) → (which : Which) → harvested one which ≡ harvested other which
+      both Hopeful first second Hopeful = first
+      both Hopeful first second Dual = second
+      both Dual first second Hopeful = second
+      both Dual first second Dual = first
+
+-- ---- calls from one book
+
+module _ (scene : Scene) (held : Held) where
+  abbrev all : Family
+  all = family_of scene.setting
+
+  -- what the machine asks of calls
+  record Fits (book : Book) (calls : List Event) (new : Held) : Type 0 where
+    legal : IsLegalFrom all book calls
+    settled : AreSettled calls
+    checked : AreChecked scene new
+
+  abbrev IsOne : Book → Rest → Type 0
+  IsOne book P = (calls more : List Event) (text other : List ℕ) (new newer : Held) → P calls text new → P more other newer → Fits book calls new → Fits book more newer →
+      (calls ≡ more) × (text ≡ other) × (new ≡ newer)
+
+  ends : (book : Book) (answer : List ℕ) (after : Held) → IsOne book (Ends answer after)
+  ends book answer after calls more text other new newer a b fit fits = (a.0 ∙ sym b.0, a.1 ∙ sym b.1, a.2 ∙ sym b.2)
+
+  follows : (book : Book) (P : Reply → Rest) (reply : Reply) → IsOne book (P reply) → IsOne book (Follows scene held P reply)
+  follows book P (Refused r) one = ends book _ held
+  follows book P (Changed s) one = one
+  follows book P (Undone s) one = one
+  follows book P (Redone s) one = one
+  follows book P Spent one = one
+  follows book P (Ordered d h u) one = one
+  follows book P (Added n) one = one
+  follows book P (IsSettled b) one = one
+  follows book P (VerdictIs a b) one = one
+  follows book P (PageIs page) one = one
+
+  abbrev event : ℕ → Call → Reply → Event
+  event label call reply = record { session = label; call = call; reply = reply }
+
+  -- the first of the calls
+  record First (book : Book) (label : ℕ) (call : Call) (P : Reply → Rest) (calls : List Event) (text : List ℕ) (new : Held) : Type 0 where
+    reply : Reply
+    rest : List Event
+    is : calls ≡ event label call reply ∷ rest
+    told : IsReply all book call reply
+    settled : reply ≢ IsSettled false
+    goes : Follows scene held P reply rest text new
+    fits : Fits (next all book label call reply) rest new
+
+  first : (book : Book) (label : ℕ) (call : Call) (P : Reply → Rest) (calls : List Event) (text : List ℕ) (new : Held) →
+      Asks scene held label call P calls text new → Fits book calls new → First book label call P calls text new
+  first book label call P [] text new a fit = absurd a
+  first book label call P (e ∷ calls) text new a fit =
+      let same : e ≡ event label call e.reply = λ i. record { session = a.0 i; call = a.1 i; reply = e.reply } in
+      record {
+        reply = e.reply;
+        rest = calls;
+        is = ap (λ (x : Event). x ∷ calls) same;
+        told = subst (λ (c : Call). IsReply all book c e.reply) a.1 fit.legal.0;
+        settled = fit.settled.0;
+        goes = a.2;
+        fits = record { legal = subst (λ (x : Event). IsLegalFrom all (next all book x.session x.call x.reply) calls) same fit.legal.1; settled = fit.settled.1; checked = fit.checked };
+      }
+
+  asks : (book : Book) (label : ℕ) (call : Call) (P : Reply → Rest) → ((reply : Reply) → IsReply all book call reply → IsOne (next all book label call reply) (P reply)) → IsOne book (Asks scene held label call P)
+  asks book label call P one calls more text other new newer a b fit fits =
+      let f : First book label call P calls text new = first book label call P calls text new a fit in
+      let g : First book label call P more other newer = first book label call P more other newer b fits in
+      let same : g.reply ≡ f.reply = reply_one all book call g.reply f.reply g.told f.told in
+      let rest : (f.rest ≡ g.rest) × (text ≡ other) × (new ≡ newer) =
+      follows (next all book label call f.reply) P f.reply (one f.reply f.told) f.rest g.rest text other new newer f.goes
+      (subst (λ (r : Reply). Follows scene held P r g.rest other newer) same g.goes) f.fits (subst (λ (r : Reply). Fits (next all book label call r) g.rest newer) same g.fits) in
+      (f.is ∙ ap₂ (λ (r : Reply) (es : List Event). event label call r ∷ es) (sym same) rest.0 ∙ sym g.is, rest.1, rest.2)
+
+  -- ---- after a line's replies
+
+  module _ (book : Book) where
+    tells_settled : (n : ℕ) (reply : Reply) → IsOne book (TellsSettled held n reply)
+    tells_settled n (IsSettled b) = ends book _ held
+    tells_settled n _ = λ calls more text other new newer a. absurd a
+
+    tells_added : (after : Held) (reply : Reply) → IsOne book (TellsAdded after reply)
+    tells_added after (Added n) = ends book _ after
+    tells_added after _ = λ calls more text other new newer a. absurd a
+
+    tells_changed : (reply : Reply) → IsOne book (TellsChanged held reply)
+    tells_changed (Changed s) = ends book _ (after_change held s)
+    tells_changed _ = λ calls more text other new newer a. absurd a
+
+    tells_undone : (reply : Reply) → IsOne book (TellsUndone held reply)
+    tells_undone (Undone s) = ends book _ (after_undo held s)
+    tells_undone _ = λ calls more text other new newer a. absurd a
+
+    tells_redone : (reply : Reply) → IsOne book (TellsRedone held reply)
+    tells_redone (Redone s) = ends book _ (after_redo held s)
+    tells_redone _ = λ calls more text other new newer a. absurd a
+
+    tells_spent : (answer : List ℕ) (after : Held) (reply : Reply) → IsOne book (TellsSpent answer after reply)
+    tells_spent answer after Spent = ends book answer after
+    tells_spent answer after _ = λ calls more text other new newer a. absurd a
+
+    tells_page : (Tells : List Entry → List ℕ → Type 0) → ((page : List Entry) (text other : List ℕ) → Tells page text → Tells page other → text ≡ other) → (reply : Reply) → IsOne book (TellsPage Tells held reply)
+    tells_page Tells one (PageIs page) = λ calls more text other new newer a b fit fits. (a.1 ∙ sym b.1, one page text other a.0 b.0, a.2 ∙ sym b.2)
+    tells_page Tells one _ = λ calls more text other new newer a. absurd a
+
+  asks_settled : (book : Book) (label : ℕ) (reply : Reply) → IsOne book (AsksSettled scene held label reply)
+  asks_settled book label (Added n) = asks book label Settled (TellsSettled held n) (λ reply told. tells_settled (next all book label Settled reply) n reply)
+  asks_settled book label _ = λ calls more text other new newer a. absurd a
+
+  -- ---- harvests
+
+  -- an order answers the present page's decisions and tables
+  record IsOrdered (book : Book) (decisions : List Decision) (hopeful dual : List ℕ) : Type 0 where
+    decisions_are : decisions ≡ decisions_of book.present
+    hopeful_is : hopeful ≡ table_of Hopeful book.present all.vertices
+    dual_is : dual ≡ table_of Dual book.present all.vertices
+
+  ordered : (book : Book) (decisions : List Decision) (hopeful dual : List ℕ) → IsReply all book Order (Ordered decisions hopeful dual) → IsOrdered book decisions hopeful dual
+  ordered book decisions hopeful dual (None, (refuses, told)) = record { decisions_are = cc told; hopeful_is = cc told; dual_is = cc told }
+  ordered book decisions hopeful dual (Some r, (refuses, told)) = absurd (cc told)
+
+  module _ (book : Book) (decisions : List Decision) (hopeful dual : List ℕ) (order : IsOrdered book decisions hopeful dual) where
+    abbrev Of : Harvest → Type 0
+    Of made = IsOf all decisions hopeful dual made
+
+    not_refused : (made : Harvest) → Of made → (r : Refusal) → IsReply all book (Commit made) (Refused r) → ⊥
+    not_refused made of r (None, (refuses, told)) = absurd (cc told)
+    not_refused made of r (Some other, (refuses, told)) = absurd (cc (refuses, fine))
+      where
+        fine : refuses_commit book made ≡ None
+        fine = ap₂ (λ (x : Bool) (ds : List Decision). if not x then Some OtherGame else outdated_at (first_missing (choices_of book.present) (map literal_of ds))) of.of_this_desk (of.same_decisions ∙ order.decisions_are)
+            ∙ ap outdated_at (none_missing (choices_of book.present))
+
+    told_settled : (after : Book) (label n : ℕ) (calls : List Event) (text : List ℕ) (new : Held) → Asks scene held label Settled (TellsSettled held n) calls text new → Fits after calls new → IsSettledPage all after.present
+    told_settled after label n calls text new a fit = go f.reply f.told f.settled f.goes
+      where
+        f : First after label Settled (TellsSettled held n) calls text new
+        f = first after label Settled (TellsSettled held n) calls text new a fit
+
+        go : (reply : Reply) → IsReply all after Settled reply → reply ≢ IsSettled false → Follows scene held (TellsSettled held n) reply f.rest text new → IsSettledPage all after.present
+        go (IsSettled true) (None, (refuses, told)) settled goes = told.1.0.0 (cc told.1.1)
+        go (IsSettled true) (Some r, (refuses, told)) settled goes = absurd (cc told)
+        go (IsSettled false) told settled goes = absurd (settled refl)
+        go (Refused r) (None, (refuses, told)) settled goes = absurd (cc told.1.1)
+        go (Refused r) (Some s, (refuses, told)) settled goes = absurd (cc refuses)
+        go _ told settled goes = absurd goes
+
+    -- where the commit of a harvest is followed by `settled`, it settles the page
+    settles : (made : Harvest) → Of made → (label : ℕ) (calls : List Event) (text : List ℕ) (new : Held) → Asks scene held label (Commit made) (AsksSettled scene held label) calls text new → Fits book calls new →
+        IsSettledPage all (book.present ++ raises_of all made book.present)
+    settles made of label calls text new a fit = go f.reply f.told f.goes f.fits
+      where
+        f : First book label (Commit made) (AsksSettled scene held label) calls text new
+        f = first book label (Commit made) (AsksSettled scene held label) calls text new a fit
+
+        go : (reply : Reply) → IsReply all book (Commit made) reply → Follows scene held (AsksSettled scene held label) reply f.rest text new → Fits (next all book label (Commit made) reply) f.rest new →
+            IsSettledPage all (book.present ++ raises_of all made book.present)
+        go (Refused r) told goes fits = absurd (not_refused made of r told)
+        go (Added n) told goes fits = told_settled (next all book label (Commit made) (Added n)) label n f.rest text new goes fits
+        go _ told goes fits = absurd goes
+
+    swept : (label n : ℕ) → IsOne book (Sweeps scene held label n (Ordered decisions hopeful dual))
+    swept label n calls more text other new newer a b fit fits =
+        let same : b.0 ≡ a.0 = settling_are_one all decisions hopeful dual book.present (ap (map literal_of) order.decisions_are) order.hopeful_is order.dual_is b.0 a.0 b.1.of_order a.1.of_order
+        (settles b.0 b.1.of_order label more other newer b.2 fits) (settles a.0 a.1.of_order label calls text new a.2 fit) in
+        asks book label (Commit a.0) (AsksSettled scene held label) (λ reply told. asks_settled (next all book label (Commit a.0) reply) label reply) calls more text other new newer a.2
+        (subst (λ (m : Harvest). Asks scene held label (Commit m) (AsksSettled scene held label) more other newer) same b.2) fit fits
+
+    checks_last : (made : Harvest) (new : Held) → new ≡ with_harvest held made → AreChecked scene new → Checks all made
+    checks_last made new is checked =
+        (All-back (λ (h : Option Harvest). IfSome h (Checks all)) held.harvests (Some made ∷ []) (subst (λ (h : Held). AreChecked scene h) is checked)).0
+
+    kept : IsOne book (Keeps scene held (Ordered decisions hopeful dual))
+    kept calls more text other new newer a b fit fits =
+        let same : a.0 ≡ b.0 = checked_are_one all decisions hopeful dual a.0 b.0 a.1.of_order b.1.of_order (checks_last a.0 new a.2.2 fit.checked) (checks_last b.0 newer b.2.2 fits.checked) in
+        (a.2.0 ∙ sym b.2.0, a.2.1 ∙ sym b.2.1, a.2.2 ∙ ap (with_harvest held) same ∙ sym b.2.2)
+
+    lifted : (label : ℕ) (table : Which) (identifier : ℕ) → IsOne book (Lifts scene held label table identifier (Ordered decisions hopeful dual))
+    lifted label table identifier calls more text other new newer a b fit fits =
+        let here : b.0 ≡ a.0 = cc (a.2, b.2) in
+        let same : b.1 ≡ a.1 = lifted_one scene decisions hopeful dual table a.0 b.1 a.1 (subst (λ (v : ℕ). IsLifted scene.setting table v decisions hopeful dual b.1) here b.3) a.3 in
+        asks book label (Commit a.1) (TellsAdded held) (λ reply told. tells_added (next all book label (Commit a.1) reply) held reply) calls more text other new newer a.4
+        (subst (λ (m : Harvest). Asks scene held label (Commit m) (TellsAdded held) more other newer) same b.4) fit fits
+
+  -- ---- a line
+
+  module _ (book : Book) (label : ℕ) where
+    sweeps : (n : ℕ) (reply : Reply) → IsReply all book Order reply → IsOne (next all book label Order reply) (Sweeps scene held label n reply)
+    sweeps n (Ordered d h u) told = swept book d h u (ordered book d h u told) label n
+    sweeps n _ told = λ calls more text other new newer a. absurd a
+
+    keeps : (reply : Reply) → IsReply all book Order reply → IsOne (next all book label Order reply) (Keeps scene held reply)
+    keeps (Ordered d h u) told = kept book d h u (ordered book d h u told)
+    keeps _ told = λ calls more text other new newer a. absurd a
+
+    lifts : (table : Which) (identifier : ℕ) (reply : Reply) → IsReply all book Order reply → IsOne (next all book label Order reply) (Lifts scene held label table identifier reply)
+    lifts table identifier (Ordered d h u) told = lifted book d h u (ordered book d h u told) label table identifier
+    lifts table identifier _ told = λ calls more text other new newer a. absurd a
+
+    begins : (command : script.Command) (call : Call) → ((reply : Reply) → IsReply all book call reply → IsOne (next all book label call reply) (Continues scene held label command reply)) →
+        IsOne book (Begins scene held label command (Ok call))
+    begins command call = asks book label call (Continues scene held label command)
+
+    begins_or : {X : Type 0} (command : script.Command) (own : Own) (call : X → Call) (found : Option X) →
+        ((x : X) (reply : Reply) → IsReply all book (call x) reply → IsOne (next all book label (call x) reply) (Continues scene held label command reply)) →
+        IsOne book (Begins scene held label command (call_or own call found))
+    begins_or command own call None one = ends book _ held
+    begins_or command own call (Some x) one = begins command (call x) (one x)
+
+    serves : (command : script.Command) → IsOne book (Begins scene held label command (first_call scene held command))
+    serves (script.Select name) = begins_or (script.Select name) NoFeature (λ f. Decide f true) (index_of scene.names name) (λ f reply told. tells_changed _ reply)
+    serves (script.Exclude name) = begins_or (script.Exclude name) NoFeature (λ f. Decide f false) (index_of scene.names name) (λ f reply told. tells_changed _ reply)
+    serves (script.Retract name) = begins_or (script.Retract name) NoFeature Retract (index_of scene.names name) (λ f reply told. tells_changed _ reply)
+    serves (script.Undo s) = begins_or (script.Undo s) NoToken Undo (undo_meant held.undos s) (λ n reply told. tells_undone _ reply)
+    serves (script.Redo s) = begins_or (script.Redo s) NoToken Redo (redo_meant held.redos s) (λ n reply told. tells_redone _ reply)
+    serves (script.Keep s) = begins_or (script.Keep s) NoToken Keep (undo_meant held.undos (Some s)) (λ n reply told. tells_spent _ _ (after_keep held s) reply)
+    serves (script.Forget s) = begins_or (script.Forget s) NoToken Forget (redo_meant held.redos (Some s)) (λ n reply told. tells_spent _ _ (after_forget held s) reply)
+    serves (script.Lift table identifier) = begins_or (script.Lift table identifier) NoVertex (λ v. Order) (vertex_of scene identifier) (λ v. lifts table identifier)
+    serves script.Harvest = begins script.Harvest Order keeps
+    serves (script.Commit k) = begins_or (script.Commit k) NoHarvest Commit (harvest_kept held.harvests k) (λ made reply told. tells_added _ (without_harvest held k) reply)
+    serves (script.Settle n) = begins (script.Settle n) Order (sweeps _)
+    serves script.Show = begins script.Show Page (λ reply told. tells_page _ (ShowsPage scene) (λ page one other. shown_one scene (decisions_of page) _ _ one other) reply)
+    serves script.Trail = begins script.Trail Page (λ reply told. tells_page _ (TellsEntries scene) (λ page one other a b. a ∙ sym b) reply)
+    serves script.Products = begins script.Products Page (λ reply told. tells_page _ (TellsProducts scene) (λ page one other. products_one scene (decisions_of page) one other) reply)
+    serves script.Plan = begins script.Plan Page (λ reply told. tells_page _ (TellsPlan scene) (λ page one other. planned_one scene (decisions_of page) _ _ one other) reply)
+
+-- ---- lines
+
+module _ (scene : Scene) where
+  line_one : (old : Between) (s : Said) (text other : List ℕ) (new newer : Between) → Speaks (settling scene) old s text new → Speaks (settling scene) old s other newer → (text ≡ other) × (new ≡ newer)
+  line_one old (Ok None) text other new newer a b = (a.0 ∙ sym b.0, a.1 ∙ sym b.1)
+  line_one old (Ok (Some request)) text other new newer a b =
+      let one : (a.0 ≡ b.0) × (text ≡ other) × (new.held ≡ newer.held) =
+      serves scene old.held old.book request.label request.command a.0 b.0 text other new.held newer.held a.1.0 b.1.0
+      (record { legal = a.1.1; settled = a.1.3; checked = a.1.4 }) (record { legal = b.1.1; settled = b.1.3; checked = b.1.4 }) in
+      let book : new.book ≡ newer.book = a.1.2 ∙ ap (λ (es : List Event). book_after (family_of scene.setting) old.book es) one.0 ∙ sym b.1.2 in
+      (one.1, λ i. record { book = book i; held = one.2 i })
+  line_one old (Err fault) text other new newer a b = absurd a
+
+  pub lines_one : (old : Between) (lines : List (List ℕ)) (text other : List ℕ) (new newer : Between) → Answered (settling scene) old lines text new → Answered (settling scene) old lines other newer → (text ≡ other) × (new ≡ newer)
+  lines_one old [] text other new newer a b = (a.0 ∙ sym b.0, a.1 ∙ sym b.1)
+  lines_one old (line ∷ lines) text other new newer a b =
+      let first : (a.1 ≡ b.1) × (a.0 ≡ b.0) = line_one old (said line) a.1 b.1 a.0 b.0 a.3 b.3 in
+      let rest : (a.2 ≡ b.2) × (new ≡ newer) = lines_one a.0 lines a.2 b.2 new newer a.5 (subst (λ (m : Between). Answered (settling scene) m lines b.2 newer) (sym first.1) b.5) in
+      (a.4 ∙ ap₂ (λ (x y : List ℕ). x ++ y) first.0 rest.0 ∙ sym b.4, rest.1)
+
+pub settled_answers_are_one : SettledAnswersAreOne
+settled_answers_are_one scene lines text other new newer a b = lines_one scene begun lines text other new newer a b

@@ -1,0 +1,38 @@
+-- Runs in which each settle is answered `settled`, and each harvest that a line keeps passes `check`.
+use Rattle.std.specs.Prelude.{◌≡◌, ◌≢◌, ℕ, List, IfSome, Option, Some, Result, false, ⊤}
+use Rattle.std.specs.List.{AllByRecursion}
+use Rattle.vpg_desk.specs.Book.{IsSettled}
+use Rattle.vpg_desk.specs.History.{Event, IsLegalFrom, book_after}
+use Rattle.vpg_desk.specs.Desk.{family_of}
+use Rattle.vpg_report.specs.Answers.{Serves, Checks}
+use Rattle.vpg_report.specs.Held.{Held}
+use Rattle.vpg_report.specs.Output.{Machine, Answered, Outcome}
+use Rattle.vpg_report.specs.Results.{IsThrough}
+use Rattle.vpg_report.specs.Run.{Between, begun}
+use Rattle.vpg_report.specs.Scene.{Scene}
+use Rattle.vpg_report.specs.declared.run.RunFault.{RunFault}
+
+-- no page is told to be unsettled
+abbrev pub AreSettled : List Event → Type 0
+AreSettled calls = AllByRecursion (λ e. e.reply ≢ IsSettled false) calls
+
+-- each harvest that is held passes `check`
+abbrev pub AreChecked : Scene → Held → Type 0
+AreChecked scene held = AllByRecursion (λ h. IfSome h (Checks (family_of scene.setting))) held.harvests
+
+-- It answers, and so far each settle was answered `settled`, and each harvest that a line keeps passes `check`.
+abbrev pub settling : Scene → Machine Between
+settling scene old request text new =
+    (calls : List Event) × (Serves scene old.held request calls text new.held × IsLegalFrom (family_of scene.setting) old.book calls × (new.book ≡ book_after (family_of scene.setting) old.book calls)
+    × AreSettled calls × AreChecked scene new.held)
+
+-- Then the text, the book and what is held are one function of the scene and the lines, whichever lawful harvests the lines made.
+abbrev pub SettledAnswersAreOne : Type 0
+SettledAnswersAreOne = (scene : Scene) (lines : List (List ℕ)) (text other : List ℕ) (new newer : Between) →
+    Answered (settling scene) begun lines text new → Answered (settling scene) begun lines other newer → (text ≡ other) × (new ≡ newer)
+
+-- So are what a run writes and its result, where it goes through a known script (it was opened then, so no cause of a refusal matters).
+abbrev pub SettledRunsAreOne : Type 0
+SettledRunsAreOne = (scene : Scene) (script before after later : List ℕ) (left rest : Option (List ℕ)) (result other : Result (Unit {0}) RunFault) →
+    IsThrough result → Outcome (settling scene) (λ _. ⊤) begun (Some script) left (Some before) (Some after) result →
+    IsThrough other → Outcome (settling scene) (λ _. ⊤) begun (Some script) rest (Some before) (Some later) other → (after ≡ later) × (result ≡ other)
