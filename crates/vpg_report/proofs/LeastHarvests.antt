@@ -68,11 +68,21 @@ module _ (family : Family) (made : Harvest) (page : List Entry) where
   pub committed_value : (table : Which) (v : ℕ) → v < family.vertices → value_at table v page ≤ slice_index (harvested made table) v →
       value_at table v (page ++ raises_of family made page) ≡ slice_index (harvested made table) v
   committed_value Hopeful v l above =
-      omega (arith, value_at-append Hopeful v page (first ++ second), value_at-append Hopeful v first second, raises-other under page Dual made.dual family.vertices Hopeful v (inl refl),
-      raises-own under page Hopeful made.hopeful family.vertices v l above)
+      omega (
+        arith,
+        value_at-append Hopeful v page (first ++ second),
+        value_at-append Hopeful v first second,
+        raises-other under page Dual made.dual family.vertices Hopeful v (inl refl),
+        raises-own under page Hopeful made.hopeful family.vertices v l above,
+      )
   committed_value Dual v l above =
-      omega (arith, value_at-append Dual v page (first ++ second), value_at-append Dual v first second, raises-other under page Hopeful made.hopeful family.vertices Dual v (inl refl),
-      raises-own under page Dual made.dual family.vertices v l above)
+      omega (
+        arith,
+        value_at-append Dual v page (first ++ second),
+        value_at-append Dual v first second,
+        raises-other under page Hopeful made.hopeful family.vertices Dual v (inl refl),
+        raises-own under page Dual made.dual family.vertices v l above,
+      )
 
 -- ---- the least of an order
 
