@@ -28,6 +28,3 @@ pub use game::{GuardedGame, HIGHEST_PRIORITY};
 pub use levels::{Level, TOP_LIMIT, bound, odd_counts, top_within_limit};
 pub use player::Player;
 pub use vertex::Edge;
-
-#[cfg(test)]
-mod tests;

@@ -24,6 +24,3 @@ mod selection;
 pub use arena::Arena;
 pub use plain::PlainGame;
 pub use projection::{ProjectFault, project};
-
-#[cfg(test)]
-mod tests;

@@ -39,6 +39,3 @@ pub use shape::{Shape, prog};
 pub use table::Table;
 pub use verdict::Verdict;
 pub use which::Which;
-
-#[cfg(test)]
-mod tests;

@@ -26,6 +26,3 @@ mod showing;
 mod text;
 
 pub use showing::{PlanFault, plan, products, show, trail};
-
-#[cfg(test)]
-mod tests;

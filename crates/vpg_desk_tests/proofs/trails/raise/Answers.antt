@@ -1,8 +1,8 @@
 use Rattle.std.proofs.Common.{◌≡◌, ◌<◌, ◌∙◌, ℕ, List, length, slice_index, sym, ap, arith}
 use Rattle.vpg_trail.specs.Page.{Which, Hopeful, Dual, value_at, table_of, Entry as Step}
 use Rattle.vpg_trail.proofs.Tables.{tables_hold}
-use Rattle.vpg_trail.proofs.tests.raise.Goals as goal
-use Rattle.vpg_trail.proofs.tests.raise.Goals.{in-Hopeful, in-Dual}
+use Rattle.vpg_desk_tests.proofs.trails.raise.Goals as goal
+use Rattle.vpg_desk_tests.proofs.trails.raise.Goals.{in-Hopeful, in-Dual}
 
 within : (table : Which) (page : List Step) (values : List ℕ) (v m n : ℕ) → values ≡ table_of table page n → m ≡ n → v < m → v < length values
 within table page values v m n e q h = omega (arith, ap length e ∙ (tables_hold table page n 0).0)

@@ -3,7 +3,7 @@ use Rattle.std.proofs.lemmas.List.{take-map}
 use Rattle.vpg_trail.specs.Page.{Entry as Step}
 use Rattle.vpg_trail.specs.Shown.{entry_of}
 use Rattle.vpg_trail.specs.WellFormed.{LiftsStandAfter}
-use Rattle.vpg_trail.proofs.tests.retract.Goals as goal
+use Rattle.vpg_desk_tests.proofs.trails.retract.Goals as goal
 
 pub splice-requires-clause-lifts : goal.splice-requires-clause-lifts
 splice-requires-clause-lifts c =

@@ -2,7 +2,7 @@ use Rattle.std.proofs.Common.{List, ℕ}
 use Rattle.vpg_measure.specs.declared.which.Which.{Which}
 use Rattle.vpg_measure.specs.Lifts.{IsTableOf, IsBelowTable, IsProgressTable}
 use Rattle.vpg_measure.specs.Orders.{OrderView, IsOrder, IsRaised, order_table, order_levels, order_arena}
-use Rattle.vpg_measure.proofs.tests.settled.Goals as goal
+use Rattle.vpg_lift_tests.proofs.measures.settled.Goals as goal
 
 is_raised : (order : OrderView) (which : Which) (table : List ℕ) → IsOrder order → IsBelowTable (order_table which order) table →
     ((other : List ℕ) → IsTableOf (order_levels which order) (order_arena which order) other → IsProgressTable (order_levels which order) (order_arena which order) other →
