@@ -7,7 +7,7 @@ use Rattle.vpg_diagram.specs.FeatureDiagram.{Line, feature_count}
 use Rattle.vpg_game.specs.Game.{NamedGame}
 use Rattle.vpg_partial.specs.Known.{literal_of}
 use Rattle.vpg_partial.specs.TableLaws.{AreChoicesOf}
-use Rattle.vpg_measure.specs.Orders.{OrderView, HarvestView, IsOrder, IsSameOrder}
+use Rattle.vpg_measure.specs.Orders.{OrderView, HarvestView, IsOrder}
 use Rattle.vpg_trail.specs.Page.{Literal, stands, choices_of}
 use Rattle.vpg_desk.specs.Book.{Harvest, Commit, Added, Refused, Refusal, Outdated, first_missing, outdated_at, refuses_commit}
 use Rattle.vpg_desk.specs.Commit.{IsOrderOf, handed_in}
@@ -17,6 +17,7 @@ use Rattle.vpg_report.specs.Held.{harvest_kept, without_harvest}
 use Rattle.vpg_report.specs.Answers.{NoHarvest, own_text, refused_line, call_or, numbered}
 use Rattle.vpg_report.specs.Engine.{EngineState, TellsRefusal, AnswersTo}
 use Rattle.vpg_report.specs.EngineFields.{IsOwnHarvest, AreOwnHarvests, harvests_of}
+use Rattle.vpg_report.specs.Sweeping.{IsOfPage}
 use Rattle.vpg_report.proofs.Asked.{unasked, asked, refused}
 use Rattle.vpg_report.proofs.KeptHarvests.{kept_seen}
 
@@ -93,12 +94,12 @@ module _ (game : NamedGame) (diagram : NamedDiagram) where
   own_more [] h own is = (is, tt)
   own_more (x ∷ harvests) h own is = (own.0, own_more harvests h own.1 is)
 
-pub own_of_order : (game : NamedGame) (diagram : NamedDiagram) (order : OrderView) (harvest : HarvestView) → order.game ≡ game → order.diagram ≡ diagram → IsOrder order → IsSameOrder harvest.order order →
+pub own_of_order : (game : NamedGame) (diagram : NamedDiagram) (order : OrderView) (harvest : HarvestView) → order.game ≡ game → order.diagram ≡ diagram → IsOrder order → IsOfPage harvest.order order →
     IsOwnHarvest game diagram harvest
-own_of_order game diagram order harvest game_is diagram_is is_order same = record {
-  game = same.game ∙ game_is;
-  diagram = same.diagram ∙ diagram_is;
-  named = coe 0 1 (i. AreChoicesOf (diagram_is i).lines (map literal_of (sym same.decisions i))) is_order.named;
+own_of_order game diagram order harvest game_is diagram_is is_order page = record {
+  game = page.game ∙ game_is;
+  diagram = page.diagram ∙ diagram_is;
+  named = coe 0 1 (i. AreChoicesOf (diagram_is i).lines (map literal_of (sym page.decisions i))) is_order.named;
   each_named = subst (λ (d : NamedDiagram). length d.names ≡ feature_count d.lines) diagram_is is_order.diagram.each_named;
 }
 

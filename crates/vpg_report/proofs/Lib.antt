@@ -8,6 +8,7 @@ pub mod Settled
 pub mod Asked
 pub mod Shown
 pub mod Sweeps
+pub mod Swept
 pub mod Deciding
 pub mod Paged
 pub mod Counted

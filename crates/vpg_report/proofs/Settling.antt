@@ -11,9 +11,9 @@ use Rattle.vpg_partial.specs.TableLaws.{IsKnownTable}
 use Rattle.vpg_partial.proofs.Tables.{conflicts_stay}
 use Rattle.vpg_measure.specs.declared.which.Which.{Which}
 use Rattle.vpg_measure.specs.declared.which.Which.TheVariants.{Hopeful, Dual}
-use Rattle.vpg_measure.specs.Lifts.{IsProgressTable, IsBelowTable, after_rounds}
-use Rattle.vpg_measure.specs.Orders.{OrderView, HarvestView, IsOrder, IsSameOrder, order_table, harvest_table, order_levels, order_arena}
-use Rattle.vpg_measure.specs.TwoGames.{IsTableBelow, IsProgressOf}
+use Rattle.vpg_measure.specs.Lifts.{IsBelowTable}
+use Rattle.vpg_measure.specs.Orders.{OrderView, HarvestView, IsOrder, IsSettledHarvest, order_table}
+use Rattle.vpg_measure.specs.TwoGames.{IsTableBelow}
 use Rattle.vpg_measure.proofs.TwoGames.{arena_length}
 use Rattle.vpg_guards.specs.Formula.{Formula}
 use Rattle.vpg_desk.specs.Book.{Family, Harvest, Order, Ordered, Commit, Added, Settled, IsSettled, Refused, Refusal, first_missing, outdated_at, refuses_commit}
@@ -32,8 +32,8 @@ use Rattle.vpg_desk.specs.declared.fault.CommitFault.{CommitFault}
 use Rattle.vpg_desk.specs.declared.fault.CommitFault.TheVariants.{OtherGame, Outdated, Memory}
 use Rattle.vpg_trail.specs.Page.{Literal, Decision, same_literal, stands, decisions_of, choices_of}
 use Rattle.vpg_report.specs.Answers.{IsSwept, Checks, most_sweeps, sweeps_of, numbered, settled_text}
-use Rattle.vpg_measure.proofs.Rounds.{after_table, after_above, after_stays}
-use Rattle.vpg_report.proofs.Sweeps.{sums_rise, rounds_settle_or_move}
+use Rattle.vpg_report.specs.Sweeping.{IsSweptOrder}
+use Rattle.vpg_report.proofs.Swept.{progress_moves}
 
 -- an order's game and diagram are a setting
 pub order_setting : (order : OrderView) → IsOrder order → IsSetting (setting_between order.game order.diagram)
@@ -42,101 +42,81 @@ order_setting order is_order =
     (λ conflict. known_is_consistent order.diagram.lines (map literal_of order.decisions) order.known is_order.known
     (conflicts_stay order.diagram.lines [] (map literal_of order.decisions) (λ l within. absurd (omega (arith, within.1))) conflict))
 
--- the tables that the book sees are those that rounds leave
-pub made_tables : (order : OrderView) (harvest : HarvestView) (made : Harvest) (sweeps : ℕ) →
-    ((which : Which) → harvest_table which harvest ≡ after_rounds (order_levels which order) (order_arena which order) sweeps (order_table which order)) →
-    made.hopeful ≡ harvest.hopeful → made.dual ≡ harvest.dual →
-    (which : Which) → harvested made which ≡ after_rounds (order_levels which order) (order_arena which order) sweeps (order_table which order)
-made_tables order harvest made sweeps settled h d Hopeful = h ∙ settled Hopeful
-made_tables order harvest made sweeps settled h d Dual = d ∙ settled Dual
+module _ (order : OrderView) (harvest : HarvestView) (sweeps : ℕ) (is_order : IsOrder order) (swept_order : IsSweptOrder order sweeps harvest) where
+  -- the harvest as the book sees it
+  abbrev made : Harvest
+  made = handed_in true harvest
 
-module _ (order : OrderView) (made : Harvest) (sweeps : ℕ) (is_order : IsOrder order)
-    (ours : made.is_of_this_desk ≡ true) (decisions : made.decisions ≡ order.decisions)
-    (tables : (which : Which) → harvested made which ≡ after_rounds (order_levels which order) (order_arena which order) sweeps (order_table which order)) where
   above : (which : Which) → IsBelowTable (order_table which order) (harvested made which)
-  above which = subst (λ (t : List ℕ). IsBelowTable (order_table which order) t) (sym (tables which)) (after_above (order_levels which order) (order_arena which order) sweeps (order_table which order))
+  above Hopeful = swept_order.above Hopeful
+  above Dual = swept_order.above Dual
+
+  moves_to : (which : Which) (table : List ℕ) → IsTableBelow (kleene harvest.order.known) which (graph_of harvest.order.game) table → IsTableBelow (kleene order.known) which (graph_of order.game) table
+  moves_to which table is = coe 0 1 (i. IsTableBelow (kleene (swept_order.page.known i)) which (graph_of (swept_order.page.game i)) table) is
 
   below : (which : Which) → IsTableBelow (kleene order.known) which (graph_of order.game) (harvested made which)
-  below which = subst (λ (t : List ℕ). IsTableBelow (kleene order.known) which (graph_of order.game) t) (sym (tables which)) (record {
-    is_table = after_table (order_levels which order) (order_arena which order) sweeps (order_table which order) (is_order.below which).is_table;
-    below = λ other o p. after_stays (order_levels which order) (order_arena which order) sweeps (order_table which order) other (is_order.below which).is_table o p ((is_order.below which).below other o p);
-  })
+  below Hopeful = moves_to Hopeful harvest.hopeful (swept_order.lawful.below Hopeful)
+  below Dual = moves_to Dual harvest.dual (swept_order.lawful.below Dual)
 
   abbrev family : Family
   family = family_of (setting_between order.game order.diagram)
 
   known_made : IsKnownTable order.diagram.lines (map literal_of made.decisions) order.known
-  known_made = subst (λ ds. IsKnownTable order.diagram.lines (map literal_of ds) order.known) (sym decisions) is_order.known
+  known_made = subst (λ ds. IsKnownTable order.diagram.lines (map literal_of ds) order.known) (sym swept_order.page.decisions) is_order.known
 
   within : (which : Which) (v : ℕ) → v < length (graph_of order.game) → v < length (order_table which order)
   within which v l =
       subst (λ (n : ℕ). v < n) (sym ((is_order.below which).is_table.len ∙ arena_length Formula (kleene order.known) which (graph_of order.game))) l
 
-  -- one table is settled, or it moved
-  moves : (which : Which) → IsProgressOf (kleene order.known) which (graph_of order.game) (harvested made which) ⊎ (sum (order_table which order) + sweeps ≤ sum (harvested made which))
-  moves which =
-      go (rounds_settle_or_move (order_levels which order) (order_arena which order) sweeps (order_table which order) (is_order.below which).is_table)
-    where
-      same_made : harvested made which ≡ after_rounds (order_levels which order) (order_arena which order) sweeps (order_table which order)
-      same_made = tables which
+  checks : IsSettledHarvest harvest → Checks family made
+  checks settled = (
+    (order.known, (known_made, record { is_table = (below Hopeful).is_table; settled = progress_moves harvest.order order swept_order.page Hopeful harvest.hopeful (settled Hopeful) })),
+    (order.known, (known_made, record { is_table = (below Dual).is_table; settled = progress_moves harvest.order order swept_order.page Dual harvest.dual (settled Dual) })),
+  )
 
-      go : IsProgressTable (order_levels which order) (order_arena which order) (after_rounds (order_levels which order) (order_arena which order) sweeps (order_table which order)) ⊎
-          (sum (order_table which order) + sweeps ≤ sum (after_rounds (order_levels which order) (order_arena which order) sweeps (order_table which order))) →
-          IsProgressOf (kleene order.known) which (graph_of order.game) (harvested made which) ⊎ (sum (order_table which order) + sweeps ≤ sum (harvested made which))
-      go (inl progress) = inl (record {
-        is_table = (below which).is_table;
-        settled = subst (λ (t : List ℕ). IsProgressTable (order_levels which order) (order_arena which order) t) (sym same_made) progress;
-      })
-      go (inr moved) = inr (subst (λ (t : List ℕ). sum (order_table which order) + sweeps ≤ sum t) (sym same_made) moved)
-
-  moved_enough : IsProgressOf (kleene order.known) Hopeful (graph_of order.game) made.hopeful ⊎ (sum order.hopeful + sweeps ≤ sum made.hopeful) →
-      IsProgressOf (kleene order.known) Dual (graph_of order.game) made.dual ⊎ (sum order.dual + sweeps ≤ sum made.dual) →
-      (¬ (Checks family made)) → sum order.hopeful + sum order.dual + sweeps ≤ sum made.hopeful + sum made.dual
-  moved_enough (inl first) (inl second) fails = absurd (fails ((order.known, (known_made, first)), (order.known, (known_made, second))))
-  moved_enough (inr moved) second fails = omega (arith, moved, sums_rise order.dual made.dual (above Dual))
-  moved_enough (inl first) (inr moved) fails = omega (arith, moved, sums_rise order.hopeful made.hopeful (above Hopeful))
+  moved_enough : IsSettledHarvest harvest ⊎ (sum order.hopeful + sum order.dual + sweeps ≤ sum harvest.hopeful + sum harvest.dual) →
+      (¬ (Checks family made)) → sum order.hopeful + sum order.dual + sweeps ≤ sum harvest.hopeful + sum harvest.dual
+  moved_enough (inl settled) fails = absurd (fails (checks settled))
+  moved_enough (inr moved) fails = moved
 
   pub swept : IsSwept family sweeps order.decisions order.hopeful order.dual made
   swept = record {
     of_order = record {
-      of_this_desk = ours;
-      same_decisions = decisions;
+      of_this_desk = refl;
+      same_decisions = swept_order.page.decisions;
       lawful = harvests_are_lawful (setting_between order.game order.diagram) made order.known (order_setting order is_order) known_made below;
       hopeful_len = (below Hopeful).is_table.len ∙ arena_length Formula (kleene order.known) Hopeful (graph_of order.game);
       dual_len = (below Dual).is_table.len ∙ arena_length Formula (kleene order.known) Dual (graph_of order.game);
       hopeful_above = λ v l. (above Hopeful).1 v (within Hopeful v l);
       dual_above = λ v l. (above Dual).1 v (within Dual v l);
     };
-    moved = moved_enough (moves Hopeful) (moves Dual);
+    moved = moved_enough swept_order.moved;
   }
 
-pub swept_seen : (desk : DeskState) (order : OrderView) (harvest : HarvestView) (sweeps : ℕ) → order.game ≡ desk.game → order.diagram ≡ desk.diagram → IsOrder order → IsSameOrder harvest.order order →
-    ((which : Which) → harvest_table which harvest ≡ after_rounds (order_levels which order) (order_arena which order) sweeps (order_table which order)) →
+pub swept_seen : (desk : DeskState) (order : OrderView) (harvest : HarvestView) (sweeps : ℕ) → order.game ≡ desk.game → order.diagram ≡ desk.diagram → IsOrder order → IsSweptOrder order sweeps harvest →
     IsSwept (family_of (setting_of desk)) sweeps order.decisions order.hopeful order.dual (handed_in true harvest)
-swept_seen desk order harvest sweeps game diagram is_order same settled =
+swept_seen desk order harvest sweeps game diagram is_order swept_order =
     subst (λ (g : NamedGame). IsSwept (family_of (setting_between g desk.diagram)) sweeps order.decisions order.hopeful order.dual (handed_in true harvest)) game
     (subst (λ (d : NamedDiagram). IsSwept (family_of (setting_between order.game d)) sweeps order.decisions order.hopeful order.dual (handed_in true harvest)) diagram
-    (swept order (handed_in true harvest) sweeps is_order refl same.decisions (made_tables order harvest (handed_in true harvest) sweeps settled refl refl)))
+    (swept order harvest sweeps is_order swept_order))
 
 -- an order of the desk is swept, its harvest is committed, and the page is told to be settled or not
 pub settle_answers : (old new : EngineState) (session added : ℕ) (sweeps : Option ℕ) (order : OrderView) (harvest : HarvestView) (b : Bool) (before after : List ℕ) →
-    Replies old.desk Order (Ordered order.decisions order.hopeful order.dual) → order.game ≡ old.desk.game → order.diagram ≡ old.desk.diagram → IsOrder order → IsSameOrder harvest.order order →
-    ((which : Which) → harvest_table which harvest ≡ after_rounds (order_levels which order) (order_arena which order) (sweeps_of sweeps) (order_table which order)) →
+    Replies old.desk Order (Ordered order.decisions order.hopeful order.dual) → order.game ≡ old.desk.game → order.diagram ≡ old.desk.diagram → IsOrder order → IsSweptOrder order (sweeps_of sweeps) harvest →
     IsStep old.desk session (Commit (handed_in true harvest)) (Added added) new.desk → Replies new.desk Settled (IsSettled b) → new.held ≡ old.held → after ≡ before ++ settled_text b added →
     AnswersTo old (record { label = session; command = script.Settle sweeps }) before after new
-settle_answers old new session added sweeps order harvest b before after ordered game diagram is_order same settled step told held appended =
+settle_answers old new session added sweeps order harvest b before after ordered game diagram is_order swept_order step told held appended =
     settles old new session added sweeps order.decisions order.hopeful order.dual (handed_in true harvest) b before after ordered
-    (swept_seen old.desk order harvest (sweeps_of sweeps) game diagram is_order same settled) step told held appended
+    (swept_seen old.desk order harvest (sweeps_of sweeps) game diagram is_order swept_order) step told held appended
 
 -- an order of the desk is swept, and its harvest is kept
 pub harvest_answers : (old new : EngineState) (session n : ℕ) (order : OrderView) (harvest : HarvestView) (before after : List ℕ) →
-    Replies old.desk Order (Ordered order.decisions order.hopeful order.dual) → order.game ≡ old.desk.game → order.diagram ≡ old.desk.diagram → IsOrder order → IsSameOrder harvest.order order →
-    ((which : Which) → harvest_table which harvest ≡ after_rounds (order_levels which order) (order_arena which order) most_sweeps (order_table which order)) →
+    Replies old.desk Order (Ordered order.decisions order.hopeful order.dual) → order.game ≡ old.desk.game → order.diagram ≡ old.desk.diagram → IsOrder order → IsSweptOrder order most_sweeps harvest →
     new.desk ≡ old.desk → new.held ≡ with_harvest old.held (handed_in true harvest) → n ≡ length old.held.harvests + 1 → after ≡ before ++ numbered (codes "harvest") n →
     AnswersTo old (record { label = session; command = script.Harvest }) before after new
-harvest_answers old new session n order harvest before after ordered game diagram is_order same settled desk held counted appended =
+harvest_answers old new session n order harvest before after ordered game diagram is_order swept_order desk held counted appended =
     keeps old new session n order.decisions order.hopeful order.dual (handed_in true harvest) before after ordered
-    (swept_seen old.desk order harvest most_sweeps game diagram is_order same settled) desk held counted appended
+    (swept_seen old.desk order harvest most_sweeps game diagram is_order swept_order) desk held counted appended
 
 -- ---- what a harvest of the present page is not refused for
 

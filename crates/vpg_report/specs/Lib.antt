@@ -11,5 +11,6 @@ pub mod Run
 pub mod Scene
 pub mod Script
 pub mod Settling
+pub mod Sweeping
 pub mod Text
 pub mod View

@@ -19,6 +19,7 @@ use crate::held::{
 };
 use crate::serving::Server;
 use crate::showing::{PlanFault, plan, products, show, trail};
+use crate::sweeping::swept;
 use std::alloc::{AllocError, Global};
 use std::marker::Model;
 use std::sync::Arc;
@@ -232,7 +233,7 @@ impl Engine {
     {
         self.harvests.reserve(1)?;
         let order = self.desk.order(alloc)?;
-        let harvest = Harvest::alone(order, SWEEPS);
+        let harvest = swept(alloc, order, SWEEPS);
         self.harvests.push_reserved(Some(harvest));
         answer::numbered(b"harvest", self.harvests.len() as u64, out)
     }
@@ -270,7 +271,7 @@ impl Engine {
         ensures { OnOk result (AnswersTo self.old (record { label = session; command = Settle sweeps }) out.old.items out.new.items self.new) }
     {
         let order = self.desk.order(alloc)?;
-        let harvest = Harvest::alone(order, sweeps.unwrap_or(SWEEPS));
+        let harvest = swept(alloc, order, sweeps.unwrap_or(SWEEPS));
         let added = commit_present(&mut self.desk, alloc, harvest)?;
         answer::settled(self.desk.settled(), added, out)
     }

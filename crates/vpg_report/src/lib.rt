@@ -23,6 +23,7 @@ pub mod lines;
 pub mod run;
 pub mod serving;
 mod showing;
+mod sweeping;
 mod text;
 
 pub use showing::{PlanFault, plan, products, show, trail};

@@ -15,8 +15,8 @@ use Rattle.vpg_report.proofs.engine.Engine.harvest.Goals as goal
 pub invariant_of-self-2 : goal.invariant_of-self-2
 invariant_of-self-2 c =
     let e = c.self.inside in
-    let harvest = c.alone-harvest.result in
-    let own = own_of_order e.desk.game e.desk.diagram c.in_ok-order.order harvest c.in_ok-order.ensures.game c.in_ok-order.ensures.diagram c.in_ok-order.ensures.order c.alone-harvest.ensures.order in
+    let harvest = c.swept-harvest.result in
+    let own = own_of_order e.desk.game e.desk.diagram c.in_ok-order.order harvest c.in_ok-order.ensures.game c.in_ok-order.ensures.diagram c.in_ok-order.ensures.order c.swept-harvest.ensures.swept.page in
     let kept = c.push_reserved.ensures.items ∙ ap (λ (hs : List (Option HarvestView)). hs ++ Some harvest ∷ []) c.reserve.ensures.items in
     endures e _ c.self.invariant refl refl refl refl c.self.invariant.tokens
     (subst (λ (hs : List (Option HarvestView)). AreOwnHarvests e.desk.game e.desk.diagram hs) (sym kept) (own_more e.desk.game e.desk.diagram e.harvests.items harvest c.self.invariant.harvests own))
@@ -25,12 +25,12 @@ pub returns : goal.returns
 returns c =
     let e = c.self.inside in
     let old = engine_in e in
-    let harvest = c.alone-harvest.result in
+    let harvest = c.swept-harvest.result in
     let kept = c.push_reserved.ensures.items ∙ ap (λ (hs : List (Option HarvestView)). hs ++ Some harvest ∷ []) c.reserve.ensures.items in
     let holds : List (Option Harvest) → Held = λ hs. record { undos = old.held.undos; redos = old.held.redos; harvests = hs } in
     let counted : c.len.result ≡ length old.held.harvests + 1 =
     omega (arith, c.len.ensures, c.push_reserved.ensures.len, c.reserve.ensures.len, e.harvests.ok.0, length-map e.harvests.items (λ (h : Option HarvestView). option_map (handed_in true) h)) in
     on_view c.numbered.result _ old _ _ _ _ _ c.self.view_is
     (λ told. harvest_answers old _ c.args.session c.len.result c.in_ok-order.order harvest c.args.out.now.items _
-    c.in_ok-order.ensures.reply c.in_ok-order.ensures.game c.in_ok-order.ensures.diagram c.in_ok-order.ensures.order c.alone-harvest.ensures.order c.alone-harvest.ensures.settled refl
+    c.in_ok-order.ensures.reply c.in_ok-order.ensures.game c.in_ok-order.ensures.diagram c.in_ok-order.ensures.order c.swept-harvest.ensures.swept refl
     (ap holds (ap harvests_of kept ∙ seen_more e.harvests.items harvest)) counted told) c.numbered.ensures

@@ -1,8 +1,6 @@
-use Rattle.std.proofs.Common.{◌≡◌, ◌∙◌, ℕ, refl, sym, subst}
-use Rattle.vpg_measure.specs.declared.which.Which.{Which}
-use Rattle.vpg_measure.specs.Lifts.{after_rounds}
-use Rattle.vpg_measure.specs.Orders.{harvest_table, order_levels, order_arena, order_table}
+use Rattle.std.proofs.Common.{◌∙◌, ℕ, refl, sym, subst}
 use Rattle.vpg_report.specs.EngineFields.{engine_in}
+use Rattle.vpg_report.specs.Sweeping.{IsSweptOrder}
 use Rattle.vpg_report.proofs.Asked.{on_view}
 use Rattle.vpg_report.proofs.Counted.{after_commit}
 use Rattle.vpg_report.proofs.Enduring.{endures}
@@ -18,10 +16,9 @@ invariant_of-self-2 c =
 pub returns : goal.returns
 returns c =
     let order = c.in_ok-order.order in
-    let harvest = c.alone-harvest.result in
-    let swept = subst (λ (n : ℕ). (which : Which) → harvest_table which harvest ≡ after_rounds (order_levels which order) (order_arena which order) n (order_table which order))
-    (c.unwrap_or.ensures ∙ rounds_given c.args.sweeps) c.alone-harvest.ensures.settled in
+    let harvest = c.swept-harvest.result in
+    let swept_order = subst (λ (n : ℕ). IsSweptOrder order n harvest) (c.unwrap_or.ensures ∙ rounds_given c.args.sweeps) c.swept-harvest.ensures.swept in
     on_view c.settled-2.result _ (engine_in c.self.inside) _ _ _ _ _ c.self.view_is
     (λ told. settle_answers (engine_in c.self.inside) _ c.args.session c.in_ok-added.added c.args.sweeps order harvest c.settled.result c.args.out.now.items _
-    c.in_ok-order.ensures.reply c.in_ok-order.ensures.game c.in_ok-order.ensures.diagram c.in_ok-order.ensures.order c.alone-harvest.ensures.order swept
+    c.in_ok-order.ensures.reply c.in_ok-order.ensures.game c.in_ok-order.ensures.diagram c.in_ok-order.ensures.order swept_order
     (c.in_ok-added.ensures.accepted c.args.session) c.settled.ensures.reply refl told) c.settled-2.ensures
