@@ -1,6 +1,5 @@
 -- Each step of the table is the step of its name.
-use Rattle.std.proofs.Common.{◌≡◌, ℕ, zero, suc, ◌+◌, ◌-◌, ◌%◌, ◌^◌, ◌<◌, ◌≤◌, max, true, cond, List, [], ◌∷◌, ◌++◌, length, set, get_or, refl, sym, ap, ◌∙◌, subst, arith, take, drop, add-one}
-use Rattle.std.proofs.lemmas.List.{take_all}
+use Rattle.std.proofs.Common.{◌≡◌, ℕ, zero, suc, ◌+◌, ◌-◌, ◌%◌, ◌^◌, ◌<◌, max, true, cond, List, [], ◌∷◌, ◌++◌, length, set, get_or, refl, sym, ap, ◌∙◌, subst, arith, take, drop, add-one}
 use Rattle.std.proofs.lemmas.List.Elements.{All-from_get_or}
 use Rattle.std.specs.Prelude.{slice_index, All}
 use Rattle.std.proofs.lemmas.Bool.Decides.{nat_tests}
@@ -13,7 +12,7 @@ use Rattle.vpg_board.specs.declared.lifter.Lifter.{Lifter}
 use Rattle.vpg_board.specs.Places.{places, values, lift_at, AreProgress, Below}
 use Rattle.vpg_board.specs.Lifters.{opener, spent, sees, claims, splits, newcomer, both}
 use Rattle.vpg_board.specs.Run.{BoardState, Move, load, raise, claim, split, join, lifter, IsHere, opened, after, May, Reached, raised_to}
-use Rattle.vpg_board.specs.Rule.{HasSeen, MeasuresKept, times, total}
+use Rattle.vpg_board.specs.Rule.{HasSeen, MeasuresKept, times}
 use Rattle.vpg_board.specs.Seats.{IsSafe, AreSeatClaims}
 use Rattle.vpg_board.specs.Steps.{Shows, IsBoard, Loads, Raises, Claims, Looks}
 use Rattle.vpg_board.proofs.Totals.{at_get, at_below}

@@ -1,11 +1,11 @@
 -- The kept successors of a vertex are distinct, since a game's edges at a vertex lead to distinct vertices.
-use Rattle.std.proofs.Common.{◌≡◌, ◌≢◌, ℕ, zero, suc, ◌<◌, ◌⊎◌, inl, inr, Bool, true, false, List, [], ◌∷◌, length, map, filter, get_or, refl, sym, ap, ◌∙◌, subst, Some, arith}
+use Rattle.std.proofs.Common.{◌≡◌, ◌≢◌, ℕ, zero, suc, ◌<◌, ◌⊎◌, inl, inr, Bool, true, false, List, [], ◌∷◌, length, map, filter, get_or, refl, sym, ap, subst, Some, arith}
 use Rattle.std.proofs.lemmas.Bool.{cases_Bool}
 use Rattle.vpg_guards.specs.Formula.{Formula}
 use Rattle.vpg_guards.specs.declared.tri.Tri.{Tri}
 use Rattle.vpg_guards.specs.Known.{kleene}
 use Rattle.vpg_game.specs.Guarded.{GuardedEdge}
-use Rattle.vpg_game.specs.Game.{NamedVertex, Lacks, AreEdges, AreVertices, unnamed, graph_of}
+use Rattle.vpg_game.specs.Game.{NamedVertex, Lacks, AreEdges, AreVertices, unnamed}
 use Rattle.vpg_hope.specs.Arena.{vertex_at}
 use Rattle.vpg_hope.specs.Hope.{keeps_in_hope}
 use Rattle.vpg_game.specs.Players.{opponent}

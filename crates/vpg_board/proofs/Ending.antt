@@ -1,15 +1,13 @@
 -- The tables that a board ends with.
-use Rattle.std.proofs.Common.{◌≡◌, ℕ, suc, ◌+◌, ◌<◌, ◌≤◌, List, ◌∷◌, ◌++◌, length, take, drop, refl, sym, ap, ◌∙◌, subst, arith, add-one}
-use Rattle.std.specs.Prelude.{slice_index}
+use Rattle.std.proofs.Common.{◌≡◌, ℕ, ◌+◌, ◌<◌, List, ◌∷◌, ◌++◌, length, take, drop, sym, ap, ◌∙◌, subst, arith, add-one}
 use Rattle.std.proofs.lemmas.List.{take_all, take_at, drop_at, length-drop, length-append}
 use Rattle.vpg_guards.specs.Formula.{Formula}
 use Rattle.vpg_guards.specs.Known.{kleene}
 use Rattle.vpg_game.specs.Game.{graph_of}
 use Rattle.vpg_measure.specs.declared.which.Which.{Which}
 use Rattle.vpg_measure.specs.declared.which.Which.TheVariants.{Hopeful, Dual}
-use Rattle.vpg_measure.specs.Lifts.{IsTableOf, IsProgressTable, IsBelowTable}
-use Rattle.vpg_measure.specs.Least.{IsBelowProgressTables}
-use Rattle.vpg_measure.specs.Orders.{OrderView, IsOrder, IsRaised, order_table, order_levels, order_arena}
+use Rattle.vpg_measure.specs.Lifts.{IsBelowTable}
+use Rattle.vpg_measure.specs.Orders.{OrderView, IsOrder, IsRaised}
 use Rattle.vpg_measure.specs.TwoGames.{IsProgressOf}
 use Rattle.vpg_measure.proofs.OrderLemmas.{arena_count}
 use Rattle.vpg_measure.proofs.TwoGames.{tops}

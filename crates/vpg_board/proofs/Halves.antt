@@ -1,6 +1,6 @@
 -- The two tables of an order, one behind the other, and lifts on them.
-use Rattle.std.proofs.Common.{◌≡◌, ◌≢◌, ℕ, zero, suc, ◌+◌, ◌-◌, ◌<◌, ◌≤◌, cond, true, false, Bool, List, [], ◌∷◌, ◌++◌, length, map, take, drop, set, get_or, refl, sym, ap, ◌∙◌, subst, arith, replicate}
-use Rattle.std.specs.Prelude.{slice_index, nat_lt, All}
+use Rattle.std.proofs.Common.{◌≡◌, ℕ, zero, suc, ◌+◌, ◌-◌, ◌<◌, ◌≤◌, cond, true, false, Bool, List, [], ◌∷◌, ◌++◌, length, get_or, refl, sym, ap, ◌∙◌, subst, arith}
+use Rattle.std.specs.Prelude.{slice_index, nat_lt}
 use Rattle.std.proofs.lemmas.Bool.Decides.{nat_tests}
 use Rattle.std.proofs.lemmas.List.{get_or-take, get_or-drop, length-take-le, length-drop, take_at, drop_at, length-append}
 use Rattle.std.proofs.lemmas.List.Elements.{All-from_get_or, All-get_or}
@@ -12,7 +12,7 @@ use Rattle.vpg_game.specs.Game.{graph_of}
 use Rattle.vpg_hope.specs.Arena.{vertex_at}
 use Rattle.vpg_measure.specs.declared.which.Which.{Which}
 use Rattle.vpg_measure.specs.declared.which.Which.TheVariants.{Hopeful, Dual}
-use Rattle.vpg_measure.specs.Lifts.{IsTableOf, IsBelowTable, lift_of}
+use Rattle.vpg_measure.specs.Lifts.{IsTableOf, IsBelowTable}
 use Rattle.vpg_measure.specs.Orders.{OrderView, IsOrder, order_table, order_levels, order_arena}
 use Rattle.vpg_measure.specs.TwoGames.{IsProgressOf, top_for}
 use Rattle.vpg_measure.proofs.OrderLemmas.{arena_count, table_count}

@@ -1,6 +1,5 @@
 -- What holds of one lifter, by the rule of all.
-use Rattle.std.proofs.Common.{◌≡◌, ℕ, suc, ◌+◌, ◌<◌, ◌≤◌, ◌&&◌, true, cond, List, [], ◌∷◌, length, refl, sym, ap, ◌∙◌, subst, arith, ltb}
-use Rattle.std.specs.Prelude.{slice_index, All}
+use Rattle.std.proofs.Common.{◌≡◌, ℕ, suc, ◌+◌, ◌<◌, ◌≤◌, ◌&&◌, true, cond, List, [], ◌∷◌, refl, sym, ap, ◌∙◌, subst, arith, ltb}
 use Rattle.std.proofs.lemmas.Bool.Decides.{nat_tests}
 use mathlib.Core.Option.{some}
 use mathlib.Core.Logic.{dite}

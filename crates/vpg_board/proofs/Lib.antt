@@ -8,3 +8,7 @@ pub mod Atomic
 pub mod Ending
 pub mod Distinct
 pub mod Loads
+pub mod Working
+pub mod Sharing
+pub mod Moving
+pub mod Swept

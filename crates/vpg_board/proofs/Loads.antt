@@ -1,5 +1,5 @@
 -- A lift loads one successor after another.
-use Rattle.std.proofs.Common.{◌≡◌, ◌≢◌, ℕ, zero, suc, ◌+◌, ◌-◌, ◌<◌, ◌≤◌, max, min, List, [], ◌∷◌, ◌++◌, length, map, take, set, get_or, refl, sym, ap, ◌∙◌, subst, arith, length-set, add-one}
+use Rattle.std.proofs.Common.{◌≡◌, ◌≢◌, ℕ, zero, suc, ◌+◌, ◌-◌, ◌<◌, ◌≤◌, max, List, [], ◌∷◌, ◌++◌, length, map, take, set, get_or, refl, sym, ap, ◌∙◌, subst, arith, length-set}
 use Rattle.std.proofs.lemmas.List.{get_or-set_same, get_or-set_other, take_all, take_more}
 use Rattle.std.specs.Prelude.{slice_index, All}
 use Rattle.vpg_game.specs.declared.player.Player.{Player}
@@ -20,7 +20,7 @@ use Rattle.vpg_board.specs.Seats.{SeesMore, IsSafe}
 use Rattle.vpg_board.specs.Loading.{best_of}
 use Rattle.vpg_board.proofs.Tables.{below_self, below_trans, below_write}
 use Rattle.vpg_board.proofs.Halves.{table_at, place_less, lift_rises, safe_table}
-use Rattle.vpg_board.proofs.Distinct.{successors_apart, Apart}
+use Rattle.vpg_board.proofs.Distinct.{successors_apart}
 
 pub sees_none : (v : Lifter) → SeesMore v v
 sees_none v = record { same = refl; wide = refl; more = below_self v.seen }

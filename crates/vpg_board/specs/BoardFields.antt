@@ -1,6 +1,6 @@
 -- A board by its fields.
-use Rattle.std.specs.Prelude.{◌≡◌, ℕ, ◌+◌}
-use Rattle.vpg_measure.specs.Orders.{OrderView, IsOrder}
+use Rattle.std.specs.Prelude.{◌≡◌, ◌+◌}
+use Rattle.vpg_measure.specs.Orders.{IsOrder}
 use Rattle.vpg_board.specs.declared.board.Board.TheInside.{Inside}
 use Rattle.vpg_board.specs.Places.{vertices, places}
 use Rattle.vpg_board.specs.Seats.{BoardView}

@@ -6,3 +6,4 @@ pub mod Seats
 pub mod BoardFields
 pub mod Steps
 pub mod Loading
+pub mod Worked

@@ -4,7 +4,7 @@ use Rattle.atomic_table.specs.Seated.{TableId}
 use Rattle.vpg_measure.specs.Orders.{OrderView}
 use Rattle.vpg_board.specs.declared.lifter.Lifter.{Lifter}
 use Rattle.vpg_board.specs.Places.{places, values, AreProgress, Below}
-use Rattle.vpg_board.specs.Lifters.{opener, splits, newcomer, both}
+use Rattle.vpg_board.specs.Lifters.{opener}
 use Rattle.vpg_board.specs.Rule.{times}
 
 -- which board it is, and the order that it is of

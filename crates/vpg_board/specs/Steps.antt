@@ -1,5 +1,5 @@
 -- The rule of the shared words: they and the seats are a board that some run reached. And what each atomic step tells.
-use Rattle.std.specs.Prelude.{◌≡◌, ℕ, ◌-◌, ◌<◌, ◌≤◌, max, List, ◌∷◌, slice_index, All}
+use Rattle.std.specs.Prelude.{◌≡◌, ℕ, ◌-◌, ◌<◌, ◌≤◌, max, ◌∷◌, slice_index, All}
 use Rattle.atomic_table.specs.Table.{State, Me, Step}
 use Rattle.vpg_measure.specs.Orders.{OrderView}
 use Rattle.vpg_board.specs.declared.lifter.Lifter.{Lifter}

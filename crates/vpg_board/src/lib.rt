@@ -19,7 +19,9 @@ pub mod laws;
 pub mod lifter;
 pub mod seat;
 mod steps;
+pub mod sweeping;
 
 pub use board::Board;
 pub use lifter::Lifter;
 pub use seat::{Seat, TooManyLifters};
+pub use sweeping::{Gate, OpenGate, sweep};

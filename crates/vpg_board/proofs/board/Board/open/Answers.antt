@@ -1,7 +1,7 @@
 use Rattle.std.proofs.Common.{◌≡◌, ℕ, [], ◌∷◌, List, sym, ap, ◌∙◌, subst, refl, length, arith, false, true, true≢false}
 use Rattle.atomic_table.specs.Table.{opening}
 use Rattle.vpg_board.specs.Lifters.{opener}
-use Rattle.vpg_board.specs.Places.{values, places, vertices}
+use Rattle.vpg_board.specs.Places.{values}
 use Rattle.vpg_board.specs.Steps.{IsBoard}
 use Rattle.vpg_board.specs.Seats.{IsSeat, IsSafe}
 use Rattle.vpg_board.specs.declared.lifter.Lifter.{Lifter}

@@ -1,15 +1,14 @@
 use Rattle.std.proofs.lemmas.Bool.{ltb-true}
-use Rattle.std.proofs.Common.{◌≡◌, ℕ, ◌+◌, ◌-◌, ◌<◌, ◌≤◌, length, map, List, ◌++◌, ◌∷◌, [], max, sym, ap, ◌∙◌, subst, arith, get_or, All}
+use Rattle.std.proofs.Common.{◌≡◌, ℕ, ◌+◌, ◌-◌, ◌<◌, ◌≤◌, length, List, ◌++◌, ◌∷◌, [], sym, ap, ◌∙◌, subst, arith, get_or, All}
 use Rattle.std.specs.Prelude.{slice_index}
 use Rattle.vpg_game.specs.declared.levels.Level.{Level}
 use Rattle.vpg_game.specs.Levels.{top_of}
 use Rattle.vpg_hope.specs.Arena.{Vertex, vertex_at}
-use Rattle.vpg_measure.specs.Lifts.{IsTableOf, best_for, lift_of}
-use Rattle.vpg_measure.specs.Orders.{OrderView, IsOrder, order_levels, order_arena}
+use Rattle.vpg_measure.specs.Lifts.{best_for}
+use Rattle.vpg_measure.specs.Orders.{IsOrder, order_arena}
 use Rattle.vpg_measure.proofs.OrderLemmas.{arena_count}
 use Rattle.vpg_board.specs.declared.lifter.Lifter.{Lifter}
 use Rattle.vpg_board.specs.Places.{vertices, places, place_of, table_in, lift_in, lift_at}
-use Rattle.vpg_board.specs.Seats.{SeesMore, IsSafe}
 use Rattle.vpg_board.proofs.Atomic.{loads, raises}
 use Rattle.vpg_board.proofs.Halves.{place_less, lift_place}
 use Rattle.vpg_board.proofs.Loads.{after_load, best_within, lift_from, after_raise}

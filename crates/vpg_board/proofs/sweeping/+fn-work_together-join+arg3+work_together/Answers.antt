@@ -1,0 +1,22 @@
+use Rattle.std.proofs.Common.{subst}
+use denote.Param.Send.{sendable}
+use Rattle.std.proofs.Crossing.{crosses}
+use Rattle.vpg_board.specs.declared.lifter.Lifter.{Lifter}
+use Rattle.vpg_board.specs.Worked.{HasWorked}
+use Rattle.vpg_board.proofs.Sharing.{board_sync}
+use Rattle.vpg_board.proofs.Working.{has_worked_both}
+use Rattle.vpg_board.proofs.seat.Seat.TheSendSync as seat
+use Rattle.vpg_board.proofs.sweeping.+fn-work_together-join+arg3+work_together.Goals as goal
+
+pub join-other-requires-send-F : goal.join-other-requires-send-F
+join-other-requires-send-F g t c κs within = search (board_sync, seat.the_send, crosses, sendable) depth 60 fits 20000
+
+pub returns : goal.returns
+returns g t c =
+    let split = c.in-Some.ensures.split in
+    let j = c.join.ensures in
+    let both = c.join-other.ensures in
+    has_worked_both c.args.board.now c.args.seat.lifter c.join-other.result.1 c.join-other.result.0 c.join.new.seat
+    (subst (λ (v : Lifter). HasWorked c.args.board.now v c.join-other.result.1) split.0 both.second)
+    (subst (λ (v : Lifter). HasWorked c.args.board.now v c.join-other.result.0) split.1 both.first)
+    j.board j.both j.safe j.all
