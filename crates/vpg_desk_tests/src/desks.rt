@@ -1,14 +1,14 @@
 //! Worked calls on desks. Features are numbered in the diagram's order: r is 0, f is 1, g is 2.
 ghost use Rattle.std.specs.Prelude.{◌≡◌};
 
-use crate::{
-    CommitFault, DecideFault, Desk, OpenFault, Redo, RedoFault, RedoRefused, RetractFault, Undo,
-    UndoFault, UndoRefused,
-};
 use std::alloc::Global;
 use std::process::Abort;
 use std::sync::Arc;
 use std::test::*;
+use vpg_desk::{
+    CommitFault, DecideFault, Desk, OpenFault, Redo, RedoFault, RedoRefused, RetractFault, Undo,
+    UndoFault, UndoRefused,
+};
 use vpg_diagram::Diagram;
 use vpg_game::GuardedGame;
 use vpg_measure::{Harvest, Order, Verdict, Which};
@@ -228,6 +228,60 @@ fn tokens_are_spent(rt: HostRuntime) -> Result<(), Fail> {
     Ok(())
 }
 
+/// The token of a change that can't be redone, for another was made since.
+fn overtaken(rt: &(impl Abort + AllocGlobal), desk: &mut Desk, token: Redo) -> Redo {
+    match try_redo(rt, desk, token) {
+        Ok(_) => panic!(rt; "redone"),
+        Err((fault, token)) => {
+            assert!(rt; fault == RedoFault::Overtaken);
+            token
+        }
+    }
+}
+
+#[test]
+fn a_desk_closes_once_no_token_is_out(rt: HostRuntime) -> Result<(), Fail> {
+    let mut desk = desk(&rt);
+    let first = decide(&rt, &mut desk, F, true);
+    let first = undo(&rt, &mut desk, first);
+    let second = decide(&rt, &mut desk, G, true);
+    let first = overtaken(&rt, &mut desk, first);
+    forget(&rt, &mut desk, first);
+    keep(&rt, &mut desk, second);
+    assert!(&rt; desk.close().is_ok());
+    Ok(())
+}
+
+/// Why a feature isn't decided.
+fn undecided(
+    rt: &(impl Abort + AllocGlobal),
+    desk: &mut Desk,
+    feature: u16,
+    value: bool,
+) -> DecideFault {
+    match desk.decide(rt.alloc(), 2, feature, value) {
+        Ok(_) => panic!(rt; "decided"),
+        Err(fault) => fault,
+    }
+}
+
+#[test]
+fn decisions_are_refused(rt: HostRuntime) -> Result<(), Fail> {
+    let Some(Ok(mut desk)) = open(rt.alloc(), b"0 0 0 0;", b"root r\nalternative r: a b\n") else {
+        panic!(&rt; "no desk")
+    };
+    let token = decide(&rt, &mut desk, 1, true);
+    keep(&rt, &mut desk, token);
+    for (feature, fault) in [
+        (3, DecideFault::UnknownFeature),
+        (1, DecideFault::AlreadyDecided { serial: 1 }),
+        (2, DecideFault::Conflict { feature: 2 }),
+    ] {
+        assert!(&rt; undecided(&rt, &mut desk, feature, true) == fault);
+    }
+    Ok(())
+}
+
 #[test]
 fn pages_come_back(rt: HostRuntime) -> Result<(), Fail> {
     let mut desk = desk(&rt);
@@ -302,25 +356,42 @@ fn harvests_come_late(rt: HostRuntime) -> Result<(), Fail> {
             let token = decide(&rt, &mut desk, F, false);
             keep(&rt, &mut desk, token);
             assert!(&rt; added(&rt, &mut desk, harvest) == 2);
+            assert!(&rt; page(&rt, &desk) == (3, [2, 0], [0, 1]));
         }
     }
     Ok(())
 }
 
-#[test]
-fn harvests_of_other_games_come_back(rt: HostRuntime) -> Result<(), Fail> {
-    let mut desk = desk(&rt);
-    let Some(Ok(other)) = open(rt.alloc(), b"parity 0; 0 0 0 0[f];", DIAGRAM) else {
-        panic!(&rt; "no desk")
+/// The fault of a harvest from a desk on these texts, and the vertices and the rules' clauses of what comes back.
+fn refused_from(
+    rt: &(impl Abort + AllocGlobal),
+    game: &[u8],
+    diagram: &[u8],
+) -> (CommitFault, usize, usize) {
+    let mut desk = desk(rt);
+    let Some(Ok(other)) = open(rt.alloc(), game, diagram) else {
+        panic!(rt; "no desk")
     };
-    let harvest = Harvest::alone(order(&rt, &other), 100);
-    match commit(&rt, &mut desk, harvest) {
-        Ok(_) => panic!(&rt; "committed"),
+    let harvest = Harvest::alone(order(rt, &other), 100);
+    match commit(rt, &mut desk, harvest) {
+        Ok(_) => panic!(rt; "committed"),
         Err((fault, harvest)) => {
-            assert!(&rt; fault == CommitFault::OtherGame);
-            assert!(&rt; harvest.order().game().vertices() == 1);
+            let order = harvest.order();
+            (
+                fault,
+                order.game().vertices(),
+                order.diagram().clauses().len(),
+            )
         }
     }
+}
+
+#[test]
+fn harvests_of_other_games_come_back(rt: HostRuntime) -> Result<(), Fail> {
+    let other_game = refused_from(&rt, b"parity 0; 0 0 0 0[f];", DIAGRAM);
+    assert!(&rt; other_game == (CommitFault::OtherGame, 1, 3));
+    let other_diagram = refused_from(&rt, GAME, b"root r\noptional r f\nmandatory r g\n");
+    assert!(&rt; other_diagram == (CommitFault::OtherGame, 2, 4));
     Ok(())
 }
 

@@ -3,7 +3,6 @@ ghost use Rattle.std.specs.Prelude.{◌≡◌, [], ◌∷◌, IfOk};
 ghost use Rattle.vpg_trail.specs.Page.{Decided, Lifted, Hopeful};
 ghost use Rattle.vpg_trail.specs.Shown.{entry_of};
 
-use super::*;
 use std::alloc::{AllocError, Global};
 use std::fmt::Write;
 use std::sync::Arc;
@@ -11,6 +10,10 @@ use std::test::Fail;
 use vpg_diagram::Literal;
 use vpg_measure::{Table, Which};
 use vpg_partial::Decision;
+use vpg_trail::{
+    Assumed, Decisions, Entries, Entry, Trail, decided, decisions_among, kept_after, lifts,
+    place_of,
+};
 
 const OUT: Decision = Decision {
     serial: 1,

@@ -1,14 +1,14 @@
 //! Runs that end before their script does, on the built-in family of the program.
 use super::rows::{family, outcome};
 use super::{FailsAt, ThenFails};
-use crate::command::LineFault;
-use crate::device::Device;
-use crate::run::{RunFault, run};
 use std::alloc::Global;
 use std::io;
 use std::io::Read;
 use std::test::*;
 use vpg_desk::OpenFault;
+use vpg_report::command::LineFault;
+use vpg_report::device::Device;
+use vpg_report::run::{RunFault, run};
 
 /// What the first example of a session answers.
 const ANSWERS: &[u8] =

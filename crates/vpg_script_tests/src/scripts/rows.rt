@@ -1,11 +1,12 @@
 //! Worked scripts, each with its whole output. Lines are separated by ` / `.
-use crate::device::Device;
-use crate::run::{RunFault, run};
 use std::alloc::Global;
+use std::fmt::Write;
 use std::sync::Arc;
 use std::test::*;
 use vpg_diagram::Diagram;
 use vpg_game::GuardedGame;
+use vpg_report::device::Device;
+use vpg_report::run::{RunFault, run};
 
 /// The diagram and the game of most examples.
 const DIAGRAM: &str = "root r / optional r f / optional r g";
@@ -80,14 +81,18 @@ pub(super) fn outcome(
 }
 
 /// Whether the script ends without a fault, and answers just this.
-fn holds(alloc: Global, row: &Row) -> bool {
-    let Some((result, got)) = outcome(alloc, row.diagram, row.game, row.script) else {
+fn is_answered(alloc: Global, diagram: &str, game: &str, script: &str, answers: &str) -> bool {
+    let Some((result, got)) = outcome(alloc, diagram, game, script) else {
         return false;
     };
-    let Some(wanted) = lines(alloc, row.answers) else {
+    let Some(wanted) = lines(alloc, answers) else {
         return false;
     };
     result.is_ok() && got.as_slice() == wanted.as_slice()
+}
+
+fn holds(alloc: Global, row: &Row) -> bool {
+    is_answered(alloc, row.diagram, row.game, row.script, row.answers)
 }
 
 /// The place of the first row that doesn't hold.
@@ -164,7 +169,7 @@ static SETTLING: [Row; 11] = [
     },
 ];
 
-static CHANGES: [Row; 8] = [
+static CHANGES: [Row; 11] = [
     Row {
         diagram: DIAGRAM,
         game: GAME,
@@ -213,13 +218,37 @@ static CHANGES: [Row; 8] = [
         script: "lift dual 1 / lift hopeful 9 / commit 7",
         answers: "added 1 / refused NoVertex / refused NoHarvest",
     },
+    Row {
+        diagram: DIAGRAM,
+        game: GAME,
+        script: "select f / exclude f / select x",
+        answers: "done 1 / refused AlreadyDecided 1 / refused UnknownFeature",
+    },
+    Row {
+        diagram: DIAGRAM,
+        game: GAME,
+        script: "select f / 2: undo / 64: redo 1 / 01: undo",
+        answers: "done 1 / undone 1 / redone 1 / undone 1",
+    },
+    Row {
+        diagram: DIAGRAM,
+        game: GAME,
+        script: "settle 1000000000 / keep 18446744073709551615 / lift hopeful 4294967295 / commit 18446744073709551615",
+        answers: "settled 2 / refused NoToken / refused NoVertex / refused NoHarvest",
+    },
 ];
 
-static HARVESTS: [Row; 8] = [
+static HARVESTS: [Row; 9] = [
     Row {
         diagram: DIAGRAM,
         game: GAME,
         script: "exclude f / harvest / retract f / commit 1 / 2: exclude f / commit 1 / show",
+        answers: "done 1 / harvest 1 / done 2 / refused Outdated f / done 3 / added 2 / decisions -f / full no / settled yes / 0 2 0 hopeless unsure / 1 0 1 possible unsure",
+    },
+    Row {
+        diagram: DIAGRAM,
+        game: GAME,
+        script: "exclude f / harvest / retract f / commit 1 / exclude f / commit 1 / show",
         answers: "done 1 / harvest 1 / done 2 / refused Outdated f / done 3 / added 2 / decisions -f / full no / settled yes / 0 2 0 hopeless unsure / 1 0 1 possible unsure",
     },
     Row {
@@ -357,5 +386,34 @@ fn what_decisions_make_known(rt: HostRuntime) -> Result<(), Fail> {
 #[test]
 fn plans_on_full_settled_pages(rt: HostRuntime) -> Result<(), Fail> {
     assert_eq!(rt; first_wrong(rt.alloc(), &PLANS), None);
+    Ok(())
+}
+
+/// Vertices of Even with an edge to themselves alone, each of an odd priority of its own.
+fn climbers(alloc: Global, vertices: u32) -> Option<String> {
+    let mut text = String::new(alloc);
+    let mut priority: u32 = 1;
+    for v in 0..vertices {
+        write!(text, "{v} {priority} 0 {v};").ok()?;
+        priority = priority.saturating_add(2);
+    }
+    Some(text)
+}
+
+/// With 62 odd priorities the top is 2^62, and the vertex of the greatest priority rises to it in two lifts.
+fn rises_to_the_limit(alloc: Global) -> bool {
+    let script =
+        "lift hopeful 61 / lift hopeful 61 / lift hopeful 61 / lift hopeful 0 / lift dual 61 / trail";
+    let answers =
+        "added 1 / added 1 / added 0 / added 1 / added 0 / hopeful 61 0 2305843009213693952 / hopeful 61 2305843009213693952 4611686018427387904 / hopeful 0 0 1 / entries 3";
+    match climbers(alloc, 62) {
+        Some(game) => is_answered(alloc, DIAGRAM, game.as_str(), script, answers),
+        None => false,
+    }
+}
+
+#[test]
+fn the_widest_measures(rt: HostRuntime) -> Result<(), Fail> {
+    assert!(rt; rises_to_the_limit(rt.alloc()));
     Ok(())
 }

@@ -3,14 +3,14 @@
 mod devices;
 mod rows;
 
-use crate::command::{Command, LineFault, Request};
-use crate::device::Device;
-use crate::run::RunFault;
-use crate::serving::{Server, answer_script};
 use std::alloc::{AllocError, Global};
 use std::io;
 use std::io::{Read, Write};
 use std::test::*;
+use vpg_report::command::{Command, LineFault, Request};
+use vpg_report::device::Device;
+use vpg_report::run::RunFault;
+use vpg_report::serving::{Server, answer_script};
 
 // Refuses what asks for a token or a harvest; it has no desk for the rest.
 #[derive(Drop)]
@@ -108,41 +108,48 @@ fn answers_lines(rt: HostRuntime) -> Result<(), Fail> {
     Ok(())
 }
 
+/// Whether the last line of a text is refused so, behind these answers.
+fn is_refused(
+    alloc: Global,
+    text: &'static [u8],
+    line: u64,
+    fault: LineFault,
+    answers: &[u8],
+) -> bool {
+    let (result, got) = outcome(alloc, text, 100);
+    result == Err(RunFault::Line { line, fault }) && got.as_slice() == answers
+}
+
 #[test]
 fn names_the_faulty_line(rt: HostRuntime) -> Result<(), Fail> {
-    let (result, got) = outcome(rt.alloc(), b"redo\nfrob", 100);
+    let alloc = rt.alloc();
     assert!(rt;
-        result
-            == Err(RunFault::Line {
-                line: 2,
-                fault: LineFault::Word
-            })
+        is_refused(
+            alloc,
+            b"redo\nfrob",
+            2,
+            LineFault::Word,
+            b"refused NoToken\n"
+        )
     );
-    assert_eq!(rt; got.as_slice(), b"refused NoToken\n".as_slice());
-    let (result, _) = outcome(rt.alloc(), b"settle 1000000001", 100);
-    assert!(rt;
-        result
-            == Err(RunFault::Line {
-                line: 1,
-                fault: LineFault::Args
-            })
-    );
-    let (result, _) = outcome(rt.alloc(), b"65: undo", 100);
-    assert!(rt;
-        result
-            == Err(RunFault::Line {
-                line: 1,
-                fault: LineFault::Word
-            })
-    );
-    let (result, _) = outcome(rt.alloc(), b"2:undo", 100);
-    assert!(rt;
-        result
-            == Err(RunFault::Line {
-                line: 1,
-                fault: LineFault::Word
-            })
-    );
+    for (text, fault) in [
+        ("settle 1000000001", LineFault::Args),
+        ("lift hopeful 4294967296", LineFault::Args),
+        ("keep 18446744073709551616", LineFault::Args),
+        ("undo -1", LineFault::Args),
+        ("show 1", LineFault::Args),
+        ("select", LineFault::Args),
+        ("select 9", LineFault::Args),
+        ("65: undo", LineFault::Word),
+        ("0: undo", LineFault::Word),
+        ("2:undo", LineFault::Word),
+        ("2:", LineFault::Word),
+    ] {
+        assert!(rt;
+            is_refused(alloc, text.as_bytes(), 1, fault, b""),
+            "at {text}"
+        );
+    }
     Ok(())
 }
 
