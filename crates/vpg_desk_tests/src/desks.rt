@@ -1,5 +1,5 @@
 //! Worked calls on desks. Features are numbered in the diagram's order: r is 0, f is 1, g is 2.
-ghost use Rattle.std.specs.Prelude.{◌≡◌};
+ghost use Rattle.std.specs.Prelude.{◌≡◌, IfSome};
 
 use std::alloc::Global;
 use std::process::Abort;
@@ -52,25 +52,74 @@ fn open_on(alloc: Global, game: GuardedGame, diagram: Diagram) -> Option<Result<
     }
 }
 
-/// A desk on the family of most examples.
-fn desk(rt: &(impl Abort + AllocGlobal)) -> Desk {
-    match open(rt.alloc(), GAME, DIAGRAM) {
+fn desk_on(rt: &(impl Abort + AllocGlobal), game: &[u8], diagram: &[u8]) -> Desk {
+    match open(rt.alloc(), game, diagram) {
         Some(Ok(desk)) => desk,
         _ => panic!(rt; "no desk"),
     }
 }
 
+/// A desk on the family of most examples.
+fn desk(rt: &(impl Abort + AllocGlobal)) -> Desk {
+    desk_on(rt, GAME, DIAGRAM)
+}
+
+// Calls without their clauses: what follows a call is then proved with few facts beside it.
+
+fn try_decide(
+    alloc: Global,
+    desk: &mut Desk,
+    feature: u16,
+    value: bool,
+) -> Result<Undo, DecideFault> {
+    desk.decide(alloc, 1, feature, value)
+}
+
+fn try_retract(
+    alloc: Global,
+    desk: &mut Desk,
+    session: u32,
+    feature: u16,
+) -> Result<Undo, RetractFault> {
+    desk.retract(alloc, session, feature)
+}
+
+fn settled_order(order: Order) -> Harvest {
+    Harvest::alone(order, 100)
+}
+
 fn decide(rt: &(impl Abort + AllocGlobal), desk: &mut Desk, feature: u16, value: bool) -> Undo {
-    match desk.decide(rt.alloc(), 1, feature, value) {
+    match try_decide(rt.alloc(), desk, feature, value) {
         Ok(token) => token,
         Err(fault) => panic!(rt; "{fault}"),
     }
 }
 
+/// Why a feature isn't decided.
+fn undecided(
+    rt: &(impl Abort + AllocGlobal),
+    desk: &mut Desk,
+    feature: u16,
+    value: bool,
+) -> DecideFault {
+    match try_decide(rt.alloc(), desk, feature, value) {
+        Ok(_) => panic!(rt; "decided"),
+        Err(fault) => fault,
+    }
+}
+
 fn retract(rt: &(impl Abort + AllocGlobal), desk: &mut Desk, feature: u16) -> Undo {
-    match desk.retract(rt.alloc(), 2, feature) {
+    match try_retract(rt.alloc(), desk, 2, feature) {
         Ok(token) => token,
         Err(fault) => panic!(rt; "{fault}"),
+    }
+}
+
+/// Why a decision isn't retracted.
+fn unretracted(rt: &(impl Abort + AllocGlobal), desk: &mut Desk, feature: u16) -> RetractFault {
+    match try_retract(rt.alloc(), desk, 1, feature) {
+        Ok(_) => panic!(rt; "retracted"),
+        Err(fault) => fault,
     }
 }
 
@@ -123,12 +172,18 @@ fn forget(rt: &(impl Abort + AllocGlobal), desk: &mut Desk, token: Redo) {
     desk.forget(token);
 }
 
+fn try_order(alloc: Global, desk: &Desk) -> Option<Order>
+    ensures { IfSome result (λ order. order.game ≡ desk.now.game) }
+{
+    desk.order(alloc).ok()
+}
+
 fn order(rt: &(impl Abort + AllocGlobal), desk: &Desk) -> Order
     ensures { result.game ≡ desk.now.game }
 {
-    match desk.order(rt.alloc()) {
-        Ok(order) => order,
-        Err(_) => panic!(rt; "no order"),
+    match try_order(rt.alloc(), desk) {
+        Some(order) => order,
+        None => panic!(rt; "no order"),
     }
 }
 
@@ -152,7 +207,7 @@ fn added(rt: &(impl Abort + AllocGlobal), desk: &mut Desk, harvest: Harvest) -> 
 }
 
 fn settle(rt: &(impl Abort + AllocGlobal), desk: &mut Desk) -> u32 {
-    let harvest = Harvest::alone(order(rt, desk), 100);
+    let harvest = settled_order(order(rt, desk));
     added(rt, desk, harvest)
 }
 
@@ -184,47 +239,32 @@ fn verdict(rt: &(impl Abort + AllocGlobal), desk: &Desk, v: u32) -> Verdict {
     desk.verdict(v)
 }
 
-#[test]
-fn openings_are_refused(rt: HostRuntime) -> Result<(), Fail> {
-    let alloc = rt.alloc();
-    let in_conflict = open(alloc, b"0 0 0 0;", b"root r\nmandatory r a\nexcludes r a\n");
-    assert!(&rt; matches!(in_conflict, Some(Err(OpenFault::Conflict { feature: 0 }))));
-    let diagram = read_diagram(alloc, DIAGRAM);
-    let game = diagram
-        .as_ref()
-        .and_then(|diagram| read_game(alloc, b"0 65535 0 0;", diagram));
-    let dual = game.and_then(|game| game.dual(alloc).ok());
-    let (Some(diagram), Some(dual)) = (diagram, dual) else {
-        panic!(&rt; "no dual")
-    };
-    assert!(&rt; matches!(open_on(alloc, dual, diagram), Some(Err(OpenFault::AtLimit))));
-    Ok(())
+fn fault_of(opened: Option<Result<Desk, OpenFault>>) -> Option<OpenFault> {
+    opened?.err()
+}
+
+/// The dual of a game of the greatest priority that is read.
+fn dual_at_limit(alloc: Global, diagram: &Diagram) -> Option<GuardedGame> {
+    let game = read_game(alloc, b"0 65535 0 0;", diagram)?;
+    game.dual(alloc).ok()
+}
+
+fn open_at_limit(alloc: Global) -> Option<Result<Desk, OpenFault>> {
+    let diagram = read_diagram(alloc, DIAGRAM)?;
+    let dual = dual_at_limit(alloc, &diagram)?;
+    open_on(alloc, dual, diagram)
 }
 
 #[test]
-fn tokens_are_spent(rt: HostRuntime) -> Result<(), Fail> {
-    let mut desk = desk(&rt);
-    let first = decide(&rt, &mut desk, F, true);
-    assert!(&rt; first.serial() == 1);
-    let first = undo(&rt, &mut desk, first);
-    let second = decide(&rt, &mut desk, G, true);
-    assert!(&rt; second.serial() == 2);
-    match try_redo(&rt, &mut desk, first) {
-        Ok(_) => panic!(&rt; "redone"),
-        Err((fault, first)) => {
-            assert!(&rt; fault == RedoFault::Overtaken);
-            keep(&rt, &mut desk, second);
-            match desk.close() {
-                Ok(()) => panic!(&rt; "closed"),
-                Err(out) => {
-                    assert!(&rt; out.tokens == 1);
-                    let mut desk = out.desk;
-                    forget(&rt, &mut desk, first);
-                    assert!(&rt; desk.close().is_ok());
-                }
-            }
-        }
-    }
+fn openings_are_refused(rt: HostRuntime) -> Result<(), Fail> {
+    let in_conflict = open(
+        rt.alloc(),
+        b"0 0 0 0;",
+        b"root r\nmandatory r a\nexcludes r a\n",
+    );
+    let conflict = OpenFault::Conflict { feature: 0 };
+    assert!(&rt; fault_of(in_conflict) == Some(conflict));
+    assert!(&rt; fault_of(open_at_limit(rt.alloc())) == Some(OpenFault::AtLimit));
     Ok(())
 }
 
@@ -237,6 +277,31 @@ fn overtaken(rt: &(impl Abort + AllocGlobal), desk: &mut Desk, token: Redo) -> R
             token
         }
     }
+}
+
+/// The number of tokens of a desk that can't be closed, and the desk.
+fn still_open(rt: &(impl Abort + AllocGlobal), desk: Desk) -> (u64, Desk) {
+    match desk.close() {
+        Ok(()) => panic!(rt; "closed"),
+        Err(out) => (out.tokens, out.desk),
+    }
+}
+
+#[test]
+fn tokens_are_spent(rt: HostRuntime) -> Result<(), Fail> {
+    let mut desk = desk(&rt);
+    let first = decide(&rt, &mut desk, F, true);
+    assert!(&rt; first.serial() == 1);
+    let first = undo(&rt, &mut desk, first);
+    let second = decide(&rt, &mut desk, G, true);
+    assert!(&rt; second.serial() == 2);
+    let first = overtaken(&rt, &mut desk, first);
+    keep(&rt, &mut desk, second);
+    let (tokens, mut desk) = still_open(&rt, desk);
+    assert!(&rt; tokens == 1);
+    forget(&rt, &mut desk, first);
+    assert!(&rt; desk.close().is_ok());
+    Ok(())
 }
 
 #[test]
@@ -252,24 +317,9 @@ fn a_desk_closes_once_no_token_is_out(rt: HostRuntime) -> Result<(), Fail> {
     Ok(())
 }
 
-/// Why a feature isn't decided.
-fn undecided(
-    rt: &(impl Abort + AllocGlobal),
-    desk: &mut Desk,
-    feature: u16,
-    value: bool,
-) -> DecideFault {
-    match desk.decide(rt.alloc(), 2, feature, value) {
-        Ok(_) => panic!(rt; "decided"),
-        Err(fault) => fault,
-    }
-}
-
 #[test]
 fn decisions_are_refused(rt: HostRuntime) -> Result<(), Fail> {
-    let Some(Ok(mut desk)) = open(rt.alloc(), b"0 0 0 0;", b"root r\nalternative r: a b\n") else {
-        panic!(&rt; "no desk")
-    };
+    let mut desk = desk_on(&rt, b"0 0 0 0;", b"root r\nalternative r: a b\n");
     let token = decide(&rt, &mut desk, 1, true);
     keep(&rt, &mut desk, token);
     for (feature, fault) in [
@@ -279,6 +329,7 @@ fn decisions_are_refused(rt: HostRuntime) -> Result<(), Fail> {
     ] {
         assert!(&rt; undecided(&rt, &mut desk, feature, true) == fault);
     }
+    assert!(&rt; unretracted(&rt, &mut desk, 3) == RetractFault::UnknownFeature);
     Ok(())
 }
 
@@ -324,10 +375,7 @@ fn retracting_drops_what_was_assumed(rt: HostRuntime) -> Result<(), Fail> {
                 sure: false
             }
     );
-    match desk.retract(rt.alloc(), 1, F) {
-        Ok(_) => panic!(&rt; "retracted twice"),
-        Err(fault) => assert!(&rt; fault == RetractFault::NotDecided),
-    }
+    assert!(&rt; unretracted(&rt, &mut desk, F) == RetractFault::NotDecided);
     keep(&rt, &mut desk, back);
     keep(&rt, &mut desk, g);
     keep(&rt, &mut desk, f);
@@ -335,63 +383,64 @@ fn retracting_drops_what_was_assumed(rt: HostRuntime) -> Result<(), Fail> {
     Ok(())
 }
 
+/// The fault of a harvest that a desk refuses, and the harvest.
+fn refused(
+    rt: &(impl Abort + AllocGlobal),
+    desk: &mut Desk,
+    harvest: Harvest,
+) -> (CommitFault, Harvest) {
+    match commit(rt, desk, harvest) {
+        Ok(_) => panic!(rt; "committed"),
+        Err(refused) => refused,
+    }
+}
+
 #[test]
 fn harvests_come_late(rt: HostRuntime) -> Result<(), Fail> {
     let mut desk = desk(&rt);
     let first = decide(&rt, &mut desk, F, false);
-    let harvest = Harvest::alone(order(&rt, &desk), 100);
+    let harvest = settled_order(order(&rt, &desk));
     let second = retract(&rt, &mut desk, F);
     keep(&rt, &mut desk, second);
     keep(&rt, &mut desk, first);
-    match commit(&rt, &mut desk, harvest) {
-        Ok(_) => panic!(&rt; "committed"),
-        Err((fault, harvest)) => {
-            assert!(&rt; fault == CommitFault::Outdated { feature: F });
-            for _ in 0..100 {
-                let token = decide(&rt, &mut desk, F, false);
-                keep(&rt, &mut desk, token);
-                let token = retract(&rt, &mut desk, F);
-                keep(&rt, &mut desk, token);
-            }
-            let token = decide(&rt, &mut desk, F, false);
-            keep(&rt, &mut desk, token);
-            assert!(&rt; added(&rt, &mut desk, harvest) == 2);
-            assert!(&rt; page(&rt, &desk) == (3, [2, 0], [0, 1]));
-        }
+    let (fault, harvest) = refused(&rt, &mut desk, harvest);
+    assert!(&rt; fault == CommitFault::Outdated { feature: F });
+    for _ in 0..100 {
+        let token = decide(&rt, &mut desk, F, false);
+        keep(&rt, &mut desk, token);
+        let token = retract(&rt, &mut desk, F);
+        keep(&rt, &mut desk, token);
     }
+    let token = decide(&rt, &mut desk, F, false);
+    keep(&rt, &mut desk, token);
+    assert!(&rt; added(&rt, &mut desk, harvest) == 2);
+    assert!(&rt; page(&rt, &desk) == (3, [2, 0], [0, 1]));
     Ok(())
 }
 
-/// The fault of a harvest from a desk on these texts, and the vertices and the rules' clauses of what comes back.
-fn refused_from(
-    rt: &(impl Abort + AllocGlobal),
-    game: &[u8],
-    diagram: &[u8],
-) -> (CommitFault, usize, usize) {
-    let mut desk = desk(rt);
-    let Some(Ok(other)) = open(rt.alloc(), game, diagram) else {
-        panic!(rt; "no desk")
-    };
-    let harvest = Harvest::alone(order(rt, &other), 100);
-    match commit(rt, &mut desk, harvest) {
-        Ok(_) => panic!(rt; "committed"),
-        Err((fault, harvest)) => {
-            let order = harvest.order();
-            (
-                fault,
-                order.game().vertices(),
-                order.diagram().clauses().len(),
-            )
-        }
-    }
+/// The harvest of a desk on these texts.
+fn harvest_of(rt: &(impl Abort + AllocGlobal), game: &[u8], diagram: &[u8]) -> Harvest {
+    let desk = desk_on(rt, game, diagram);
+    settled_order(order(rt, &desk))
+}
+
+/// How many vertices the harvest's game has, and how many clauses its diagram.
+fn sizes(harvest: &Harvest) -> (usize, usize) {
+    let order = harvest.order();
+    (order.game().vertices(), order.diagram().clauses().len())
 }
 
 #[test]
 fn harvests_of_other_games_come_back(rt: HostRuntime) -> Result<(), Fail> {
-    let other_game = refused_from(&rt, b"parity 0; 0 0 0 0[f];", DIAGRAM);
-    assert!(&rt; other_game == (CommitFault::OtherGame, 1, 3));
-    let other_diagram = refused_from(&rt, GAME, b"root r\noptional r f\nmandatory r g\n");
-    assert!(&rt; other_diagram == (CommitFault::OtherGame, 2, 4));
+    let mut desk = desk(&rt);
+    let harvest = harvest_of(&rt, b"parity 0; 0 0 0 0[f];", DIAGRAM);
+    let (fault, harvest) = refused(&rt, &mut desk, harvest);
+    assert!(&rt; fault == CommitFault::OtherGame);
+    assert!(&rt; sizes(&harvest) == (1, 3));
+    let harvest = harvest_of(&rt, GAME, b"root r\noptional r f\nmandatory r g\n");
+    let (fault, harvest) = refused(&rt, &mut desk, harvest);
+    assert!(&rt; fault == CommitFault::OtherGame);
+    assert!(&rt; sizes(&harvest) == (2, 4));
     Ok(())
 }
 
@@ -403,9 +452,6 @@ fn changes_are_limited(rt: HostRuntime) -> Result<(), Fail> {
         let token = undo(&rt, &mut desk, token);
         forget(&rt, &mut desk, token);
     }
-    match desk.decide(rt.alloc(), 1, F, true) {
-        Ok(_) => panic!(&rt; "decided"),
-        Err(fault) => assert!(&rt; fault == DecideFault::TooManyChanges),
-    }
+    assert!(&rt; undecided(&rt, &mut desk, F, true) == DecideFault::TooManyChanges);
     Ok(())
 }
