@@ -1,14 +1,14 @@
 //! Games worked by hand.
-ghost use Rattle.std.specs.Prelude.{◌↔◌, ◌<◌, IsTrue, All};
 
-use super::*;
+use crate::given::closed;
 use std::alloc::Global;
 use std::fmt::Write;
-use std::test::*;
+use std::test::Fail;
 use vpg_diagram::Diagram;
 use vpg_game::GuardedGame;
 use vpg_guards::Names;
-use vpg_partial::{Decision, Partial, PartialFault};
+use vpg_hope::{Arena, PlainGame, ProjectFault, project};
+use vpg_partial::Partial;
 
 // The features are `r`, `f` and `g`.
 const FREE: &[u8] = b"root r\noptional r f\noptional r g\n";
@@ -32,47 +32,9 @@ fn game_of(rt: &HostRuntime, names: &Names, text: &str) -> Result<GuardedGame, F
     Ok(GuardedGame::read(rt.alloc(), text.as_bytes(), names)?)
 }
 
-// Whether each decision is of one of this many features.
-fn are_below(features: usize, decisions: &[Decision]) -> bool
-    ensures { IsTrue result ↔ All (λ d. d.feature < features) decisions.now }
-{
-    decisions.iter().all(|d| (d.feature as usize) < features)
-}
-
-// What the decisions make known, where each is of a feature of the diagram.
-fn close_checked(
-    alloc: Global,
-    diagram: &Diagram,
-    decisions: &[Decision],
-) -> Option<Result<Partial, PartialFault>> {
-    if !are_below(diagram.features(), decisions) {
-        return None;
-    }
-    Some(Partial::close(alloc, diagram, decisions))
-}
-
-// The decisions of a line as `+f -g`.
-fn decisions_of(rt: &HostRuntime, names: &Names, line: &str) -> Result<Vec<Decision>, Fail> {
-    let mut decisions = Vec::new(rt.alloc());
-    for word in line.split_whitespace() {
-        let value = word.as_bytes().first().copied() == Some(b'+');
-        let name = &word.as_bytes()[word.len().min(1)..];
-        let feature = names.get(name).ok_or("feature")?;
-        decisions.push(Decision {
-            serial: 1,
-            session: 1,
-            feature,
-            value,
-        })?;
-    }
-    Ok(decisions)
-}
-
-// What they make known.
+// What the decisions of a line make known.
 fn known_of(rt: &HostRuntime, diagram: &Diagram, line: &str) -> Result<Partial, Fail> {
-    let decisions = decisions_of(rt, diagram.names(), line)?;
-    let known = close_checked(rt.alloc(), diagram, &decisions).ok_or("feature")?;
-    Ok(known?)
+    Ok(closed(rt, diagram, line)??)
 }
 
 // Owner, priority and kept successors of each vertex.
@@ -86,17 +48,53 @@ fn shown(rt: &HostRuntime, arena: &Arena) -> Result<String, Fail> {
     Ok(text)
 }
 
-// The two games of what decisions make known.
-fn both_of(rt: &HostRuntime, text: &str, words: &str) -> Result<(Arena, Arena), Fail> {
+// A game over the features of the diagram.
+fn free_game(rt: &HostRuntime, text: &str) -> Result<GuardedGame, Fail> {
     let diagram = diagram_of(rt, FREE)?;
-    let game = game_of(rt, diagram.names(), text)?;
-    let known = known_of(rt, &diagram, words)?;
+    game_of(rt, diagram.names(), text)
+}
+
+// What decisions make known of the diagram.
+fn free_known(rt: &HostRuntime, words: &str) -> Result<Partial, Fail> {
+    let diagram = diagram_of(rt, FREE)?;
+    known_of(rt, &diagram, words)
+}
+
+// Which of the two games.
+#[derive(Clone, Copy)]
+enum Side {
+    Game,
+    Dual,
+}
+
+// The hopeful game, or that of the dual.
+fn arena_of(
+    rt: &HostRuntime,
+    game: &GuardedGame,
+    known: &Partial,
+    side: Side,
+) -> Result<Arena, Fail> {
     if known.values().len() != game.features() {
         return Err(Fail::new("features"));
     }
-    let hopeful = Arena::hopeful(rt.alloc(), &game, &known)?;
-    let dual = Arena::hopeful_of_dual(rt.alloc(), &game, &known)?;
-    Ok((hopeful, dual))
+    let arena = match side {
+        Side::Game => Arena::hopeful(rt.alloc(), game, known),
+        Side::Dual => Arena::hopeful_of_dual(rt.alloc(), game, known),
+    };
+    Ok(arena?)
+}
+
+// That of what decisions make known.
+fn arena_for(rt: &HostRuntime, text: &str, words: &str, side: Side) -> Result<Arena, Fail> {
+    let game = free_game(rt, text)?;
+    let known = free_known(rt, words)?;
+    arena_of(rt, &game, &known, side)
+}
+
+// What is shown of it.
+fn arena_text(rt: &HostRuntime, text: &str, words: &str, side: Side) -> Result<String, Fail> {
+    let arena = arena_for(rt, text, words, side)?;
+    shown(rt, &arena)
 }
 
 #[test]
@@ -116,8 +114,7 @@ fn hopeful_games(rt: HostRuntime) -> Result<(), Fail> {
         (BOTH, "-f -g", "Even 3 [];Odd 4 [];"),
         (ENDS, "", "Odd 3 [];Even 0 [];"),
     ] {
-        let (hopeful, _) = both_of(&rt, text, words)?;
-        let found = shown(&rt, &hopeful)?;
+        let found = arena_text(&rt, text, words, Side::Game)?;
         assert_eq!(rt; found.as_str(), expected, "{text} {words}");
     }
     Ok(())
@@ -138,8 +135,7 @@ fn hopeful_games_of_duals(rt: HostRuntime) -> Result<(), Fail> {
         (BOTH, "+f", "Odd 4 [0];Even 5 [0, 1];"),
         (ENDS, "+f", "Even 4 [0];Odd 1 [];"),
     ] {
-        let (_, dual) = both_of(&rt, text, words)?;
-        let found = shown(&rt, &dual)?;
+        let found = arena_text(&rt, text, words, Side::Dual)?;
         assert_eq!(rt; found.as_str(), expected, "{text} {words}");
     }
     Ok(())
@@ -165,11 +161,21 @@ fn project_checked(
     Some(project(alloc, game, diagram, set))
 }
 
-// What is written of the game of a set of features, or the fault.
-fn projected(rt: &HostRuntime, text: &str, set: &[bool]) -> Result<String, Fail> {
+// The game of a set of features, or the fault.
+fn projection(
+    rt: &HostRuntime,
+    text: &str,
+    set: &[bool],
+) -> Result<Result<PlainGame, ProjectFault>, Fail> {
+    let game = free_game(rt, text)?;
     let diagram = diagram_of(rt, FREE)?;
-    let game = game_of(rt, diagram.names(), text)?;
-    match project_checked(rt.alloc(), &game, &diagram, set).ok_or("features")? {
+    let result = project_checked(rt.alloc(), &game, &diagram, set);
+    Ok(result.ok_or("features")?)
+}
+
+// What is written of it.
+fn projected(rt: &HostRuntime, text: &str, set: &[bool]) -> Result<String, Fail> {
+    match projection(rt, text, set)? {
         Ok(plain) => text_of(rt, &plain),
         Err(fault) => Ok(format!(in rt.alloc(); "{fault}")?),
     }

@@ -1,86 +1,28 @@
 //! What decisions make known on small diagrams, and the texts of faults.
 
-ghost use Rattle.std.specs.Prelude.{◌↔◌, ◌<◌, IsTrue, All};
-
-use crate::decision::Decision;
-use crate::fault::PartialFault;
-use crate::partial::Partial;
-use std::alloc::{AllocError, Global};
-use std::process::Abort;
+use crate::given::closed;
 use std::test::Fail;
 use vpg_diagram::Diagram;
 use vpg_guards::Tri;
+use vpg_partial::Partial;
 
-/// Whether each decision is of one of this many features.
-fn are_below(features: usize, decisions: &[Decision]) -> bool
-    ensures { IsTrue result ↔ All (λ d. d.feature < features) decisions.now }
-{
-    decisions.iter().all(|d| (d.feature as usize) < features)
-}
-
-/// What the decisions make known, where each is of a feature of the diagram.
-fn close_checked(
-    alloc: Global,
-    diagram: &Diagram,
-    decisions: &[Decision],
-) -> Option<Result<Partial, PartialFault>> {
-    if !are_below(diagram.features(), decisions) {
-        return None;
+/// What is known, as `+-?`, or the fault.
+fn shown(rt: &HostRuntime, diagram: &Diagram, line: &str) -> Result<String, Fail> {
+    match closed(rt, diagram, line)? {
+        Ok(known) => signs_of(rt, &known),
+        Err(fault) => Ok(fault.to_string(rt.alloc())?),
     }
-    Some(Partial::close(alloc, diagram, decisions))
 }
 
-/// The decisions of a line such as `+f -g`.
-fn decisions_in(
-    rt: &impl Abort,
-    alloc: Global,
-    diagram: &Diagram,
-    line: &str,
-) -> Result<Vec<Decision>, AllocError> {
-    let mut decisions = Vec::new(alloc);
-    for word in line.split_whitespace() {
-        let value = word.as_bytes().first().copied() == Some(b'+');
-        let name = &word.as_bytes()[word.len().min(1)..];
-        let feature = diagram.names().get(name).expect(rt, "a feature");
-        decisions.push(Decision {
-            serial: 1,
-            session: 1,
-            feature,
-            value,
+/// A sign for each feature.
+fn signs_of(rt: &HostRuntime, known: &Partial) -> Result<String, Fail> {
+    let mut text = String::new(rt.alloc());
+    for value in known.values() {
+        text.push_str(match value {
+            Tri::No => "-",
+            Tri::Unknown => "?",
+            Tri::Yes => "+",
         })?;
-    }
-    Ok(decisions)
-}
-
-fn closed(
-    rt: &impl Abort,
-    alloc: Global,
-    diagram: &Diagram,
-    line: &str,
-) -> Result<Result<Partial, PartialFault>, AllocError> {
-    let decisions = decisions_in(rt, alloc, diagram, line)?;
-    Ok(close_checked(alloc, diagram, &decisions).expect(rt, "features of the diagram"))
-}
-
-/// What is known, as `+r -a ?b`, or the fault.
-fn shown(
-    rt: &impl Abort,
-    alloc: Global,
-    diagram: &Diagram,
-    line: &str,
-) -> Result<String, AllocError> {
-    let mut text = String::new(alloc);
-    match closed(rt, alloc, diagram, line)? {
-        Ok(known) => {
-            for value in known.values() {
-                text.push_str(match value {
-                    Tri::No => "-",
-                    Tri::Unknown => "?",
-                    Tri::Yes => "+",
-                })?;
-            }
-        }
-        Err(fault) => text.push_str(fault.to_string(alloc)?.as_str())?,
     }
     Ok(text)
 }
@@ -105,60 +47,93 @@ const EXCLUDES_ITSELF: &str = "root r\noptional r a\nexcludes a a\n";
 const CHAIN: &str =
     "root r\noptional r a\noptional r b\noptional r c\nrequires b c\nrequires a b\n";
 
-#[test]
-fn decisions_close(rt: HostRuntime) -> Result<(), Fail> {
-    let rows = [
-        (ALTERNATIVE, "", "+??"),
-        (ALTERNATIVE, "+a", "++-"),
-        (ALTERNATIVE, "+a +b", "Conflict 2"),
-        (ALTERNATIVE, "+a +b -r", "Conflict 2"),
-        (ALTERNATIVE, "-a +a", "Conflict 1"),
-        (ALTERNATIVE, "-b", "++-"),
-        (ALTERNATIVE, "-r", "Conflict 0"),
-        (NO_PRODUCT, "", "+????"),
-        (NO_PRODUCT, "+a", "Conflict 1"),
-        (NO_PRODUCT, "-a", "Conflict 1"),
-        (GROUPS, "-a", "+-+???"),
-        (GROUPS, "-a -b", "Conflict 2"),
-        (GROUPS, "-a +c +d", "+-+++-"),
-        (GROUPS, "-a +c +d +e", "Conflict 5"),
-        (GROUPS, "-c -d", "+??--+"),
-        (GROUPS, "-c -d -e", "Conflict 5"),
-        (GROUPS, "+c +e", "+??+-+"),
-        (UNDER_OPTIONAL, "", "+???"),
-        (UNDER_OPTIONAL, "-a", "+---"),
-        (UNDER_OPTIONAL, "+p", "++++"),
-        (UNDER_OPTIONAL, "+b", "++++"),
-        (UNDER_OPTIONAL, "+b -a", "Conflict 2"),
-        (NONE_OF, "", "+-"),
-        (NONE_OF, "+a", "Conflict 1"),
-        (ONE_OF, "+a", "++-"),
-        (ONE_OF, "+a +b", "Conflict 2"),
-        (CONTRADICTORY, "", "Conflict 0"),
-        (CONTRADICTORY, "+a", "Conflict 0"),
-        (EXCLUDES_ITSELF, "", "+-"),
-        (CHAIN, "+a", "++++"),
-        (CHAIN, "-c", "+---"),
-    ];
-    for (text, line, expected) in rows {
-        let diagram = Diagram::read(rt.alloc(), text.as_bytes())?;
-        let answer = shown(&rt, rt.alloc(), &diagram, line)?;
-        assert_eq!(rt; answer.as_str(), expected, "{text} {line}");
+/// Whether a row such as `+f -g = ++-` has the answer behind the decisions.
+fn is_so(rt: &HostRuntime, diagram: &Diagram, row: &str) -> Result<bool, Fail> {
+    let (line, expected) = row.split_once(" = ").ok_or("a row without an answer")?;
+    let answer = shown(rt, diagram, line)?;
+    Ok(answer.as_str() == expected)
+}
+
+/// Fails with the first of the rows, parted by commas, that has another answer.
+fn are_so(rt: &HostRuntime, text: &str, rows: &str) -> Result<(), Fail> {
+    let diagram = Diagram::read(rt.alloc(), text.as_bytes())?;
+    for row in rows.split(',') {
+        if !is_so(rt, &diagram, row)? {
+            return Err(Fail::new(row));
+        }
     }
     Ok(())
 }
 
 #[test]
-fn full_configurations_have_a_product(rt: HostRuntime) -> Result<(), Fail> {
+fn decisions_close(rt: HostRuntime) -> Result<(), Fail> {
+    for (text, rows) in [
+        (
+            ALTERNATIVE,
+            " = +??,+a = ++-,+a +b = Conflict 2,+a +b -r = Conflict 2,-a +a = Conflict 1,-b = ++-,-r = Conflict 0",
+        ),
+        (NO_PRODUCT, " = +????,+a = Conflict 1,-a = Conflict 1"),
+        (
+            GROUPS,
+            "-a = +-+???,-a -b = Conflict 2,-a +c +d = +-+++-,-a +c +d +e = Conflict 5",
+        ),
+        (
+            GROUPS,
+            "-c -d = +??--+,-c -d -e = Conflict 5,+c +e = +??+-+",
+        ),
+        (
+            UNDER_OPTIONAL,
+            " = +???,-a = +---,+p = ++++,+b = ++++,+b -a = Conflict 2",
+        ),
+        (NONE_OF, " = +-,+a = Conflict 1"),
+        (ONE_OF, "+a = ++-,+a +b = Conflict 2"),
+        (CONTRADICTORY, " = Conflict 0,+a = Conflict 0"),
+        (EXCLUDES_ITSELF, " = +-"),
+        (CHAIN, "+a = ++++,-c = +---"),
+    ] {
+        are_so(&rt, text, rows)?;
+    }
+    Ok(())
+}
+
+/// What decisions make known of the alternative.
+fn known_of(rt: &HostRuntime, line: &str) -> Result<Partial, Fail> {
     let diagram = Diagram::read(rt.alloc(), ALTERNATIVE.as_bytes())?;
-    let open = closed(&rt, rt.alloc(), &diagram, "")??;
-    assert!(rt; !open.is_full());
-    assert!(rt; open.product(rt.alloc())?.is_none());
-    let full = closed(&rt, rt.alloc(), &diagram, "+a")??;
-    assert!(rt; full.is_full());
+    Ok(closed(rt, &diagram, line)??)
+}
+
+fn is_full(known: &Partial) -> bool {
+    known.is_full()
+}
+
+fn product_of(rt: &HostRuntime, known: &Partial) -> Result<Option<Vec<bool>>, Fail> {
+    Ok(known.product(rt.alloc())?)
+}
+
+/// What is known of a feature, where there is one.
+fn value_of(known: &Partial, feature: u16) -> Option<Tri> {
+    if (feature as usize) < known.values().len() {
+        Some(known.value(feature))
+    } else {
+        None
+    }
+}
+
+#[test]
+fn open_configurations_have_no_product(rt: HostRuntime) -> Result<(), Fail> {
+    let open = known_of(&rt, "")?;
+    assert!(rt; !is_full(&open));
+    assert!(rt; product_of(&rt, &open)?.is_none());
+    Ok(())
+}
+
+#[test]
+fn full_configurations_have_a_product(rt: HostRuntime) -> Result<(), Fail> {
+    let full = known_of(&rt, "+a")?;
+    assert!(rt; is_full(&full));
     assert_eq!(rt; full.values().len(), 3);
-    assert_eq!(rt; full.value(2), Tri::No);
-    let product = full.product(rt.alloc())?.expect(&rt, "the product");
+    assert_eq!(rt; value_of(&full, 2), Some(Tri::No));
+    let product = product_of(&rt, &full)?.ok_or("no product")?;
     assert_eq!(rt; product.as_slice(), [true, true, false].as_slice());
     Ok(())
 }

@@ -1,7 +1,8 @@
 //! Which texts are read and which fault is told, and what small diagrams are.
 
-use super::*;
+use std::fmt::Write;
 use std::test::Fail;
+use vpg_diagram::{Clause, Count, Diagram, MOST_RULES};
 
 /// How a text is answered: `read`, or its fault.
 fn answer(rt: &HostRuntime, text: &str) -> Result<String, Fail> {
@@ -210,19 +211,34 @@ fn diagrams_have_products(rt: HostRuntime) -> Result<(), Fail> {
     Ok(())
 }
 
+/// Writes a clause: its literals, with the features' numbers.
+fn write_clause(out: &mut String, clause: &Clause) -> Result<(), Fail> {
+    out.push('|')?;
+    for literal in clause.literals() {
+        let sign = if literal.value { '+' } else { '-' };
+        write!(out, "{sign}{}", literal.feature)?;
+    }
+    Ok(())
+}
+
 /// The clauses of a diagram: behind each bar the literals, with the features' numbers.
 fn clauses(rt: &HostRuntime, text: &str) -> Result<String, Fail> {
     let diagram = diagram_of(rt, text)?;
     let mut found = String::new(rt.alloc());
     for clause in diagram.clauses() {
-        found.push('|')?;
-        for literal in clause.literals() {
-            let sign = if literal.value { '+' } else { '-' };
-            let word = format!(in rt.alloc(); "{sign}{}", literal.feature)?;
-            found.push_str(word.as_str())?;
-        }
+        write_clause(&mut found, clause)?;
     }
     Ok(found)
+}
+
+/// Writes a count: its parent, its range and its members.
+fn write_count(out: &mut String, count: &Count) -> Result<(), Fail> {
+    let parent = count.parent();
+    write!(out, "|{parent} {} to {} of", count.low(), count.high())?;
+    for member in count.members() {
+        write!(out, " {member}")?;
+    }
+    Ok(())
 }
 
 /// The counts of a diagram: behind each bar the parent, the range and the members.
@@ -230,17 +246,7 @@ fn counts(rt: &HostRuntime, text: &str) -> Result<String, Fail> {
     let diagram = diagram_of(rt, text)?;
     let mut found = String::new(rt.alloc());
     for count in diagram.counts() {
-        let head = format!(in rt.alloc();
-            "|{} {} to {} of",
-            count.parent(),
-            count.low(),
-            count.high()
-        )?;
-        found.push_str(head.as_str())?;
-        for member in count.members() {
-            let word = format!(in rt.alloc(); " {member}")?;
-            found.push_str(word.as_str())?;
-        }
+        write_count(&mut found, count)?;
     }
     Ok(found)
 }

@@ -1,7 +1,8 @@
 //! Texts and games worked by hand.
-use super::*;
+
 use std::fmt::Write;
-use std::test::*;
+use std::test::Fail;
+use vpg_game::{DualFault, GameFault, GuardedGame, odd_counts, top_within_limit};
 use vpg_guards::{Guard, GuardFault, Names};
 
 const SMALL: &[u8] = b"parity 1; 0 1 0 1[f],0; 1 2 1 0[g],1;";
@@ -45,10 +46,15 @@ fn written(rt: &HostRuntime, text: &[u8]) -> Result<String, Fail> {
     text_of(rt, &game)
 }
 
+// The dual of the game that a text spells.
+fn dual_of(rt: &HostRuntime, text: &[u8]) -> Result<GuardedGame, Fail> {
+    let game = game_of(rt, text)?;
+    Ok(game.dual(rt.alloc())?)
+}
+
 // What is written of its dual.
 fn dual_written(rt: &HostRuntime, text: &[u8]) -> Result<String, Fail> {
-    let game = game_of(rt, text)?;
-    let dual = game.dual(rt.alloc())?;
+    let dual = dual_of(rt, text)?;
     text_of(rt, &dual)
 }
 
@@ -62,6 +68,19 @@ fn guard_sign(rt: &HostRuntime, guard: &Guard) -> Result<String, Fail> {
     Ok(text)
 }
 
+// The edges of a vertex, where there is one.
+fn edges_at(rt: &HostRuntime, game: &GuardedGame, v: u32) -> Result<String, Fail> {
+    let mut out = String::new(rt.alloc());
+    if v as usize >= game.vertices() {
+        return Ok(out);
+    }
+    for edge in game.edges(v) {
+        let sign = guard_sign(rt, edge.guard())?;
+        write!(out, " {}{}", edge.to(), sign.as_str())?;
+    }
+    Ok(out)
+}
+
 // Identifier, priority, owner and edges of each vertex.
 fn look_ups(rt: &HostRuntime, text: &[u8]) -> Result<String, Fail> {
     let game = game_of(rt, text)?;
@@ -69,11 +88,8 @@ fn look_ups(rt: &HostRuntime, text: &[u8]) -> Result<String, Fail> {
     for v in 0..game.vertices() as u32 {
         let owner = game.owner(v);
         write!(out, "{} {} {owner:?}", game.id(v), game.priority(v))?;
-        for edge in game.edges(v) {
-            let sign = guard_sign(rt, edge.guard())?;
-            write!(out, " {}{}", edge.to(), sign.as_str())?;
-        }
-        out.push(';')?;
+        let edges = edges_at(rt, &game, v)?;
+        write!(out, "{};", edges.as_str())?;
     }
     Ok(out)
 }
@@ -94,6 +110,14 @@ fn spell_same(rt: &HostRuntime, text: &[u8], other: &[u8]) -> Result<bool, Fail>
     let game = game_of(rt, text)?;
     let second = game_of(rt, other)?;
     Ok(game.is_same(&second))
+}
+
+// The words for why a text spells no game.
+fn fault_text(rt: &HostRuntime, text: &str) -> Result<String, Fail> {
+    match fault_of(rt, text.as_bytes())? {
+        Some(fault) => Ok(format!(in rt.alloc(); "{fault}")?),
+        None => Err(Fail::new("read")),
+    }
 }
 
 #[test]
@@ -119,14 +143,7 @@ fn faults_have_kinds_and_places(rt: HostRuntime) -> Result<(), Fail> {
         ("parity 0; 0 0 0 7;", "MissingVertex 7"),
         ("0 0 0 0,8,7; 1 0 0 9;", "MissingVertex 8"),
     ] {
-        let Some(found) = fault_of(&rt, text.as_bytes())? else {
-            return Err(Fail::new("read"));
-        };
-        assert_eq!(rt;
-            format!(in rt.alloc(); "{found}")?.as_str(),
-            fault,
-            "at {text}"
-        );
+        assert_eq!(rt; fault_text(&rt, text)?.as_str(), fault, "at {text}");
     }
     let inner = GuardFault::UnknownFeature { at: 0 };
     let fault = GameFault::Guard {
@@ -221,8 +238,7 @@ fn duals_are_written(rt: HostRuntime) -> Result<(), Fail> {
 
 // Whether the dual is at the limit, and why it has no dual.
 fn second_dual(rt: &HostRuntime, text: &[u8]) -> Result<(bool, Option<DualFault>), Fail> {
-    let game = game_of(rt, text)?;
-    let dual = game.dual(rt.alloc())?;
+    let dual = dual_of(rt, text)?;
     let second = dual.dual(rt.alloc());
     Ok((dual.is_at_limit(), second.err()))
 }
@@ -335,19 +351,19 @@ fn row_of_entries(rt: &HostRuntime, n: u32) -> Result<String, Fail> {
     Ok(text)
 }
 
-// `n` times the bytes, between others.
+// `n` times the part, between two others.
 fn repeated(
     rt: &HostRuntime,
-    head: &[u8],
-    part: &[u8],
+    head: &str,
+    part: &str,
     n: usize,
-    tail: &[u8],
-) -> Result<Vec<u8>, Fail> {
-    let mut text = Vec::from_slice(rt.alloc(), head)?;
+    tail: &str,
+) -> Result<String, Fail> {
+    let mut text = String::from_str(rt.alloc(), head)?;
     for _ in 0..n {
-        text.extend_from_slice(part)?;
+        text.push_str(part)?;
     }
-    text.extend_from_slice(tail)?;
+    text.push_str(tail)?;
     Ok(text)
 }
 
@@ -355,18 +371,18 @@ fn repeated(
 fn entries_have_a_limit(rt: HostRuntime) -> Result<(), Fail> {
     let entries = row_of_entries(&rt, 65536)?;
     assert_eq!(rt; sizes_of(&rt, entries.as_bytes())?, (65536, 0));
-    let doubles = repeated(&rt, b"", b"0 0 0;", 65537, b"")?;
+    let doubles = repeated(&rt, "", "0 0 0;", 65537, "")?;
     let fault = GameFault::TooMany { at: 393216 };
-    assert_eq!(rt; fault_of(&rt, &doubles)?, Some(fault));
+    assert_eq!(rt; fault_of(&rt, doubles.as_bytes())?, Some(fault));
     Ok(())
 }
 
 #[test]
 fn successors_have_a_limit(rt: HostRuntime) -> Result<(), Fail> {
-    let most = repeated(&rt, b"0 0 0 ", b"0,", 1048575, b"0;")?;
-    assert_eq!(rt; sizes_of(&rt, &most)?, (1, 1));
-    let more = repeated(&rt, b"0 0 0 ", b"0,", 1048576, b"0;")?;
+    let most = repeated(&rt, "0 0 0 ", "0,", 1048575, "0;")?;
+    assert_eq!(rt; sizes_of(&rt, most.as_bytes())?, (1, 1));
+    let more = repeated(&rt, "0 0 0 ", "0,", 1048576, "0;")?;
     let fault = GameFault::TooMany { at: 2097158 };
-    assert_eq!(rt; fault_of(&rt, &more)?, Some(fault));
+    assert_eq!(rt; fault_of(&rt, more.as_bytes())?, Some(fault));
     Ok(())
 }

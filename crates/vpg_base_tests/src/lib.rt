@@ -12,4 +12,6 @@ mod diagrams;
 #[cfg(test)]
 mod games;
 #[cfg(test)]
+mod given;
+#[cfg(test)]
 mod guards;
