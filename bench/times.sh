@@ -1,15 +1,18 @@
 #!/usr/bin/env bash
-# Prints one line a case: seconds and peak memory of the program on large families.
+# Prints one line a case: seconds, answers and peak memory of the program on large families, and those of the plain program.
 #
-#     times.sh PROGRAM [VERTICES ..]
+#     times.sh PROGRAM YARDSTICK [VERTICES ..]
+#
+# FAMILIES="pump climb" picks some of them. Seconds of a script are those of the whole run, reading included.
 set -eu
 program=$(realpath "$1")
-shift
+yardstick=$(realpath "$2")
+shift 2
 here=$(cd "$(dirname "$0")" && pwd)
 room=$(mktemp -d)
 trap 'rm -rf "$room"' EXIT
 
-# seconds and megabytes of one run of a script, without its output
+# seconds and megabytes of one run of a script on a family; its output is kept
 timed() {
     /usr/bin/env time -f '%e %M' -o "$room/time" "$program" run "$1/game" "$1/diagram" "$2" > "$room/answers" || true
     awk '{printf "%s s %d MB", $1, $2 / 1024}' "$room/time"
@@ -21,20 +24,25 @@ script() {
     for _ in $(seq "$2"); do printf '%s\n' "$3"; done
 }
 
-for vertices in "${@:-1000 65536}"; do
-    for n in $vertices; do
-        for family in steps ladder random wide loops; do
-            python3 "$here/families.py" "$family" "$n" "$room/$family"
-            script "" 0 "" > "$room/script"
-            echo "$family $n: reading $(timed "$room/$family" "$room/script"); $(script 'settle 20' 0 '' > "$room/script"; echo "and 20 sweeps $(timed "$room/$family" "$room/script")")"
-        done
-        python3 "$here/families.py" steps "$n" "$room/steps"
-        setup=$'settle\nexclude f\nsettle'
-        script "$setup" 0 "" > "$room/script"
-        echo "steps $n: settle, exclude f, settle $(timed "$room/steps" "$room/script")"
-        script "$setup" 100 $'undo\nredo' > "$room/script"
-        echo "steps $n: and 100 times undo and redo $(timed "$room/steps" "$room/script")"
-        script "$setup" 100 $'retract f\nundo' > "$room/script"
-        echo "steps $n: and 100 times retract f and undo $(timed "$room/steps" "$room/script")"
+# what the lines of the last run answered, in short
+answered() { grep -E '^(un)?settled' "$room/answers" | tr '\n' ' '; }
+
+families=${FAMILIES:-steps ladder random random2 random7 random12 random20 wide near loops selfloops climb clique pump elevator}
+for n in "${@:-65536}"; do
+    for family in $families; do
+        python3 "$here/families.py" "$family" "$n" "$room/$family"
+        script "" 0 "" > "$room/script"
+        echo "$family $n: reading $(timed "$room/$family" "$room/script")"
+        script "settle" 0 "" > "$room/script"
+        echo "$family $n: and settle $(timed "$room/$family" "$room/script"): $(answered)"
+        script $'settle\nexclude f\nsettle' 0 "" > "$room/script"
+        echo "$family $n: and exclude f, settle $(timed "$room/$family" "$room/script"): $(answered)"
+        echo "$family $n: plain program: $("$yardstick" "$room/$family/game" 1000000 open 5)"
     done
+    case " $families " in *" steps "*) ;; *) continue ;; esac
+    setup=$'settle\nexclude f\nsettle'
+    script "$setup" 100 $'undo\nredo' > "$room/script"
+    echo "steps $n: and 100 times undo and redo $(timed "$room/steps" "$room/script")"
+    script "$setup" 100 $'retract f\nundo' > "$room/script"
+    echo "steps $n: and 100 times retract f and undo $(timed "$room/steps" "$room/script")"
 done
