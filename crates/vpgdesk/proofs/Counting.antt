@@ -1,5 +1,5 @@
 -- Counting edges vertex by vertex.
-use Rattle.std.proofs.Common.{◌≡◌, ℕ, zero, suc, ◌+◌, ◌<◌, ◌≤◌, List, [], ◌∷◌, length, take, arith, refl, sym, ap, ◌∙◌, slice_index_or}
+use Rattle.std.proofs.Common.{◌≡◌, ℕ, zero, suc, ◌+◌, ◌<◌, ◌≤◌, List, [], ◌∷◌, length, take, arith, ap, ◌∙◌, slice_index_or}
 use Rattle.vpg_game.specs.Game.{NamedVertex, edges_in, no_vertex}
 
 edges_next : (vs : List NamedVertex) (i : ℕ) → i < length vs → edges_in (take (suc i) vs) ≡ edges_in (take i vs) + length (slice_index_or vs i no_vertex).edges

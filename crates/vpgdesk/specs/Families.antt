@@ -1,5 +1,7 @@
 -- The texts of a family, the words that name a product, and what is told where they are refused.
-use Rattle.std.specs.Prelude.{◌≡◌, ℕ, ⊤, Bool, List}
+use Rattle.std.specs.Prelude.{◌≡◌, ℕ, ⊤, Bool, List, map, take, Some, slice_get, All, Contains}
+use Rattle.std.specs.List.{list_any}
+use Rattle.std.specs.Str.{bytes_eq}
 use Rattle.std.specs.String.{string_bytes}
 use Rattle.vpg_guards.specs.Names.{Lacks}
 use Rattle.vpg_diagram.specs.DiagramText.{NamedDiagram, IsTextOf}
@@ -33,14 +35,48 @@ abbrev pub IsFamilyFault : List ℕ → List ℕ → Fault → Type 0
 IsFamilyFault diagram_text game_text (told.Game fault) = (diagram : NamedDiagram) × (IsTextOf diagram_text diagram × IsRefused diagram.names game_text fault)
 IsFamilyFault diagram_text game_text fault = IsDiagramFault diagram_text fault
 
--- what is told of a word that names no feature
-abbrev pub IsUnknown : List (List ℕ) → Fault → Type 0
-IsUnknown names (told.UnknownFeature name) = Lacks names (string_bytes name)
-IsUnknown names told.Memory = ⊤
-IsUnknown names fault = ⊥
+-- the family of some texts
+abbrev pub IsSpelled : NamedDiagram → NamedGame → Type 0
+IsSpelled diagram game = (diagram_text game_text : List ℕ) × SpellsFamily diagram_text game_text diagram game
 
--- the text is that of the game of a product
-pub record IsProjected (diagram : NamedDiagram) (game : NamedGame) (text : List ℕ) : Type 0 where
-  pub set : List Bool
-  pub product : IsProduct diagram.lines set
-  pub text_is : text ≡ plain_text (projection set game)
+-- ---- the words that name a product
+
+-- each word is one of the names
+abbrev pub AreKnown : List (List ℕ) → List (List ℕ) → Type 0
+AreKnown names words = All (Contains names) words
+
+-- the set that the words name: for each name whether it is one of the words
+abbrev pub set_of : List (List ℕ) → List (List ℕ) → List Bool
+set_of names words = map (λ name. list_any (bytes_eq name) words) names
+
+-- the words name features alone, and these ones
+pub record IsNamedSet (names words : List (List ℕ)) (set : List Bool) : Type 0 where
+  pub known : AreKnown names words
+  pub set_is : set ≡ set_of names words
+
+-- the name is the first of the words that names no feature
+abbrev pub IsFirstUnknown : List (List ℕ) → List (List ℕ) → List ℕ → Type 0
+IsFirstUnknown names words name = (n : ℕ) × (slice_get words n ≡ Some name) × AreKnown names (take n words) × Lacks names name
+
+-- what is told of a word that names no feature
+abbrev pub IsUnknown : List (List ℕ) → List ℕ → Fault → Type 0
+IsUnknown names word (told.UnknownFeature name) = (string_bytes name ≡ word) × Lacks names word
+IsUnknown names word told.Memory = ⊤
+IsUnknown names word fault = ⊥
+
+-- what is told of words of which one names no feature
+abbrev pub TellsUnknown : List (List ℕ) → List (List ℕ) → Fault → Type 0
+TellsUnknown names words (told.UnknownFeature name) = IsFirstUnknown names words (string_bytes name)
+TellsUnknown names words told.Memory = ⊤
+TellsUnknown names words fault = ⊥
+
+-- the words name the features of a product, and the text is that of its game
+pub record IsProjected (diagram : NamedDiagram) (game : NamedGame) (words : List (List ℕ)) (text : List ℕ) : Type 0 where
+  pub known : AreKnown diagram.names words
+  pub product : IsProduct diagram.lines (set_of diagram.names words)
+  pub text_is : text ≡ plain_text (projection (set_of diagram.names words) game)
+
+-- What is told of words that name no product: that their features are none only where each names a feature.
+abbrev pub IsNotProjected : NamedDiagram → List (List ℕ) → Fault → Type 0
+IsNotProjected diagram words told.NotAProduct = AreKnown diagram.names words × (¬ IsProduct diagram.lines (set_of diagram.names words))
+IsNotProjected diagram words fault = TellsUnknown diagram.names words fault

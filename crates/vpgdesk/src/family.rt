@@ -1,11 +1,12 @@
 //! A product family: a game over the features of a diagram.
 ghost use Rattle.std.specs.Arc.{arc_value};
-ghost use Rattle.std.specs.Prelude.{◌≡◌, ◌<◌, length, vec_len, IfOk, IfErr, OnErr};
+ghost use Rattle.std.specs.Prelude.{◌≡◌, ◌⊎◌, ℕ, List, true, Some, slice_get, map, IfOk, IfErr, OnErr, IsErrOf};
 ghost use Rattle.vpg_diagram.specs.DiagramText.{IsTextOf};
 ghost use Rattle.vpg_diagram.specs.FeatureDiagram.{feature_count};
 ghost use Rattle.vpg_game.specs.Game.{SpellsGame};
 ghost use Rattle.vpgdesk.specs.Counts.{counts_text};
-ghost use Rattle.vpgdesk.specs.Families.{IsDiagramFault, IsGameFault, SpellsFamily, IsFamilyFault, IsUnknown, IsProjected};
+ghost use Rattle.vpgdesk.specs.Families.{IsDiagramFault, IsGameFault, SpellsFamily, IsFamilyFault, IsUnknown, IsNamedSet, TellsUnknown, IsProjected, IsNotProjected};
+ghost use Rattle.vpgdesk.specs.Runs.{TellsConflict, TellsOpening, IsRunOf};
 
 use crate::counts::put_counts;
 use crate::fault::Fault;
@@ -51,8 +52,11 @@ pub(crate) fn read_game(alloc: Global, text: &[u8], diagram: &Diagram) -> Result
     }
 }
 
-/// What is told of a refused opening. A conflict names a feature.
-fn not_opened(alloc: Global, diagram: &Diagram, fault: OpenFault) -> Fault {
+/// What is told of a refused opening. A conflict names the root.
+fn not_opened(alloc: Global, diagram: &Diagram, fault: OpenFault) -> Fault
+    requires root { (f : ℕ) → fault ≡ OpenFault.Conflict f → f ≡ 0 }
+    ensures { TellsOpening diagram.now.names fault result }
+{
     match fault {
         OpenFault::AtLimit => Fault::AtLimit,
         OpenFault::Conflict { feature } => conflict(alloc, diagram, feature),
@@ -60,12 +64,12 @@ fn not_opened(alloc: Global, diagram: &Diagram, fault: OpenFault) -> Fault {
     }
 }
 
-fn conflict(alloc: Global, diagram: &Diagram, feature: u16) -> Fault {
-    let names = diagram.names();
-    if feature as usize >= names.len() {
-        return Fault::Memory;
-    }
-    match String::from_str(alloc, names.name(feature)) {
+/// What is told of a conflict of the root.
+fn conflict(alloc: Global, diagram: &Diagram, root: u16) -> Fault
+    requires { root ≡ 0 }
+    ensures { TellsConflict diagram.now.names root result }
+{
+    match String::from_str(alloc, diagram.names().name(root)) {
         Ok(feature) => Fault::Conflict { feature },
         Err(_) => Fault::Memory,
     }
@@ -73,8 +77,8 @@ fn conflict(alloc: Global, diagram: &Diagram, feature: u16) -> Fault {
 
 /// The index of a feature that a word names.
 fn feature(alloc: Global, names: &Names, word: &str) -> Result<u16, Fault>
-    ensures found { IfOk result (λ f. f < length names.now) }
-    ensures unknown { IfErr result (IsUnknown names.now) }
+    ensures found { IfOk result (λ f. slice_get names.now f ≡ Some word.now) }
+    ensures unknown { IfErr result (IsUnknown names.now word.now) }
 {
     match names.get(word.as_bytes()) {
         Some(f) => Ok(f),
@@ -86,8 +90,8 @@ fn feature(alloc: Global, names: &Names, word: &str) -> Result<u16, Fault>
 
 /// The set of the features that words name, each once or more. The first word that names none is told.
 fn features_named(alloc: Global, names: &Names, words: &[&str]) -> Result<Vec<bool>, Fault>
-    ensures size { IfOk result (λ set. vec_len set ≡ length names.now) }
-    ensures unknown { IfErr result (IsUnknown names.now) }
+    ensures set { IfOk result (λ set. IsNamedSet names.now (map (λ word. word.now) words.now) set.items) }
+    ensures unknown { IfErr result (TellsUnknown names.now (map (λ word. word.now) words.now)) }
 {
     let mut set = vec![in alloc; false; names.len()]?;
     for word in words {
@@ -130,6 +134,13 @@ impl Family {
     ) -> Result<(), Fault>
         requires unread { R.calls reader.old ≡ 0 }
         requires features { (arc_value self.game).features ≡ feature_count (arc_value self.diagram).lines }
+
+        // Whichever texts spell the family: what is written are the answers to the script's lines by a desk on it, and the result tells how they end.
+        ensures output { (diagram_text game_text : List ℕ) → SpellsFamily diagram_text game_text (arc_value self.diagram) (arc_value self.game) → IsRunOf diagram_text game_text (R.remaining reader.old) (R.remaining reader.new) (W.contents writer.old) (W.contents writer.new) result }
+
+        // Read and Write come only where the device failed, or the script was read 16,777,216 times.
+        ensures read { IsErrOf result Fault.Read → (R.has_failed reader.new ≡ true) ⊎ (R.calls reader.new ≡ 16777216) }
+        ensures write { IsErrOf result Fault.Write → W.has_failed writer.new ≡ true }
     {
         let diagram = self.diagram.clone()?;
         match run(alloc, self.game, self.diagram, reader, writer) {
@@ -142,10 +153,12 @@ impl Family {
         }
     }
 
-    /// The text of the plain game of the product that has just these features. An unknown feature is told before that they are no product.
+    /// The text of the plain game of the product that has just the features that the words name, each once or more. The first word that names
+    /// none is told before that they are no product.
     pub(crate) fn projected(self, alloc: Global, words: &[&str]) -> Result<Vec<u8>, Fault>
         requires { (arc_value self.game).features ≡ feature_count (arc_value self.diagram).lines }
-        ensures text { IfOk result (λ text. IsProjected (arc_value self.diagram) (arc_value self.game) text.items) }
+        ensures text { IfOk result (λ text. IsProjected (arc_value self.diagram) (arc_value self.game) (map (λ word. word.now) words.now) text.items) }
+        ensures refused { IfErr result (IsNotProjected (arc_value self.diagram) (map (λ word. word.now) words.now)) }
     {
         let set = features_named(alloc, self.diagram.names(), words)?;
         match project(alloc, &self.game, &self.diagram, &set) {

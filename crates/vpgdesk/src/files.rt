@@ -2,6 +2,7 @@
 ghost use Rattle.std.specs.Arc.{arc_value};
 ghost use Rattle.std.specs.Prelude.{◌≡◌, IfOk};
 ghost use Rattle.vpg_diagram.specs.FeatureDiagram.{feature_count};
+ghost use Rattle.vpgdesk.specs.Families.{IsSpelled};
 
 use crate::family::{self, Family};
 use crate::fault::Fault;
@@ -24,7 +25,8 @@ pub(crate) fn read_family(
     alloc: Global,
     paths: Paths<'_>,
 ) -> Result<Family, Fault>
-    ensures { IfOk result (λ family. (arc_value family.game).features ≡ feature_count (arc_value family.diagram).lines) }
+    ensures spelled { IfOk result (λ family. IsSpelled (arc_value family.diagram) (arc_value family.game)) }
+    ensures features { IfOk result (λ family. (arc_value family.game).features ≡ feature_count (arc_value family.diagram).lines) }
 {
     let text = match fs::read(rt, paths.diagram) {
         Ok(text) => text,

@@ -1,5 +1,5 @@
-use Rattle.std.proofs.Common.{◌≡◌, ℕ, ◌+◌, ◌≤◌, ◌<◌, List, length, take, slice_index_or, arith, sym, ap, ◌∙◌, subst}
-use Rattle.vpg_game.specs.Game.{edges_in, no_vertex}
+use Rattle.std.proofs.Common.{◌≡◌, ℕ, ◌+◌, ◌≤◌, ◌<◌, List, length, take, arith, sym, ap, ◌∙◌, subst}
+use Rattle.vpg_game.specs.Game.{edges_in}
 use Rattle.vpg_game.specs.Guarded.{GuardedEdge}
 use Rattle.vpg_guards.specs.Formula.{Formula}
 use Rattle.vpgdesk.proofs.Counting.{edges_more, edges_of_front}
