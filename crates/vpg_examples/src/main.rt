@@ -8,7 +8,8 @@
 use anyhow::{Context, Result};
 use std::alloc::Global;
 use std::fs::{self, File};
-use std::sync::Arc;
+use std::sync::{Arc, Wait};
+use std::thread::Threads;
 use vpg_diagram::Diagram;
 use vpg_game::GuardedGame;
 use vpg_report::device::Device;
@@ -17,8 +18,13 @@ use vpg_report::run::run;
 /// The folders of the families.
 const FAMILIES: [&str; 3] = ["mine_pump", "vending_machine", "elevator"];
 
-/// Carries out the script of a family.
-fn carry_out(rt: &HostRuntime, alloc: Global, family: &str) -> Result<()> {
+/// Carries out the script of a family. The runtime is handed in twice: for its files, and for threads.
+fn carry_out<T: Threads + Wait + Sync>(
+    rt: &HostRuntime,
+    threads: &T,
+    alloc: Global,
+    family: &str,
+) -> Result<()> {
     let text = fs::read(rt, format!(in alloc; "{family}/diagram")?.as_str())?;
     let diagram = Diagram::read(alloc, &text)?;
     let text = fs::read(rt, format!(in alloc; "{family}/game")?.as_str())?;
@@ -28,13 +34,13 @@ fn carry_out(rt: &HostRuntime, alloc: Global, family: &str) -> Result<()> {
     let mut reader = Device::reader(script);
     let mut writer = Device::writer(rt.stdout().lock());
     let (game, diagram) = (Arc::new(alloc, game)?, Arc::new(alloc, diagram)?);
-    run(alloc, game, diagram, &mut reader, &mut writer)?;
+    run(threads, alloc, game, diagram, &mut reader, &mut writer, 1)?;
     Ok(())
 }
 
 fn main(rt: HostRuntime) -> Result<()> {
     for family in FAMILIES {
-        carry_out(&rt, rt.alloc(), family).context(family)?;
+        carry_out(&rt, &rt, rt.alloc(), family).context(family)?;
     }
     Ok(())
 }

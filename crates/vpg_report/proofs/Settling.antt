@@ -74,11 +74,6 @@ module _ (order : OrderView) (harvest : HarvestView) (sweeps : ℕ) (is_order : 
     (order.known, (known_made, record { is_table = (below Dual).is_table; settled = progress_moves harvest.order order swept_order.page Dual harvest.dual (settled Dual) })),
   )
 
-  moved_enough : IsSettledHarvest harvest ⊎ (sum order.hopeful + sum order.dual + sweeps ≤ sum harvest.hopeful + sum harvest.dual) →
-      (¬ (Checks family made)) → sum order.hopeful + sum order.dual + sweeps ≤ sum harvest.hopeful + sum harvest.dual
-  moved_enough (inl settled) fails = absurd (fails (checks settled))
-  moved_enough (inr moved) fails = moved
-
   pub swept : IsSwept family sweeps order.decisions order.hopeful order.dual made
   swept = record {
     of_order = record {
@@ -90,7 +85,7 @@ module _ (order : OrderView) (harvest : HarvestView) (sweeps : ℕ) (is_order : 
       hopeful_above = λ v l. (above Hopeful).1 v (within Hopeful v l);
       dual_above = λ v l. (above Dual).1 v (within Dual v l);
     };
-    moved = moved_enough swept_order.moved;
+    moved = λ fails. swept_order.moved (λ settled. fails (checks settled));
   }
 
 pub swept_seen : (desk : DeskState) (order : OrderView) (harvest : HarvestView) (sweeps : ℕ) → order.game ≡ desk.game → order.diagram ≡ desk.diagram → IsOrder order → IsSweptOrder order sweeps harvest →

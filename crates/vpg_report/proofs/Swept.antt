@@ -1,5 +1,5 @@
 -- Sweeps of an order, one after another.
-use Rattle.std.proofs.Common.{◌≡◌, ℕ, ◌+◌, ◌≤◌, List, ◌⊎◌, inl, inr, sym, ap, ◌∙◌, subst, arith}
+use Rattle.std.proofs.Common.{◌≡◌, ℕ, ◌+◌, ◌<◌, ◌≤◌, List, ◌⊎◌, inl, inr, sym, ap, ◌∙◌, subst, arith}
 use Rattle.std.specs.Prelude.{sum}
 use Rattle.vpg_guards.specs.Known.{kleene}
 use Rattle.vpg_game.specs.Game.{graph_of}
@@ -52,10 +52,10 @@ module _ (order : OrderView) (harvest : HarvestView) (sweeps : ℕ) (is_order : 
   both first second Dual = second
 
   moved_enough : IsDone Hopeful ⊎ (sum order.hopeful + sweeps ≤ sum harvest.hopeful) → IsDone Dual ⊎ (sum order.dual + sweeps ≤ sum harvest.dual) →
-      IsSettledHarvest harvest ⊎ (sum order.hopeful + sum order.dual + sweeps ≤ sum harvest.hopeful + sum harvest.dual)
-  moved_enough (inl first) (inl second) = inl (both first second)
-  moved_enough (inr moved) second = inr (omega (arith, moved, sums_rise order.dual harvest.dual (above Dual)))
-  moved_enough (inl first) (inr moved) = inr (omega (arith, moved, sums_rise order.hopeful harvest.hopeful (above Hopeful)))
+      ¬ IsSettledHarvest harvest → sum order.hopeful + sum order.dual + sweeps ≤ sum harvest.hopeful + sum harvest.dual
+  moved_enough (inl first) (inl second) unsettled = absurd (unsettled (both first second))
+  moved_enough (inr moved) second unsettled = omega (arith, moved, sums_rise order.dual harvest.dual (above Dual))
+  moved_enough (inl first) (inr moved) unsettled = omega (arith, moved, sums_rise order.hopeful harvest.hopeful (above Hopeful))
 
   pub rounds_sweep : IsSweptOrder order sweeps harvest
   rounds_sweep = record { lawful = lawful; page = same_page harvest.order order same; above = above; moved = moved_enough (moves Hopeful) (moves Dual) }
@@ -69,11 +69,11 @@ tables_stay order harvest lawful same Dual = subst (λ (t : List ℕ). IsBelowTa
 
 -- a settled harvest needs no sweep
 pub settled_sweeps : (order : OrderView) (harvest : HarvestView) (sweeps : ℕ) → IsHarvest harvest → IsSameOrder harvest.order order → IsSettledHarvest harvest → IsSweptOrder order sweeps harvest
-settled_sweeps order harvest sweeps lawful same settled = record { lawful = lawful; page = same_page harvest.order order same; above = tables_stay order harvest lawful same; moved = inl settled }
+settled_sweeps order harvest sweeps lawful same settled = record { lawful = lawful; page = same_page harvest.order order same; above = tables_stay order harvest lawful same; moved = λ unsettled. absurd (unsettled settled) }
 
 -- nor does one that sweeps settled need more of them
 pub settled_early : (order : OrderView) (harvest : HarvestView) (done sweeps : ℕ) → IsSweptOrder order done harvest → IsSettledHarvest harvest → IsSweptOrder order sweeps harvest
-settled_early order harvest done sweeps swept settled = record { lawful = swept.lawful; page = swept.page; above = swept.above; moved = inl settled }
+settled_early order harvest done sweeps swept settled = record { lawful = swept.lawful; page = swept.page; above = swept.above; moved = λ unsettled. absurd (unsettled settled) }
 
 module _ (order again : OrderView) (first second : HarvestView) (more : ℕ) (is_again : IsOrderAgain again first) (further : IsSweptOrder again more second) where
   again_table : (which : Which) → order_table which again ≡ harvest_table which first
@@ -93,21 +93,12 @@ module _ (order again : OrderView) (first second : HarvestView) (more : ℕ) (is
     };
     above = λ which. below_trans (order_table which order) (harvest_table which first) (harvest_table which second) (above which)
         (subst (λ (t : List ℕ). IsBelowTable t (harvest_table which second)) (again_table which) (further.above which));
-    moved = go further.moved;
+    moved = λ unsettled. omega (arith, moved, further.moved unsettled, ap sum is_again.hopeful, ap sum is_again.dual);
   }
-    where
-      go : IsSettledHarvest second ⊎ (sum again.hopeful + sum again.dual + more ≤ sum second.hopeful + sum second.dual) →
-          IsSettledHarvest second ⊎ (sum order.hopeful + sum order.dual + (done + more) ≤ sum second.hopeful + sum second.dual)
-      go (inl settled) = inl settled
-      go (inr rose) = inr (omega (arith, moved, rose, ap sum is_again.hopeful, ap sum is_again.dual))
 
   -- after sweeps that didn't settle it
   pub swept_then : (done : ℕ) → IsSweptOrder order done first → (¬ IsSettledHarvest first) → IsSweptOrder order (done + more) second
-  swept_then done swept unsettled = go swept.moved
-    where
-      go : IsSettledHarvest first ⊎ (sum order.hopeful + sum order.dual + done ≤ sum first.hopeful + sum first.dual) → IsSweptOrder order (done + more) second
-      go (inl settled) = absurd (unsettled settled)
-      go (inr moved) = moved_then done swept.page swept.above moved
+  swept_then done swept unsettled = moved_then done swept.page swept.above (swept.moved unsettled)
 
   -- after any raise
   pub raised_then : IsHarvest first → IsSameOrder first.order order → IsSweptOrder order more second
@@ -115,3 +106,23 @@ module _ (order again : OrderView) (first second : HarvestView) (more : ℕ) (is
       subst (λ (n : ℕ). IsSweptOrder order n second) (omega arith)
       (moved_then 0 (same_page first.order order same) (tables_stay order first lawful same)
       (omega (arith, sums_rise order.hopeful first.hopeful (tables_stay order first lawful same Hopeful), sums_rise order.dual first.dual (tables_stay order first lawful same Dual))))
+
+-- one sweep of several lifters
+pub board_sweeps : (order : OrderView) (harvest : HarvestView) → IsHarvest harvest → IsSameOrder harvest.order order →
+    ((which : Which) → IsBelowTable (order_table which order) (harvest_table which harvest)) →
+    (¬ IsSettledHarvest harvest → sum order.hopeful + sum order.dual < sum harvest.hopeful + sum harvest.dual) → IsSweptOrder order 1 harvest
+board_sweeps order harvest lawful same above moved = record {
+  lawful = lawful;
+  page = same_page harvest.order order same;
+  above = above;
+  moved = λ unsettled. omega (arith, moved unsettled);
+}
+
+-- what each further sweep leaves to do: whatever is swept of the order that is now there is swept of the first one
+abbrev pub LeavesTo : (first now : OrderView) (sweeps left : ℕ) → Type 0
+LeavesTo first now sweeps left = (harvest : HarvestView) → IsSweptOrder now left harvest → IsSweptOrder first sweeps harvest
+
+pub swept_on : (first now again : OrderView) (harvest : HarvestView) (sweeps left : ℕ) → LeavesTo first now sweeps (1 + left) → IsSweptOrder now 1 harvest → ¬ IsSettledHarvest harvest → IsOrderAgain again harvest →
+    LeavesTo first again sweeps left
+swept_on first now again harvest sweeps left leaves swept unsettled is_again last further =
+    leaves last (swept_then now again harvest last left is_again further 1 swept unsettled)

@@ -1,5 +1,5 @@
 -- What sweeps make of an order. This project's own.
-use Rattle.std.specs.Prelude.{◌≡◌, ◌⊎◌, ℕ, ◌+◌, ◌≤◌, sum}
+use Rattle.std.specs.Prelude.{◌≡◌, ℕ, ◌+◌, ◌≤◌, sum}
 use Rattle.vpg_measure.specs.declared.which.Which.{Which}
 use Rattle.vpg_measure.specs.Lifts.{IsBelowTable}
 use Rattle.vpg_measure.specs.Orders.{OrderView, HarvestView, IsHarvest, IsSettledHarvest, order_table, harvest_table}
@@ -16,8 +16,4 @@ pub record IsSweptOrder (order : OrderView) (sweeps : ℕ) (harvest : HarvestVie
   pub lawful : IsHarvest harvest
   pub page : IsOfPage harvest.order order
   pub above : (which : Which) → IsBelowTable (order_table which order) (harvest_table which harvest)
-  pub moved : IsSettledHarvest harvest ⊎ (sum order.hopeful + sum order.dual + sweeps ≤ sum harvest.hopeful + sum harvest.dual)
-
--- so few sweeps are made as they are, without a guess
-abbrev pub first_sweeps : ℕ
-first_sweeps = 4
+  pub moved : ¬ IsSettledHarvest harvest → sum order.hopeful + sum order.dual + sweeps ≤ sum harvest.hopeful + sum harvest.dual

@@ -1,6 +1,6 @@
 //! The engine: a desk, with the tokens and harvests that a script's lines leave, which carries out what they request.
 ghost use Rattle.std.specs.Arc.{arc_value};
-ghost use Rattle.std.specs.Prelude.{◌≡◌, ◌++◌, ℕ, List, Bool, true, Some, None, OnOk, OnErr, IfOk, IfErr};
+ghost use Rattle.std.specs.Prelude.{◌≡◌, ◌++◌, ℕ, ◌≤◌, List, Bool, true, Some, None, OnOk, OnErr, IfOk, IfErr};
 ghost use Rattle.vpg_diagram.specs.FeatureDiagram.{feature_count};
 ghost use Rattle.vpg_guards.specs.Names.{index_of};
 ghost use Rattle.vpg_trail.specs.Page.{decisions_of};
@@ -22,7 +22,8 @@ use crate::showing::{PlanFault, plan, products, show, trail};
 use crate::sweeping::swept;
 use std::alloc::{AllocError, Global};
 use std::marker::Model;
-use std::sync::Arc;
+use std::sync::{Arc, Wait};
+use std::thread::Threads;
 use vpg_desk::{CommitFault, CommitRefused, Desk, OpenFault, Redo, RedoRefused, Undo, UndoRefused};
 use vpg_diagram::Diagram;
 use vpg_game::GuardedGame;
@@ -228,12 +229,20 @@ impl Engine {
     }
 
     /// Sweeps the present page, and keeps what was raised.
-    fn harvest(&mut self, alloc: Global, session: u32, out: &mut Vec<u8>) -> Result<(), AllocError>
+    fn harvest<T: Threads + Wait + Sync>(
+        &mut self,
+        rt: &T,
+        alloc: Global,
+        session: u32,
+        lifters: u32,
+        out: &mut Vec<u8>,
+    ) -> Result<(), AllocError>
+        requires lifters { (1 ≤ lifters) × (lifters ≤ 64) }
         ensures { OnOk result (AnswersTo self.old (record { label = session; command = Harvests }) out.old.items out.new.items self.new) }
     {
         self.harvests.reserve(1)?;
         let order = self.desk.order(alloc)?;
-        let harvest = swept(alloc, order, SWEEPS);
+        let harvest = swept(rt, alloc, order, SWEEPS, lifters);
         self.harvests.push_reserved(Some(harvest));
         answer::numbered(b"harvest", self.harvests.len() as u64, out)
     }
@@ -260,18 +269,21 @@ impl Engine {
         }
     }
 
-    /// Sweeps the present page, by this many rounds of both tables at most, and commits what was raised.
-    fn settle(
+    /// Sweeps the present page, this many times at most, and commits what was raised.
+    fn settle<T: Threads + Wait + Sync>(
         &mut self,
+        rt: &T,
         alloc: Global,
         session: u32,
         sweeps: Option<u64>,
+        lifters: u32,
         out: &mut Vec<u8>,
     ) -> Result<(), AllocError>
+        requires lifters { (1 ≤ lifters) × (lifters ≤ 64) }
         ensures { OnOk result (AnswersTo self.old (record { label = session; command = Settle sweeps }) out.old.items out.new.items self.new) }
     {
         let order = self.desk.order(alloc)?;
-        let harvest = swept(alloc, order, sweeps.unwrap_or(SWEEPS));
+        let harvest = swept(rt, alloc, order, sweeps.unwrap_or(SWEEPS), lifters);
         let added = commit_present(&mut self.desk, alloc, harvest)?;
         answer::settled(self.desk.settled(), added, out)
     }
@@ -362,9 +374,11 @@ impl Server for Engine {
 
     ghost between = { λ e. between_of e };
 
-    fn serve(
+    fn serve<T: Threads + Wait + Sync>(
         &mut self,
+        rt: &T,
         alloc: Global,
+        lifters: u32,
         request: &Request<'_>,
         out: &mut Vec<u8>,
     ) -> Result<(), AllocError> {
@@ -378,9 +392,9 @@ impl Server for Engine {
             Command::Keep(serial) => self.keep(session, serial, out),
             Command::Forget(serial) => self.forget(session, serial, out),
             Command::Lift(table, identifier) => self.lift(alloc, session, table, identifier, out),
-            Command::Harvest => self.harvest(alloc, session, out),
+            Command::Harvest => self.harvest(rt, alloc, session, lifters, out),
             Command::Commit(number) => self.commit(alloc, session, number, out),
-            Command::Settle(sweeps) => self.settle(alloc, session, sweeps, out),
+            Command::Settle(sweeps) => self.settle(rt, alloc, session, sweeps, lifters, out),
             Command::Show => self.show(alloc, session, out),
             Command::Trail => self.trail(alloc, session, out),
             Command::Products => self.products(alloc, session, out),

@@ -1,6 +1,6 @@
 //! Runs of scripts.
 ghost use Rattle.std.specs.Arc.{arc_value};
-ghost use Rattle.std.specs.Prelude.{◌≡◌, ◌⊎◌, true, IsErrOf};
+ghost use Rattle.std.specs.Prelude.{◌≡◌, ◌≤◌, ◌⊎◌, true, IsErrOf};
 ghost use Rattle.vpg_diagram.specs.FeatureDiagram.{feature_count};
 ghost use Rattle.vpg_desk.specs.State.{IsOpened};
 ghost use Rattle.vpg_report.specs.Engine.{IsOpenRefusal};
@@ -14,7 +14,8 @@ use crate::device::{Sink, Source};
 use crate::engine::Engine;
 use crate::serving::answer_script;
 use std::alloc::Global;
-use std::sync::Arc;
+use std::sync::{Arc, Wait};
+use std::thread::Threads;
 use thiserror::Error;
 use vpg_desk::OpenFault;
 use vpg_diagram::Diagram;
@@ -39,18 +40,22 @@ pub enum RunFault {
     Memory,
 }
 
-/// Opens a desk on the game and the diagram, reads a script, and answers its lines in order, each before the next is read.
+/// Opens a desk on the game and the diagram, reads a script, and answers its lines in order, each before the next is read. 1 to
+/// 64 lifters sweep at once, in threads of their own.
 ///
 /// `Open` comes before any line is read; `Line`, `Read` and `Write` as the run meets them, and `Memory` only where a growth was refused.
 /// What earlier lines wrote stays written. At the script's end, and after each fault, all tokens are spent and the desk is closed.
-pub fn run<R: Source, W: Sink>(
+pub fn run<T: Threads + Wait + Sync, R: Source, W: Sink>(
+    rt: &T,
     alloc: Global,
     game: Arc<GuardedGame>,
     diagram: Arc<Diagram>,
     reader: &mut R,
     writer: &mut W,
+    lifters: u32,
 ) -> Result<(), RunFault>
     requires unread { R.calls reader.old ≡ 0 }
+    requires lifters { (1 ≤ lifters) × (lifters ≤ 64) }
     requires features { (arc_value game).features ≡ feature_count (arc_value diagram).lines }
 
     // What is written are the answers to the lines read, each by calls on the desk's book with the replies that it gives.
@@ -68,7 +73,7 @@ pub fn run<R: Source, W: Sink>(
         Err(OpenFault::Memory) => return Err(RunFault::Memory),
         Err(fault) => return Err(RunFault::Open { fault }),
     };
-    let answered = answer_script(alloc, &mut engine, reader, writer);
+    let answered = answer_script(rt, alloc, lifters, &mut engine, reader, writer);
     engine.end();
     answered
 }

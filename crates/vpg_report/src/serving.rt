@@ -1,6 +1,7 @@
 //! A script is read and answered line by line.
-ghost use Rattle.std.specs.Prelude.{◌≡◌, ℕ, suc, List, [], ◌++◌, length, OnOk, OnErr, IfErr, IfOk, IsErrOf, Result, Ok, Err, Some, ◌⊎◌, true};
+ghost use Rattle.std.specs.Prelude.{◌≡◌, ℕ, suc, ◌≤◌, List, [], ◌++◌, length, OnOk, OnErr, IfErr, IfOk, IsErrOf, Result, Ok, Err, Some, ◌⊎◌, true};
 ghost use Rattle.std.specs.Io.KnownBytes.{Appends, prepend_known};
+ghost use Rattle.std.specs.Thread.{IsSync};
 ghost use Rattle.vpg_report.specs.Devices.{AppendsSome};
 ghost use Rattle.vpg_report.specs.Scene.{Scene};
 ghost use Rattle.vpg_report.specs.Run.{Between, answering};
@@ -14,6 +15,8 @@ use crate::device::{Sink, Source};
 use crate::lines::{Next, NextFault, next_line};
 use crate::run::RunFault;
 use std::alloc::{AllocError, Global};
+use std::sync::Wait;
+use std::thread::Threads;
 
 /// What carries requests out.
 pub trait Server {
@@ -23,13 +26,17 @@ pub trait Server {
     // The book of its desk, and what it holds.
     ghost between: { Self → Between };
 
-    /// Carries a request out, and appends its answer.
-    fn serve(
+    /// Carries a request out, sweeping with this many lifters, and appends its answer.
+    fn serve<T: Threads + Wait + Sync>(
         &mut self,
+        rt: &T,
         alloc: Global,
+        lifters: u32,
         request: &Request<'_>,
         out: &mut Vec<u8>,
     ) -> Result<(), AllocError>
+        requires sync { IsSync T.row }
+        requires lifters { (1 ≤ lifters) × (lifters ≤ 64) }
         ensures answer { OnOk result ((text : List ℕ) × (answering (scene self.old) (between self.old) (request_shown request.now) text (between self.new) × (out.new.items ≡ out.old.items ++ text))) }
         ensures scene { OnOk result (scene self.new ≡ scene self.old) };
 }
@@ -43,12 +50,15 @@ pub enum LineStop {
 }
 
 /// Carries a line out, and writes its answer.
-fn answer_line<V: Server, W: Sink>(
+fn answer_line<T: Threads + Wait + Sync, V: Server, W: Sink>(
+    rt: &T,
     alloc: Global,
+    lifters: u32,
     server: &mut V,
     line: &[u8],
     writer: &mut W,
 ) -> Result<(), LineStop>
+    requires lifters { (1 ≤ lifters) × (lifters ≤ 64) }
     ensures ok { OnOk result ((text : List ℕ) × (Speaks (answering (V.scene server.old)) (V.between server.old) (said line.now) text (V.between server.new) × Appends (W.contents writer.old) (W.contents writer.new) text)) }
     ensures scene { OnOk result (V.scene server.new ≡ V.scene server.old) }
     ensures fault { (f : Fault) → IsErrOf result (LineStop.Fault f) → (said line.now ≡ Err f) × (server.new ≡ server.old) × (writer.new ≡ writer.old) }
@@ -63,7 +73,10 @@ fn answer_line<V: Server, W: Sink>(
         Err(ReadFault::Memory) => return Err(LineStop::Memory),
     };
     let mut text = Vec::new(alloc);
-    if server.serve(alloc, &request, &mut text).is_err() {
+    if server
+        .serve(rt, alloc, lifters, &request, &mut text)
+        .is_err()
+    {
         return Err(LineStop::Memory);
     }
     match writer.put(&text) {
@@ -75,13 +88,16 @@ fn answer_line<V: Server, W: Sink>(
 ghost use Rattle.vpg_report.specs.Output.{Outcome};
 
 /// Reads a script, and answers its lines in order.
-pub fn answer_script<V: Server, R: Source, W: Sink>(
+pub fn answer_script<T: Threads + Wait + Sync, V: Server, R: Source, W: Sink>(
+    rt: &T,
     alloc: Global,
+    lifters: u32,
     server: &mut V,
     reader: &mut R,
     writer: &mut W,
 ) -> Result<(), RunFault>
-    requires { R.calls reader.old ≡ 0 }
+    requires unread { R.calls reader.old ≡ 0 }
+    requires lifters { (1 ≤ lifters) × (lifters ≤ 64) }
     // What is written is the output for the lines that were read.
     ensures output { Outcome (answering (V.scene server.old)) (λ _. ⊥) (V.between server.old) (R.remaining reader.old) (R.remaining reader.new) (W.contents writer.old) (W.contents writer.new) result }
     // Read and Write are answered only where the device failed, or the reads were used up.
@@ -107,7 +123,7 @@ pub fn answer_script<V: Server, R: Source, W: Sink>(
                 });
             }
         };
-        match answer_line(alloc, server, &line, writer) {
+        match answer_line(rt, alloc, lifters, server, &line, writer) {
             Ok(()) => {}
             Err(LineStop::Fault(fault)) => return Err(RunFault::Line {
                 line: number,

@@ -1,12 +1,13 @@
 //! Sweeps: what the lines `settle` and `harvest` make of an order.
-ghost use Rattle.std.specs.Prelude.{◌≡◌, ◌≤◌};
-ghost use Rattle.vpg_measure.specs.Lifts.{after_rounds};
-ghost use Rattle.vpg_measure.specs.Orders.{order_table, harvest_table, order_levels, order_arena};
-ghost use Rattle.vpg_report.specs.Sweeping.{IsSweptOrder, first_sweeps};
+ghost use Rattle.std.specs.Prelude.{◌≤◌};
+ghost use Rattle.vpg_report.specs.Sweeping.{IsSweptOrder};
 
 use std::alloc::Global;
+use std::sync::Wait;
+use std::thread::Threads;
+use vpg_board::{OpenGate, sweep};
 use vpg_guess::harvest_by_bounds;
-use vpg_measure::{Harvest, Order, Which};
+use vpg_measure::{Harvest, Order};
 
 /// The sweeps that come before any guess: a small change is settled by them, and a line with so small a number asks for no more.
 const FIRST_SWEEPS: u64 = 4;
@@ -14,19 +15,63 @@ const FIRST_SWEEPS: u64 = 4;
 /// How many edges and vertices each step of a guess may look at.
 const BUDGET: u64 = 1 << 28;
 
-/// The order after this many sweeps at most. It takes no memory.
-fn by_sweeps(order: Order, sweeps: u64) -> Harvest
-    ensures swept { IsSweptOrder order sweeps result }
-    ensures tables { (which : Which) → harvest_table which result ≡ after_rounds (order_levels which order) (order_arena which order) sweeps (order_table which order) }
+/// The order after this many rounds of one lifter at most. It takes no memory.
+fn by_rounds(order: Order, rounds: u64) -> Harvest
+    ensures { IsSweptOrder order rounds result }
 {
     let _game = order.game();
-    let harvest = Harvest::alone(order, sweeps);
+    let harvest = Harvest::alone(order, rounds);
     let _order = harvest.order();
     harvest
 }
 
+/// The order after one sweep. Where a board finds no memory, one lifter makes a round.
+fn swept_once<T: Threads + Wait + Sync>(
+    rt: &T,
+    alloc: Global,
+    order: Order,
+    lifters: u32,
+) -> Harvest
+    requires lifters { (1 ≤ lifters) × (lifters ≤ 64) }
+    ensures { IsSweptOrder order 1 result }
+{
+    match sweep(rt, alloc, order, lifters, &OpenGate) {
+        Ok(harvest) => harvest,
+        Err(order) => by_rounds(order, 1),
+    }
+}
+
+/// The order after this many sweeps at most.
+fn by_sweeps<T: Threads + Wait + Sync>(
+    rt: &T,
+    alloc: Global,
+    order: Order,
+    sweeps: u64,
+    lifters: u32,
+) -> Harvest
+    requires lifters { (1 ≤ lifters) × (lifters ≤ 64) }
+    ensures { IsSweptOrder order sweeps result }
+{
+    let mut order = order;
+    for done in 0..sweeps {
+        let harvest = swept_once(rt, alloc, order, lifters);
+        if harvest.check() {
+            return harvest;
+        }
+        order = harvest.again();
+    }
+    by_rounds(order, 0)
+}
+
 /// The order raised by guesses, and swept from there where they don't settle it. On want of memory it is swept alone.
-fn by_guesses(alloc: Global, order: Order, sweeps: u64) -> Harvest
+fn by_guesses<T: Threads + Wait + Sync>(
+    rt: &T,
+    alloc: Global,
+    order: Order,
+    sweeps: u64,
+    lifters: u32,
+) -> Harvest
+    requires lifters { (1 ≤ lifters) × (lifters ≤ 64) }
     ensures { IsSweptOrder order sweeps result }
 {
     match harvest_by_bounds(alloc, order, BUDGET) {
@@ -34,24 +79,30 @@ fn by_guesses(alloc: Global, order: Order, sweeps: u64) -> Harvest
             if harvest.check() {
                 return harvest;
             }
-            by_sweeps(harvest.again(), sweeps)
+            by_sweeps(rt, alloc, harvest.again(), sweeps, lifters)
         }
-        Err(order) => by_sweeps(order, sweeps),
+        Err(order) => by_sweeps(rt, alloc, order, sweeps, lifters),
     }
 }
 
-/// The order swept this many times at most; where the first few sweeps don't settle it, its tables are raised by guesses before
-/// the others. It never fails: where a guess finds no memory, the sweeps go on alone.
-pub(crate) fn swept(alloc: Global, order: Order, sweeps: u64) -> Harvest
+/// The order swept this many times at most, by this many lifters at once; where the first few sweeps don't settle it, its tables
+/// are raised by guesses before the others. It never fails: where a board or a guess finds no memory, the sweeps go on without.
+pub(crate) fn swept<T: Threads + Wait + Sync>(
+    rt: &T,
+    alloc: Global,
+    order: Order,
+    sweeps: u64,
+    lifters: u32,
+) -> Harvest
+    requires lifters { (1 ≤ lifters) × (lifters ≤ 64) }
     ensures swept { IsSweptOrder order sweeps result }
-    ensures few { sweeps ≤ first_sweeps → (which : Which) → harvest_table which result ≡ after_rounds (order_levels which order) (order_arena which order) sweeps (order_table which order) }
 {
     if sweeps <= FIRST_SWEEPS {
-        return by_sweeps(order, sweeps);
+        return by_sweeps(rt, alloc, order, sweeps, lifters);
     }
-    let first = by_sweeps(order, FIRST_SWEEPS);
+    let first = by_sweeps(rt, alloc, order, FIRST_SWEEPS, lifters);
     if first.check() {
         return first;
     }
-    by_guesses(alloc, first.again(), sweeps - FIRST_SWEEPS)
+    by_guesses(rt, alloc, first.again(), sweeps - FIRST_SWEEPS, lifters)
 }

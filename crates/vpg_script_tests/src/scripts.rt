@@ -6,7 +6,9 @@ mod rows;
 use std::alloc::{AllocError, Global};
 use std::io;
 use std::io::{Read, Write};
+use std::sync::Wait;
 use std::test::*;
+use std::thread::Threads;
 use vpg_report::command::{Command, LineFault, Request};
 use vpg_report::device::Device;
 use vpg_report::run::RunFault;
@@ -24,9 +26,11 @@ impl Server for Refuser {
 
     ghost between = { λ _. begun };
 
-    fn serve(
+    fn serve<T: Threads + Wait + Sync>(
         &mut self,
+        _rt: &T,
         _alloc: Global,
+        _lifters: u32,
         request: &Request<'_>,
         out: &mut Vec<u8>,
     ) -> Result<(), AllocError> {
@@ -83,19 +87,25 @@ impl Write for FailsAt {
     }
 }
 
-fn outcome(alloc: Global, text: &'static [u8], calls: u32) -> (Result<(), RunFault>, Vec<u8>) {
+fn outcome<T: Threads + Wait + Sync>(
+    rt: &T,
+    alloc: Global,
+    text: &'static [u8],
+    calls: u32,
+) -> (Result<(), RunFault>, Vec<u8>) {
     let mut reader = Device::reader(text);
     let mut writer = Device::writer(FailsAt {
         got: Vec::new(alloc),
         calls,
     });
-    let result = answer_script(alloc, &mut Refuser, &mut reader, &mut writer);
+    let result = answer_script(rt, alloc, 1, &mut Refuser, &mut reader, &mut writer);
     (result, writer.into_writer().got)
 }
 
 #[test]
 fn answers_lines(rt: HostRuntime) -> Result<(), Fail> {
     let (result, got) = outcome(
+        &rt,
         rt.alloc(),
         b"# none\r\n\n 2: keep 1 \r\nundo 007\ncommit 1",
         100,
@@ -109,23 +119,24 @@ fn answers_lines(rt: HostRuntime) -> Result<(), Fail> {
 }
 
 /// Whether the last line of a text is refused so, behind these answers.
-fn is_refused(
+fn is_refused<T: Threads + Wait + Sync>(
+    rt: &T,
     alloc: Global,
     text: &'static [u8],
     line: u64,
     fault: LineFault,
     answers: &[u8],
 ) -> bool {
-    let (result, got) = outcome(alloc, text, 100);
+    let (result, got) = outcome(rt, alloc, text, 100);
     result == Err(RunFault::Line { line, fault }) && got.as_slice() == answers
 }
 
 #[test]
 fn names_the_faulty_line(rt: HostRuntime) -> Result<(), Fail> {
-    let alloc = rt.alloc();
     assert!(rt;
         is_refused(
-            alloc,
+            &rt,
+            rt.alloc(),
             b"redo\nfrob",
             2,
             LineFault::Word,
@@ -146,7 +157,7 @@ fn names_the_faulty_line(rt: HostRuntime) -> Result<(), Fail> {
         ("2:", LineFault::Word),
     ] {
         assert!(rt;
-            is_refused(alloc, text.as_bytes(), 1, fault, b""),
+            is_refused(&rt, rt.alloc(), text.as_bytes(), 1, fault, b""),
             "at {text}"
         );
     }
@@ -159,13 +170,13 @@ fn a_failing_reader_and_writer(rt: HostRuntime) -> Result<(), Fail> {
         bytes: b"undo\nredo",
     });
     let mut writer = Device::writer(Vec::new(rt.alloc()));
-    let result = answer_script(rt.alloc(), &mut Refuser, &mut reader, &mut writer);
+    let result = answer_script(&rt, rt.alloc(), 1, &mut Refuser, &mut reader, &mut writer);
     assert!(rt; result == Err(RunFault::Read));
     assert_eq!(rt;
         writer.into_writer().as_slice(),
         b"refused NoToken\n".as_slice()
     );
-    let (result, got) = outcome(rt.alloc(), b"undo\nundo\n", 9);
+    let (result, got) = outcome(&rt, rt.alloc(), b"undo\nundo\n", 9);
     assert!(rt; result == Err(RunFault::Write));
     assert_eq!(rt; got.as_slice(), b"refused NoToken\nre".as_slice());
     Ok(())

@@ -1,6 +1,6 @@
 //! A product family: a game over the features of a diagram.
 ghost use Rattle.std.specs.Arc.{arc_value};
-ghost use Rattle.std.specs.Prelude.{◌≡◌, ◌⊎◌, ℕ, List, true, Some, slice_get, map, IfOk, IfErr, OnErr, IsErrOf};
+ghost use Rattle.std.specs.Prelude.{◌≡◌, ◌≤◌, ◌⊎◌, ℕ, List, true, Some, slice_get, map, IfOk, IfErr, OnErr, IsErrOf};
 ghost use Rattle.vpg_diagram.specs.DiagramText.{IsTextOf};
 ghost use Rattle.vpg_diagram.specs.FeatureDiagram.{feature_count};
 ghost use Rattle.vpg_game.specs.Game.{SpellsGame};
@@ -11,7 +11,8 @@ ghost use Rattle.vpgdesk.specs.Runs.{TellsConflict, TellsOpening, IsRunOf};
 use crate::counts::put_counts;
 use crate::fault::Fault;
 use std::alloc::{AllocError, Global};
-use std::sync::Arc;
+use std::sync::{Arc, Wait};
+use std::thread::Threads;
 use vpg_desk::OpenFault;
 use vpg_diagram::{Diagram, DiagramFault};
 use vpg_game::{GameFault, GuardedGame};
@@ -126,13 +127,16 @@ impl Family {
     }
 
     /// Carries a script out on a desk of the family.
-    pub(crate) fn run<R: Source, W: Sink>(
+    pub(crate) fn run<T: Threads + Wait + Sync, R: Source, W: Sink>(
         self,
+        rt: &T,
         alloc: Global,
         reader: &mut R,
         writer: &mut W,
+        lifters: u32,
     ) -> Result<(), Fault>
         requires unread { R.calls reader.old ≡ 0 }
+        requires lifters { (1 ≤ lifters) × (lifters ≤ 64) }
         requires features { (arc_value self.game).features ≡ feature_count (arc_value self.diagram).lines }
 
         // Whichever texts spell the family: what is written are the answers to the script's lines by a desk on it, and the result tells how they end.
@@ -143,7 +147,7 @@ impl Family {
         ensures write { IsErrOf result Fault.Write → W.has_failed writer.new ≡ true }
     {
         let diagram = self.diagram.clone()?;
-        match run(alloc, self.game, self.diagram, reader, writer) {
+        match run(rt, alloc, self.game, self.diagram, reader, writer, lifters) {
             Ok(()) => Ok(()),
             Err(RunFault::Line { line, fault }) => Err(Fault::Line { line, fault }),
             Err(RunFault::Read) => Err(Fault::Read),

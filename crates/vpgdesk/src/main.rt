@@ -24,6 +24,8 @@ use crate::words::Task;
 use clap::error::ErrorKind;
 use std::alloc::Global;
 use std::process::ExitCode;
+use std::sync::Wait;
+use std::thread::Threads;
 use std::{env, io};
 use vpg_report::device::{Device, Sink};
 
@@ -46,22 +48,42 @@ fn put(rt: &HostRuntime, text: &[u8]) -> Result<(), Fault> {
 }
 
 /// Carries a script from standard input out on the family that is built in.
-fn run_built_in(rt: &HostRuntime, alloc: Global) -> Result<(), Fault> {
+fn run_built_in<T: Threads + Wait + Sync>(
+    rt: &HostRuntime,
+    threads: &T,
+    alloc: Global,
+) -> Result<(), Fault> {
     let family = Family::read(alloc, DIAGRAM, GAME)?;
     let mut reader = Device::reader(rt.stdin().lock());
     let mut writer = Device::writer(rt.stdout().lock());
-    family.run(alloc, &mut reader, &mut writer)
+    family.run(threads, alloc, &mut reader, &mut writer, 1)
 }
 
-/// Does what the words ask for.
-fn carry_out(rt: &HostRuntime, alloc: Global, task: &Task<'_>) -> Result<(), Fault> {
+/// Does what the words ask for. The runtime is handed in twice: for its files, and for the threads of the lifters.
+fn carry_out<T: Threads + Wait + Sync>(
+    rt: &HostRuntime,
+    threads: &T,
+    alloc: Global,
+    task: &Task<'_>,
+) -> Result<(), Fault> {
     match task {
-        Task::BuiltIn => run_built_in(rt, alloc),
-        Task::Run { paths, script } => {
+        Task::BuiltIn => run_built_in(rt, threads, alloc),
+        Task::Run {
+            paths,
+            script,
+            lifters,
+        } => {
             let family = read_family(rt, alloc, *paths)?;
             let mut reader = Device::reader(open_script(rt, script)?);
             let mut writer = Device::writer(rt.stdout().lock());
-            family.run(alloc, &mut reader, &mut writer)
+            // The parser takes no other number.
+            family.run(
+                threads,
+                alloc,
+                &mut reader,
+                &mut writer,
+                (*lifters).clamp(1, 64),
+            )
         }
         Task::Project { paths, features } => {
             let family = read_family(rt, alloc, *paths)?;
@@ -102,7 +124,11 @@ fn print(rt: &HostRuntime, told: &clap::Error) -> Result<ExitCode, Fault> {
 }
 
 /// Reads the words, and does what they ask for.
-fn obey(rt: &HostRuntime, alloc: Global) -> Result<ExitCode, Fault> {
+fn obey<T: Threads + Wait + Sync>(
+    rt: &HostRuntime,
+    threads: &T,
+    alloc: Global,
+) -> Result<ExitCode, Fault> {
     let words: Vec<String> = match env::args(rt) {
         Ok(words) => words.collect(alloc)?,
         Err(error) if error.kind() == io::ErrorKind::OutOfMemory => return Err(Fault::Memory),
@@ -110,7 +136,7 @@ fn obey(rt: &HostRuntime, alloc: Global) -> Result<ExitCode, Fault> {
     };
     match words::read(alloc, &words) {
         Ok(task) => {
-            carry_out(rt, alloc, &task)?;
+            carry_out(rt, threads, alloc, &task)?;
             Ok(ExitCode::SUCCESS)
         }
         Err(told) => print(rt, &told),
@@ -118,7 +144,7 @@ fn obey(rt: &HostRuntime, alloc: Global) -> Result<ExitCode, Fault> {
 }
 
 fn main(rt: HostRuntime) -> ExitCode {
-    match obey(&rt, rt.alloc()) {
+    match obey(&rt, &rt, rt.alloc()) {
         Ok(status) => status,
         Err(fault) => {
             tell(&rt, rt.alloc(), &fault);

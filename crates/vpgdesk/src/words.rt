@@ -1,4 +1,5 @@
 //! The words that the program is called with.
+use clap::builder::ValueParser;
 use clap::error::ErrorKind;
 use clap::{Arg, ArgMatches, Command, Error};
 use std::alloc::{AllocError, Global};
@@ -19,6 +20,8 @@ pub(crate) enum Task<'a> {
     Run {
         paths: Paths<'a>,
         script: &'a str,
+        /// From 1 to 64.
+        lifters: u32,
     },
     /// The plain game of the product that has just these features.
     Project {
@@ -78,6 +81,8 @@ const DIAGRAM_HELP: &str =
 
 const SCRIPT_HELP: &str = "A file with one command a line, as `select f`, `settle` or `show`";
 
+const LIFTERS_HELP: &str = "How many threads raise the tables at once, from 1 to 64";
+
 const FEATURE_HELP: &str = "The features of the product, all of them, the root among them";
 
 /// A file that has to be named.
@@ -103,7 +108,15 @@ fn run_command<'a>(alloc: Global) -> Result<Command<'a>, AllocError> {
         "run",
         "Carries a script out on a family, and writes the answers to its commands",
     )?
-    .arg(file(alloc, "SCRIPT", SCRIPT_HELP))
+    .arg(file(alloc, "SCRIPT", SCRIPT_HELP))?
+    .arg(
+        Arg::new(alloc, "lifters")
+            .long("lifters")
+            .value_name("N")
+            .value_parser(ValueParser::unsigned(1, 64))
+            .default_value("1")
+            .help(LIFTERS_HELP),
+    )
 }
 
 fn project_command<'a>(alloc: Global) -> Result<Command<'a>, AllocError> {
@@ -173,9 +186,11 @@ fn task_of<'a>(
     };
     match name {
         "run" => Ok(
-            matches
-                .get_str("SCRIPT")
-                .map(|script| Task::Run { paths, script }),
+            matches.get_str("SCRIPT").map(|script| Task::Run {
+                paths,
+                script,
+                lifters: matches.get_one("lifters").unwrap_or(1),
+            }),
         ),
         "project" => Ok(Some(Task::Project {
             paths,

@@ -4,7 +4,9 @@ use super::{FailsAt, ThenFails};
 use std::alloc::Global;
 use std::io;
 use std::io::Read;
+use std::sync::Wait;
 use std::test::*;
+use std::thread::Threads;
 use vpg_desk::OpenFault;
 use vpg_report::command::LineFault;
 use vpg_report::device::Device;
@@ -14,16 +16,22 @@ use vpg_report::run::{RunFault, run};
 const ANSWERS: &[u8] =
     b"done 1\nsettled 2\ndecisions -f\nfull no\nsettled yes\n0 2 0 hopeless unsure\n1 0 1 possible unsure\n";
 
-/// Gives the bytes of `#` and a line feed for ever, one byte a call.
+/// Gives `#` and a line feed in turn, one byte a call, so often or for ever.
 #[derive(Drop)]
-struct Endless {
+struct Comments {
     feed: bool,
+    left: Option<u32>,
 }
 
-impl Read for Endless {
+impl Read for Comments {
     fn read(&mut self, buf: &mut [u8]) -> io::Result<usize> {
         if buf.is_empty() {
             return Ok(0);
+        }
+        match self.left {
+            Some(0) => return Ok(0),
+            Some(left) => self.left = Some(left - 1),
+            None => {}
         }
         buf[0] = if self.feed { b'\n' } else { b'#' };
         self.feed = !self.feed;
@@ -32,19 +40,27 @@ impl Read for Endless {
 }
 
 /// What a run over a reader answers.
-fn answers<R: Read + Drop>(alloc: Global, reader: R) -> Option<(Result<(), RunFault>, Vec<u8>)> {
+fn answers<T: Threads + Wait + Sync, R: Read + Drop>(
+    rt: &T,
+    alloc: Global,
+    reader: R,
+) -> Option<(Result<(), RunFault>, Vec<u8>)> {
     let (game, diagram) = family(alloc)?;
     if game.features() != diagram.features() {
         return None;
     }
     let mut reader = Device::reader(reader);
     let mut writer = Device::writer(Vec::new(alloc));
-    let result = run(alloc, game, diagram, &mut reader, &mut writer);
+    let result = run(rt, alloc, game, diagram, &mut reader, &mut writer, 1);
     Some((result, writer.into_writer()))
 }
 
 /// What a run writes to a writer that fails at this call.
-fn written(alloc: Global, calls: u32) -> Option<(Result<(), RunFault>, Vec<u8>)> {
+fn written<T: Threads + Wait + Sync>(
+    rt: &T,
+    alloc: Global,
+    calls: u32,
+) -> Option<(Result<(), RunFault>, Vec<u8>)> {
     let (game, diagram) = family(alloc)?;
     if game.features() != diagram.features() {
         return None;
@@ -54,13 +70,13 @@ fn written(alloc: Global, calls: u32) -> Option<(Result<(), RunFault>, Vec<u8>)>
         got: Vec::new(alloc),
         calls,
     });
-    let result = run(alloc, game, diagram, &mut reader, &mut writer);
+    let result = run(rt, alloc, game, diagram, &mut reader, &mut writer, 1);
     Some((result, writer.into_writer().got))
 }
 
 /// Whether a run that could write this often ends as it should, after a prefix of the answers.
-fn writes_a_prefix(alloc: Global, calls: u32) -> bool {
-    match written(alloc, calls) {
+fn writes_a_prefix<T: Threads + Wait + Sync>(rt: &T, alloc: Global, calls: u32) -> bool {
+    match written(rt, alloc, calls) {
         Some((Ok(()), got)) => got.as_slice() == ANSWERS,
         Some((Err(fault), got)) => {
             fault == RunFault::Write && got.len() < ANSWERS.len() && ANSWERS.starts_with(&got)
@@ -76,7 +92,7 @@ fn comment(alloc: Global, bytes: usize) -> Option<Vec<u8>> {
 
 #[test]
 fn a_faulty_line_ends_the_run(rt: HostRuntime) -> Result<(), Fail> {
-    let got = answers(rt.alloc(), b"show\nfrob\nshow\n".as_slice());
+    let got = answers(&rt, rt.alloc(), b"show\nfrob\nshow\n".as_slice());
     let fault = RunFault::Line {
         line: 2,
         fault: LineFault::Word,
@@ -91,22 +107,27 @@ fn a_faulty_line_ends_the_run(rt: HostRuntime) -> Result<(), Fail> {
 
 #[test]
 fn a_line_has_a_longest_length(rt: HostRuntime) -> Result<(), Fail> {
-    let long = comment(rt.alloc(), 4097).and_then(|text| answers(rt.alloc(), text.as_slice()));
+    let long = comment(rt.alloc(), 4097).and_then(|text| answers(&rt, rt.alloc(), text.as_slice()));
     let fault = RunFault::Line {
         line: 1,
         fault: LineFault::TooLong,
     };
     assert!(rt; long.is_some_and(|(ended, got)| ended == Err(fault) && got.is_empty()));
-    let longest = comment(rt.alloc(), 4096).and_then(|text| answers(rt.alloc(), text.as_slice()));
+    let longest = comment(rt.alloc(), 4096).and_then(|text| answers(
+        &rt,
+        rt.alloc(),
+        text.as_slice(),
+    ));
     assert!(rt; longest.is_some_and(|(ended, got)| ended.is_ok() && got.is_empty()));
     Ok(())
 }
 
 #[test]
 fn a_reader_that_fails(rt: HostRuntime) -> Result<(), Fail> {
-    let at_once = answers(rt.alloc(), ThenFails { bytes: b"" });
+    let at_once = answers(&rt, rt.alloc(), ThenFails { bytes: b"" });
     assert!(rt; at_once.is_some_and(|(ended, got)| ended == Err(RunFault::Read) && got.is_empty()));
     let later = answers(
+        &rt,
         rt.alloc(),
         ThenFails {
             bytes: b"exclude f\n",
@@ -121,15 +142,26 @@ fn a_reader_that_fails(rt: HostRuntime) -> Result<(), Fail> {
 
 #[test]
 fn reads_are_counted(rt: HostRuntime) -> Result<(), Fail> {
-    let endless = answers(rt.alloc(), Endless { feed: false });
-    assert!(rt; endless.is_some_and(|(ended, got)| ended == Err(RunFault::Read) && got.is_empty()));
+    // The last call finds the end.
+    let most = Comments {
+        feed: true,
+        left: Some(16_777_215),
+    };
+    let read = answers(&rt, rt.alloc(), most);
+    assert!(rt; read.is_some_and(|(ended, got)| ended.is_ok() && got.is_empty()));
+    let endless = Comments {
+        feed: false,
+        left: None,
+    };
+    let unread = answers(&rt, rt.alloc(), endless);
+    assert!(rt; unread.is_some_and(|(ended, got)| ended == Err(RunFault::Read) && got.is_empty()));
     Ok(())
 }
 
 #[test]
 fn a_writer_that_fails(rt: HostRuntime) -> Result<(), Fail> {
     for calls in 0..60 {
-        assert!(rt; writes_a_prefix(rt.alloc(), calls), "{calls}");
+        assert!(rt; writes_a_prefix(&rt, rt.alloc(), calls), "{calls}");
     }
     Ok(())
 }
@@ -137,7 +169,9 @@ fn a_writer_that_fails(rt: HostRuntime) -> Result<(), Fail> {
 #[test]
 fn a_diagram_in_conflict_is_not_opened(rt: HostRuntime) -> Result<(), Fail> {
     let refused = outcome(
+        &rt,
         rt.alloc(),
+        1,
         "root r / mandatory r a / excludes r a",
         "0 0 0 0;",
         "show",

@@ -1,8 +1,11 @@
-//! Worked scripts, each with its whole output. Lines are separated by ` / `.
+//! Worked scripts, each with its whole output, by 1, 4 and 64 lifters. Lines are separated by ` / `.
+ghost use Rattle.std.specs.Prelude.{◌≤◌};
+
 use std::alloc::Global;
 use std::fmt::Write;
-use std::sync::Arc;
+use std::sync::{Arc, Wait};
 use std::test::*;
+use std::thread::Threads;
 use vpg_diagram::Diagram;
 use vpg_game::GuardedGame;
 use vpg_report::device::Device;
@@ -45,12 +48,16 @@ fn game_of(alloc: Global, text: &str, diagram: &Diagram) -> Option<GuardedGame> 
     GuardedGame::read(alloc, text.as_bytes(), diagram.names()).ok()
 }
 
-fn carry_out(
+fn carry_out<T: Threads + Wait + Sync>(
+    rt: &T,
     alloc: Global,
+    lifters: u32,
     game: GuardedGame,
     diagram: Diagram,
     script: &[u8],
-) -> Option<(Result<(), RunFault>, Vec<u8>)> {
+) -> Option<(Result<(), RunFault>, Vec<u8>)>
+    requires { (1 ≤ lifters) × (lifters ≤ 64) }
+{
     if game.features() != diagram.features() {
         return None;
     }
@@ -58,7 +65,7 @@ fn carry_out(
     let diagram = Arc::new(alloc, diagram).ok()?;
     let mut reader = Device::reader(script);
     let mut writer = Device::writer(Vec::new(alloc));
-    let result = run(alloc, game, diagram, &mut reader, &mut writer);
+    let result = run(rt, alloc, game, diagram, &mut reader, &mut writer, lifters);
     Some((result, writer.into_writer()))
 }
 
@@ -69,20 +76,34 @@ pub(super) fn family(alloc: Global) -> Option<(Arc<GuardedGame>, Arc<Diagram>)> 
     Some((Arc::new(alloc, game).ok()?, Arc::new(alloc, diagram).ok()?))
 }
 
-pub(super) fn outcome(
+pub(super) fn outcome<T: Threads + Wait + Sync>(
+    rt: &T,
     alloc: Global,
+    lifters: u32,
     diagram: &str,
     game: &str,
     script: &str,
-) -> Option<(Result<(), RunFault>, Vec<u8>)> {
+) -> Option<(Result<(), RunFault>, Vec<u8>)>
+    requires { (1 ≤ lifters) × (lifters ≤ 64) }
+{
     let diagram = diagram_of(alloc, diagram)?;
     let game = game_of(alloc, game, &diagram)?;
-    carry_out(alloc, game, diagram, &lines(alloc, script)?)
+    carry_out(rt, alloc, lifters, game, diagram, &lines(alloc, script)?)
 }
 
 /// Whether the script ends without a fault, and answers just this.
-fn is_answered(alloc: Global, diagram: &str, game: &str, script: &str, answers: &str) -> bool {
-    let Some((result, got)) = outcome(alloc, diagram, game, script) else {
+fn is_answered<T: Threads + Wait + Sync>(
+    rt: &T,
+    alloc: Global,
+    lifters: u32,
+    diagram: &str,
+    game: &str,
+    script: &str,
+    answers: &str,
+) -> bool
+    requires { (1 ≤ lifters) × (lifters ≤ 64) }
+{
+    let Some((result, got)) = outcome(rt, alloc, lifters, diagram, game, script) else {
         return false;
     };
     let Some(wanted) = lines(alloc, answers) else {
@@ -91,13 +112,32 @@ fn is_answered(alloc: Global, diagram: &str, game: &str, script: &str, answers: 
     result.is_ok() && got.as_slice() == wanted.as_slice()
 }
 
-fn holds(alloc: Global, row: &Row) -> bool {
-    is_answered(alloc, row.diagram, row.game, row.script, row.answers)
+fn holds_by<T: Threads + Wait + Sync>(rt: &T, alloc: Global, lifters: u32, row: &Row) -> bool
+    requires { (1 ≤ lifters) × (lifters ≤ 64) }
+{
+    is_answered(
+        rt,
+        alloc,
+        lifters,
+        row.diagram,
+        row.game,
+        row.script,
+        row.answers,
+    )
+}
+
+fn holds<T: Threads + Wait + Sync>(rt: &T, alloc: Global, row: &Row) -> bool {
+    holds_by(rt, alloc, 1, row) && holds_by(rt, alloc, 4, row) && holds_by(rt, alloc, 64, row)
 }
 
 /// The place of the first row that doesn't hold.
-fn first_wrong(alloc: Global, rows: &[Row]) -> Option<usize> {
-    rows.iter().position(|row| !holds(alloc, row))
+fn first_wrong<T: Threads + Wait + Sync>(rt: &T, alloc: Global, rows: &[Row]) -> Option<usize> {
+    for k in 0..rows.len() {
+        if !holds(rt, alloc, &rows[k]) {
+            return Some(k);
+        }
+    }
+    None
 }
 
 static SETTLING: [Row; 11] = [
@@ -361,31 +401,31 @@ static PLANS: [Row; 1] = [Row {
 
 #[test]
 fn settling_and_showing(rt: HostRuntime) -> Result<(), Fail> {
-    assert_eq!(rt; first_wrong(rt.alloc(), &SETTLING), None);
+    assert_eq!(rt; first_wrong(&rt, rt.alloc(), &SETTLING), None);
     Ok(())
 }
 
 #[test]
 fn changes_undone_and_redone(rt: HostRuntime) -> Result<(), Fail> {
-    assert_eq!(rt; first_wrong(rt.alloc(), &CHANGES), None);
+    assert_eq!(rt; first_wrong(&rt, rt.alloc(), &CHANGES), None);
     Ok(())
 }
 
 #[test]
 fn harvests_that_come_late(rt: HostRuntime) -> Result<(), Fail> {
-    assert_eq!(rt; first_wrong(rt.alloc(), &HARVESTS), None);
+    assert_eq!(rt; first_wrong(&rt, rt.alloc(), &HARVESTS), None);
     Ok(())
 }
 
 #[test]
 fn what_decisions_make_known(rt: HostRuntime) -> Result<(), Fail> {
-    assert_eq!(rt; first_wrong(rt.alloc(), &KNOWLEDGE), None);
+    assert_eq!(rt; first_wrong(&rt, rt.alloc(), &KNOWLEDGE), None);
     Ok(())
 }
 
 #[test]
 fn plans_on_full_settled_pages(rt: HostRuntime) -> Result<(), Fail> {
-    assert_eq!(rt; first_wrong(rt.alloc(), &PLANS), None);
+    assert_eq!(rt; first_wrong(&rt, rt.alloc(), &PLANS), None);
     Ok(())
 }
 
@@ -401,19 +441,19 @@ fn climbers(alloc: Global, vertices: u32) -> Option<String> {
 }
 
 /// With 62 odd priorities the top is 2^62, and the vertex of the greatest priority rises to it in two lifts.
-fn rises_to_the_limit(alloc: Global) -> bool {
+fn rises_to_the_limit<T: Threads + Wait + Sync>(rt: &T, alloc: Global) -> bool {
     let script =
         "lift hopeful 61 / lift hopeful 61 / lift hopeful 61 / lift hopeful 0 / lift dual 61 / trail";
     let answers =
         "added 1 / added 1 / added 0 / added 1 / added 0 / hopeful 61 0 2305843009213693952 / hopeful 61 2305843009213693952 4611686018427387904 / hopeful 0 0 1 / entries 3";
     match climbers(alloc, 62) {
-        Some(game) => is_answered(alloc, DIAGRAM, game.as_str(), script, answers),
+        Some(game) => is_answered(rt, alloc, 1, DIAGRAM, game.as_str(), script, answers),
         None => false,
     }
 }
 
 #[test]
 fn the_widest_measures(rt: HostRuntime) -> Result<(), Fail> {
-    assert!(rt; rises_to_the_limit(rt.alloc()));
+    assert!(rt; rises_to_the_limit(&rt, rt.alloc()));
     Ok(())
 }

@@ -19,7 +19,7 @@ lines-init g c =
     record {
       same = refl;
       few = omega arith;
-      calls = c.requires;
+      calls = c.requires.unread;
       bound = omega (arith, c.new-held.ensures.len);
       wrote = (
         [],

@@ -2,9 +2,9 @@ use Rattle.vpg_report.proofs.Swept.{settled_sweeps, raised_then}
 use Rattle.vpg_report.proofs.sweeping.by_guesses.Goals as goal
 
 pub returns-then-check : goal.returns-then-check
-returns-then-check c =
+returns-then-check g c =
     settled_sweeps c.args.order c.in-Ok.harvest c.args.sweeps c.in-Ok.ensures.harvest c.in-Ok.ensures.order (c.check.ensures.0 c.if-check.true)
 
 pub returns-else-check : goal.returns-else-check
-returns-else-check c =
-    raised_then c.args.order c.again.result c.in-Ok.harvest c.by_sweeps.result c.args.sweeps c.again.ensures c.by_sweeps.ensures.swept c.in-Ok.ensures.harvest c.in-Ok.ensures.order
+returns-else-check g c =
+    raised_then c.args.order c.again.result c.in-Ok.harvest c.by_sweeps.result c.args.sweeps c.again.ensures c.by_sweeps.ensures c.in-Ok.ensures.harvest c.in-Ok.ensures.order

@@ -1,6 +1,15 @@
-use Rattle.vpg_report.proofs.Swept.{rounds_sweep}
+use Rattle.std.proofs.Common.{◌+◌, ◌-◌, ℕ, subst, arith}
+use Rattle.vpg_report.proofs.Swept.{LeavesTo, settled_early, swept_on}
 use Rattle.vpg_report.proofs.sweeping.by_sweeps.Goals as goal
 
-pub returns-clause-swept : goal.returns-clause-swept
-returns-clause-swept c =
-    rounds_sweep c.args.order c.alone-harvest.result c.args.sweeps c.game-game.ensures.order c.order-order.ensures.harvest c.alone-harvest.ensures.order c.alone-harvest.ensures.settled
+pub returns-then-check : goal.returns-then-check
+returns-then-check g c =
+    c.loop-done.invariant.left c.swept_once-harvest.result
+    (settled_early c.loop-done.order c.swept_once-harvest.result 1 (c.args.sweeps - c.loop-done.done) c.swept_once-harvest.ensures (c.check.ensures.0 c.if-check.true))
+
+pub loop-done-preserved : goal.loop-done-preserved
+loop-done-preserved g c = record {
+  left = swept_on c.args.order c.loop-done.order c.again-order.result c.swept_once-harvest.result c.args.sweeps (c.args.sweeps - (c.loop-done.done + 1))
+      (subst (λ (n : ℕ). LeavesTo c.args.order c.loop-done.order c.args.sweeps n) (omega (arith, c.loop-done-test.true)) c.loop-done.invariant.left)
+      c.swept_once-harvest.ensures (λ settled. absurd (cc (c.check.ensures.1 settled, c.if-check.false))) c.again-order.ensures;
+}

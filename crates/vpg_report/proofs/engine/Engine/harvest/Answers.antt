@@ -13,7 +13,7 @@ use Rattle.vpg_report.proofs.Settling.{harvest_answers}
 use Rattle.vpg_report.proofs.engine.Engine.harvest.Goals as goal
 
 pub invariant_of-self-2 : goal.invariant_of-self-2
-invariant_of-self-2 c =
+invariant_of-self-2 g c =
     let e = c.self.inside in
     let harvest = c.swept-harvest.result in
     let own = own_of_order e.desk.game e.desk.diagram c.in_ok-order.order harvest c.in_ok-order.ensures.game c.in_ok-order.ensures.diagram c.in_ok-order.ensures.order c.swept-harvest.ensures.swept.page in
@@ -22,7 +22,7 @@ invariant_of-self-2 c =
     (subst (λ (hs : List (Option HarvestView)). AreOwnHarvests e.desk.game e.desk.diagram hs) (sym kept) (own_more e.desk.game e.desk.diagram e.harvests.items harvest c.self.invariant.harvests own))
 
 pub returns : goal.returns
-returns c =
+returns g c =
     let e = c.self.inside in
     let old = engine_in e in
     let harvest = c.swept-harvest.result in

@@ -8,13 +8,13 @@ use Rattle.vpg_report.proofs.Settling.{settle_answers, rounds_given}
 use Rattle.vpg_report.proofs.engine.Engine.settle.Goals as goal
 
 pub invariant_of-self-2 : goal.invariant_of-self-2
-invariant_of-self-2 c =
+invariant_of-self-2 g c =
     let step = c.in_ok-added.ensures.accepted 0 in
     endures c.self.inside _ c.self.invariant refl refl step.game step.diagram
     (c.self.invariant.tokens ∙ sym (after_commit c.self.inside.desk c.commit_present.new.desk 0 c.in_ok-added.added _ step)) c.self.invariant.harvests
 
 pub returns : goal.returns
-returns c =
+returns g c =
     let order = c.in_ok-order.order in
     let harvest = c.swept-harvest.result in
     let swept_order = subst (λ (n : ℕ). IsSweptOrder order n harvest) (c.unwrap_or.ensures ∙ rounds_given c.args.sweeps) c.swept-harvest.ensures.swept in

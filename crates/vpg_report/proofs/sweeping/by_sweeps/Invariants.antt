@@ -1,0 +1,8 @@
+use Rattle.std.proofs.Common.{◌≡◌, ◌-◌}
+use Rattle.vpg_report.proofs.Swept.{LeavesTo}
+use Rattle.vpg_report.proofs.sweeping.by_sweeps.Given as goal
+
+abbrev pub invariant-loop-done : goal.invariant-loop-done
+invariant-loop-done g l = record {
+  left : LeavesTo l.fn.order l.order l.fn.sweeps (l.fn.sweeps - l.done);
+}
