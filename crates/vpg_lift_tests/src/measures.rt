@@ -1,84 +1,27 @@
 //! Rows worked by hand.
 
-ghost use Rattle.std.specs.Prelude.{◌≡◌, ◌↔◌, ◌<◌, IsTrue, All, IfOk};
+ghost use Rattle.std.specs.Prelude.{IfOk};
 ghost use Rattle.vpg_measure.specs.Lifts.{IsTableOf};
 ghost use Rattle.vpg_measure.specs.Orders.{IsRaised, order_levels, order_arena};
 
-use crate::*;
+use crate::given::{OPTIONS, decisions_of, game_of, is_table, order_of, small};
 use std::alloc::{AllocError, Global};
-use std::sync::Arc;
 use std::test::Fail;
 use vpg_diagram::Diagram;
 use vpg_game::{GuardedGame, top_within_limit};
+use vpg_measure::{
+    Harvest, Order, OrderFault, Outcome, Refused, Shape, StrategyFault, Table, Which, is_progress,
+    lift, lifts, prog, settle_alone, strategy,
+};
 use vpg_partial::Decision;
-
-const SMALL: &[u8] = b"parity 1; 0 1 0 1[f],0; 1 2 1 0[g],1;";
 
 const LONE: &[u8] = b"0 0 0 0;";
 
 const HIGHEST: &[u8] = b"0 65535 0 0;";
 
-const OPTIONS: &[u8] = b"root r\noptional r f\noptional r g\n";
-
 const ALTERNATIVE: &[u8] = b"root r\nalternative r: a b\n";
 
 const CONTRADICTORY: &[u8] = b"root r\nmandatory r a\nexcludes r a\n";
-
-fn game_of(alloc: Global, diagram: &Diagram, text: &[u8]) -> Result<GuardedGame, Fail> {
-    Ok(GuardedGame::read(alloc, text, diagram.names())?)
-}
-
-/// Decisions with serials from 1, each of a feature, in or out.
-fn decisions_of(alloc: Global, choices: &[(u16, bool)]) -> Result<Vec<Decision>, AllocError> {
-    let mut decisions = Vec::new(alloc);
-    for k in 0..choices.len() {
-        let (feature, value) = choices[k];
-        decisions.push(Decision {
-            serial: k as u64 + 1,
-            session: 1,
-            feature,
-            value,
-        })?;
-    }
-    Ok(decisions)
-}
-
-/// Whether each decision is of one of this many features.
-fn are_below(features: usize, decisions: &[Decision]) -> bool
-    ensures { IsTrue result ↔ All (λ d. d.feature < features) decisions.now }
-{
-    decisions.iter().all(|d| (d.feature as usize) < features)
-}
-
-/// The order of decisions with two tables of zeros, or nothing where game, diagram and decisions don't fit together.
-fn order_of(
-    alloc: Global,
-    game: GuardedGame,
-    diagram: Diagram,
-    decisions: Vec<Decision>,
-) -> Result<Option<Result<Order, Refused>>, AllocError> {
-    let features = diagram.features();
-    if game.features() != features || !are_below(features, &decisions) {
-        return Ok(None);
-    }
-    let vertices = game.vertices() as u32;
-    let hopeful = Table::zero(alloc, vertices)?;
-    let dual = Table::zero(alloc, vertices)?;
-    let game = Arc::new(alloc, game)?;
-    let diagram = Arc::new(alloc, diagram)?;
-    Ok(Some(Order::of(alloc, game, diagram, decisions, hopeful, dual)))
-}
-
-/// The order of the game of two vertices with these decisions: feature 1 is `f`, feature 2 is `g`.
-fn small(alloc: Global, choices: &[(u16, bool)]) -> Result<Order, Fail> {
-    let diagram = Diagram::read(alloc, OPTIONS)?;
-    let game = game_of(alloc, &diagram, SMALL)?;
-    let decisions = decisions_of(alloc, choices)?;
-    match order_of(alloc, game, diagram, decisions)? {
-        Some(Ok(order)) => Ok(order),
-        _ => Err("no order")?,
-    }
-}
 
 /// Whether these decisions came back, with this diagram's features, a game of one vertex and two tables of one zero.
 fn is_all_back(refused: &Refused, features: usize, decisions: &[Decision]) -> bool {
@@ -150,20 +93,52 @@ fn ends_as(
     }
 }
 
+/// The lift of a vertex in a table of one of an order's games.
+fn lift_at(order: &Order, which: Which, table: &Table, v: u32) -> Option<u64> {
+    let (shape, arena) = (order.shape(which), order.arena(which));
+    if v < arena.vertices() && is_table(shape, arena, table) {
+        Some(lift(shape, arena, table, v))
+    } else {
+        None
+    }
+}
+
+/// Lifts that vertex, and says whether its value rose.
+fn raise_at(order: &Order, which: Which, table: &mut Table, v: u32) -> Option<bool> {
+    let (shape, arena) = (order.shape(which), order.arena(which));
+    if v < arena.vertices() && is_table(shape, arena, table) {
+        Some(lifts::raise(shape, arena, table, v))
+    } else {
+        None
+    }
+}
+
+/// Whether no lift raises the table.
+fn is_settled_table(order: &Order, which: Which, table: &Table) -> Option<bool> {
+    let (shape, arena) = (order.shape(which), order.arena(which));
+    if is_table(shape, arena, table) {
+        Some(is_progress(shape, arena, table))
+    } else {
+        None
+    }
+}
+
 /// Whether a lift of each of two vertices raises a copy of one of an order's tables to these values, and makes it a progress table.
-fn lifts_to(alloc: Global, order: &Order, which: Which, values: &[u64]) -> bool {
-    let shape = order.shape(which);
-    let arena = order.arena(which);
+fn lifts_to(alloc: Global, order: &Order, which: Which, values: [u64; 2]) -> bool {
     let Ok(mut table) = order.table(which).copy(alloc) else {
         return false;
     };
-    if arena.vertices() != 2 || is_progress(shape, arena, &table) {
-        return false;
-    }
-    let lifted = [lift(shape, arena, &table, 0), lift(shape, arena, &table, 1)];
-    let _rose = lifts::raise(shape, arena, &mut table, 0);
-    let _rose = lifts::raise(shape, arena, &mut table, 1);
-    lifted.as_slice() == values && table.values() == values && is_progress(shape, arena, &table)
+    let before = is_settled_table(order, which, &table);
+    let first = lift_at(order, which, &table, 0);
+    let second = lift_at(order, which, &table, 1);
+    let rose = raise_at(order, which, &mut table, 0) == Some(values[0] > 0)
+        && raise_at(order, which, &mut table, 1) == Some(values[1] > 0);
+    before == Some(false)
+        && first == Some(values[0])
+        && second == Some(values[1])
+        && rose
+        && table.values() == values.as_slice()
+        && is_settled_table(order, which, &table) == Some(true)
 }
 
 /// The strategy from one of an order's tables after so many rounds.
@@ -244,34 +219,77 @@ fn has_tables(harvest: &Harvest, tables: [&[u64]; 2], before: [&[u64]; 2]) -> bo
         && harvest.order().dual().values() == before[1]
 }
 
+/// The shape of a game without guards.
+fn shape_of(alloc: Global, text: &[u8]) -> Result<Shape, Fail> {
+    let diagram = Diagram::read(alloc, OPTIONS)?;
+    let game = game_of(alloc, &diagram, text)?;
+    Ok(Shape::of(alloc, &game)?)
+}
+
+/// The least number that fits an edge, where the value is at most the top.
+fn prog_of(shape: &Shape, priority: u32, value: u64) -> Option<u64> {
+    if value <= shape.top() {
+        Some(prog(shape, priority, value))
+    } else {
+        None
+    }
+}
+
 // Two vertices of priority 1 and one of priority 3: the radices are 3 and 2.
 #[test]
 fn progs(rt: HostRuntime) -> Result<(), Fail> {
-    let priorities = [1, 1, 3];
-    assert_eq!(rt; top_within_limit(rt.alloc(), &priorities)?, Some(6));
-    let shape = Shape::over(rt.alloc(), &priorities)?;
+    assert_eq!(rt; top_within_limit(rt.alloc(), &[1, 1, 3])?, Some(6));
+    let shape = shape_of(rt.alloc(), b"0 1 0 0; 1 1 0 1; 2 3 0 2;")?;
     assert_eq!(rt; shape.top(), 6);
-    assert_eq!(rt; prog(&shape, 0, 5), 5);
-    assert_eq!(rt; prog(&shape, 1, 5), 6);
-    assert_eq!(rt; prog(&shape, 2, 5), 3);
-    assert_eq!(rt; prog(&shape, 3, 5), 6);
-    assert_eq!(rt; prog(&shape, 4, 5), 0);
-    assert_eq!(rt; prog(&shape, 1, 2), 3);
-    assert_eq!(rt; prog(&shape, 5, 0), 6);
+    for (priority, value, least) in [
+        (0, 5, 5),
+        (1, 5, 6),
+        (2, 5, 3),
+        (3, 5, 6),
+        (4, 5, 0),
+        (1, 2, 3),
+        (5, 0, 6),
+    ] {
+        let found = prog_of(&shape, priority, value);
+        assert_eq!(rt; found, Some(least), "at {priority}, {value}");
+    }
     Ok(())
+}
+
+/// Gives a vertex of a table this value, where there is one.
+fn set(table: &mut Table, v: u32, value: u64) {
+    if (v as usize) < table.values().len() {
+        table.set(v, value);
+    }
+}
+
+/// The value of a vertex, where there is one.
+fn get(table: &Table, v: u32) -> Option<u64> {
+    if (v as usize) < table.values().len() {
+        Some(table.get(v))
+    } else {
+        None
+    }
+}
+
+/// Takes the values of another table, where it has as many.
+fn assign(table: &mut Table, other: &Table) {
+    if table.values().len() == other.values().len() {
+        table.assign(other);
+    }
 }
 
 #[test]
 fn tables(rt: HostRuntime) -> Result<(), Fail> {
     let mut table = Table::zero(rt.alloc(), 2)?;
-    table.set(1, 7);
+    set(&mut table, 1, 7);
     let copy = table.copy(rt.alloc())?;
-    table.set(0, 5);
+    set(&mut table, 0, 5);
     assert_eq!(rt; copy.values(), [0, 7].as_slice());
-    assert_eq!(rt; table.get(0), 5);
-    assert_eq!(rt; table.get(1), 7);
+    assert_eq!(rt; get(&table, 0), Some(5));
+    assert_eq!(rt; get(&table, 1), Some(7));
     let mut other = Table::of(vec![in rt.alloc(); 9; 2]?);
-    other.assign(&table);
+    assign(&mut other, &table);
     assert_eq!(rt; other.values(), [5, 7].as_slice());
     Ok(())
 }
@@ -296,8 +314,8 @@ fn rounds(rt: HostRuntime) -> Result<(), Fail> {
 #[test]
 fn lifts_of_each_vertex(rt: HostRuntime) -> Result<(), Fail> {
     let order = small(rt.alloc(), &[])?;
-    assert!(rt; lifts_to(rt.alloc(), &order, Which::Hopeful, &[1, 0]));
-    assert!(rt; lifts_to(rt.alloc(), &order, Which::Dual, &[0, 1]));
+    assert!(rt; lifts_to(rt.alloc(), &order, Which::Hopeful, [1, 0]));
+    assert!(rt; lifts_to(rt.alloc(), &order, Which::Dual, [0, 1]));
     Ok(())
 }
 

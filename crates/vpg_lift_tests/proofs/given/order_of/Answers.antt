@@ -17,7 +17,7 @@ use Rattle.vpg_measure.specs.Orders.{IsOpeningTable}
 use Rattle.vpg_measure.specs.TwoGames.{IsTableBelow, levels_for, arena_for}
 use Rattle.vpg_measure.proofs.Below.{zeros_are_below}
 use Rattle.vpg_measure.proofs.OrderLemmas.{arena_count}
-use Rattle.vpg_lift_tests.proofs.measures.order_of.Goals as goal
+use Rattle.vpg_lift_tests.proofs.given.order_of.Goals as goal
 
 zeros_open : (game : NamedGame) (diagram : NamedDiagram) (decisions : List Decision) (which : Which) (n : ℕ) → n ≡ length game.vertices →
     IsOpeningTable game diagram decisions which (replicate n 0)

@@ -1,0 +1,131 @@
+//! Claims, lifts and splits worked by hand.
+
+ghost use Rattle.std.specs.Prelude.{◌≡◌, IfOk};
+
+use crate::given::small;
+use std::alloc::Global;
+use std::test::Fail;
+use vpg_board::{Board, Seat};
+use vpg_measure::{Harvest, Order, Which};
+
+/// The board of an order, where there is memory.
+fn board_of(alloc: Global, order: Order) -> Result<(Board, Seat), Fail>
+    ensures { IfOk result (λ opened. opened.1.board ≡ opened.0) }
+{
+    match Board::open(alloc, order) {
+        Ok(opened) => Ok(opened),
+        Err(_) => Err("no board")?,
+    }
+}
+
+/// Claims a vertex, which must be this one, and lifts it.
+fn claims_and_lifts(board: &Board, seat: &mut Seat, which: Which, v: u32) -> Option<bool>
+    requires { seat.old.board ≡ board.now }
+    ensures { seat.new.board ≡ board.now }
+{
+    let (claimed, u) = board.claim(seat)?;
+    let rose = board.lift(seat, claimed, u);
+    if claimed == which && u == v {
+        Some(rose)
+    } else {
+        None
+    }
+}
+
+/// Whether the four lifts of a board of two vertices answer so, in the order of claims, and two claims behind them find nothing.
+fn lifts_answer(board: &Board, seat: &mut Seat, answers: [bool; 4]) -> bool
+    requires { seat.old.board ≡ board.now }
+    ensures { seat.new.board ≡ board.now }
+{
+    let first = claims_and_lifts(board, seat, Which::Hopeful, 0);
+    let second = claims_and_lifts(board, seat, Which::Hopeful, 1);
+    let third = claims_and_lifts(board, seat, Which::Dual, 0);
+    let fourth = claims_and_lifts(board, seat, Which::Dual, 1);
+    let fifth = board.claim(seat);
+    let sixth = board.claim(seat);
+    let [a, b, c, d] = answers;
+    first == Some(a)
+        && second == Some(b)
+        && third == Some(c)
+        && fourth == Some(d)
+        && fifth.is_none()
+        && sixth.is_none()
+}
+
+/// The harvest of a board that its seat closes, where there is memory.
+fn harvest_of(alloc: Global, board: Board, seat: Seat) -> Result<Harvest, Fail>
+    requires { seat.board ≡ board }
+{
+    match board.close(alloc, seat) {
+        Ok(harvest) => Ok(harvest),
+        Err(_) => Err("no harvest")?,
+    }
+}
+
+/// The harvest of an order where one seat has claimed and lifted each vertex, and the lifts answered so.
+fn lifted(alloc: Global, order: Order, answers: [bool; 4]) -> Result<Harvest, Fail> {
+    let (board, seat) = board_of(alloc, order)?;
+    let mut seat = seat;
+    let answered = lifts_answer(&board, &mut seat, answers);
+    let harvest = harvest_of(alloc, board, seat)?;
+    if answered {
+        Ok(harvest)
+    } else {
+        Err("another answer")?
+    }
+}
+
+/// Whether a harvest has the progress tables of the small game.
+fn is_settled(harvest: &Harvest) -> bool {
+    harvest.check()
+        && harvest.table(Which::Hopeful).values() == [1, 0].as_slice()
+        && harvest.table(Which::Dual).values() == [0, 1].as_slice()
+}
+
+#[test]
+fn one_seat_settles_the_small_game(rt: HostRuntime) -> Result<(), Fail> {
+    let order = small(rt.alloc(), &[])?;
+    let first = lifted(rt.alloc(), order, [true, false, false, true])?;
+    assert!(rt; is_settled(&first));
+    let second = lifted(rt.alloc(), first.again(), [false; 4])?;
+    assert!(rt; is_settled(&second));
+    Ok(())
+}
+
+/// How often a seat splits, out of this many tries. What is split off is let go.
+fn splits_of(board: &Board, seat: &mut Seat, tries: usize) -> usize
+    requires { seat.old.board ≡ board.now }
+    ensures { seat.new.board ≡ board.now }
+{
+    let mut splits = 0;
+    for _ in 0..tries {
+        if board.split(seat).is_ok() {
+            splits += 1;
+        }
+    }
+    splits
+}
+
+/// Whether a seat splits 63 times and no more, and what it split off splits never.
+fn splits_stop(board: &Board, seat: &mut Seat) -> bool
+    requires { seat.old.board ≡ board.now }
+    ensures { seat.new.board ≡ board.now }
+{
+    let Ok(other) = board.split(seat) else {
+        return false;
+    };
+    let mut other = other;
+    let refused = splits_of(board, &mut other, 1) == 0;
+    let rest = splits_of(board, seat, 64);
+    board.join(seat, other);
+    refused && rest == 62
+}
+
+#[test]
+fn the_opening_seat_splits_63_times(rt: HostRuntime) -> Result<(), Fail> {
+    let (board, seat) = board_of(rt.alloc(), small(rt.alloc(), &[])?)?;
+    let mut seat = seat;
+    assert!(rt; splits_stop(&board, &mut seat));
+    assert!(rt; board.close(rt.alloc(), seat).is_ok());
+    Ok(())
+}
