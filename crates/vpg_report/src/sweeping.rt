@@ -1,5 +1,7 @@
 //! Sweeps: what the lines `settle` and `harvest` make of an order.
-ghost use Rattle.std.specs.Prelude.{◌≤◌};
+ghost use Rattle.std.specs.Prelude.{◌≡◌, ◌≤◌};
+ghost use Rattle.vpg_measure.specs.Lifts.{after_rounds};
+ghost use Rattle.vpg_measure.specs.Orders.{order_table, harvest_table, order_levels, order_arena};
 ghost use Rattle.vpg_report.specs.Sweeping.{IsSweptOrder};
 
 use std::alloc::Global;
@@ -7,7 +9,7 @@ use std::sync::Wait;
 use std::thread::Threads;
 use vpg_board::{OpenGate, sweep};
 use vpg_guess::harvest_by_bounds;
-use vpg_measure::{Harvest, Order};
+use vpg_measure::{Harvest, Order, Which};
 
 /// The sweeps that come before any guess: a small change is settled by them, and a line with so small a number asks for no more.
 const FIRST_SWEEPS: u64 = 4;
@@ -17,7 +19,8 @@ const BUDGET: u64 = 1 << 28;
 
 /// The order after this many rounds of one lifter at most. It takes no memory.
 fn by_rounds(order: Order, rounds: u64) -> Harvest
-    ensures { IsSweptOrder order rounds result }
+    ensures swept { IsSweptOrder order rounds result }
+    ensures tables { (which : Which) → harvest_table which result ≡ after_rounds (order_levels which order) (order_arena which order) rounds (order_table which order) }
 {
     let _game = order.game();
     let harvest = Harvest::alone(order, rounds);
@@ -50,7 +53,8 @@ fn by_sweeps<T: Threads + Wait + Sync>(
     lifters: u32,
 ) -> Harvest
     requires lifters { (1 ≤ lifters) × (lifters ≤ 64) }
-    ensures { IsSweptOrder order sweeps result }
+    ensures swept { IsSweptOrder order sweeps result }
+    ensures none { sweeps ≡ 0 → (which : Which) → harvest_table which result ≡ order_table which order }
 {
     let mut order = order;
     for done in 0..sweeps {
@@ -96,6 +100,8 @@ pub(crate) fn swept<T: Threads + Wait + Sync>(
 ) -> Harvest
     requires lifters { (1 ≤ lifters) × (lifters ≤ 64) }
     ensures swept { IsSweptOrder order sweeps result }
+    // No sweep raises nothing.
+    ensures none { sweeps ≡ 0 → (which : Which) → harvest_table which result ≡ order_table which order }
 {
     if sweeps <= FIRST_SWEEPS {
         return by_sweeps(rt, alloc, order, sweeps, lifters);
