@@ -13,3 +13,5 @@ mod given;
 mod guesses;
 #[cfg(test)]
 mod measures;
+#[cfg(test)]
+mod sweeps;

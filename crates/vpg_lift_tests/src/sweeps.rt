@@ -1,0 +1,157 @@
+//! Sweeps of the game of two vertices by 1 to 64 lifters, and lifters that wait for one another.
+
+ghost use Rattle.std.specs.Prelude.{◌≤◌};
+
+use crate::given::small;
+use std::alloc::Global;
+use std::sync::Wait;
+use std::sync::atomic::{AtomicU64, Ordering};
+use std::test::*;
+use std::thread;
+use std::thread::Threads;
+use vpg_board::{Gate, OpenGate, sweep};
+use vpg_measure::{Harvest, Order, Which};
+
+const MOST_TURNS: u64 = 1_000_000;
+
+/// Where lifters meet: each waits in its first claim until as many have come, and each first claim that met in time is counted.
+#[derive(Drop)]
+struct Meeting {
+    lifters: u64,
+    come: AtomicU64,
+    met: AtomicU64,
+    // one bit for each lifter that came
+    seen: AtomicU64,
+}
+
+impl Meeting {
+    fn of(lifters: u64) -> Meeting {
+        Meeting {
+            lifters,
+            come: AtomicU64::new(0),
+            met: AtomicU64::new(0),
+            seen: AtomicU64::new(0),
+        }
+    }
+}
+
+impl Gate for Meeting {
+    fn before_claim(&self, lifter: u32) {
+        if lifter >= 64 {
+            return;
+        }
+        let mark = 1u64 << lifter;
+        if self.seen.fetch_or(mark, Ordering::SeqCst) & mark != 0 {
+            return;
+        }
+        self.come.fetch_add(1, Ordering::SeqCst);
+        for _ in 0..MOST_TURNS {
+            if self.come.load(Ordering::SeqCst) >= self.lifters {
+                self.met.fetch_add(1, Ordering::SeqCst);
+                return;
+            }
+            thread::yield_now();
+        }
+    }
+
+    fn after_lift(&self, _lifter: u32) {}
+}
+
+/// Holds lifter 1 in its first claim until lifter 2 has lifted, and lifter 2 in its first claim until lifter 1 has reached its own.
+#[derive(Drop)]
+struct Relay {
+    reached: AtomicU64,
+    lifted: AtomicU64,
+    passed: AtomicU64,
+    seen: AtomicU64,
+}
+
+fn wait_for(word: &AtomicU64, passed: &AtomicU64) {
+    for _ in 0..MOST_TURNS {
+        if word.load(Ordering::SeqCst) != 0 {
+            passed.fetch_add(1, Ordering::SeqCst);
+            return;
+        }
+        thread::yield_now();
+    }
+}
+
+impl Gate for Relay {
+    fn before_claim(&self, lifter: u32) {
+        if lifter > 2 {
+            return;
+        }
+        let mark = 1u64 << lifter;
+        if self.seen.fetch_or(mark, Ordering::SeqCst) & mark != 0 {
+            return;
+        }
+        if lifter == 1 {
+            self.reached.store(1, Ordering::SeqCst);
+            wait_for(&self.lifted, &self.passed);
+        } else {
+            wait_for(&self.reached, &self.passed);
+        }
+    }
+
+    fn after_lift(&self, lifter: u32) {
+        if lifter == 2 {
+            self.lifted.store(1, Ordering::SeqCst);
+        }
+    }
+}
+
+/// The harvest of a sweep of the small game, where there is memory.
+fn swept<G: Gate + Sync, R: Threads + Wait + Sync>(
+    rt: &R,
+    alloc: Global,
+    order: Order,
+    lifters: u32,
+    gate: &G,
+) -> Result<Harvest, Fail>
+    requires { (1 ≤ lifters) × (lifters ≤ 64) }
+{
+    match sweep(rt, alloc, order, lifters, gate) {
+        Ok(harvest) => Ok(harvest),
+        Err(_) => Err("no harvest")?,
+    }
+}
+
+fn is_settled_small(harvest: &Harvest) -> bool {
+    harvest.check()
+        && harvest.table(Which::Hopeful).values() == [1, 0].as_slice()
+        && harvest.table(Which::Dual).values() == [0, 1].as_slice()
+}
+
+#[test]
+fn one_sweep_settles_the_small_game(rt: HostRuntime) -> Result<(), Fail> {
+    for lifters in 1..65 {
+        let harvest = swept(&rt, rt.alloc(), small(rt.alloc(), &[])?, lifters, &OpenGate)?;
+        assert!(rt; is_settled_small(&harvest));
+        let again = swept(&rt, rt.alloc(), harvest.again(), lifters, &OpenGate)?;
+        assert!(rt; is_settled_small(&again));
+    }
+    Ok(())
+}
+
+#[test]
+fn two_lifters_wait_for_one_another(rt: HostRuntime) -> Result<(), Fail> {
+    let relay = Relay {
+        reached: AtomicU64::new(0),
+        lifted: AtomicU64::new(0),
+        passed: AtomicU64::new(0),
+        seen: AtomicU64::new(0),
+    };
+    let harvest = swept(&rt, rt.alloc(), small(rt.alloc(), &[])?, 2, &relay)?;
+    assert!(rt; is_settled_small(&harvest));
+    assert!(rt; relay.passed.load(Ordering::SeqCst) == 2);
+    Ok(())
+}
+
+#[test]
+fn four_lifters_meet_before_their_first_claims(rt: HostRuntime) -> Result<(), Fail> {
+    let meeting = Meeting::of(4);
+    let harvest = swept(&rt, rt.alloc(), small(rt.alloc(), &[])?, 4, &meeting)?;
+    assert!(rt; is_settled_small(&harvest));
+    assert!(rt; meeting.met.load(Ordering::SeqCst) == 4);
+    Ok(())
+}
