@@ -14,6 +14,8 @@ mod family;
 mod fault;
 mod files;
 mod telling;
+#[cfg(test)]
+mod tests;
 mod words;
 
 use crate::family::Family;

@@ -1,0 +1,290 @@
+//! Which fault is told, and with which text.
+use crate::family::Family;
+use crate::fault::Fault;
+use crate::telling::line_of;
+use std::alloc::Global;
+use std::io::{self, Read, Write};
+use std::sync::Wait;
+use std::test::*;
+use std::thread::Threads;
+use vpg_report::device::Device;
+
+const DIAGRAM: &str = "root r\noptional r f\noptional r g\n";
+
+const GAME: &str = "parity 1; 0 1 0 1[f],0; 1 2 1 0[g],1;";
+
+/// A diagram that contradicts itself, and a game that Even wins.
+const NONE: &str = "root r\nmandatory r a\nexcludes r a\n";
+
+const DOT: &str = "0 0 0 0;";
+
+/// What is asked of a family.
+#[derive(Clone, Copy)]
+enum Asked {
+    Check,
+    /// Words with one blank between them.
+    Project(&'static str),
+    /// A script.
+    Run(&'static str),
+}
+
+/// A family, what is asked of it, and what is written to standard output, or else to standard error.
+struct Row {
+    diagram: &'static str,
+    game: &'static str,
+    asked: Asked,
+    written: &'static str,
+}
+
+/// What is written for a row's task on its family.
+fn answer<T: Threads + Wait + Sync>(rt: &T, alloc: Global, row: &Row) -> Result<Vec<u8>, Fault> {
+    let family = Family::read(alloc, row.diagram.as_bytes(), row.game.as_bytes())?;
+    match row.asked {
+        Asked::Check => Ok(family.counted(alloc)?),
+        Asked::Project(features) => {
+            let words: Vec<&str> = features.split(' ').collect(alloc)?;
+            family.projected(alloc, &words)
+        }
+        Asked::Run(script) => {
+            let mut reader = Device::reader(script.as_bytes());
+            let mut writer = Device::writer(Vec::new(alloc));
+            family.run(rt, alloc, &mut reader, &mut writer, 1)?;
+            Ok(writer.into_writer())
+        }
+    }
+}
+
+fn holds<T: Threads + Wait + Sync>(rt: &T, alloc: Global, row: &Row) -> bool {
+    let written = match answer(rt, alloc, row) {
+        Ok(text) => Ok(text),
+        Err(fault) => line_of(alloc, &fault),
+    };
+    written.is_ok_and(|text| text.as_slice() == row.written.as_bytes())
+}
+
+/// The place of the first row that doesn't hold.
+fn first_wrong<T: Threads + Wait + Sync>(rt: &T, alloc: Global, rows: &[Row]) -> Option<usize> {
+    for k in 0..rows.len() {
+        if !holds(rt, alloc, &rows[k]) {
+            return Some(k);
+        }
+    }
+    None
+}
+
+static REFUSED: [Row; 20] = [
+    Row {
+        diagram: "",
+        game: "",
+        asked: Asked::Check,
+        written: "vpgdesk: diagram NoRoot\n",
+    },
+    Row {
+        diagram: "root r\nroot s",
+        game: "0 0 0 7;",
+        asked: Asked::Check,
+        written: "vpgdesk: diagram TwoRoots 2\n",
+    },
+    Row {
+        diagram: "root r\nmandatory s f",
+        game: GAME,
+        asked: Asked::Check,
+        written: "vpgdesk: diagram UnknownFeature 2\n",
+    },
+    Row {
+        diagram: "root r\noptional r f\nmandatory r f",
+        game: GAME,
+        asked: Asked::Project("x"),
+        written: "vpgdesk: diagram TwoParents 3\n",
+    },
+    Row {
+        diagram: "root 9",
+        game: GAME,
+        asked: Asked::Run("frob"),
+        written: "vpgdesk: diagram Syntax 1\n",
+    },
+    Row {
+        diagram: "root r\ngroup r 2 1: a b",
+        game: GAME,
+        asked: Asked::Check,
+        written: "vpgdesk: diagram BadRange 2\n",
+    },
+    Row {
+        diagram: DIAGRAM,
+        game: "",
+        asked: Asked::Run("frob"),
+        written: "vpgdesk: game Syntax 0\n",
+    },
+    Row {
+        diagram: DIAGRAM,
+        game: "0 1 0 1[f",
+        asked: Asked::Check,
+        written: "vpgdesk: game Syntax 9\n",
+    },
+    Row {
+        diagram: DIAGRAM,
+        game: "0 2 2 0;",
+        asked: Asked::Check,
+        written: "vpgdesk: game BadOwner 4\n",
+    },
+    Row {
+        diagram: DIAGRAM,
+        game: "0 65536 0 0;",
+        asked: Asked::Check,
+        written: "vpgdesk: game PriorityTooLarge 2\n",
+    },
+    Row {
+        diagram: DIAGRAM,
+        game: "0 0 0 0[f &];",
+        asked: Asked::Check,
+        written: "vpgdesk: game Guard 8 Syntax 3\n",
+    },
+    Row {
+        diagram: DIAGRAM,
+        game: "0 0 0 0[h];",
+        asked: Asked::Check,
+        written: "vpgdesk: game Guard 8 UnknownFeature 0\n",
+    },
+    Row {
+        diagram: DIAGRAM,
+        game: "0 0 0 0; 0 0 0 0;",
+        asked: Asked::Check,
+        written: "vpgdesk: game DoubleVertex 0\n",
+    },
+    Row {
+        diagram: DIAGRAM,
+        game: "parity 0; 0 0 0 7;",
+        asked: Asked::Project("x"),
+        written: "vpgdesk: game MissingVertex 7\n",
+    },
+    Row {
+        diagram: NONE,
+        game: DOT,
+        asked: Asked::Run("frob"),
+        written: "vpgdesk: Conflict r\n",
+    },
+    Row {
+        diagram: DIAGRAM,
+        game: GAME,
+        asked: Asked::Run("show\nfrob"),
+        written: "vpgdesk: script Line 2 Word\n",
+    },
+    Row {
+        diagram: DIAGRAM,
+        game: GAME,
+        asked: Asked::Run("# none\r\nundo x\nfrob"),
+        written: "vpgdesk: script Line 2 Args\n",
+    },
+    Row {
+        diagram: DIAGRAM,
+        game: GAME,
+        asked: Asked::Project("g x y"),
+        written: "vpgdesk: UnknownFeature x\n",
+    },
+    Row {
+        diagram: DIAGRAM,
+        game: GAME,
+        asked: Asked::Project("r f\ng\u{7f}"),
+        written: "vpgdesk: UnknownFeature f?g?\n",
+    },
+    Row {
+        diagram: DIAGRAM,
+        game: GAME,
+        asked: Asked::Project("g"),
+        written: "vpgdesk: NotAProduct\n",
+    },
+];
+
+static DONE: [Row; 6] = [
+    Row {
+        diagram: DIAGRAM,
+        game: GAME,
+        asked: Asked::Check,
+        written: "vertices 2 edges 4 features 3 top 2 2\n",
+    },
+    Row {
+        diagram: NONE,
+        game: DOT,
+        asked: Asked::Check,
+        written: "vertices 1 edges 1 features 2 top 1 2\n",
+    },
+    Row {
+        diagram: NONE,
+        game: DOT,
+        asked: Asked::Project("r a"),
+        written: "vpgdesk: NotAProduct\n",
+    },
+    Row {
+        diagram: DIAGRAM,
+        game: GAME,
+        asked: Asked::Project("r g"),
+        written: "parity 1;\n0 1 0 0;\n1 2 1 0,1;\n",
+    },
+    Row {
+        diagram: DIAGRAM,
+        game: GAME,
+        asked: Asked::Project("g r g f"),
+        written: "parity 1;\n0 1 0 1,0;\n1 2 1 0,1;\n",
+    },
+    Row {
+        diagram: DIAGRAM,
+        game: GAME,
+        asked: Asked::Run("select r\nproducts"),
+        written: "done 1\nin r\nout\nopen f g\n",
+    },
+];
+
+#[test]
+fn families_and_what_is_asked_of_them(rt: HostRuntime) -> Result<(), Fail> {
+    assert_eq!(rt; first_wrong(&rt, rt.alloc(), &REFUSED), None);
+    assert_eq!(rt; first_wrong(&rt, rt.alloc(), &DONE), None);
+    Ok(())
+}
+
+/// Fails at the first call, whether it is to read or to write.
+#[derive(Drop)]
+struct Broken;
+
+impl Read for Broken {
+    fn read(&mut self, _buf: &mut [u8]) -> io::Result<usize> {
+        Err(io::ErrorKind::Other.into())
+    }
+}
+
+impl Write for Broken {
+    fn write(&mut self, _buf: &[u8]) -> io::Result<usize> {
+        Err(io::ErrorKind::Other.into())
+    }
+
+    fn flush(&mut self) -> io::Result<()> {
+        Ok(())
+    }
+}
+
+/// How a script ends whose answers go to a broken device.
+fn unwritten<T: Threads + Wait + Sync>(rt: &T, alloc: Global, script: &str) -> Result<(), Fault> {
+    let family = Family::read(alloc, DIAGRAM.as_bytes(), GAME.as_bytes())?;
+    let mut reader = Device::reader(script.as_bytes());
+    family.run(rt, alloc, &mut reader, &mut Device::writer(Broken), 1)
+}
+
+/// How a script ends that comes from a broken device.
+fn unread<T: Threads + Wait + Sync>(rt: &T, alloc: Global) -> Result<(), Fault> {
+    let family = Family::read(alloc, DIAGRAM.as_bytes(), GAME.as_bytes())?;
+    let mut writer = Device::writer(Vec::new(alloc));
+    family.run(rt, alloc, &mut Device::reader(Broken), &mut writer, 1)
+}
+
+#[test]
+fn broken_devices(rt: HostRuntime) -> Result<(), Fail> {
+    assert!(rt; matches!(unread(&rt, rt.alloc()), Err(Fault::Read)));
+    assert!(rt;
+        matches!(
+            unwritten(&rt, rt.alloc(), "# none\nshow\nfrob"),
+            Err(Fault::Write)
+        )
+    );
+    // Where nothing is written a broken device is no failure.
+    assert!(rt; unwritten(&rt, rt.alloc(), "# none\n").is_ok());
+    Ok(())
+}
