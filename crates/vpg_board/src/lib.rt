@@ -11,7 +11,8 @@
 //!
 //! Definitions: `specs/Places` (both tables as one list of words, lifts on them), `specs/Lifters` and `specs/Run` (what a lifter
 //! knows, the steps, runs), `specs/Rule` (what every run keeps, in two halves), `specs/Seats` (boards and seats as callers see
-//! them), `specs/Steps` (what each atomic step tells). What holds of every run stands in `laws`.
+//! them), `specs/Steps` (what each atomic step tells), `specs/Worked` (what lifters have done in a sweep). What holds of every run
+//! stands in `laws`.
 #![tactic(auto)]
 
 pub mod board;
