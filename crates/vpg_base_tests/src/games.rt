@@ -86,11 +86,21 @@ fn look_ups(rt: &HostRuntime, text: &[u8]) -> Result<String, Fail> {
     let game = game_of(rt, text)?;
     let mut out = String::new(rt.alloc());
     for v in 0..game.vertices() as u32 {
-        let owner = game.owner(v);
-        write!(out, "{} {} {owner:?}", game.id(v), game.priority(v))?;
-        let edges = edges_at(rt, &game, v)?;
-        write!(out, "{};", edges.as_str())?;
+        out.push_str(look_up(rt, &game, v)?.as_str())?;
     }
+    Ok(out)
+}
+
+// What is asked of one vertex, where there is one.
+fn look_up(rt: &HostRuntime, game: &GuardedGame, v: u32) -> Result<String, Fail> {
+    let mut out = String::new(rt.alloc());
+    if v as usize >= game.vertices() {
+        return Ok(out);
+    }
+    let (id, priority, owner) = (game.id(v), game.priority(v), game.owner(v));
+    write!(out, "{id} {priority} {owner:?}")?;
+    out.push_str(edges_at(rt, game, v)?.as_str())?;
+    out.push_str(";")?;
     Ok(out)
 }
 

@@ -12,3 +12,4 @@ pub mod Working
 pub mod Sharing
 pub mod Moving
 pub mod Swept
+pub mod Hinting

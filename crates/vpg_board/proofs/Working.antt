@@ -183,3 +183,22 @@ has_worked_both board before mine other new done other_done same is safe all =
     or_false : (b : Rattle.std.specs.Prelude.Bool) → (b || false) ≡ b
     or_false true = refl
     or_false false = refl
+
+-- a seat that has seen more
+pub more_seen : (board : BoardView) (before : Lifter) (old new : SeatView) → Works board old → SameStand before old.lifter → new.board ≡ old.board → SeesMore old.lifter new.lifter → IsSafe new.lifter → Works board new × SameStand before new.lifter
+more_seen board before old new works stand same more safe = (
+  record {
+    order = works.order;
+    own = works.own ∙ sym (ap (λ (v : Lifter). v.order) more.same);
+    board_is = same ∙ works.board_is;
+    safe = safe;
+    worked = worked_more old.lifter new.lifter more works.worked;
+  },
+  record {
+    opening = ap (λ (v : Lifter). v.opening) more.same ∙ stand.opening;
+    stands = let a = ap (λ (v : Lifter). v.stands) more.same in let b = ap (λ (v : Lifter). v.splits) more.same in omega (arith, stand.stands);
+  },
+)
+
+pub stand_trans : (u v w : Lifter) → SameStand u v → SameStand v w → SameStand u w
+stand_trans u v w one other = record { opening = other.opening ∙ one.opening; stands = omega (arith, one.stands, other.stands) }

@@ -7,3 +7,4 @@ pub mod BoardFields
 pub mod Steps
 pub mod Loading
 pub mod Worked
+pub mod Hints

@@ -16,13 +16,16 @@
 #![tactic(auto)]
 
 pub mod board;
+mod hints;
 pub mod laws;
 pub mod lifter;
+pub mod predecessors;
 pub mod seat;
 mod steps;
 pub mod sweeping;
 
 pub use board::Board;
 pub use lifter::Lifter;
+pub use predecessors::Predecessors;
 pub use seat::{Seat, TooManyLifters};
-pub use sweeping::{Gate, OpenGate, sweep};
+pub use sweeping::{Gate, OpenGate, sweep, sweep_along};

@@ -5,19 +5,23 @@ ghost use Rattle.std.specs.Thread.{IsSync};
 ghost use Rattle.vpg_hope.specs.Arena.{vertex_at};
 ghost use Rattle.vpg_measure.specs.Lifts.{lift_of, IsBelowTable};
 ghost use Rattle.vpg_measure.specs.Orders.{IsSameOrder, IsHarvest, IsSettledHarvest, order_levels, order_arena, order_table, harvest_table};
-ghost use Rattle.vpg_board.specs.Places.{vertices};
+ghost use Rattle.vpg_board.specs.Places.{vertices, table_in, lift_in};
 ghost use Rattle.vpg_board.specs.Lifters.{splits, newcomer};
-ghost use Rattle.vpg_board.specs.Worked.{Works, HasWorked};
+ghost use Rattle.vpg_board.specs.Seats.{SeesMore, IsSafe};
+ghost use Rattle.vpg_board.specs.Worked.{Works, SameStand, HasWorked};
 
 use crate::board::Board;
+use crate::hints::{Hints, Vertices, hints_of, next_hints};
+use crate::predecessors::Predecessors;
 use crate::seat::Seat;
 use std::alloc::Global;
+use std::marker::Brand;
 use std::sync::Wait;
 use std::thread::{Threads, join};
 use vpg_measure::{Harvest, Order, Which};
 
-/// What each lifter of a sweep calls before each claim and after each lift of a vertex that it claimed. Lifters are numbered
-/// from 1, which is the calling thread.
+/// What each lifter of a sweep calls before each claim and after each lift, of a vertex that it claimed or was hinted at. Lifters
+/// are numbered from 1, which is the calling thread.
 pub trait Gate {
     fn before_claim(&self, lifter: u32);
 
@@ -34,19 +38,80 @@ impl Gate for OpenGate {
     fn after_lift(&self, _lifter: u32) {}
 }
 
-// Claims until none is left, and lifts what it claims.
-fn work<G: Gate, R: Wait>(rt: &R, board: &Board, gate: &G, lifter: u32, seat: Seat) -> Seat
-    requires { Works board.now seat }
+/// The most hinted lifts behind a claim: a setting that no clause counts.
+const HINTED_LIFTS: usize = 16;
+
+// Lifts a vertex, and where it was raised hints at those that keep an edge to it.
+fn lift_and_hint<J: Vertices>(
+    board: &Board,
+    seat: &mut Seat,
+    predecessors: &Predecessors,
+    hints: &mut Hints<J>,
+    which: Which,
+    v: u32,
+)
+    requires board { seat.old.board ≡ board.now }
+    requires vertex { v < vertices board.now.order }
+    requires predecessors { predecessors.now ≡ J.vertices }
+    ensures board { seat.new.board ≡ seat.old.board }
+    ensures seen { SeesMore seat.old.lifter seat.new.lifter }
+    ensures safe { IsSafe seat.new.lifter }
+    ensures lifted { lift_in board.now.order which seat.old.lifter.seen v ≤ slice_index (table_in board.now.order which seat.new.lifter.seen) v }
+{
+    if board.lift(seat, which, v) {
+        hints.give_all(which, predecessors.in_game(which), v);
+    }
+}
+
+// Lifts hinted vertices, a few at most.
+fn lift_hinted<J: Vertices, G: Gate>(
+    board: &Board,
+    gate: &G,
+    lifter: u32,
+    seat: &mut Seat,
+    predecessors: &Predecessors,
+    hints: &mut Hints<J>,
+)
+    requires works { Works board.now seat.old }
+    requires game { J.vertices ≡ vertices board.now.order }
+    requires predecessors { predecessors.now ≡ J.vertices }
+    ensures works { Works board.now seat.new }
+    ensures stand { SameStand seat.old.lifter seat.new.lifter }
+{
+    'hinted: for _ in 0..HINTED_LIFTS {
+        let Some((which, v)) = hints.take() else {
+            return;
+        };
+        lift_and_hint(board, seat, predecessors, hints, which, v);
+        gate.after_lift(lifter);
+    }
+}
+
+// Claims until none is left, and lifts what it claims, and what it is hinted at.
+fn work<J: Vertices, G: Gate, R: Wait>(
+    rt: &R,
+    board: &Board,
+    gate: &G,
+    lifter: u32,
+    seat: Seat,
+    predecessors: &Predecessors,
+    hints: Hints<J>,
+) -> Seat
+    requires works { Works board.now seat }
+    requires game { J.vertices ≡ vertices board.now.order }
+    requires predecessors { predecessors.now ≡ J.vertices }
     ensures { HasWorked board.now seat.lifter result }
 {
     let mut seat = seat;
+    let mut hints = hints;
     'claims: for _ in rt.forever() {
         gate.before_claim(lifter);
         let Some((which, v)) = board.claim(&mut seat) else {
             return seat;
         };
-        board.lift(&mut seat, which, v);
+        lift_and_hint(board, &mut seat, predecessors, &mut hints, which, v);
         gate.after_lift(lifter);
+        lift_hinted(board, gate, lifter, &mut seat, predecessors, &mut hints);
     }
     unreachable!()
 }
@@ -64,43 +129,69 @@ fn split_off(board: &Board, seat: &mut Seat) -> Option<Seat>
 }
 
 // As many lifters as are asked for, and the last one is the caller.
-fn work_together<G: Gate + Sync, R: Threads + Wait + Sync>(
+fn work_together<J: Vertices + Send + Sync, G: Gate + Sync, R: Threads + Wait + Sync>(
     rt: &R,
     board: &Board,
     gate: &G,
     lifters: u32,
     seat: Seat,
+    predecessors: &Predecessors,
+    crew: Vec<Hints<J>>,
 ) -> Seat
-    requires { Works board.now seat }
+    requires works { Works board.now seat }
+    requires game { J.vertices ≡ vertices board.now.order }
+    requires predecessors { predecessors.now ≡ J.vertices }
     ensures { HasWorked board.now seat.lifter result }
 {
     let mut seat = seat;
+    let mut crew = crew;
+    let hints = next_hints(&mut crew);
     if lifters <= 1 {
-        return work(rt, board, gate, 1, seat);
+        return work(rt, board, gate, 1, seat, predecessors, hints);
     }
     let Some(other) = split_off(board, &mut seat) else {
-        return work(rt, board, gate, 1, seat);
+        return work(rt, board, gate, 1, seat, predecessors, hints);
     };
     let rest = lifters - 1;
     let (other, mine) = join(
         rt,
         move || -> Seat
-            requires { IsSync R.row × IsSync G.row × Works board.now other }
+            requires { IsSync R.row × IsSync G.row × Works board.now other × (J.vertices ≡ vertices board.now.order) × (predecessors.now ≡ J.vertices) }
             ensures { HasWorked board.entry.now other.lifter result }
-        { work(rt, board, gate, lifters, other) },
+        { work(rt, board, gate, lifters, other, predecessors, hints) },
         move || -> Seat
-            requires { IsSync R.row × IsSync G.row × Works board.now seat }
+            requires { IsSync R.row × IsSync G.row × Works board.now seat × (J.vertices ≡ vertices board.now.order) × (predecessors.now ≡ J.vertices) }
             ensures { HasWorked board.entry.now seat.lifter result }
-        { work_together(rt, board, gate, rest, seat) },
+        { work_together(rt, board, gate, rest, seat, predecessors, crew) },
     );
     let mut mine = mine;
     board.join(&mut mine, other);
     mine
 }
 
+// The same, with hints of the game that is picked for J.
+fn work_with_hints<J: Vertices + Send + Sync, G: Gate + Sync, R: Threads + Wait + Sync>(
+    rt: &R,
+    alloc: Global,
+    board: &Board,
+    gate: &G,
+    lifters: u32,
+    seat: Seat,
+    predecessors: &Predecessors,
+) -> Seat
+    requires works { Works board.now seat }
+    requires game { J.vertices ≡ vertices board.now.order }
+    requires predecessors { predecessors.now ≡ J.vertices }
+    ensures { HasWorked board.now seat.lifter result }
+{
+    let crew = hints_of::<J>(alloc, lifters);
+    work_together(rt, board, gate, lifters, seat, predecessors, crew)
+}
+
 /// Lifts each vertex of both tables of the order at least once, by 1 to 64 lifters at once: the calling thread is lifter 1, the
-/// others get threads of their own. Where the machine has no thread for one, the calling thread does its work. For want of
-/// memory the order comes back.
+/// others get threads of their own. Where the machine has no thread for one, the calling thread does its work. After a raise the
+/// lifter hints at the vertices that keep an edge to the raised one, for itself and for one other, and behind each claim it lifts
+/// at most 16 hinted vertices. For want of memory the order comes back; where only hints found none, they are left out.
 ///
 /// A sweep whose harvest has no greater value than its order proves the order settled.
 pub fn sweep<G: Gate + Sync, R: Threads + Wait + Sync>(
@@ -125,7 +216,37 @@ pub fn sweep<G: Gate + Sync, R: Threads + Wait + Sync>(
     ensures moved { IfOk result (λ harvest. ¬ IsSettledHarvest harvest → sum order.hopeful + sum order.dual < sum harvest.hopeful + sum harvest.dual) }
     ensures back { IfErr result (λ returned. returned ≡ order) }
 {
+    let predecessors = Predecessors::of_or_none(alloc, &order);
+    sweep_along(rt, alloc, order, lifters, gate, &predecessors)
+}
+
+/// The same, with hints along these predecessors: for many sweeps of one order and those that follow it.
+pub fn sweep_along<G: Gate + Sync, R: Threads + Wait + Sync>(
+    rt: &R,
+    alloc: Global,
+    order: Order,
+    lifters: u32,
+    gate: &G,
+    predecessors: &Predecessors,
+) -> Result<Harvest, Order>
+    requires predecessors { predecessors.now ≡ vertices order }
+    requires lifters { (1 ≤ lifters) × (lifters ≤ 64) }
+    ensures order { IfOk result (λ harvest. IsSameOrder harvest.order order) }
+
+    // At every vertex of both tables it is on or above the lift of the order's table.
+    ensures lifted { IfOk result (λ harvest. (which : Which) (v : ℕ) → v < vertices order →
+        lift_of (order_levels which order) (order_table which order) (vertex_at (order_arena which order) v) ≤ slice_index (harvest_table which harvest) v) }
+
+    // On or above the order's tables, and below every progress table of its games.
+    ensures above { IfOk result (λ harvest. (which : Which) → IsBelowTable (order_table which order) (harvest_table which harvest)) }
+    ensures harvest { IfOk result IsHarvest }
+
+    // A harvest that does not check has risen, in sum: so where nothing rose the order was settled.
+    ensures moved { IfOk result (λ harvest. ¬ IsSettledHarvest harvest → sum order.hopeful + sum order.dual < sum harvest.hopeful + sum harvest.dual) }
+    ensures back { IfErr result (λ returned. returned ≡ order) }
+{
     let (board, seat) = Board::open(alloc, order)?;
-    let seat = work_together(rt, &board, gate, lifters, seat);
+    let seat =
+        work_with_hints::<Brand, G, R>(rt, alloc, &board, gate, lifters, seat, predecessors);
     board.close(alloc, seat)
 }

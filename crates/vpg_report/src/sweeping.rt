@@ -2,12 +2,13 @@
 ghost use Rattle.std.specs.Prelude.{◌≡◌, ◌≤◌};
 ghost use Rattle.vpg_measure.specs.Lifts.{after_rounds};
 ghost use Rattle.vpg_measure.specs.Orders.{order_table, harvest_table, order_levels, order_arena};
+ghost use Rattle.vpg_board.specs.Places.{vertices};
 ghost use Rattle.vpg_report.specs.Sweeping.{IsSweptOrder};
 
 use std::alloc::Global;
 use std::sync::Wait;
 use std::thread::Threads;
-use vpg_board::{OpenGate, sweep};
+use vpg_board::{OpenGate, Predecessors, sweep_along};
 use vpg_guess::harvest_by_bounds;
 use vpg_measure::{Harvest, Order, Which};
 
@@ -34,11 +35,13 @@ fn swept_once<T: Threads + Wait + Sync>(
     alloc: Global,
     order: Order,
     lifters: u32,
+    predecessors: &Predecessors,
 ) -> Harvest
     requires lifters { (1 ≤ lifters) × (lifters ≤ 64) }
+    requires predecessors { predecessors.now ≡ vertices order }
     ensures { IsSweptOrder order 1 result }
 {
-    match sweep(rt, alloc, order, lifters, &OpenGate) {
+    match sweep_along(rt, alloc, order, lifters, &OpenGate, predecessors) {
         Ok(harvest) => harvest,
         Err(order) => by_rounds(order, 1),
     }
@@ -51,14 +54,16 @@ fn by_sweeps<T: Threads + Wait + Sync>(
     order: Order,
     sweeps: u64,
     lifters: u32,
+    predecessors: &Predecessors,
 ) -> Harvest
     requires lifters { (1 ≤ lifters) × (lifters ≤ 64) }
+    requires predecessors { predecessors.now ≡ vertices order }
     ensures swept { IsSweptOrder order sweeps result }
     ensures none { sweeps ≡ 0 → (which : Which) → harvest_table which result ≡ order_table which order }
 {
     let mut order = order;
     for done in 0..sweeps {
-        let harvest = swept_once(rt, alloc, order, lifters);
+        let harvest = swept_once(rt, alloc, order, lifters, predecessors);
         if harvest.check() {
             return harvest;
         }
@@ -74,8 +79,10 @@ fn by_guesses<T: Threads + Wait + Sync>(
     order: Order,
     sweeps: u64,
     lifters: u32,
+    predecessors: &Predecessors,
 ) -> Harvest
     requires lifters { (1 ≤ lifters) × (lifters ≤ 64) }
+    requires predecessors { predecessors.now ≡ vertices order }
     ensures { IsSweptOrder order sweeps result }
 {
     match harvest_by_bounds(alloc, order, BUDGET) {
@@ -83,9 +90,9 @@ fn by_guesses<T: Threads + Wait + Sync>(
             if harvest.check() {
                 return harvest;
             }
-            by_sweeps(rt, alloc, harvest.again(), sweeps, lifters)
+            by_sweeps(rt, alloc, harvest.again(), sweeps, lifters, predecessors)
         }
-        Err(order) => by_sweeps(rt, alloc, order, sweeps, lifters),
+        Err(order) => by_sweeps(rt, alloc, order, sweeps, lifters, predecessors),
     }
 }
 
@@ -103,12 +110,13 @@ pub(crate) fn swept<T: Threads + Wait + Sync>(
     // No sweep raises nothing.
     ensures none { sweeps ≡ 0 → (which : Which) → harvest_table which result ≡ order_table which order }
 {
+    let predecessors = Predecessors::of_or_none(alloc, &order);
     if sweeps <= FIRST_SWEEPS {
-        return by_sweeps(rt, alloc, order, sweeps, lifters);
+        return by_sweeps(rt, alloc, order, sweeps, lifters, &predecessors);
     }
-    let first = by_sweeps(rt, alloc, order, FIRST_SWEEPS, lifters);
+    let first = by_sweeps(rt, alloc, order, FIRST_SWEEPS, lifters, &predecessors);
     if first.check() {
         return first;
     }
-    by_guesses(rt, alloc, first.again(), sweeps - FIRST_SWEEPS, lifters)
+    by_guesses(rt, alloc, first.again(), sweeps - FIRST_SWEEPS, lifters, &predecessors)
 }

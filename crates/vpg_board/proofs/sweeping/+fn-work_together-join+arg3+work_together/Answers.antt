@@ -1,15 +1,26 @@
-use Rattle.std.proofs.Common.{subst}
-use denote.Param.Send.{sendable}
+use Rattle.std.proofs.Common.{rules, subst}
+use denote.Param.{param}
+use denote.Param.Send.{IsSync, sendable}
 use Rattle.std.proofs.Crossing.{crosses}
 use Rattle.vpg_board.specs.declared.lifter.Lifter.{Lifter}
 use Rattle.vpg_board.specs.Worked.{HasWorked}
 use Rattle.vpg_board.proofs.Sharing.{board_sync}
 use Rattle.vpg_board.proofs.Working.{has_worked_both}
 use Rattle.vpg_board.proofs.seat.Seat.TheSendSync as seat
+use Rattle.vpg_board.proofs.hints.Hints.TheSendSync as hints
+use Rattle.vpg_board.proofs.predecessors.Predecessors.TheSendSync as predecessors
 use Rattle.vpg_board.proofs.sweeping.+fn-work_together-join+arg3+work_together.Goals as goal
 
+-- what each captured value may do stands beside the goal, since a search through all of it takes too many steps
 pub join-other-requires-send-F : goal.join-other-requires-send-F
-join-other-requires-send-F g t c κs within = search (board_sync, seat.the_send, crosses, sendable) depth 60 fits 20000
+join-other-requires-send-F g t c κs within =
+    let r : IsSync g.row.R = search rules parts 8 in
+    let q : IsSync g.row.G = search rules parts 8 in
+    let h = hints.the_send (param 0 g.row.J) g.J.Vertices in
+    let b = board_sync in
+    let s = seat.the_send in
+    let p = predecessors.the_sync in
+    search (crosses, sendable) depth 60 fits 20000
 
 pub returns : goal.returns
 returns g t c =

@@ -16,6 +16,7 @@ loop-done-preserved g c = record {
   left = swept_on c.args.order c.loop-done.order c.again-order.result c.swept_once-harvest.result c.args.sweeps (c.args.sweeps - (c.loop-done.done + 1))
       (subst (λ (n : ℕ). LeavesTo c.args.order c.loop-done.order c.args.sweeps n) (omega (arith, c.loop-done-test.true)) c.loop-done.invariant.left)
       c.swept_once-harvest.ensures (λ settled. absurd (cc (c.check.ensures.1 settled, c.if-check.false))) c.again-order.ensures;
+  game = c.again-order.ensures.game ∙ c.swept_once-harvest.ensures.page.game ∙ c.loop-done.invariant.game;
   same = λ none. absurd (omega (arith, none));
 }
 

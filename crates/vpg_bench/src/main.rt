@@ -1,0 +1,216 @@
+//! Sweeps, to be measured from outside: both tables of a game are raised from zero, until they are settled or so many times.
+//!
+//!     vpg_bench GAME NUMBER MOST
+//!
+//! NUMBER is 1 to 64 for sweeps by so many lifters with hints; 100 more for sweeps without hints; 200 more for sweeps with hints
+//! whose lifts are counted; 300 for rounds of one thread without a board. MOST is how many sweeps or rounds there may be.
+//!
+//! The game is over the features r, f and g. It prints one line: whether the tables are settled, in how many sweeps, how many lifts
+//! were counted, the sums of both tables, and the microseconds that the raising took. Without words it sweeps a game that is built
+//! in, and tells no time. `bench/sweeps.py` runs it.
+#![tactic(auto)]
+
+ghost use Rattle.std.specs.Prelude.{◌≡◌, ◌↔◌, ◌<◌, ◌≤◌, IsTrue, All};
+ghost use Rattle.vpg_board.specs.Places.{vertices};
+
+use anyhow::{Result, bail};
+use std::alloc::{AllocError, Global};
+use std::sync::atomic::{AtomicU64, Ordering};
+use std::sync::{Arc, Wait};
+use std::thread::Threads;
+use std::time::Instant;
+use std::{env, fs};
+use vpg_board::{Gate, OpenGate, Predecessors, sweep_along};
+use vpg_diagram::Diagram;
+use vpg_game::GuardedGame;
+use vpg_measure::{Harvest, Order, Refused, Table, Which};
+use vpg_partial::Decision;
+
+const DIAGRAM: &[u8] = b"root r\noptional r f\noptional r g\n";
+
+const GAME: &[u8] = b"parity 1; 0 1 0 1[f],0; 1 2 1 0[g],1;";
+
+/// How the tables are raised.
+#[derive(Clone, Copy)]
+enum How {
+    Alone,
+    Plain,
+    Hinted,
+    Counted,
+}
+
+/// What was reached, and by how much.
+#[derive(Drop)]
+struct Reached {
+    harvest: Harvest,
+    sweeps: u64,
+    lifts: u64,
+}
+
+/// Counts the lifts of all lifters.
+#[derive(Drop)]
+struct Count {
+    lifts: AtomicU64,
+}
+
+impl Gate for Count {
+    fn before_claim(&self, _lifter: u32) {}
+
+    fn after_lift(&self, _lifter: u32) {
+        self.lifts.fetch_add(1, Ordering::SeqCst);
+    }
+}
+
+/// Whether each decision is of one of this many features.
+fn are_below(features: usize, decisions: &[Decision]) -> bool
+    ensures { IsTrue result ↔ All (λ d. d.feature < features) decisions.now }
+{
+    decisions.iter().all(|d| (d.feature as usize) < features)
+}
+
+/// The order of decisions with two tables of zeros, or nothing where game, diagram and decisions don't fit together.
+fn order_of(
+    alloc: Global,
+    game: GuardedGame,
+    diagram: Diagram,
+    decisions: Vec<Decision>,
+) -> Result<Option<Result<Order, Refused>>, AllocError> {
+    let features = diagram.features();
+    if game.features() != features || !are_below(features, &decisions) {
+        return Ok(None);
+    }
+    let vertices = game.vertices() as u32;
+    let hopeful = Table::zero(alloc, vertices)?;
+    let dual = Table::zero(alloc, vertices)?;
+    let game = Arc::new(alloc, game)?;
+    let diagram = Arc::new(alloc, diagram)?;
+    Ok(Some(Order::of(alloc, game, diagram, decisions, hopeful, dual)))
+}
+
+/// The order that a game's text spells, without decisions and from zero.
+fn opening_order(alloc: Global, text: &[u8]) -> Result<Order> {
+    let diagram = Diagram::read(alloc, DIAGRAM)?;
+    let game = GuardedGame::read(alloc, text, diagram.names())?;
+    match order_of(alloc, game, diagram, Vec::new(alloc))? {
+        Some(Ok(order)) => Ok(order),
+        _ => bail!("no order"),
+    }
+}
+
+/// The harvest of so many sweeps at most, and how many there were.
+fn swept<G: Gate + Sync, T: Threads + Wait + Sync>(
+    rt: &T,
+    alloc: Global,
+    order: Order,
+    most: u64,
+    lifters: u32,
+    gate: &G,
+    predecessors: &Predecessors,
+) -> Result<(Harvest, u64)>
+    requires lifters { (1 ≤ lifters) × (lifters ≤ 64) }
+    requires predecessors { predecessors.now ≡ vertices order }
+{
+    let mut order = order;
+    for done in 0..most {
+        let Ok(harvest) = sweep_along(rt, alloc, order, lifters, gate, predecessors) else {
+            bail!("no memory for a board");
+        };
+        if harvest.check() {
+            return Ok((harvest, done + 1));
+        }
+        order = harvest.again();
+    }
+    Ok((Harvest::alone(order, 0), most))
+}
+
+/// The order raised as the words ask for.
+fn reach<T: Threads + Wait + Sync>(
+    rt: &T,
+    alloc: Global,
+    order: Order,
+    how: How,
+    lifters: u32,
+    most: u64,
+) -> Result<Reached>
+    requires { (1 ≤ lifters) × (lifters ≤ 64) }
+{
+    let count = Count {
+        lifts: AtomicU64::new(0),
+    };
+    let predecessors = match how {
+        How::Alone | How::Plain => Predecessors::none(alloc, &order),
+        How::Hinted | How::Counted => Predecessors::of_or_none(alloc, &order),
+    };
+    let (harvest, sweeps) = match how {
+        How::Alone => (Harvest::alone(order, most), 0),
+        How::Plain | How::Hinted => {
+            swept(rt, alloc, order, most, lifters, &OpenGate, &predecessors)?
+        }
+        How::Counted => swept(rt, alloc, order, most, lifters, &count, &predecessors)?,
+    };
+    Ok(Reached {
+        harvest,
+        sweeps,
+        lifts: count.lifts.load(Ordering::SeqCst),
+    })
+}
+
+/// The sum of a table's values.
+fn sum_of(table: &Table) -> u64 {
+    let mut sum = 0u64;
+    for value in table.values() {
+        sum = sum.wrapping_add(*value);
+    }
+    sum
+}
+
+/// Tells what was reached, without an end of line.
+fn tell(rt: &HostRuntime, reached: &Reached) -> Result<()> {
+    print!(rt; "settled {}", reached.harvest.check())?;
+    print!(rt; " sweeps {} lifts {}", reached.sweeps, reached.lifts)?;
+    print!(rt; " sums {}", sum_of(reached.harvest.table(Which::Hopeful)))?;
+    print!(rt; " {}", sum_of(reached.harvest.table(Which::Dual)))?;
+    Ok(())
+}
+
+/// How a number asks for it, and how many lifters it names.
+fn how_of(number: u32) -> (How, u32) {
+    let how = match number / 100 {
+        0 => How::Hinted,
+        1 => How::Plain,
+        2 => How::Counted,
+        _ => How::Alone,
+    };
+    (how, (number % 100).clamp(1, 64))
+}
+
+/// Raises the game of a file as the words behind the program's name ask for.
+fn measure<T: Threads + Wait + Sync>(
+    rt: &HostRuntime,
+    threads: &T,
+    path: &str,
+    number: &str,
+    most: &str,
+) -> Result<()> {
+    let (how, lifters) = how_of(number.parse::<u32>()?);
+    let most = most.parse::<u64>()?;
+    let order = opening_order(rt.alloc(), &fs::read(rt, path)?)?;
+    let start = Instant::now(rt)?;
+    let reached = reach(threads, rt.alloc(), order, how, lifters, most)?;
+    let micros = start.elapsed(rt)?.as_micros();
+    tell(rt, &reached)?;
+    println!(rt; " micros {micros}")?;
+    Ok(())
+}
+
+fn main(rt: HostRuntime) -> Result<()> {
+    let words: Vec<String> = env::args(&rt)?.collect(rt.alloc())?;
+    if let [_, path, number, most] = words.as_slice() {
+        return measure(&rt, &rt, path.as_str(), number.as_str(), most.as_str());
+    }
+    let order = opening_order(rt.alloc(), GAME)?;
+    let reached = reach(&rt, rt.alloc(), order, How::Counted, 1, 1)?;
+    tell(&rt, &reached)?;
+    println!(rt)?;
+    Ok(())
+}
