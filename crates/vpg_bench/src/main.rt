@@ -123,6 +123,49 @@ fn swept<G: Gate + Sync, T: Threads + Wait + Sync>(
     Ok((Harvest::alone(order, 0), most))
 }
 
+/// The order swept so, without a count of lifts.
+fn uncounted<T: Threads + Wait + Sync>(
+    rt: &T,
+    alloc: Global,
+    order: Order,
+    lifters: u32,
+    most: u64,
+    predecessors: &Predecessors,
+) -> Result<Reached>
+    requires lifters { (1 ≤ lifters) × (lifters ≤ 64) }
+    requires predecessors { predecessors.now ≡ vertices order }
+{
+    let (harvest, sweeps) = swept(rt, alloc, order, most, lifters, &OpenGate, predecessors)?;
+    Ok(Reached {
+        harvest,
+        sweeps,
+        lifts: 0,
+    })
+}
+
+/// The order swept with hints, and each lift counted.
+fn counted<T: Threads + Wait + Sync>(
+    rt: &T,
+    alloc: Global,
+    order: Order,
+    lifters: u32,
+    most: u64,
+) -> Result<Reached>
+    requires { (1 ≤ lifters) × (lifters ≤ 64) }
+{
+    let count = Count {
+        lifts: AtomicU64::new(0),
+    };
+    let predecessors = Predecessors::of_or_none(alloc, &order);
+    let (harvest, sweeps) = swept(rt, alloc, order, most, lifters, &count, &predecessors)?;
+    let lifts = count.lifts.load(Ordering::SeqCst);
+    Ok(Reached {
+        harvest,
+        sweeps,
+        lifts,
+    })
+}
+
 /// The order raised as the words ask for.
 fn reach<T: Threads + Wait + Sync>(
     rt: &T,
@@ -134,25 +177,22 @@ fn reach<T: Threads + Wait + Sync>(
 ) -> Result<Reached>
     requires { (1 ≤ lifters) × (lifters ≤ 64) }
 {
-    let count = Count {
-        lifts: AtomicU64::new(0),
-    };
-    let predecessors = match how {
-        How::Alone | How::Plain => Predecessors::none(alloc, &order),
-        How::Hinted | How::Counted => Predecessors::of_or_none(alloc, &order),
-    };
-    let (harvest, sweeps) = match how {
-        How::Alone => (Harvest::alone(order, most), 0),
-        How::Plain | How::Hinted => {
-            swept(rt, alloc, order, most, lifters, &OpenGate, &predecessors)?
+    match how {
+        How::Alone => Ok(Reached {
+            harvest: Harvest::alone(order, most),
+            sweeps: 0,
+            lifts: 0,
+        }),
+        How::Plain => {
+            let predecessors = Predecessors::none(alloc, &order);
+            uncounted(rt, alloc, order, lifters, most, &predecessors)
         }
-        How::Counted => swept(rt, alloc, order, most, lifters, &count, &predecessors)?,
-    };
-    Ok(Reached {
-        harvest,
-        sweeps,
-        lifts: count.lifts.load(Ordering::SeqCst),
-    })
+        How::Hinted => {
+            let predecessors = Predecessors::of_or_none(alloc, &order);
+            uncounted(rt, alloc, order, lifters, most, &predecessors)
+        }
+        How::Counted => counted(rt, alloc, order, lifters, most),
+    }
 }
 
 /// The sum of a table's values.
@@ -174,7 +214,9 @@ fn tell(rt: &HostRuntime, reached: &Reached) -> Result<()> {
 }
 
 /// How a number asks for it, and how many lifters it names.
-fn how_of(number: u32) -> (How, u32) {
+fn how_of(number: u32) -> (How, u32)
+    ensures { (1 ≤ result.1) × (result.1 ≤ 64) }
+{
     let how = match number / 100 {
         0 => How::Hinted,
         1 => How::Plain,

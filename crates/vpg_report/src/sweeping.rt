@@ -72,6 +72,21 @@ fn by_sweeps<T: Threads + Wait + Sync>(
     by_rounds(order, 0)
 }
 
+/// The same, where lifters hint at what to lift next.
+fn by_hints<T: Threads + Wait + Sync>(
+    rt: &T,
+    alloc: Global,
+    order: Order,
+    sweeps: u64,
+    lifters: u32,
+) -> Harvest
+    requires lifters { (1 ≤ lifters) × (lifters ≤ 64) }
+    ensures { IsSweptOrder order sweeps result }
+{
+    let predecessors = Predecessors::of_or_none(alloc, &order);
+    by_sweeps(rt, alloc, order, sweeps, lifters, &predecessors)
+}
+
 /// The order raised by guesses, and swept from there where they don't settle it. On want of memory it is swept alone.
 fn by_guesses<T: Threads + Wait + Sync>(
     rt: &T,
@@ -79,10 +94,8 @@ fn by_guesses<T: Threads + Wait + Sync>(
     order: Order,
     sweeps: u64,
     lifters: u32,
-    predecessors: &Predecessors,
 ) -> Harvest
     requires lifters { (1 ≤ lifters) × (lifters ≤ 64) }
-    requires predecessors { predecessors.now ≡ vertices order }
     ensures { IsSweptOrder order sweeps result }
 {
     match harvest_by_bounds(alloc, order, BUDGET) {
@@ -90,14 +103,15 @@ fn by_guesses<T: Threads + Wait + Sync>(
             if harvest.check() {
                 return harvest;
             }
-            by_sweeps(rt, alloc, harvest.again(), sweeps, lifters, predecessors)
+            by_hints(rt, alloc, harvest.again(), sweeps, lifters)
         }
-        Err(order) => by_sweeps(rt, alloc, order, sweeps, lifters, predecessors),
+        Err(order) => by_hints(rt, alloc, order, sweeps, lifters),
     }
 }
 
 /// The order swept this many times at most, by this many lifters at once; where the first few sweeps don't settle it, its tables
-/// are raised by guesses before the others. It never fails: where a board or a guess finds no memory, the sweeps go on without.
+/// are raised by guesses before the others. The first few go without hints: one lifter's then raise what as many rounds raise. It
+/// never fails: where a board, a hint or a guess finds no memory, the sweeps go on without.
 pub(crate) fn swept<T: Threads + Wait + Sync>(
     rt: &T,
     alloc: Global,
@@ -110,13 +124,13 @@ pub(crate) fn swept<T: Threads + Wait + Sync>(
     // No sweep raises nothing.
     ensures none { sweeps ≡ 0 → (which : Which) → harvest_table which result ≡ order_table which order }
 {
-    let predecessors = Predecessors::of_or_none(alloc, &order);
+    let plain = Predecessors::none(alloc, &order);
     if sweeps <= FIRST_SWEEPS {
-        return by_sweeps(rt, alloc, order, sweeps, lifters, &predecessors);
+        return by_sweeps(rt, alloc, order, sweeps, lifters, &plain);
     }
-    let first = by_sweeps(rt, alloc, order, FIRST_SWEEPS, lifters, &predecessors);
+    let first = by_sweeps(rt, alloc, order, FIRST_SWEEPS, lifters, &plain);
     if first.check() {
         return first;
     }
-    by_guesses(rt, alloc, first.again(), sweeps - FIRST_SWEEPS, lifters, &predecessors)
+    by_guesses(rt, alloc, first.again(), sweeps - FIRST_SWEEPS, lifters)
 }

@@ -7,4 +7,4 @@ returns-then-check g c =
 
 pub returns-else-check : goal.returns-else-check
 returns-else-check g c =
-    raised_then c.args.order c.again.result c.in-Ok.harvest c.by_sweeps.result c.args.sweeps c.again.ensures c.by_sweeps.ensures.swept c.in-Ok.ensures.harvest c.in-Ok.ensures.order
+    raised_then c.args.order c.again.result c.in-Ok.harvest c.by_hints.result c.args.sweeps c.again.ensures c.by_hints.ensures c.in-Ok.ensures.harvest c.in-Ok.ensures.order
