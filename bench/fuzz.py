@@ -9,6 +9,7 @@ within 20 seconds of the processor, and 10 minutes by the clock, with status 0, 
   1  with one line there, which is one of the texts that docs/FORMATS.md lists;
   2  with the parser's message about wrong words there, and nothing on standard output.
 Whatever stands on standard output has to be whole lines of the forms that docs/FORMATS.md gives. A game that `project` wrote has to be read again.
+Where standard output is full or closed, and a run of the same case into a pipe writes something, the run has to end with status 1 and `Write`.
 Cases that end otherwise are kept in the folder fuzz-findings, with their words; then the status is 1. A case depends on SEED and its number alone.
 """
 import collections
@@ -56,7 +57,7 @@ WRONG_WORDS = re.compile(rb"\Aerror: (?:.*\n\nFor more information, try '--help'
 
 REFUSED = (
     rb"refused (?:UnknownFeature|AlreadyDecided " + N + rb"|Conflict " + NAME + rb"|NotDecided|TooManyChanges|Sealed|NotNewest " + N
-    + rb"|Overtaken|NotNext " + N + rb"|Outdated " + NAME + rb"|LogFull|NotFull|NotSettled|NoToken|NoHarvest|NoVertex)"
+    + rb"|Overtaken|NotNext " + N + rb"|Outdated " + NAME + rb"|NotFull|NotSettled|NoToken|NoHarvest|NoVertex)"
 )
 ANSWERS = re.compile(
     rb"(?:(?:(?:(?:done|undone|redone|kept|forgotten|added|harvest|settled|unsettled|entries|plans) " + N + rb"|" + REFUSED
@@ -293,13 +294,13 @@ class Case:
             if self.folder_instead:
                 os.mkdir(os.path.join(folder, self.gone))
 
-    def run(self, program, folder):
+    def run(self, program, folder, output):
         """The status, standard output (empty where it is no pipe) and standard error."""
         script = os.path.join(folder, "script")
         source = folder if self.input == "folder" or not os.path.exists(script) else script
         stdin = os.open(source, os.O_RDONLY)
-        stdout = os.open("/dev/full", os.O_WRONLY) if self.output == "full" else subprocess.PIPE
-        closed = [fd for fd, how in ((0, self.input), (1, self.output)) if how == "closed"]
+        stdout = os.open("/dev/full", os.O_WRONLY) if output == "full" else subprocess.PIPE
+        closed = [fd for fd, how in ((0, self.input), (1, output)) if how == "closed"]
         try:
             ended = subprocess.run(
                 [program, *self.words],
@@ -320,12 +321,18 @@ class Case:
 def ends(program, folder, case):
     """The kind of a case's end, or None and why it is a finding."""
     try:
-        status, out, err = case.run(program, folder)
+        status, out, err = case.run(program, folder, case.output)
+        whole = (status, out, err) if case.output == "pipe" else case.run(program, folder, "pipe")
     except subprocess.TimeoutExpired:
         return None, f"no end within {CLOCK_LIMIT} seconds by the clock"
-    kind = kind_of(case.words, status, out, err)
-    if case.output != "pipe" and status in (0, 1) and kind is None:
-        kind = "help or version" if status == 0 or not err else None
+    kind = kind_of(case.words, *whole)
+    if case.output != "pipe":
+        # a write that fails has to be told, unless nothing is to be written
+        if whole[1]:
+            whole = (1, b"", b"vpgdesk: Write\n")
+            kind = kind and "write"
+        if (status, out, err) != whole:
+            kind = None
     if kind is None:
         return None, f"status {status}, standard error {err[:300]!r}, end of standard output {out[-200:]!r}"
     if kind == "done" and case.words[:1] == ["project"] and case.output == "pipe":
