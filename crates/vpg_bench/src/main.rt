@@ -6,8 +6,8 @@
 //! whose lifts are counted; 300 for rounds of one thread without a board. MOST is how many sweeps or rounds there may be.
 //!
 //! The game is over the features r, f and g. It prints one line: whether the tables are settled, in how many sweeps, how many lifts
-//! were counted, the sums of both tables, and the microseconds that the raising took. Without words it sweeps a game that is built
-//! in, and tells no time. `bench/sweeps.py` runs it.
+//! were counted, and the sums of both tables. Without words it sweeps a game that is built in. `bench/sweeps.py` runs it, and
+//! measures what it takes.
 #![tactic(auto)]
 
 ghost use Rattle.std.specs.Prelude.{◌≡◌, ◌↔◌, ◌<◌, ◌≤◌, IsTrue, All};
@@ -18,7 +18,6 @@ use std::alloc::{AllocError, Global};
 use std::sync::atomic::{AtomicU64, Ordering};
 use std::sync::{Arc, Wait};
 use std::thread::Threads;
-use std::time::Instant;
 use std::{env, fs};
 use vpg_board::{Gate, OpenGate, Predecessors, sweep_along};
 use vpg_diagram::Diagram;
@@ -213,46 +212,61 @@ fn tell(rt: &HostRuntime, reached: &Reached) -> Result<()> {
     Ok(())
 }
 
-/// How a number asks for it, and how many lifters it names.
-fn how_of(number: u32) -> (How, u32)
-    ensures { (1 ≤ result.1) × (result.1 ≤ 64) }
-{
-    let how = match number / 100 {
+/// The number that a word's digits are.
+fn number_of(word: &str) -> u64 {
+    let mut number = 0u64;
+    for digit in word.as_bytes() {
+        let value = digit.wrapping_sub(b'0') as u64;
+        number = number.wrapping_mul(10).wrapping_add(value);
+    }
+    number
+}
+
+/// How a number asks for it.
+fn how_of(number: u64) -> How {
+    match number / 100 {
         0 => How::Hinted,
         1 => How::Plain,
         2 => How::Counted,
         _ => How::Alone,
-    };
-    (how, (number % 100).clamp(1, 64))
+    }
 }
 
-/// Raises the game of a file as the words behind the program's name ask for.
+/// Raises an order as a number asks for, and tells what was reached.
 fn measure<T: Threads + Wait + Sync>(
     rt: &HostRuntime,
     threads: &T,
-    path: &str,
-    number: &str,
-    most: &str,
+    order: Order,
+    number: u64,
+    most: u64,
 ) -> Result<()> {
-    let (how, lifters) = how_of(number.parse::<u32>()?);
-    let most = most.parse::<u64>()?;
-    let order = opening_order(rt.alloc(), &fs::read(rt, path)?)?;
-    let start = Instant::now(rt)?;
-    let reached = reach(threads, rt.alloc(), order, how, lifters, most)?;
-    let micros = start.elapsed(rt)?.as_micros();
+    let lifters = (number % 100).clamp(1, 64) as u32;
+    let reached = reach(threads, rt.alloc(), order, how_of(number), lifters, most)?;
     tell(rt, &reached)?;
-    println!(rt; " micros {micros}")?;
+    println!(rt)?;
+    Ok(())
+}
+
+/// The order that the game of a file spells.
+fn order_of_file(rt: &HostRuntime, path: &str) -> Result<Order> {
+    opening_order(rt.alloc(), &fs::read(rt, path)?)
+}
+
+/// Sweeps the game that is built in.
+fn sweep_built_in<T: Threads + Wait + Sync>(rt: &HostRuntime, threads: &T) -> Result<()> {
+    let order = opening_order(rt.alloc(), GAME)?;
+    let reached = counted(threads, rt.alloc(), order, 1, 1)?;
+    tell(rt, &reached)?;
+    println!(rt)?;
     Ok(())
 }
 
 fn main(rt: HostRuntime) -> Result<()> {
     let words: Vec<String> = env::args(&rt)?.collect(rt.alloc())?;
-    if let [_, path, number, most] = words.as_slice() {
-        return measure(&rt, &rt, path.as_str(), number.as_str(), most.as_str());
+    if words.len() < 4 {
+        return sweep_built_in(&rt, &rt);
     }
-    let order = opening_order(rt.alloc(), GAME)?;
-    let reached = reach(&rt, rt.alloc(), order, How::Counted, 1, 1)?;
-    tell(&rt, &reached)?;
-    println!(rt)?;
-    Ok(())
+    let order = order_of_file(&rt, words[1].as_str())?;
+    let number = number_of(words[2].as_str());
+    measure(&rt, &rt, order, number, number_of(words[3].as_str()))
 }

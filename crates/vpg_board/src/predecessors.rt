@@ -77,9 +77,7 @@ impl Chains {
     pub(crate) fn edge_before(&self, place: u32) -> Option<(u32, u32)>
         ensures { (n : ℕ) → LeadFrom n self.now → IfSome result (λ e. e.0 < n) }
     {
-        self.edges
-            .get((place as usize).checked_sub(1)?)
-            .copied()
+        self.edges.get((place as usize).checked_sub(1)?).copied()
     }
 }
 

@@ -246,7 +246,6 @@ pub fn sweep_along<G: Gate + Sync, R: Threads + Wait + Sync>(
     ensures back { IfErr result (λ returned. returned ≡ order) }
 {
     let (board, seat) = Board::open(alloc, order)?;
-    let seat =
-        work_with_hints::<Brand, G, R>(rt, alloc, &board, gate, lifters, seat, predecessors);
+    let seat = work_with_hints::<Brand, G, R>(rt, alloc, &board, gate, lifters, seat, predecessors);
     board.close(alloc, seat)
 }

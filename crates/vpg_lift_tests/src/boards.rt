@@ -172,11 +172,14 @@ fn claims_of(board: &Board, seat: Seat, tries: u32) -> (Seat, Noted)
             Which::Hopeful => (bit, 0),
             Which::Dual => (0, bit),
         };
-        noted = both(noted, Noted {
-            hopeful,
-            dual,
-            claims: 1,
-        });
+        noted = both(
+            noted,
+            Noted {
+                hopeful,
+                dual,
+                claims: 1,
+            },
+        );
     }
     (seat, noted)
 }
