@@ -1,5 +1,5 @@
 -- The texts of a family, the words that name a product, and what is told where they are refused.
-use Rattle.std.specs.Prelude.{◌≡◌, ℕ, ⊤, Bool, List, map, take, Some, slice_get, All, Contains}
+use Rattle.std.specs.Prelude.{◌≡◌, ◌≢◌, ℕ, ⊤, Bool, List, map, take, Some, slice_get, All, Contains}
 use Rattle.std.specs.List.{list_any}
 use Rattle.std.specs.Str.{bytes_eq}
 use Rattle.std.specs.String.{string_bytes}
@@ -7,21 +7,23 @@ use Rattle.vpg_guards.specs.Names.{Lacks}
 use Rattle.vpg_diagram.specs.DiagramText.{NamedDiagram, IsTextOf}
 use Rattle.vpg_diagram.specs.FeatureDiagram.{IsProduct}
 use Rattle.vpg_diagram.specs.TextFaults.{IsFirstFault}
+use Rattle.vpg_diagram.specs.declared.fault.DiagramFault.TheVariants as of_diagram
 use Rattle.vpg_game.specs.Game.{NamedGame, SpellsGame}
 use Rattle.vpg_game.specs.Refused.{IsRefused}
+use Rattle.vpg_game.specs.declared.fault.GameFault.TheVariants as of_game
 use Rattle.vpg_hope.specs.Plain.{projection, plain_text}
 use Rattle.vpgdesk.specs.declared.fault.Fault.{Fault}
 use Rattle.vpgdesk.specs.declared.fault.Fault.TheVariants as told
 
--- what is told of a text that is no diagram
+-- what is told of a text that is no diagram: want of memory is no fault of the diagram
 abbrev pub IsDiagramFault : List ℕ → Fault → Type 0
-IsDiagramFault text (told.Diagram fault) = IsFirstFault text fault
+IsDiagramFault text (told.Diagram fault) = (fault ≢ of_diagram.Memory) × IsFirstFault text fault
 IsDiagramFault text told.Memory = ⊤
 IsDiagramFault text fault = ⊥
 
--- what is told of a text that is no game over these names
+-- what is told of a text that is no game over these names: want of memory is no fault of the game
 abbrev pub IsGameFault : List (List ℕ) → List ℕ → Fault → Type 0
-IsGameFault names text (told.Game fault) = IsRefused names text fault
+IsGameFault names text (told.Game fault) = (fault ≢ of_game.Memory) × IsRefused names text fault
 IsGameFault names text told.Memory = ⊤
 IsGameFault names text fault = ⊥
 
@@ -32,8 +34,17 @@ pub record SpellsFamily (diagram_text game_text : List ℕ) (diagram : NamedDiag
 
 -- What is told of two texts that are no family: a fault of the game only where the diagram has none.
 abbrev pub IsFamilyFault : List ℕ → List ℕ → Fault → Type 0
-IsFamilyFault diagram_text game_text (told.Game fault) = (diagram : NamedDiagram) × (IsTextOf diagram_text diagram × IsRefused diagram.names game_text fault)
+IsFamilyFault diagram_text game_text (told.Game fault) = (diagram : NamedDiagram) × (IsTextOf diagram_text diagram × IsGameFault diagram.names game_text (told.Game fault))
 IsFamilyFault diagram_text game_text fault = IsDiagramFault diagram_text fault
+
+-- What is told of two files that are no family, whatever their texts are: a fault of the game only where some text spells the diagram.
+abbrev pub IsUnread : Fault → Type 0
+IsUnread told.DiagramUnreadable = ⊤
+IsUnread (told.Diagram fault) = (text : List ℕ) × IsDiagramFault text (told.Diagram fault)
+IsUnread told.GameUnreadable = (text : List ℕ) × (diagram : NamedDiagram) × IsTextOf text diagram
+IsUnread (told.Game fault) = (diagram_text : List ℕ) × (game_text : List ℕ) × IsFamilyFault diagram_text game_text (told.Game fault)
+IsUnread told.Memory = ⊤
+IsUnread fault = ⊥
 
 -- the family of some texts
 abbrev pub IsSpelled : NamedDiagram → NamedGame → Type 0

@@ -13,7 +13,6 @@ use Rattle.vpg_report.specs.Run.{answering, begun}
 use Rattle.vpg_report.specs.Scene.{scene_of}
 use Rattle.vpg_report.specs.declared.run.RunFault.{RunFault}
 use Rattle.vpg_report.specs.declared.run.RunFault.TheVariants as stops
-use Rattle.vpgdesk.specs.Families.{SpellsFamily}
 use Rattle.vpgdesk.specs.declared.fault.Fault.{Fault}
 use Rattle.vpgdesk.specs.declared.fault.Fault.TheVariants as told
 
@@ -46,10 +45,3 @@ IsRun diagram game script rest before after (Err (told.Conflict name)) =
     Ends diagram game script rest before after (Err (stops.Open (opens.Conflict 0))) × (slice_get diagram.names 0 ≡ Some (string_bytes name))
 IsRun diagram game script rest before after (Err told.Memory) = Ends diagram game script rest before after (Err stops.Memory)
 IsRun diagram game script rest before after (Err fault) = ⊥
-
--- the same for the bytes of a diagram, a game and a script
-pub record IsRunOf (diagram_text game_text : List ℕ) (script rest before after : Option (List ℕ)) (result : Result (Unit {0}) Fault) : Type 0 where
-  pub diagram : NamedDiagram
-  pub game : NamedGame
-  pub spelled : SpellsFamily diagram_text game_text diagram game
-  pub run : IsRun diagram game script rest before after result

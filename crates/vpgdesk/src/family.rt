@@ -6,7 +6,7 @@ ghost use Rattle.vpg_diagram.specs.FeatureDiagram.{feature_count};
 ghost use Rattle.vpg_game.specs.Game.{SpellsGame};
 ghost use Rattle.vpgdesk.specs.Counts.{counts_text};
 ghost use Rattle.vpgdesk.specs.Families.{IsDiagramFault, IsGameFault, SpellsFamily, IsFamilyFault, IsUnknown, IsNamedSet, TellsUnknown, IsProjected, IsNotProjected};
-ghost use Rattle.vpgdesk.specs.Runs.{TellsConflict, TellsOpening, IsRunOf};
+ghost use Rattle.vpgdesk.specs.Runs.{TellsConflict, TellsOpening, IsRun};
 
 use crate::counts::put_counts;
 use crate::fault::Fault;
@@ -48,8 +48,10 @@ pub(crate) fn read_game(alloc: Global, text: &[u8], diagram: &Diagram) -> Result
 {
     match GuardedGame::read(alloc, text, diagram.names()) {
         Ok(game) => Ok(game),
-        Err(GameFault::Memory) => Err(Fault::Memory),
-        Err(fault) => Err(Fault::Game { fault }),
+        Err(fault) => match fault {
+            GameFault::Memory => Err(Fault::Memory),
+            _ => Err(Fault::Game { fault }),
+        },
     }
 }
 
@@ -139,8 +141,8 @@ impl Family {
         requires lifters { (1 ≤ lifters) × (lifters ≤ 64) }
         requires features { (arc_value self.game).features ≡ feature_count (arc_value self.diagram).lines }
 
-        // Whichever texts spell the family: what is written are the answers to the script's lines by a desk on it, and the result tells how they end.
-        ensures output { (diagram_text game_text : List ℕ) → SpellsFamily diagram_text game_text (arc_value self.diagram) (arc_value self.game) → IsRunOf diagram_text game_text (R.remaining reader.old) (R.remaining reader.new) (W.contents writer.old) (W.contents writer.new) result }
+        // What is written are the answers to the script's lines by a desk on the family, and the result tells how they end.
+        ensures output { IsRun (arc_value self.diagram) (arc_value self.game) (R.remaining reader.old) (R.remaining reader.new) (W.contents writer.old) (W.contents writer.new) result }
 
         // Read and Write come only where the device failed, or the script was read 16,777,216 times.
         ensures read { IsErrOf result Fault.Read → (R.has_failed reader.new ≡ true) ⊎ (R.calls reader.new ≡ 16777216) }

@@ -1,8 +1,11 @@
-//! Why the program fails.
+//! How the program ends, and why it fails.
 ghost use Rattle.std.specs.Prelude.{◌≡◌};
+ghost use Rattle.std.specs.Process.{exit_status};
+ghost use Rattle.vpgdesk.specs.Ends.{status_of};
 ghost use Rattle.vpgdesk.specs.declared.fault.Fault.TheVariants.{Memory};
 
 use std::alloc::AllocError;
+use std::process::ExitCode;
 use vpg_diagram::DiagramFault;
 use vpg_game::GameFault;
 use vpg_report::command::LineFault;
@@ -37,5 +40,25 @@ impl From<AllocError> for Fault {
 
     fn from(_: AllocError) -> Fault {
         Fault::Memory
+    }
+}
+
+/// How the program ends where it doesn't fail.
+#[derive(Clone, Copy)]
+pub(crate) enum End {
+    /// What the words ask for is done.
+    Done,
+    /// The words are wrong, and this is told.
+    WrongWords,
+}
+
+/// The status of the program.
+pub(crate) fn status(ended: &Result<End, Fault>) -> ExitCode
+    ensures { exit_status result ≡ status_of ended.now }
+{
+    match ended {
+        Ok(End::Done) => ExitCode::SUCCESS,
+        Ok(End::WrongWords) => ExitCode::from(2),
+        Err(_) => ExitCode::FAILURE,
     }
 }

@@ -1,8 +1,8 @@
 //! The files that the words name.
 ghost use Rattle.std.specs.Arc.{arc_value};
-ghost use Rattle.std.specs.Prelude.{◌≡◌, IfOk};
+ghost use Rattle.std.specs.Prelude.{◌≡◌, ◌⊎◌, IfOk, IfErr};
 ghost use Rattle.vpg_diagram.specs.FeatureDiagram.{feature_count};
-ghost use Rattle.vpgdesk.specs.Families.{IsSpelled};
+ghost use Rattle.vpgdesk.specs.Families.{IsSpelled, IsUnread};
 
 use crate::family::{self, Family};
 use crate::fault::Fault;
@@ -12,7 +12,9 @@ use std::fs::{self, File};
 use std::io::{Error, ErrorKind};
 
 /// Want of memory is told as such, each other failure by the fault.
-fn unreadable(error: Error, fault: Fault) -> Fault {
+fn unreadable(error: Error, fault: Fault) -> Fault
+    ensures { (result ≡ Fault.Memory) ⊎ (result ≡ fault) }
+{
     match error.kind() {
         ErrorKind::OutOfMemory => Fault::Memory,
         _ => fault,
@@ -27,6 +29,7 @@ pub(crate) fn read_family(
 ) -> Result<Family, Fault>
     ensures spelled { IfOk result (λ family. IsSpelled (arc_value family.diagram) (arc_value family.game)) }
     ensures features { IfOk result (λ family. (arc_value family.game).features ≡ feature_count (arc_value family.diagram).lines) }
+    ensures refused { IfErr result IsUnread }
 {
     let text = match fs::read(rt, paths.diagram) {
         Ok(text) => text,
@@ -42,7 +45,9 @@ pub(crate) fn read_family(
 }
 
 /// A script that is to be read.
-pub(crate) fn open_script(rt: &HostRuntime, path: &str) -> Result<File, Fault> {
+pub(crate) fn open_script(rt: &HostRuntime, path: &str) -> Result<File, Fault>
+    ensures refused { IfErr result (λ fault. (fault ≡ Fault.Memory) ⊎ (fault ≡ Fault.ScriptUnreadable)) }
+{
     match File::open(rt, path) {
         Ok(file) => Ok(file),
         Err(error) => Err(unreadable(error, Fault::ScriptUnreadable)),

@@ -4,10 +4,13 @@
 //! are built in, and writes the answers to standard output. `run` does so with the files of a game, a diagram and a script,
 //! `project` writes the plain game of one product, and `check` counts a game and tells its top measures.
 //!
-//! The status is 0; 1 where something is refused or fails, and then one line on standard error, `vpgdesk: ` and the fault, says
-//! what; 2 where the words are wrong. What was written before stays written. Formats, commands and faults are told in
-//! `docs/FORMATS.md`; what a run promises stands on `run` of `vpg_report`.
+//! The status is 0; 1 where the input is refused or something fails, and then one line on standard error, `vpgdesk: ` and the
+//! fault, says what; 2 where the words are wrong. An answer `refused ..` to a line of a script leaves 0. What was written before
+//! stays written. Formats, commands and faults are told in `docs/FORMATS.md`; what a run promises stands on `run` of `vpg_report`.
 #![tactic(auto)]
+
+ghost use Rattle.std.specs.Io.KnownBytes.{Appends};
+ghost use Rattle.std.specs.Prelude.{◌≡◌, true, Err, OnOk, OnErr};
 
 mod counts;
 mod family;
@@ -19,7 +22,7 @@ mod tests;
 mod words;
 
 use crate::family::Family;
-use crate::fault::Fault;
+use crate::fault::{End, Fault, status};
 use crate::files::{open_script, read_family};
 use crate::telling::line_of;
 use crate::words::Task;
@@ -32,17 +35,16 @@ use std::{env, io};
 use vpg_report::device::{Device, Sink};
 
 /// The diagram that is built in: a root with two features, each of which may be left out.
-const DIAGRAM: &[u8] = b"root r\noptional r f\noptional r g\n";
+const DIAGRAM: &str = "root r\noptional r f\noptional r g\n";
 
 /// The game that is built in: two vertices, each with an edge to itself and one to the other.
-const GAME: &[u8] = b"parity 1; 0 1 0 1[f],0; 1 2 1 0[g],1;";
+const GAME: &str = "parity 1; 0 1 0 1[f],0; 1 2 1 0[g],1;";
 
-/// The status of wrong words.
-const WRONG_WORDS: u8 = 2;
-
-/// Writes a text to standard output.
-fn put(rt: &HostRuntime, text: &[u8]) -> Result<(), Fault> {
-    let mut writer = Device::writer(rt.stdout().lock());
+/// Writes a text.
+fn put<W: Sink>(writer: &mut W, text: &[u8]) -> Result<(), Fault>
+    ensures ok { OnOk result (Appends (W.contents writer.old) (W.contents writer.new) text.now) }
+    ensures failed { OnErr result ((result ≡ Err Fault.Write) × (W.has_failed writer.new ≡ true)) }
+{
     match writer.put(text) {
         Ok(()) => Ok(()),
         Err(_) => Err(Fault::Write),
@@ -55,7 +57,7 @@ fn run_built_in<T: Threads + Wait + Sync>(
     threads: &T,
     alloc: Global,
 ) -> Result<(), Fault> {
-    let family = Family::read(alloc, DIAGRAM, GAME)?;
+    let family = Family::read(alloc, DIAGRAM.as_bytes(), GAME.as_bytes())?;
     let mut reader = Device::reader(rt.stdin().lock());
     let mut writer = Device::writer(rt.stdout().lock());
     family.run(threads, alloc, &mut reader, &mut writer, 1)
@@ -89,11 +91,13 @@ fn carry_out<T: Threads + Wait + Sync>(
         }
         Task::Project { paths, features } => {
             let family = read_family(rt, alloc, *paths)?;
-            put(rt, &family.projected(alloc, features)?)
+            let text = family.projected(alloc, features)?;
+            put(&mut Device::writer(rt.stdout().lock()), &text)
         }
         Task::Check { paths } => {
             let family = read_family(rt, alloc, *paths)?;
-            put(rt, &family.counted(alloc)?)
+            let text = family.counted(alloc)?;
+            put(&mut Device::writer(rt.stdout().lock()), &text)
         }
     }
 }
@@ -110,17 +114,17 @@ fn tell(rt: &HostRuntime, alloc: Global, fault: &Fault) {
 }
 
 /// Prints what is told of the words: help and the version to standard output, what is wrong with them to standard error.
-fn print(rt: &HostRuntime, told: &clap::Error) -> Result<ExitCode, Fault> {
+fn print(rt: &HostRuntime, told: &clap::Error) -> Result<End, Fault> {
     match told.kind() {
         ErrorKind::OutOfMemory => Err(Fault::Memory),
         ErrorKind::DisplayHelp | ErrorKind::DisplayVersion => match told.print(rt) {
-            Ok(()) => Ok(ExitCode::SUCCESS),
+            Ok(()) => Ok(End::Done),
             Err(_) => Err(Fault::Write),
         },
         _ => {
             // Where this fails, the status is all that tells of the words.
             let _ = told.print(rt);
-            Ok(ExitCode::from(WRONG_WORDS))
+            Ok(End::WrongWords)
         }
     }
 }
@@ -130,7 +134,7 @@ fn obey<T: Threads + Wait + Sync>(
     rt: &HostRuntime,
     threads: &T,
     alloc: Global,
-) -> Result<ExitCode, Fault> {
+) -> Result<End, Fault> {
     let words: Vec<String> = match env::args(rt) {
         Ok(words) => words.collect(alloc)?,
         Err(error) if error.kind() == io::ErrorKind::OutOfMemory => return Err(Fault::Memory),
@@ -139,18 +143,16 @@ fn obey<T: Threads + Wait + Sync>(
     match words::read(alloc, &words) {
         Ok(task) => {
             carry_out(rt, threads, alloc, &task)?;
-            Ok(ExitCode::SUCCESS)
+            Ok(End::Done)
         }
         Err(told) => print(rt, &told),
     }
 }
 
 fn main(rt: HostRuntime) -> ExitCode {
-    match obey(&rt, &rt, rt.alloc()) {
-        Ok(status) => status,
-        Err(fault) => {
-            tell(&rt, rt.alloc(), &fault);
-            ExitCode::FAILURE
-        }
+    let ended = obey(&rt, &rt, rt.alloc());
+    if let Err(fault) = &ended {
+        tell(&rt, rt.alloc(), fault);
     }
+    status(&ended)
 }

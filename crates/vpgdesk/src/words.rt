@@ -51,14 +51,16 @@ r (the root), f and g, and the vertices 0 and 1.
 Scripts, one command a line (F a feature, S a change's number, V a vertex, K a harvest's number, N a number):
   select F, exclude F, retract F        decide that F is in or out; take that decision back
   undo [S], redo [S]                    the latest change, or the change S
-  keep S, forget S                      give up the right to undo S; to redo S
+  keep S                                give up the right to undo S and all before it
+  forget S                              give up the right to redo S and all behind it
   settle [N]                            raise both tables until they are settled, or in at most N sweeps
   lift hopeful V, lift dual V           raise one vertex of one table
   harvest, commit K                     settle copies of the tables; take them into the page
   show, trail, products, plan           verdicts; the page's entries; known features; Even's moves (where all is known)
   # ..                                  a comment; `N: COMMAND` says that session N (1 to 64) gives the command
 
-Status: 0; 1 where something is refused or fails, told by one line on standard error; 2 where the words are wrong.
+Status: 0; 1 where the input is refused or something fails (an answer `refused ..` to a line leaves 0), told by one
+line on standard error; 2 where the words are wrong.
 
 Examples:
   printf 'exclude f\\nsettle\\nshow\\n' | vpgdesk
@@ -81,7 +83,7 @@ const DIAGRAM_HELP: &str =
 
 const SCRIPT_HELP: &str = "A file with one command a line, as `select f`, `settle` or `show`";
 
-const LIFTERS_HELP: &str = "How many threads raise the tables at once, from 1 to 64";
+const LIFTERS_HELP: &str = "How many threads raise the tables at once, from 1 to 64, without a sign";
 
 const FEATURE_HELP: &str = "The features of the product, all of them, the root among them";
 
@@ -159,6 +161,22 @@ fn lacking(alloc: Global) -> Result<Error, AllocError> {
     command(alloc)?.error(ErrorKind::MissingRequiredArgument, "a word is missing")
 }
 
+/// What is told of a number with a sign.
+fn signed(alloc: Global) -> Result<Error, AllocError> {
+    command(alloc)?.error(
+        ErrorKind::ValueValidation,
+        "the number of lifters is digits alone",
+    )
+}
+
+/// Whether the number of lifters has a sign before its digits. The parser takes it so.
+fn has_sign(matches: &ArgMatches<'_>) -> bool {
+    match matches.get_str("lifters") {
+        Some(word) => word.starts_with('+'),
+        None => false,
+    }
+}
+
 /// The files that a command names. It has them where it was accepted.
 fn paths_of<'a>(matches: &ArgMatches<'a>) -> Option<Paths<'a>> {
     Some(Paths {
@@ -207,6 +225,9 @@ pub(crate) fn read<'a>(alloc: Global, words: &'a [String]) -> Result<Task<'a>, E
     let Some((name, inner)) = matches.subcommand() else {
         return Ok(Task::BuiltIn);
     };
+    if has_sign(inner) {
+        return Err(signed(alloc)?);
+    }
     match task_of(alloc, name, inner)? {
         Some(task) => Ok(task),
         None => Err(lacking(alloc)?),

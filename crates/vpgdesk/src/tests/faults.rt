@@ -1,17 +1,14 @@
-//! Which fault is told, and with which text.
+//! Which fault is told, and with which text. The family of most rows is the one that is built in.
 use crate::family::Family;
 use crate::fault::Fault;
 use crate::telling::line_of;
+use crate::{DIAGRAM, GAME};
 use std::alloc::Global;
 use std::io::{self, Read, Write};
 use std::sync::Wait;
 use std::test::*;
 use std::thread::Threads;
 use vpg_report::device::Device;
-
-const DIAGRAM: &str = "root r\noptional r f\noptional r g\n";
-
-const GAME: &str = "parity 1; 0 1 0 1[f],0; 1 2 1 0[g],1;";
 
 /// A diagram that contradicts itself, and a game that Even wins.
 const NONE: &str = "root r\nmandatory r a\nexcludes r a\n";

@@ -25,7 +25,7 @@ struct Call {
     taken: Taken,
 }
 
-static CALLS: [Call; 38] = [
+static CALLS: [Call; 42] = [
     Call {
         words: "",
         taken: Taken::BuiltIn,
@@ -53,6 +53,22 @@ static CALLS: [Call; 38] = [
     Call {
         words: "run g d s --lifters 0",
         taken: Taken::Wrong,
+    },
+    Call {
+        words: "run g d s --lifters +1",
+        taken: Taken::Wrong,
+    },
+    Call {
+        words: "run g d s --lifters=+064",
+        taken: Taken::Wrong,
+    },
+    Call {
+        words: "run g d s --lifters=-1",
+        taken: Taken::Wrong,
+    },
+    Call {
+        words: "run g d s --lifters 064",
+        taken: Taken::Run(64),
     },
     Call {
         words: "run g d s --lifters 65",
@@ -232,6 +248,35 @@ fn asks_for_run(alloc: Global, words: &[String], game: &str, diagram: &str, want
 fn files_stand_in_their_order(rt: HostRuntime) -> Result<(), Fail> {
     let line = line(rt.alloc(), "run a b c")?;
     assert!(rt; asks_for_run(rt.alloc(), &line, "a", "b", "c"));
+    Ok(())
+}
+
+/// Whether the words ask for the product of just these features, in this order.
+fn asks_for_product(alloc: Global, words: &[String], wanted: &[&str]) -> bool {
+    match words::read(alloc, words) {
+        Ok(Task::Project { paths, features }) => {
+            paths.game == "a" && paths.diagram == "b" && features.as_slice() == wanted
+        }
+        _ => false,
+    }
+}
+
+/// Whether the words ask for the counts of just these files.
+fn asks_for_counts(alloc: Global, words: &[String]) -> bool {
+    match words::read(alloc, words) {
+        Ok(Task::Check { paths }) => paths.game == "a" && paths.diagram == "b",
+        _ => false,
+    }
+}
+
+#[test]
+fn features_stand_in_their_order(rt: HostRuntime) -> Result<(), Fail> {
+    let words = line(rt.alloc(), "project a b r f f x")?;
+    assert!(rt; asks_for_product(rt.alloc(), &words, &["r", "f", "f", "x"]));
+    let words = line(rt.alloc(), "project a b -- r -- -f")?;
+    assert!(rt; asks_for_product(rt.alloc(), &words, &["r", "--", "-f"]));
+    let words = line(rt.alloc(), "check a b")?;
+    assert!(rt; asks_for_counts(rt.alloc(), &words));
     Ok(())
 }
 
