@@ -198,7 +198,7 @@ fn reach<T: Threads + Wait + Sync>(
 fn sum_of(table: &Table) -> u64 {
     let mut sum = 0u64;
     for value in table.values() {
-        sum = sum.wrapping_add(*value);
+        sum = sum.saturating_add(*value);
     }
     sum
 }
@@ -216,8 +216,8 @@ fn tell(rt: &HostRuntime, reached: &Reached) -> Result<()> {
 fn number_of(word: &str) -> u64 {
     let mut number = 0u64;
     for digit in word.as_bytes() {
-        let value = digit.wrapping_sub(b'0') as u64;
-        number = number.wrapping_mul(10).wrapping_add(value);
+        let value = digit.saturating_sub(b'0') as u64;
+        number = number.saturating_mul(10).saturating_add(value);
     }
     number
 }
