@@ -83,7 +83,8 @@ const DIAGRAM_HELP: &str =
 
 const SCRIPT_HELP: &str = "A file with one command a line, as `select f`, `settle` or `show`";
 
-const LIFTERS_HELP: &str = "How many threads raise the tables at once, from 1 to 64, without a sign";
+const LIFTERS_HELP: &str =
+    "How many threads raise the tables at once, from 1 to 64, without a sign";
 
 const FEATURE_HELP: &str = "The features of the product, all of them, the root among them";
 
