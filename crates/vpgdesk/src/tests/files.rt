@@ -76,21 +76,35 @@ fn holds(rt: &HostRuntime, alloc: Global, row: &Row) -> bool {
     told.is_ok_and(|text| text.as_slice() == row.told.as_bytes())
 }
 
+/// The place of the first row that doesn't hold.
+fn first_wrong(rt: &HostRuntime, alloc: Global) -> Option<usize> {
+    for k in 0..ROWS.len() {
+        if !holds(rt, alloc, &ROWS[k]) {
+            return Some(k);
+        }
+    }
+    None
+}
+
 #[test]
 fn the_diagram_is_read_before_the_game(rt: HostRuntime) -> Result<(), Fail> {
     fs::write(&rt, "diagram", DIAGRAM)?;
     fs::write(&rt, "game", GAME)?;
     fs::write(&rt, "empty", "")?;
-    for k in 0..ROWS.len() {
-        assert!(rt; holds(&rt, rt.alloc(), &ROWS[k]), "row {k}");
-    }
+    let wrong = first_wrong(&rt, rt.alloc());
+    fs::remove_file(&rt, "diagram")?;
+    fs::remove_file(&rt, "game")?;
+    fs::remove_file(&rt, "empty")?;
+    assert_eq!(rt; wrong, None);
     Ok(())
 }
 
 #[test]
 fn a_script_is_opened_or_not(rt: HostRuntime) -> Result<(), Fail> {
-    assert!(rt; matches!(open_script(&rt, "none"), Err(Fault::ScriptUnreadable)));
     fs::write(&rt, "script", "show\n")?;
-    assert!(rt; open_script(&rt, "script").is_ok());
+    let is_opened = open_script(&rt, "script").is_ok();
+    fs::remove_file(&rt, "script")?;
+    assert!(rt; is_opened);
+    assert!(rt; matches!(open_script(&rt, "none"), Err(Fault::ScriptUnreadable)));
     Ok(())
 }
