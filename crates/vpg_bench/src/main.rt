@@ -232,6 +232,16 @@ fn how_of(number: u64) -> How {
     }
 }
 
+/// How many lifters it names.
+fn lifters_of(number: u64) -> u32
+    ensures { (1 ≤ result) × (result ≤ 64) }
+{
+    match u32::try_from(number % 100) {
+        Ok(lifters) => lifters.clamp(1, 64),
+        Err(_) => 1,
+    }
+}
+
 /// Raises an order as a number asks for, and tells what was reached.
 fn measure<T: Threads + Wait + Sync>(
     rt: &HostRuntime,
@@ -240,7 +250,7 @@ fn measure<T: Threads + Wait + Sync>(
     number: u64,
     most: u64,
 ) -> Result<()> {
-    let lifters = (number % 100).clamp(1, 64) as u32;
+    let lifters = lifters_of(number);
     let reached = reach(threads, rt.alloc(), order, how_of(number), lifters, most)?;
     tell(rt, &reached)?;
     println!(rt)?;
