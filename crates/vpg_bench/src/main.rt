@@ -1,0 +1,278 @@
+//! Sweeps, to be measured from outside: both tables of a game are raised from zero, until they are settled or so many times.
+//!
+//!     vpg_bench GAME NUMBER MOST
+//!
+//! NUMBER is 1 to 64 for sweeps by so many lifters with hints; 100 more for sweeps without hints; 200 more for sweeps with hints
+//! whose lifts are counted; 300 for rounds of one thread without a board. MOST is how many sweeps or rounds there may be.
+//!
+//! The game is over the features r, f and g. It prints one line: whether the tables are settled, in how many sweeps, how many lifts
+//! were counted, and the sums of both tables. Without words it sweeps a game that is built in. `bench/sweeps.py` runs it, and
+//! measures what it takes.
+#![tactic(auto)]
+
+ghost use Rattle.std.specs.Prelude.{◌≡◌, ◌↔◌, ◌<◌, ◌≤◌, IsTrue, All};
+ghost use Rattle.vpg_board.specs.Places.{vertices};
+
+use anyhow::{Result, bail};
+use std::alloc::{AllocError, Global};
+use std::sync::atomic::{AtomicU64, Ordering};
+use std::sync::{Arc, Wait};
+use std::thread::Threads;
+use std::{env, fs};
+use vpg_board::{Gate, OpenGate, Predecessors, sweep_along};
+use vpg_diagram::Diagram;
+use vpg_game::GuardedGame;
+use vpg_measure::{Harvest, Order, Refused, Table, Which};
+use vpg_partial::Decision;
+
+const DIAGRAM: &[u8] = b"root r\noptional r f\noptional r g\n";
+
+const GAME: &[u8] = b"parity 1; 0 1 0 1[f],0; 1 2 1 0[g],1;";
+
+/// How the tables are raised.
+#[derive(Clone, Copy)]
+enum How {
+    Alone,
+    Plain,
+    Hinted,
+    Counted,
+}
+
+/// What was reached, and by how much.
+#[derive(Drop)]
+struct Reached {
+    harvest: Harvest,
+    sweeps: u64,
+    lifts: u64,
+}
+
+/// Counts the lifts of all lifters.
+#[derive(Drop)]
+struct Count {
+    lifts: AtomicU64,
+}
+
+impl Gate for Count {
+    fn before_claim(&self, _lifter: u32) {}
+
+    fn after_lift(&self, _lifter: u32) {
+        self.lifts.fetch_add(1, Ordering::SeqCst);
+    }
+}
+
+/// Whether each decision is of one of this many features.
+fn are_below(features: usize, decisions: &[Decision]) -> bool
+    ensures { IsTrue result ↔ All (λ d. d.feature < features) decisions.now }
+{
+    decisions.iter().all(|d| (d.feature as usize) < features)
+}
+
+/// The order of decisions with two tables of zeros, or nothing where game, diagram and decisions don't fit together.
+fn order_of(
+    alloc: Global,
+    game: GuardedGame,
+    diagram: Diagram,
+    decisions: Vec<Decision>,
+) -> Result<Option<Result<Order, Refused>>, AllocError> {
+    let features = diagram.features();
+    if game.features() != features || !are_below(features, &decisions) {
+        return Ok(None);
+    }
+    let vertices = game.vertices() as u32;
+    let hopeful = Table::zero(alloc, vertices)?;
+    let dual = Table::zero(alloc, vertices)?;
+    let game = Arc::new(alloc, game)?;
+    let diagram = Arc::new(alloc, diagram)?;
+    Ok(Some(Order::of(alloc, game, diagram, decisions, hopeful, dual)))
+}
+
+/// The order that a game's text spells, without decisions and from zero.
+fn opening_order(alloc: Global, text: &[u8]) -> Result<Order> {
+    let diagram = Diagram::read(alloc, DIAGRAM)?;
+    let game = GuardedGame::read(alloc, text, diagram.names())?;
+    match order_of(alloc, game, diagram, Vec::new(alloc))? {
+        Some(Ok(order)) => Ok(order),
+        _ => bail!("no order"),
+    }
+}
+
+/// The harvest of so many sweeps at most, and how many there were.
+fn swept<G: Gate + Sync, T: Threads + Wait + Sync>(
+    rt: &T,
+    alloc: Global,
+    order: Order,
+    most: u64,
+    lifters: u32,
+    gate: &G,
+    predecessors: &Predecessors,
+) -> Result<(Harvest, u64)>
+    requires lifters { (1 ≤ lifters) × (lifters ≤ 64) }
+    requires predecessors { predecessors.now ≡ vertices order }
+{
+    let mut order = order;
+    for done in 0..most {
+        let Ok(harvest) = sweep_along(rt, alloc, order, lifters, gate, predecessors) else {
+            bail!("no memory for a board");
+        };
+        if harvest.check() {
+            return Ok((harvest, done + 1));
+        }
+        order = harvest.again();
+    }
+    Ok((Harvest::alone(order, 0), most))
+}
+
+/// The order swept so, without a count of lifts.
+fn uncounted<T: Threads + Wait + Sync>(
+    rt: &T,
+    alloc: Global,
+    order: Order,
+    lifters: u32,
+    most: u64,
+    predecessors: &Predecessors,
+) -> Result<Reached>
+    requires lifters { (1 ≤ lifters) × (lifters ≤ 64) }
+    requires predecessors { predecessors.now ≡ vertices order }
+{
+    let (harvest, sweeps) = swept(rt, alloc, order, most, lifters, &OpenGate, predecessors)?;
+    Ok(Reached {
+        harvest,
+        sweeps,
+        lifts: 0,
+    })
+}
+
+/// The order swept with hints, and each lift counted.
+fn counted<T: Threads + Wait + Sync>(
+    rt: &T,
+    alloc: Global,
+    order: Order,
+    lifters: u32,
+    most: u64,
+) -> Result<Reached>
+    requires { (1 ≤ lifters) × (lifters ≤ 64) }
+{
+    let count = Count {
+        lifts: AtomicU64::new(0),
+    };
+    let predecessors = Predecessors::of_or_none(alloc, &order);
+    let (harvest, sweeps) = swept(rt, alloc, order, most, lifters, &count, &predecessors)?;
+    let lifts = count.lifts.load(Ordering::SeqCst);
+    Ok(Reached {
+        harvest,
+        sweeps,
+        lifts,
+    })
+}
+
+/// The order raised as the words ask for.
+fn reach<T: Threads + Wait + Sync>(
+    rt: &T,
+    alloc: Global,
+    order: Order,
+    how: How,
+    lifters: u32,
+    most: u64,
+) -> Result<Reached>
+    requires { (1 ≤ lifters) × (lifters ≤ 64) }
+{
+    match how {
+        How::Alone => Ok(Reached {
+            harvest: Harvest::alone(order, most),
+            sweeps: 0,
+            lifts: 0,
+        }),
+        How::Plain => {
+            let predecessors = Predecessors::none(alloc, &order);
+            uncounted(rt, alloc, order, lifters, most, &predecessors)
+        }
+        How::Hinted => {
+            let predecessors = Predecessors::of_or_none(alloc, &order);
+            uncounted(rt, alloc, order, lifters, most, &predecessors)
+        }
+        How::Counted => counted(rt, alloc, order, lifters, most),
+    }
+}
+
+/// The sum of a table's values.
+fn sum_of(table: &Table) -> u64 {
+    let mut sum = 0u64;
+    for value in table.values() {
+        sum = sum.saturating_add(*value);
+    }
+    sum
+}
+
+/// Tells what was reached, in one line.
+fn tell(rt: &HostRuntime, reached: &Reached) -> Result<()> {
+    print!(rt; "settled {}", reached.harvest.check())?;
+    print!(rt; " sweeps {} lifts {}", reached.sweeps, reached.lifts)?;
+    print!(rt; " sums {}", sum_of(reached.harvest.table(Which::Hopeful)))?;
+    println!(rt; " {}", sum_of(reached.harvest.table(Which::Dual)))?;
+    Ok(())
+}
+
+/// The number that a word's digits are.
+fn number_of(word: &str) -> u64 {
+    let mut number = 0u64;
+    for digit in word.as_bytes() {
+        let value = digit.saturating_sub(b'0') as u64;
+        number = number.saturating_mul(10).saturating_add(value);
+    }
+    number
+}
+
+/// How a number asks for it.
+fn how_of(number: u64) -> How {
+    match number / 100 {
+        0 => How::Hinted,
+        1 => How::Plain,
+        2 => How::Counted,
+        _ => How::Alone,
+    }
+}
+
+/// How many lifters it names.
+fn lifters_of(number: u64) -> u32
+    ensures { (1 ≤ result) × (result ≤ 64) }
+{
+    match u32::try_from(number % 100) {
+        Ok(lifters) => lifters.clamp(1, 64),
+        Err(_) => 1,
+    }
+}
+
+/// Raises an order as a number asks for, and tells what was reached.
+fn measure<T: Threads + Wait + Sync>(
+    rt: &HostRuntime,
+    threads: &T,
+    order: Order,
+    number: u64,
+    most: u64,
+) -> Result<()> {
+    let lifters = lifters_of(number);
+    let reached = reach(threads, rt.alloc(), order, how_of(number), lifters, most)?;
+    tell(rt, &reached)
+}
+
+/// The order that the game of a file spells.
+fn order_of_file(rt: &HostRuntime, path: &str) -> Result<Order> {
+    opening_order(rt.alloc(), &fs::read(rt, path)?)
+}
+
+/// Sweeps the game that is built in.
+fn sweep_built_in<T: Threads + Wait + Sync>(rt: &HostRuntime, threads: &T) -> Result<()> {
+    let order = opening_order(rt.alloc(), GAME)?;
+    let reached = counted(threads, rt.alloc(), order, 1, 1)?;
+    tell(rt, &reached)
+}
+
+fn main(rt: HostRuntime) -> Result<()> {
+    let words: Vec<String> = env::args(&rt)?.collect(rt.alloc())?;
+    if words.len() < 4 {
+        return sweep_built_in(&rt, &rt);
+    }
+    let order = order_of_file(&rt, words[1].as_str())?;
+    let number = number_of(words[2].as_str());
+    measure(&rt, &rt, order, number, number_of(words[3].as_str()))
+}
