@@ -1,10 +1,10 @@
 #!/usr/bin/env python3
-"""Lifters compared: rounds of one thread without a board, and sweeps of 1, 2 and 4 lifters, without hints and with them.
+"""Lifters compared: rounds of one thread, boards of one seat, and sweeps of 1, 2 and 4 lifters, without hints and with them.
 
     sweeps.py VPG_BENCH [VERTICES [ROUNDS [FAMILY..]]]
 
-Both tables are raised from zero: first by ROUNDS rounds (100 if left out), then by as many sweeps without hints, then by sweeps with hints until the
-tables are settled, or at most ROUNDS / 10 sweeps. One line for each: milliseconds by the clock (the least of three runs, less that of runs that raise nothing), lifts (as many a round or sweep as both
+Both tables are raised from zero: first by ROUNDS rounds (100 if left out), then by as many boards that one seat claims and lifts by calls (a sweep of one lifter has no
+board), then by as many sweeps without hints, then by sweeps with hints until the tables are settled, or at most ROUNDS / 10 sweeps. One line for each: milliseconds by the clock (the least of three runs, less that of runs that raise nothing), lifts (as many a round or sweep as both
 tables have places, also where one is settled before; those of hints are counted in a run of their own), lifts in a microsecond, sweeps, and whether the tables are settled. For plain sweeps
 the time is also told as a multiple of the rounds' time.
 """
@@ -54,6 +54,8 @@ def main():
             print(f"{family}, {places // 2} vertices", flush=True)
             alone = best(program, game, 300, rounds)
             tell("rounds", alone, rounds * places)
+            it = best(program, game, 500, rounds)
+            tell("boards of one seat", it, it["sweeps"] * places, alone["millis"])
             for lifters in LIFTERS:
                 it = best(program, game, 100 + lifters, rounds)
                 tell(f"{lifters} plain", it, it["sweeps"] * places, alone["millis"])

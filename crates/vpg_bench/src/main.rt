@@ -3,7 +3,9 @@
 //!     vpg_bench GAME NUMBER MOST
 //!
 //! NUMBER is 1 to 64 for sweeps by so many lifters with hints; 100 more for sweeps without hints; 200 more for sweeps with hints
-//! whose lifts are counted; 300 for rounds of one thread without a board. MOST is how many sweeps or rounds there may be.
+//! whose lifts are counted; 300 for rounds of one thread without sweeps; 401 to 464 for certified guesses and then sweeps as with 200
+//! more, where the guesses leave anything to lift; 500 for a board that one seat claims and lifts by calls. MOST is how many sweeps
+//! or rounds there may be.
 //!
 //! The game is over the features r, f and g. It prints one line: whether the tables are settled, in how many sweeps, how many lifts
 //! were counted, and the sums of both tables. Without words it sweeps a game that is built in. `bench/sweeps.py` runs it, and
@@ -19,15 +21,22 @@ use std::sync::atomic::{AtomicU64, Ordering};
 use std::sync::{Arc, Wait};
 use std::thread::Threads;
 use std::{env, fs};
-use vpg_board::{Gate, OpenGate, Predecessors, sweep_along};
+use vpg_board::{Board, Gate, OpenGate, Predecessors, Seat, sweep_along};
 use vpg_diagram::Diagram;
 use vpg_game::GuardedGame;
+use vpg_guess::harvest_by_bounds;
 use vpg_measure::{Harvest, Order, Refused, Table, Which};
 use vpg_partial::Decision;
 
 const DIAGRAM: &[u8] = b"root r\noptional r f\noptional r g\n";
 
 const GAME: &[u8] = b"parity 1; 0 1 0 1[f],0; 1 2 1 0[g],1;";
+
+/// How many edges and vertices each step of a guess may look at, as in the lines of a script.
+const BUDGET: u64 = 1 << 28;
+
+/// More claims than a board has places.
+const MOST_CLAIMS: u32 = 131_074;
 
 /// How the tables are raised.
 #[derive(Clone, Copy)]
@@ -36,6 +45,8 @@ enum How {
     Plain,
     Hinted,
     Counted,
+    Guessed,
+    Seated,
 }
 
 /// What was reached, and by how much.
@@ -165,6 +176,65 @@ fn counted<T: Threads + Wait + Sync>(
     })
 }
 
+/// The order raised by certified guesses, and swept from there where they don't settle it, each lift counted.
+fn guessed<T: Threads + Wait + Sync>(
+    rt: &T,
+    alloc: Global,
+    order: Order,
+    lifters: u32,
+    most: u64,
+) -> Result<Reached>
+    requires { (1 ≤ lifters) × (lifters ≤ 64) }
+{
+    let harvest = match harvest_by_bounds(alloc, order, BUDGET) {
+        Ok(harvest) => harvest,
+        Err(order) => Harvest::alone(order, 0),
+    };
+    if harvest.check() {
+        return Ok(Reached {
+            harvest,
+            sweeps: 0,
+            lifts: 0,
+        });
+    }
+    counted(rt, alloc, harvest.again(), lifters, most)
+}
+
+/// Claims and lifts until nothing is left.
+fn lift_all(board: &Board, seat: &mut Seat)
+    requires { seat.old.board ≡ board.now }
+    ensures { seat.new.board ≡ board.now }
+{
+    for _ in 0..MOST_CLAIMS {
+        let Some((which, v)) = board.claim(seat) else {
+            return;
+        };
+        board.lift(seat, which, v);
+    }
+}
+
+/// The harvest of a board of the order that one seat has lifted.
+fn seated(alloc: Global, order: Order) -> Result<Harvest> {
+    let Ok((board, seat)) = Board::open(alloc, order) else {
+        bail!("no memory for a board");
+    };
+    let mut seat = seat;
+    lift_all(&board, &mut seat);
+    match board.close(alloc, seat) {
+        Ok(harvest) => Ok(harvest),
+        Err(_) => bail!("no memory for a harvest"),
+    }
+}
+
+/// The order so many times, each by a board of its own.
+fn seated_often(alloc: Global, order: Order, most: u64) -> Result<Harvest> {
+    let mut order = order;
+    for _ in 0..most {
+        order = seated(alloc, order)?.again();
+    }
+    Ok(Harvest::alone(order, 0))
+}
+
 /// The order raised as the words ask for.
 fn reach<T: Threads + Wait + Sync>(
     rt: &T,
@@ -191,6 +261,12 @@ fn reach<T: Threads + Wait + Sync>(
             uncounted(rt, alloc, order, lifters, most, &predecessors)
         }
         How::Counted => counted(rt, alloc, order, lifters, most),
+        How::Guessed => guessed(rt, alloc, order, lifters, most),
+        How::Seated => Ok(Reached {
+            harvest: seated_often(alloc, order, most)?,
+            sweeps: most,
+            lifts: 0,
+        }),
     }
 }
 
@@ -228,7 +304,9 @@ fn how_of(number: u64) -> How {
         0 => How::Hinted,
         1 => How::Plain,
         2 => How::Counted,
-        _ => How::Alone,
+        3 => How::Alone,
+        4 => How::Guessed,
+        _ => How::Seated,
     }
 }
 
@@ -260,10 +338,10 @@ fn order_of_file(rt: &HostRuntime, path: &str) -> Result<Order> {
     opening_order(rt.alloc(), &fs::read(rt, path)?)
 }
 
-/// Sweeps the game that is built in.
+/// Sweeps the game that is built in, by two lifters: what they lift beside the four claims are hints.
 fn sweep_built_in<T: Threads + Wait + Sync>(rt: &HostRuntime, threads: &T) -> Result<()> {
     let order = opening_order(rt.alloc(), GAME)?;
-    let reached = counted(threads, rt.alloc(), order, 1, 1)?;
+    let reached = counted(threads, rt.alloc(), order, 2, 1)?;
     tell(rt, &reached)
 }
 

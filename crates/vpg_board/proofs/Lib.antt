@@ -13,3 +13,4 @@ pub mod Sharing
 pub mod Moving
 pub mod Swept
 pub mod Hinting
+pub mod Lone

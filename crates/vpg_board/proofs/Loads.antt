@@ -33,6 +33,17 @@ sees_one v w p n h up = record {
   more = below_trans v.seen w.seen (set w.seen p n) h.more (below_write w.seen p n up);
 }
 
+pub sees_trans : (u v w : Lifter) → SeesMore u v → SeesMore v w → SeesMore u w
+sees_trans u v w h k = record {
+  same = k.same ∙ ap (λ (x : Lifter). record x { seen = w.seen }) h.same;
+  wide = k.wide ∙ h.wide;
+  more = below_trans u.seen v.seen w.seen h.more k.more;
+}
+
+-- one number was seen, and then more
+pub sees_looked : (initial looked w : Lifter) (p n : ℕ) → looked ≡ sees initial p n → slice_index initial.seen p ≤ n → SeesMore looked w → SeesMore initial w
+sees_looked initial looked w p n looked_is up more = sees_trans initial looked w (subst (SeesMore initial) (sym looked_is) (sees_one initial initial p n (sees_none initial) up)) more
+
 map_same : (f h : ℕ → ℕ) (xs : List ℕ) (n : ℕ) → ((j : ℕ) → j < n → j < length xs → f (get_or xs j 0) ≡ h (get_or xs j 0)) → map f (take n xs) ≡ map h (take n xs)
 map_same f h xs zero each = refl
 map_same f h [] (suc n) each = refl
@@ -173,3 +184,30 @@ module _ (order : OrderView) (is : IsOrder order) (which : Which) (v : ℕ) wher
 
       risen : lift_in order which initial.seen v ≤ lift_in order which w.seen v
       risen = lift_rises order which initial.seen w.seen v wide (seen_wide initial w of_order more safe) more.more (under_order initial w of_order more safe)
+
+  -- a word that was no less than the lift when it was loaded is on or above the lift of what the seat had seen before
+  pub after_look : (initial looked w : Lifter) (word before lifted : ℕ) → v < vertices order → word ≡ place_of order which v + 1 → initial.order ≡ order → length initial.seen ≡ places order
+      → looked ≡ sees initial (word - 1) before → slice_index initial.seen (word - 1) ≤ before → SeesMore looked w → IsSafe w → lifted ≡ lift_in order which w.seen v
+      → lifted ≤ before → lift_in order which initial.seen v ≤ slice_index (table_in order which w.seen) v
+  after_look initial looked w word before lifted less word_is of_order wide looked_is up more safe lifts low =
+      omega (arith, risen, was, more.more place, now)
+    where
+      place : ℕ
+      place = place_of order which v
+
+      first : word - 1 ≡ place
+      first = omega arith
+
+      since : SeesMore initial w
+      since = sees_looked initial looked w (word - 1) before looked_is up more
+
+      was : slice_index looked.seen place ≡ before
+      was = ap (λ (y : Lifter). slice_index y.seen place) looked_is
+          ∙ (λ k. slice_index (set initial.seen (first k) before) place)
+          ∙ get_or-set_same initial.seen place before 0 (omega (arith, place_less order which v less))
+
+      now : slice_index (table_in order which w.seen) v ≡ slice_index w.seen place
+      now = table_at order which w.seen v less
+
+      risen : lift_in order which initial.seen v ≤ lift_in order which w.seen v
+      risen = lift_rises order which initial.seen w.seen v wide (seen_wide initial w of_order since safe) since.more (under_order initial w of_order since safe)

@@ -8,3 +8,4 @@ pub mod Steps
 pub mod Loading
 pub mod Worked
 pub mod Hints
+pub mod Alone

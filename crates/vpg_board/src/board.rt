@@ -175,8 +175,8 @@ impl Board {
         claimed
     }
 
-    /// Loads the kept successors of a vertex and raises its word to the lift of what the seat has then seen, by one `fetch_max`.
-    /// True where the word was raised.
+    /// Loads the word and the kept successors of a vertex, and raises the word to the lift of what the seat has then seen, by one
+    /// `fetch_max`, unless what it loaded there was as much. True where the word was raised.
     pub fn lift(&self, seat: &mut Seat, which: Which, v: u32) -> bool
         requires board { seat.old.board ≡ self.now }
         requires vertex { v < vertices self.now.order }
@@ -268,6 +268,33 @@ impl Board {
         }
     }
 
+    // The lift of what the seat has seen, once it has loaded the kept successors.
+    fn loaded_lift(&self, seat: &mut Inner, which: Which, v: u32) -> u64
+        requires board { seat.old.table_id ≡ self.now.table }
+        requires order { seat.old.me.0.order ≡ self.now.order }
+        requires stands { 0 < seat.old.me.0.stands }
+        requires safe { IsSafe seat.old.me.0 }
+        requires vertex { v < vertices self.now.order }
+        ensures table { seat.new.table_id ≡ seat.old.table_id }
+        ensures slots { seat.new.me.1 ≡ seat.old.me.1 }
+        ensures seen { SeesMore seat.old.me.0 seat.new.me.0 }
+        ensures safe { IsSafe seat.new.me.0 }
+        ensures lift { result ≡ lift_in self.now.order which seat.new.me.0.seen v }
+    {
+        let shape = self.order.shape(which);
+        let arena = self.order.arena(which);
+        let owner = arena.owner(v);
+        let mut best = best_of_none(shape, owner);
+        let kept = arena.kept(v);
+        for successor in kept {
+            let word = self.word_of(which, *successor);
+            let value = self.table.shared.load::<Load>(seat, word);
+            best = better(owner, best, value);
+        }
+        lift_to(shape, arena, v, best)
+    }
+
+    // Most lifts raise nothing: so the word is loaded first, and written only where that is less.
     fn raise(&self, seat: &mut Inner, which: Which, v: u32) -> bool
         requires board { seat.old.table_id ≡ self.now.table }
         requires order { seat.old.me.0.order ≡ self.now.order }
@@ -281,18 +308,12 @@ impl Board {
         ensures lifted { lift_in self.now.order which seat.old.me.0.seen v ≤ slice_index (table_in self.now.order which seat.new.me.0.seen) v }
         ensures raised { IsTrue result → slice_index (table_in self.now.order which seat.old.me.0.seen) v < slice_index (table_in self.now.order which seat.new.me.0.seen) v }
     {
-        let shape = self.order.shape(which);
-        let arena = self.order.arena(which);
-        let owner = arena.owner(v);
-        let mut best = best_of_none(shape, owner);
-        let kept = arena.kept(v);
-        for successor in kept {
-            let word = self.word_of(which, *successor);
-            let value = self.table.shared.load::<Load>(seat, word);
-            best = better(owner, best, value);
-        }
-        let lifted = lift_to(shape, arena, v, best);
         let word = self.word_of(which, v);
+        let before = self.table.shared.load::<Load>(seat, word);
+        let lifted = self.loaded_lift(seat, which, v);
+        if lifted <= before {
+            return false;
+        }
         let found = self.table.shared.fetch_max::<Raise>(seat, word, lifted);
         found < lifted
     }

@@ -163,10 +163,13 @@ impl<J: Vertices> Hints<J> {
         }
     }
 
-    // The newest hint of its own.
+    // The newest hint of its own. Where none is held it costs no step.
     fn take_own(&mut self) -> Option<(Which, u32)>
         ensures { IfSome result (IsHint J.vertices) }
     {
+        if self.held == 0 {
+            return None;
+        }
         let hint = pop(self.own.as_mut()?);
         self.held = match hint {
             Some(_) => self.held.saturating_sub(1),

@@ -4,17 +4,18 @@
 //! one to the lift of what it has seen, and claims places, each of which goes to one seat. The opening seat splits into up to 64
 //! seats, which are joined again; the last one closes the board for a harvest. Whatever seats do, and in whatever order, each word
 //! stays below every progress table of the order's games: so a harvest may be committed at any later moment. `sweep` does all of
-//! this with as many threads as it is asked for.
+//! this with as many threads as it is asked for; one lifter alone needs no board for it.
 //!
 //! `claim` and `lift` neither wait nor take memory. The layers above use `sweep`, whose harvest is of the order handed in, on or
 //! above its tables and the lift of them at every vertex.
 //!
 //! Definitions: `specs/Places` (both tables as one list of words, lifts on them), `specs/Lifters` and `specs/Run` (what a lifter
 //! knows, the steps, runs), `specs/Rule` (what every run keeps, in two halves), `specs/Seats` (boards and seats as callers see
-//! them), `specs/Steps` (what each atomic step tells), `specs/Worked` (what lifters have done in a sweep). What holds of every run
-//! stands in `laws`.
+//! them), `specs/Steps` (what each atomic step tells), `specs/Worked` (what lifters have done in a sweep), `specs/Alone` (what one
+//! has done alone). What holds of every run stands in `laws`.
 #![tactic(auto)]
 
+mod alone;
 pub mod board;
 mod hints;
 pub mod laws;

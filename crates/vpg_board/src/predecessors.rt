@@ -139,6 +139,11 @@ impl Predecessors {
         }
     }
 
+    /// Whether there are no edges, so that there will be no hints.
+    pub(crate) fn are_none(&self) -> bool {
+        self.hopeful.len() == 0 && self.dual.len() == 0
+    }
+
     /// Those in either game.
     pub(crate) fn in_game(&self, which: Which) -> &Chains
         ensures { LeadFrom self.now result.now }

@@ -10,6 +10,7 @@ ghost use Rattle.vpg_board.specs.Lifters.{splits, newcomer};
 ghost use Rattle.vpg_board.specs.Seats.{SeesMore, IsSafe};
 ghost use Rattle.vpg_board.specs.Worked.{Works, SameStand, HasWorked};
 
+use crate::alone::sweep_alone;
 use crate::board::Board;
 use crate::hints::{Hints, Vertices, hints_of, next_hints};
 use crate::predecessors::Predecessors;
@@ -39,7 +40,7 @@ impl Gate for OpenGate {
 }
 
 /// The most hinted lifts behind a claim: a setting that no clause counts.
-const HINTED_LIFTS: usize = 16;
+pub(crate) const HINTED_LIFTS: usize = 16;
 
 // Lifts a vertex, and where it was raised hints at those that keep an edge to it.
 fn lift_and_hint<J: Vertices>(
@@ -184,7 +185,9 @@ fn work_with_hints<J: Vertices + Send + Sync, G: Gate + Sync, R: Threads + Wait 
     requires predecessors { predecessors.now ≡ J.vertices }
     ensures { HasWorked board.now seat.lifter result }
 {
-    let crew = hints_of::<J>(alloc, lifters);
+    // Without predecessors there is nothing to hint at.
+    let hinting = if predecessors.are_none() { 0 } else { lifters };
+    let crew = hints_of::<J>(alloc, hinting);
     work_together(rt, board, gate, lifters, seat, predecessors, crew)
 }
 
@@ -192,6 +195,8 @@ fn work_with_hints<J: Vertices + Send + Sync, G: Gate + Sync, R: Threads + Wait 
 /// others get threads of their own. Where the machine has no thread for one, the calling thread does its work. After a raise the
 /// lifter hints at the vertices that keep an edge to the raised one, for itself and for one other, and behind each claim it lifts
 /// at most 16 hinted vertices. For want of memory the order comes back; where only hints found none, they are left out.
+///
+/// One lifter shares its tables with nobody: it raises them in the order's room, without a board, and never wants memory.
 ///
 /// A sweep whose harvest has no greater value than its order proves the order settled.
 pub fn sweep<G: Gate + Sync, R: Threads + Wait + Sync>(
@@ -245,6 +250,9 @@ pub fn sweep_along<G: Gate + Sync, R: Threads + Wait + Sync>(
     ensures moved { IfOk result (λ harvest. ¬ IsSettledHarvest harvest → sum order.hopeful + sum order.dual < sum harvest.hopeful + sum harvest.dual) }
     ensures back { IfErr result (λ returned. returned ≡ order) }
 {
+    if lifters == 1 {
+        return Ok(sweep_alone::<Brand, G>(alloc, order, gate, predecessors));
+    }
     let (board, seat) = Board::open(alloc, order)?;
     let seat = work_with_hints::<Brand, G, R>(rt, alloc, &board, gate, lifters, seat, predecessors);
     board.close(alloc, seat)

@@ -1,8 +1,6 @@
 -- The best value, one more value at a time.
-use Rattle.std.proofs.Common.{◌≡◌, ℕ, ◌+◌, min, max, List, [], ◌∷◌, ◌++◌, refl, sym, ap, ◌∙◌, arith}
-use Rattle.vpg_game.specs.declared.player.Player.{Player}
-use Rattle.vpg_game.specs.declared.player.Player.TheVariants.{Even, Odd}
-use Rattle.vpg_measure.specs.Lifts.{least_of, greatest_of, best_for}
+use Rattle.std.proofs.Common.{◌≡◌, ℕ, min, max, List, [], ◌∷◌, ◌++◌, arith}
+use Rattle.vpg_measure.specs.Lifts.{least_of, greatest_of}
 
 pub least_more : (top n : ℕ) (ns : List ℕ) → least_of top (ns ++ n ∷ []) ≡ min (least_of top ns) n
 least_more top n [] = omega arith

@@ -1,5 +1,6 @@
 -- Orders and harvests.
-use Rattle.std.proofs.Common.{◌≡◌, ℕ, ◌<◌, ◌≤◌, List, length, map, get_or, refl, sym, ap, ◌∙◌, subst, arith}
+use Rattle.std.proofs.Common.{◌≡◌, ℕ, ◌<◌, ◌≤◌, Bool, List, length, map, get_or, refl, sym, ap, ◌∙◌, subst, arith}
+use Rattle.std.specs.Prelude.{sum, MatchBool}
 use Rattle.std.proofs.lemmas.List.Elements.{All-from_get_or}
 use Rattle.vpg_guards.specs.Known.{kleene}
 use Rattle.vpg_diagram.specs.DiagramText.{NamedDiagram}
@@ -16,11 +17,11 @@ use Rattle.vpg_guards.specs.Formula.{Formula}
 use Rattle.vpg_game.proofs.Graphs.{same_count}
 use Rattle.vpg_measure.specs.declared.ground.Ground.{Ground}
 use Rattle.vpg_measure.specs.Lifts.{IsTableOf, IsBelowTable, IsProgressTable, raised, after_rounds}
-use Rattle.vpg_measure.specs.Orders.{OrderView, HarvestView, harvest_of, order_table, order_room, harvest_table, order_levels, order_arena, with_room, IsOpeningTable, IsOrder, IsHarvest, IsRaised, IsSettledHarvest}
+use Rattle.vpg_measure.specs.Orders.{OrderView, HarvestView, harvest_of, order_table, order_room, harvest_table, order_levels, order_arena, with_room, IsOpeningTable, IsOrder, IsSameOrder, IsHarvest, IsRaised, IsSettledHarvest, other_table}
 use Rattle.vpg_measure.specs.OrderKept.{IsGround, IsPrepared}
 use Rattle.vpg_measure.specs.TwoGames.{IsTableBelow, IsProgressOf, levels_for, arena_for, top_for}
 use Rattle.vpg_measure.proofs.Below.{raise_is_below}
-use Rattle.vpg_measure.proofs.Rounds.{below_self, raised_above, raised_table, after_table, after_above, after_stays}
+use Rattle.vpg_measure.proofs.Rounds.{below_self, below_trans, raised_above, raised_table, after_table, after_above, after_stays}
 use Rattle.vpg_measure.proofs.TwoGames.{arena_length, tops, tops_progress, top_bounds}
 
 -- the order of what is handed in and what stands ready
@@ -213,9 +214,69 @@ pub one_made : (order : OrderView) (which : Which) (v : ℕ) → IsOrder order �
 one_made order Hopeful v is less = harvest_made order _ order.dual is (raised_lawful order is Hopeful v less) (own_lawful order is Dual)
 one_made order Dual v is less = harvest_made order order.hopeful _ is (own_lawful order is Hopeful) (raised_lawful order is Dual v less)
 
+-- a harvest's table raised at a vertex
+pub raised_made : (order : OrderView) (which : Which) (v : ℕ) → IsHarvest (harvest_of order) → v < length order.game.vertices →
+    IsHarvest (harvest_of (with_room which (raised (order_levels which order) (order_arena which order) (order_room which order) v) order))
+raised_made order which v is less = at which
+  where
+    own : (w : Which) → IsLawfulTable w order (harvest_table w (harvest_of order))
+    own w = record { above = is.above w; below = is.below w }
+
+    more : (w : Which) → IsLawfulTable w order (raised (order_levels w order) (order_arena w order) (harvest_table w (harvest_of order)) v)
+    more w = record {
+      above = below_trans (order_table w order) (harvest_table w (harvest_of order)) _ (is.above w) (raised_above (order_levels w order) (order_arena w order) (harvest_table w (harvest_of order)) v);
+      below = record {
+        is_table = raised_table (order_levels w order) (order_arena w order) (harvest_table w (harvest_of order)) v (is.below w).is_table;
+        below = raise_is_below (order_levels w order) (order_arena w order) (harvest_table w (harvest_of order)) (harvest_table w (harvest_of order)) v
+            (is.below w).is_table (is.below w).below (is.below w).is_table (is.below w).below
+            (subst (λ n. v < n) (sym (arena_count order.known w order.game)) less);
+      };
+    }
+
+    at : (w : Which) → IsHarvest (harvest_of (with_room w (raised (order_levels w order) (order_arena w order) (order_room w order) v) order))
+    at Hopeful = harvest_made order _ order.dual_room is.order (more Hopeful) (own Dual)
+    at Dual = harvest_made order order.hopeful_room _ is.order (own Hopeful) (more Dual)
+
 pub with_room_at : (order : OrderView) (which : Which) (room : List ℕ) → harvest_table which (harvest_of (with_room which room order)) ≡ room
 with_room_at order Hopeful room = refl
 with_room_at order Dual room = refl
+
+pub with_room_other : (order : OrderView) (which : Which) (room : List ℕ) →
+    harvest_table (other_table which) (harvest_of (with_room which room order)) ≡ harvest_table (other_table which) (harvest_of order)
+with_room_other order Hopeful room = refl
+with_room_other order Dual room = refl
+
+pub with_room_same : (order : OrderView) (which : Which) (room : List ℕ) → IsSameOrder (with_room which room order) order
+with_room_same order Hopeful room = record { game = refl; diagram = refl; decisions = refl; known = refl; hopeful = refl; dual = refl }
+with_room_same order Dual room = record { game = refl; diagram = refl; decisions = refl; known = refl; hopeful = refl; dual = refl }
+
+-- what a raise in the room leaves of the harvest
+pub record IsRaisedAt (which : Which) (v : ℕ) (old new : HarvestView) : Type 0 where
+  pub order : IsSameOrder new.order old.order
+  pub raised : harvest_table which new ≡ raised (order_levels which old.order) (order_arena which old.order) (harvest_table which old) v
+  pub other : harvest_table (other_table which) new ≡ harvest_table (other_table which) old
+
+pub raised_at : (order new : OrderView) (old : HarvestView) (which : Which) (v : ℕ) → harvest_of order ≡ old →
+    new ≡ with_room which (raised (order_levels which order) (order_arena which order) (order_room which order) v) order → IsRaisedAt which v old (harvest_of new)
+raised_at order new old which v e f =
+    subst (λ (h : HarvestView). IsRaisedAt which v h (harvest_of new)) e (subst (λ (o : OrderView). IsRaisedAt which v (harvest_of order) (harvest_of o)) (sym f) here)
+  where
+    room : List ℕ
+    room = raised (order_levels which order) (order_arena which order) (order_room which order) v
+
+    here : IsRaisedAt which v (harvest_of order) (harvest_of (with_room which room order))
+    here = record {
+      order = with_room_same order which room;
+      raised = with_room_at order which room ∙ ap (λ (t : List ℕ). raised (order_levels which order) (order_arena which order) t v) (sym (harvest_room order which));
+      other = with_room_other order which room;
+    }
+
+pub rose_at : (order new : OrderView) (old : HarvestView) (which : Which) (b : Bool) → harvest_of order ≡ old →
+    MatchBool b (sum (order_room which order) < sum (order_room which new)) (order_room which new ≡ order_room which order) →
+    MatchBool b (sum (harvest_table which old) < sum (harvest_table which (harvest_of new))) (harvest_table which (harvest_of new) ≡ harvest_table which old)
+rose_at order new old which b e h = subst (λ (x : HarvestView). MatchBool b (sum (harvest_table which x) < sum (harvest_table which (harvest_of new))) (harvest_table which (harvest_of new) ≡ harvest_table which x)) e
+    (subst (λ (t : List ℕ). MatchBool b (sum (harvest_table which (harvest_of order)) < sum t) (t ≡ harvest_table which (harvest_of order))) (sym (harvest_room new which))
+    (subst (λ (t : List ℕ). MatchBool b (sum t < sum (order_room which new)) (order_room which new ≡ t)) (sym (harvest_room order which)) h))
 
 -- ---- whether both tables are settled
 

@@ -1,6 +1,6 @@
 //! Harvests: what lifters bring back.
 
-ghost use Rattle.std.specs.Prelude.{◌≡◌, ◌↔◌, ◌<◌, ℕ, length, slice_index, IsTrue};
+ghost use Rattle.std.specs.Prelude.{◌≡◌, ◌↔◌, ◌<◌, ℕ, length, slice_index, sum, IsTrue, MatchBool};
 ghost use Rattle.vpg_measure.specs.Lifts.{raised, after_rounds, IsProgressTable};
 ghost use Rattle.vpg_measure.specs.Orders.{IsHarvest, IsRaised, IsSameOrder, IsSettledHarvest, IsOrderAgain, order_table, harvest_table, other_table, order_levels, order_arena};
 
@@ -69,6 +69,18 @@ impl Harvest {
         let mut order = order;
         order.put_room(Table::of(hopeful), Table::of(dual));
         Harvest { order }
+    }
+
+    /// Lifts one vertex of either table once, where that is greater, and says whether its value rose.
+    pub fn raise(&mut self, which: Which, v: u32) -> bool
+        requires { v < length self.old.order.game.vertices }
+        ensures order { IsSameOrder self.new.order self.old.order }
+        ensures raised { harvest_table which self.new ≡ raised (order_levels which self.old.order) (order_arena which self.old.order) (harvest_table which self.old) v }
+        ensures other { harvest_table (other_table which) self.new ≡ harvest_table (other_table which) self.old }
+        ensures rose { MatchBool result (sum (harvest_table which self.old) < sum (harvest_table which self.new)) (harvest_table which self.new ≡ harvest_table which self.old) }
+        ensures harvests { IsHarvest self.old × IsHarvest self.new }
+    {
+        self.order.raise_room(which, v)
     }
 
     /// The order that it came of.

@@ -1,7 +1,7 @@
 //! Orders: what lifters take from a page.
 
 ghost use Rattle.std.specs.Arc.{arc_value};
-ghost use Rattle.std.specs.Prelude.{◌≡◌, ◌↔◌, ◌<◌, ℕ, length, map, IfOk, IfErr, OnOk};
+ghost use Rattle.std.specs.Prelude.{◌≡◌, ◌↔◌, ◌<◌, ℕ, length, map, sum, IfOk, IfErr, OnOk, MatchBool};
 ghost use Rattle.vpg_diagram.specs.Clauses.{clauses_of, counts_of};
 ghost use Rattle.vpg_diagram.specs.FeatureDiagram.{feature_count};
 ghost use Rattle.vpg_game.specs.Game.{IsAtLimit, graph_of};
@@ -232,20 +232,21 @@ impl Order {
         self.dual_room.assign(&self.dual);
     }
 
-    /// Lifts a vertex of the table in the room once, where that is greater.
-    pub(crate) fn raise_room(&mut self, which: Which, v: u32)
+    /// Lifts a vertex of the table in the room once, where that is greater, and says whether its value rose.
+    pub(crate) fn raise_room(&mut self, which: Which, v: u32) -> bool
         requires vertex { v < length self.old.game.vertices }
         requires table { IsTableOf (order_levels which self.old) (order_arena which self.old) (order_room which self.old) }
-        ensures { self.new ≡ with_room which (raised (order_levels which self.old) (order_arena which self.old) (order_room which self.old) v) self.old }
+        ensures raised { self.new ≡ with_room which (raised (order_levels which self.old) (order_arena which self.old) (order_room which self.old) v) self.old }
+        ensures rose { MatchBool result (sum (order_room which self.old) < sum (order_room which self.new)) (order_room which self.new ≡ order_room which self.old) }
     {
         match which {
             Which::Hopeful => {
                 let ground = &self.hopeful_ground;
-                raise(&ground.shape, &ground.arena, &mut self.hopeful_room, v);
+                raise(&ground.shape, &ground.arena, &mut self.hopeful_room, v)
             }
             Which::Dual => {
                 let ground = &self.dual_ground;
-                raise(&ground.shape, &ground.arena, &mut self.dual_room, v);
+                raise(&ground.shape, &ground.arena, &mut self.dual_room, v)
             }
         }
     }

@@ -4,6 +4,7 @@ ghost use Rattle.std.specs.List.{list_all, prefix_len};
 ghost use Rattle.std.specs.Str.Lines.{strip_carriage_return};
 ghost use Rattle.std.specs.Io.KnownBytes.{prepend_known, Keeps, IsAtEnd};
 ghost use Rattle.vpg_report.specs.Output.{IsLine, lines_left};
+ghost use Rattle.vpg_report.specs.Results.{UnlessUnread};
 ghost use Rattle.vpg_report.specs.Lines.{is_within_line, IsUnended, IsEnded, ComesNext, ComesKnown};
 
 use crate::command::LONGEST_LINE;
@@ -75,6 +76,7 @@ fn more<R: Source>(held: &mut Vec<u8>, reader: &mut R) -> Result<bool, NextFault
     ensures read { IsErrOf result NextFault.Read → Keeps (prepend_known held.old.items (R.remaining reader.old)) (prepend_known held.new.items (R.remaining reader.new)) }
     ensures read_same { IsErrOf result NextFault.Read → held.new.items ≡ held.old.items }
     ensures failed { IsErrOf result NextFault.Read → R.has_failed reader.new ≡ true }
+    ensures readable { UnlessUnread result (R.has_failed reader.new ≡ R.has_failed reader.old) }
 {
     let mut piece = [0u8; PIECE];
     match reader.fill(&mut piece) {
@@ -113,6 +115,7 @@ pub fn next_line<R: Source>(
     ensures unended { IsErrOf result NextFault.Read → IsUnended held.new.items }
     ensures next { IfOk result (λ n. ComesKnown n (prepend_known held.old.items (R.remaining reader.old)) (prepend_known held.new.items (R.remaining reader.new))) }
     ensures read { IsErrOf result NextFault.Read → Keeps (prepend_known held.old.items (R.remaining reader.old)) (prepend_known held.new.items (R.remaining reader.new)) }
+    ensures readable { UnlessUnread result (R.has_failed reader.new ≡ R.has_failed reader.old) }
     ensures cause { IsErrOf result NextFault.Read → (R.has_failed reader.new ≡ true) ⊎ (reads.new ≡ 16777216) }
     ensures reads { reads.new ≤ 16777216 }
     ensures fewer { IfOk result (λ n. IsLine n → lines_left reads.new (vec_len held.new) < lines_left reads.old (vec_len held.old)) }

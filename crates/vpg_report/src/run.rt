@@ -5,7 +5,7 @@ ghost use Rattle.vpg_diagram.specs.FeatureDiagram.{feature_count};
 ghost use Rattle.vpg_desk.specs.State.{IsOpened};
 ghost use Rattle.vpg_report.specs.Engine.{IsOpenRefusal};
 ghost use Rattle.vpg_report.specs.Output.{Outcome};
-ghost use Rattle.vpg_report.specs.Results.{Opens};
+ghost use Rattle.vpg_report.specs.Results.{Opens, UnlessRead, UnlessWrite};
 ghost use Rattle.vpg_report.specs.Run.{answering, begun};
 ghost use Rattle.vpg_report.specs.Scene.{scene_of};
 
@@ -67,6 +67,10 @@ pub fn run<T: Threads + Wait + Sync, R: Source, W: Sink>(
     // Read and Write come only where the device failed, or the reads were used up.
     ensures read { IsErrOf result RunFault.Read → (R.has_failed reader.new ≡ true) ⊎ (R.calls reader.new ≡ 16777216) }
     ensures write { IsErrOf result RunFault.Write → W.has_failed writer.new ≡ true }
+
+    // A device that failed is told: no read failed unless the run ends in Read, and no write unless it ends in Write.
+    ensures readable { UnlessRead result (R.has_failed reader.new ≡ R.has_failed reader.old) }
+    ensures writable { UnlessWrite result (W.has_failed writer.new ≡ W.has_failed writer.old) }
 {
     let mut engine = match Engine::open(alloc, game, diagram) {
         Ok(engine) => engine,

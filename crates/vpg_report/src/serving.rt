@@ -8,6 +8,7 @@ ghost use Rattle.vpg_report.specs.Run.{Between, answering};
 ghost use Rattle.vpg_report.specs.Script.{said};
 ghost use Rattle.vpg_report.specs.View.{request_shown};
 ghost use Rattle.vpg_report.specs.declared.command.LineFault.{LineFault as Fault};
+ghost use Rattle.vpg_report.specs.Results.{UnlessRead, UnlessWrite, UnlessUnwritten};
 ghost use Rattle.vpg_report.specs.Output.{Speaks, Answered, Wrote, FaultyKnown, IsEmptyKnown};
 
 use crate::command::{LineFault, ReadFault, Request, read_line};
@@ -65,6 +66,7 @@ fn answer_line<T: Threads + Wait + Sync, V: Server, W: Sink>(
     ensures memory { IsErrOf result LineStop.Memory → writer.new ≡ writer.old }
     ensures write { IsErrOf result LineStop.Write → (text : List ℕ) × (Speaks (answering (V.scene server.old)) (V.between server.old) (said line.now) text (V.between server.new) × AppendsSome (W.contents writer.old) (W.contents writer.new) text) }
     ensures write_failed { IsErrOf result LineStop.Write → W.has_failed writer.new ≡ true }
+    ensures writable { UnlessUnwritten result (W.has_failed writer.new ≡ W.has_failed writer.old) }
 {
     let request = match read_line(alloc, line) {
         Ok(None) => return Ok(()),
@@ -103,6 +105,9 @@ pub fn answer_script<T: Threads + Wait + Sync, V: Server, R: Source, W: Sink>(
     // Read and Write are answered only where the device failed, or the reads were used up.
     ensures read { IsErrOf result RunFault.Read → (R.has_failed reader.new ≡ true) ⊎ (R.calls reader.new ≡ 16777216) }
     ensures write { IsErrOf result RunFault.Write → W.has_failed writer.new ≡ true }
+    // A device that failed is told.
+    ensures readable { UnlessRead result (R.has_failed reader.new ≡ R.has_failed reader.old) }
+    ensures writable { UnlessWrite result (W.has_failed writer.new ≡ W.has_failed writer.old) }
 {
     let mut held = Vec::new(alloc);
     let mut reads = 0;

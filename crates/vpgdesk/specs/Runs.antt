@@ -45,3 +45,13 @@ IsRun diagram game script rest before after (Err (told.Conflict name)) =
     Ends diagram game script rest before after (Err (stops.Open (opens.Conflict 0))) × (slice_get diagram.names 0 ≡ Some (string_bytes name))
 IsRun diagram game script rest before after (Err told.Memory) = Ends diagram game script rest before after (Err stops.Memory)
 IsRun diagram game script rest before after (Err fault) = ⊥
+
+-- This holds of each run but one whose script could not be read to its end.
+abbrev pub UnlessScriptFails : Result (Unit {0}) Fault → Type 0 → Type 0
+UnlessScriptFails (Err told.Read) P = ⊤
+UnlessScriptFails result P = P
+
+-- This holds of each run but one whose answers could not be written.
+abbrev pub UnlessOutputFails : Result (Unit {0}) Fault → Type 0 → Type 0
+UnlessOutputFails (Err told.Write) P = ⊤
+UnlessOutputFails result P = P

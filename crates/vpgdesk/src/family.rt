@@ -6,7 +6,7 @@ ghost use Rattle.vpg_diagram.specs.FeatureDiagram.{feature_count};
 ghost use Rattle.vpg_game.specs.Game.{SpellsGame};
 ghost use Rattle.vpgdesk.specs.Counts.{counts_text};
 ghost use Rattle.vpgdesk.specs.Families.{IsDiagramFault, IsGameFault, SpellsFamily, IsFamilyFault, IsUnknown, IsNamedSet, TellsUnknown, IsProjected, IsNotProjected};
-ghost use Rattle.vpgdesk.specs.Runs.{TellsConflict, TellsOpening, IsRun};
+ghost use Rattle.vpgdesk.specs.Runs.{TellsConflict, TellsOpening, IsRun, UnlessScriptFails, UnlessOutputFails};
 
 use crate::counts::put_counts;
 use crate::fault::Fault;
@@ -147,6 +147,10 @@ impl Family {
         // Read and Write come only where the device failed, or the script was read 16,777,216 times.
         ensures read { IsErrOf result Fault.Read → (R.has_failed reader.new ≡ true) ⊎ (R.calls reader.new ≡ 16777216) }
         ensures write { IsErrOf result Fault.Write → W.has_failed writer.new ≡ true }
+
+        // A device that failed is told.
+        ensures readable { UnlessScriptFails result (R.has_failed reader.new ≡ R.has_failed reader.old) }
+        ensures writable { UnlessOutputFails result (W.has_failed writer.new ≡ W.has_failed writer.old) }
     {
         let diagram = self.diagram.clone()?;
         match run(rt, alloc, self.game, self.diagram, reader, writer, lifters) {

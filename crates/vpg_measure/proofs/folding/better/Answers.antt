@@ -1,6 +1,5 @@
-use Rattle.std.proofs.Common.{◌≡◌, ℕ, ◌++◌, ◌∷◌, [], sym, ap, ◌∙◌, min, max}
-use Rattle.vpg_game.specs.declared.player.Player.TheVariants.{Even, Odd}
-use Rattle.vpg_measure.specs.Lifts.{best_for, least_of, greatest_of}
+use Rattle.std.proofs.Common.{◌++◌, ◌∷◌, [], sym, ap, ◌∙◌, min, max}
+use Rattle.vpg_measure.specs.Lifts.{best_for}
 use Rattle.vpg_measure.proofs.BestValues.{least_more, greatest_more}
 use Rattle.vpg_measure.proofs.folding.better.Goals as goal
 

@@ -1,10 +1,10 @@
-use Rattle.std.proofs.Common.{◌≡◌, ℕ, ◌∙◌, sym, ap, map, length, arith}
+use Rattle.std.proofs.Common.{ℕ, ◌∙◌, sym, ap, map, length, arith}
 use Rattle.std.specs.Prelude.{slice_index}
 use Rattle.std.proofs.lemmas.Bool.{eqb-false}
 use Rattle.vpg_game.specs.Levels.{top_of, prog_of}
 use Rattle.vpg_hope.specs.Arena.{vertex_at}
-use Rattle.vpg_measure.specs.Lifts.{best_for, least_of, greatest_of}
-use Rattle.vpg_measure.proofs.Progs.{lift-even, lift-odd, lift-odd_none}
+use Rattle.vpg_measure.specs.Lifts.{best_for}
+use Rattle.vpg_measure.proofs.Progs.{lift-even, lift-odd}
 use Rattle.vpg_measure.proofs.folding.lift_to.Goals as goal
 
 pub returns-in-Even-clause-lift : goal.returns-in-Even-clause-lift

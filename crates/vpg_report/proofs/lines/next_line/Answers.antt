@@ -1,8 +1,10 @@
+use Rattle.vpg_report.specs.declared.lines.Next.{Next}
 use Rattle.vpg_report.specs.declared.lines.NextFault.TheVariants as faults
-use Rattle.std.proofs.Common.{Err, ◌≡◌, ap, ◌∙◌, arith, sym, subst}
+use Rattle.std.proofs.Common.{Bool, Err, ◌≡◌, ap, ◌∙◌, arith, sym, subst}
 use Rattle.std.specs.List.{prefix_len}
 use Rattle.std.specs.Io.KnownBytes.{prepend_known}
 use Rattle.vpg_report.specs.Lines.{is_within_line, IsUnended}
+use Rattle.vpg_report.specs.Results.{UnlessUnread}
 use Rattle.vpg_report.proofs.LineLemmas.{line_comes, too_long_comes, all_unended}
 use Rattle.vpg_report.proofs.lines.next_line.Goals as goal
 
@@ -31,6 +33,10 @@ returns-in-Err-clause-unended g c = λ h.
     subst IsUnended (sym (c.in-Err.ensures.read_same (ap Err is)))
     (all_unended c.fill.held.items c.line_len-n.result (c.line_len-n.ensures.len ∙ ap (prefix_len is_within_line) c.deref.ensures.value)
     (omega (arith, c.fill.held.ok.0, c.len.ensures, c.if-n-len.false)))
+
+pub returns-in-Err-clause-readable : goal.returns-in-Err-clause-readable
+returns-in-Err-clause-readable g c =
+    subst (λ (b : Bool). UnlessUnread {A = Next} (Err c.in-Err.fault) (g.R.Source.has_failed c.more.new.reader ≡ b)) c.fill.invariant.readable c.in-Err.ensures.readable
 
 pub last-requires : goal.last-requires
 last-requires g c =

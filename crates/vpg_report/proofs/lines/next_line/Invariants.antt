@@ -7,6 +7,7 @@ abbrev pub invariant-fill : goal.invariant-fill
 invariant-fill g l = record {
   kept : Keeps (prepend_known l.fn.held.items (g.R.Source.remaining l.fn.reader)) (prepend_known l.held.items (g.R.Source.remaining l.reader));
   few : l.reads ≤ 16777216;
+  readable : g.R.Source.has_failed l.reader ≡ g.R.Source.has_failed l.fn.reader;
   calls : g.R.Source.calls l.reader ≡ l.reads;
   left : lines_left l.reads (vec_len l.held) ≤ lines_left l.fn.reads (vec_len l.fn.held);
 }

@@ -19,6 +19,8 @@ lines-init g c =
     record {
       same = refl;
       few = omega arith;
+      readable = refl;
+      writable = refl;
       calls = c.requires.unread;
       bound = omega (arith, c.new-held.ensures.len);
       wrote = (
@@ -50,6 +52,8 @@ lines-preserved g c =
     record {
       same = c.in-Ok-answer_line.ensures.scene ∙ c.lines.invariant.same;
       few = c.next_line.ensures.reads;
+      readable = c.in-Ok.ensures.readable ∙ c.lines.invariant.readable;
+      writable = c.in-Ok-answer_line.ensures.writable ∙ c.lines.invariant.writable;
       calls = c.next_line.ensures.calls;
       bound = omega (arith, c.lines.invariant.bound, fewer);
       wrote = (

@@ -8,6 +8,8 @@ abbrev pub invariant-lines : goal.invariant-lines
 invariant-lines g l = record {
   same : g.V.Server.scene l.server ≡ g.V.Server.scene l.fn.server;
   few : l.reads ≤ 16777216;
+  readable : g.R.Source.has_failed l.reader ≡ g.R.Source.has_failed l.fn.reader;
+  writable : g.W.Sink.has_failed l.writer ≡ g.W.Sink.has_failed l.fn.writer;
   calls : g.R.Source.calls l.reader ≡ l.reads;
   bound : l.number + lines_left l.reads (vec_len l.held) ≤ 16777216 * 8193 + 1;
   wrote : (lines : List (List ℕ)) × (Wrote (answering (g.V.Server.scene l.fn.server)) (g.V.Server.between l.fn.server) (g.V.Server.between l.server) (g.R.Source.remaining l.fn.reader) (prepend_known l.held.items (g.R.Source.remaining l.reader))

@@ -1,122 +1,119 @@
+use Rattle.std.proofs.Common.{◌≡◌, ℕ, ◌+◌, ◌-◌, ◌<◌, ◌≤◌, List, sym, ap, ◌∙◌, subst, arith}
 use Rattle.std.proofs.lemmas.Bool.{ltb-true}
-use Rattle.std.proofs.Common.{◌≡◌, ℕ, ◌+◌, ◌-◌, ◌<◌, ◌≤◌, length, List, ◌++◌, ◌∷◌, [], sym, ap, ◌∙◌, subst, arith, get_or, All}
 use Rattle.std.specs.Prelude.{slice_index}
-use Rattle.vpg_game.specs.declared.levels.Level.{Level}
-use Rattle.vpg_game.specs.Levels.{top_of}
-use Rattle.vpg_hope.specs.Arena.{Vertex, vertex_at}
-use Rattle.vpg_measure.specs.Lifts.{best_for}
-use Rattle.vpg_measure.specs.Orders.{IsOrder, order_arena}
-use Rattle.vpg_measure.proofs.OrderLemmas.{arena_count}
+use Rattle.vpg_measure.specs.Orders.{IsOrder}
 use Rattle.vpg_board.specs.declared.lifter.Lifter.{Lifter}
 use Rattle.vpg_board.specs.Places.{vertices, places, place_of, table_in, lift_in, lift_at}
+use Rattle.vpg_board.specs.Seats.{SeesMore}
 use Rattle.vpg_board.proofs.Atomic.{loads, raises}
 use Rattle.vpg_board.proofs.Halves.{place_less, lift_place}
-use Rattle.vpg_board.proofs.Loads.{after_load, best_within, lift_from, after_raise}
+use Rattle.vpg_board.proofs.Loads.{sees_looked, after_look, after_raise}
 use Rattle.vpg_board.proofs.board.Board.raise.Goals as goal
+use Rattle.vpg_board.proofs.board.Board.raise.Goals.{After-loaded_lift-lifted, After-fetch_max-found}
 
-pub load-value-requires : goal.load-value-requires
-load-value-requires c =
+pub load-before-requires : goal.load-before-requires
+load-before-requires c =
     let order = c.self.inside.order in
-    let i = c.loop-successor.invariant in
     let same : order ≡ c.args.self.now.order = ap (λ b. b.order) c.self.view_is in
-    let at : ℕ = c.loop-successor.successor-index in
-    let w : ℕ = get_or c.kept-kept.result.now at 0 in
-    let count : length c.arena-arena.result.now ≡ vertices order = ap length c.arena-arena.ensures ∙ arena_count order.known c.args.which order.game in
-    let less : w < vertices order = subst (λ n. w < n) count (c.kept-kept.ensures.closed at 0 c.loop-successor-test.true) in
-    let word : c.word_of-word.result ≡ place_of order c.args.which w + 1 = c.word_of-word.ensures ∙ ap (λ x. place_of x c.args.which w + 1) (sym same) in
-    let inside = place_less order c.args.which w less in
+    let less : c.args.v < vertices order = subst (λ x. c.args.v < vertices x) (sym same) c.requires.vertex in
+    let word : c.word_of-word.result ≡ place_of order c.args.which c.args.v + 1 = c.word_of-word.ensures ∙ ap (λ x. place_of x c.args.which c.args.v + 1) (sym same) in
+    let inside = place_less order c.args.which c.args.v less in
     let key = c.self.inside.table.shared.key in
-    let size : places key ≡ places order = ap (λ x. places x) c.self.invariant.key in
-    let stands : 0 < c.loop-successor.seat.me.0.stands = subst (λ (v : Lifter). 0 < v.stands) (sym i.sees.same) c.requires.stands in (
-      i.table ∙ c.requires.board ∙ sym (ap (λ b. b.table) c.self.view_is),
+    let size : places key ≡ places order = ap (λ x. places x) c.self.invariant.key in (
+      c.requires.board ∙ sym (ap (λ b. b.table) c.self.view_is),
       omega (arith, c.self.invariant.words),
-      loads key (subst IsOrder (sym c.self.invariant.key) c.self.invariant.order) _ _ _ _ (omega arith) (omega arith) stands,
+      loads key (subst IsOrder (sym c.self.invariant.key) c.self.invariant.order) _ _ _ _ (omega arith) (omega arith) c.requires.stands,
     )
 
-pub loop-successor-preserved : goal.loop-successor-preserved
-loop-successor-preserved c =
-    let order = c.self.inside.order in
-    let i = c.loop-successor.invariant in
-    let same : order ≡ c.args.self.now.order = ap (λ b. b.order) c.self.view_is in
-    let at : ℕ = c.loop-successor.successor-index in
-    let w : ℕ = get_or c.kept-kept.result.now at 0 in
-    let count : length c.arena-arena.result.now ≡ vertices order = ap length c.arena-arena.ensures ∙ arena_count order.known c.args.which order.game in
-    let x : Vertex = vertex_at (order_arena c.args.which order) c.args.v in
-    let kept : c.kept-kept.result.now ≡ x.successors = c.kept-kept.ensures.kept ∙ ap (λ a. (vertex_at a c.args.v).successors) c.arena-arena.ensures in
-    let owner : c.owner-owner.result ≡ x.owner = c.owner-owner.ensures ∙ ap (λ a. (vertex_at a c.args.v).owner) c.arena-arena.ensures in
-    let closed : All (λ s. s < vertices order) x.successors = subst (λ l. All (λ s. s < vertices order) l) kept (subst (λ n. All (λ s. s < n) c.kept-kept.result.now) count c.kept-kept.ensures.closed) in
-    let inside : at < length x.successors = subst (λ (l : List ℕ). at < length l) kept c.loop-successor-test.true in
-    let word : c.word_of-word.result ≡ place_of order c.args.which (get_or x.successors at 0) + 1 =
-    c.word_of-word.ensures ∙ ap (λ y. place_of y c.args.which w + 1) (sym same) ∙ ap (λ l. place_of order c.args.which (get_or l at 0) + 1) kept in
-    let load = c.load-value.ensures in
-    let after = after_load order c.self.invariant.order c.args.which c.args.v c.args.seat.now.me.0 c.loop-successor.seat.me.0 c.load-value.new.seat.me.0 c.word_of-word.result c.load-value.result at closed inside word
-    (c.requires.order ∙ sym same) i.sees i.safe (ap (λ m. m.0) load.2.0) load.2.1 in
-    record {
-      table = load.0 ∙ i.table;
-      slots = ap (λ m. m.1) load.2.0 ∙ i.slots;
-      sees = after.0;
-      safe = load.2.2;
-      best = after.1 c.loop-successor.best c.better-best.result i.best
-          (subst (λ o. (limit : ℕ) (values : List ℕ) → c.loop-successor.best ≡ best_for o limit values → c.better-best.result ≡ best_for o limit (values ++ c.load-value.result ∷ [])) owner c.better-best.ensures);
-    }
+pub loaded_lift-lifted-requires-clause-board : goal.loaded_lift-lifted-requires-clause-board
+loaded_lift-lifted-requires-clause-board c = c.load-before.ensures.0 ∙ c.requires.board
 
-pub lift_to-lifted-requires-clause-best : goal.lift_to-lifted-requires-clause-best
-lift_to-lifted-requires-clause-best c =
-    let order = c.self.inside.order in
-    let i = c.loop-successor.invariant in
-    let same : order ≡ c.args.self.now.order = ap (λ b. b.order) c.self.view_is in
-    subst (λ (ls : List Level). c.loop-successor.best ≤ top_of ls) (sym c.shape-shape.ensures)
-    (best_within order c.self.invariant.order c.args.which c.args.v c.args.seat.now.me.0 c.loop-successor.seat.me.0 c.loop-successor.best c.loop-successor.successor-index (c.requires.order ∙ sym same) i.sees i.safe i.best)
+pub loaded_lift-lifted-requires-clause-order : goal.loaded_lift-lifted-requires-clause-order
+loaded_lift-lifted-requires-clause-order c = ap (λ m. m.0.order) c.load-before.ensures.2.0 ∙ c.requires.order
+
+pub loaded_lift-lifted-requires-clause-stands : goal.loaded_lift-lifted-requires-clause-stands
+loaded_lift-lifted-requires-clause-stands c = subst (λ (v : Lifter). 0 < v.stands) (sym (ap (λ m. m.0) c.load-before.ensures.2.0)) c.requires.stands
+
+pub loaded_lift-lifted-requires-clause-safe : goal.loaded_lift-lifted-requires-clause-safe
+loaded_lift-lifted-requires-clause-safe c = c.load-before.ensures.2.2
 
 pub fetch_max-found-requires : goal.fetch_max-found-requires
 fetch_max-found-requires c =
     let order = c.self.inside.order in
-    let i = c.loop-successor.invariant in
     let same : order ≡ c.args.self.now.order = ap (λ b. b.order) c.self.view_is in
     let less : c.args.v < vertices order = subst (λ x. c.args.v < vertices x) (sym same) c.requires.vertex in
-    let word : c.word_of-word-2.result ≡ place_of order c.args.which c.args.v + 1 = c.word_of-word-2.ensures ∙ ap (λ x. place_of x c.args.which c.args.v + 1) (sym same) in
+    let word : c.word_of-word.result ≡ place_of order c.args.which c.args.v + 1 = c.word_of-word.ensures ∙ ap (λ x. place_of x c.args.which c.args.v + 1) (sym same) in
     let inside = place_less order c.args.which c.args.v less in
     let key = c.self.inside.table.shared.key in
     let size : places key ≡ places order = ap (λ x. places x) c.self.invariant.key in
-    let stands : 0 < c.loop-successor.seat.me.0.stands = subst (λ (v : Lifter). 0 < v.stands) (sym i.sees.same) c.requires.stands in
-    let seen : List ℕ = c.loop-successor.seat.me.0.seen in
-    let lifts : c.lift_to-lifted.result ≡ lift_in order c.args.which seen c.args.v =
-    lift_from order c.self.invariant.order c.args.which c.args.v c.shape-shape.result.now c.arena-arena.result.now c.kept-kept.result.now c.shape-shape.ensures c.arena-arena.ensures c.kept-kept.ensures.kept c.args.seat.now.me.0 c.loop-successor.seat.me.0
-    c.loop-successor.best c.lift_to-lifted.result c.loop-successor.successor-index (c.requires.order ∙ sym same) i.sees i.safe c.loop-successor-test.false i.best c.lift_to-lifted.ensures.lift in
-    let before : c.word_of-word-2.result - 1 ≡ place_of order c.args.which c.args.v = omega arith in
-    let by : c.lift_to-lifted.result ≡ lift_at key seen (c.word_of-word-2.result - 1) =
-    lifts ∙ sym (lift_place order c.args.which seen c.args.v less) ∙ ap (λ p. lift_at order seen p) (sym before) ∙ ap (λ x. lift_at x seen (c.word_of-word-2.result - 1)) (sym c.self.invariant.key) in (
-      i.table ∙ c.requires.board ∙ sym (ap (λ b. b.table) c.self.view_is),
+    let load = c.load-before.ensures in
+    let lift = c.loaded_lift-lifted.ensures in
+    let seen : List ℕ = c.loaded_lift-lifted.new.seat.me.0.seen in
+    let looked : 0 < c.load-before.new.seat.me.0.stands = subst (λ (v : Lifter). 0 < v.stands) (sym (ap (λ m. m.0) load.2.0)) c.requires.stands in
+    let stands : 0 < c.loaded_lift-lifted.new.seat.me.0.stands = subst (λ (v : Lifter). 0 < v.stands) (sym lift.seen.same) looked in
+    let lifts : c.loaded_lift-lifted.result ≡ lift_in order c.args.which seen c.args.v = lift.lift ∙ ap (λ x. lift_in x c.args.which seen c.args.v) (sym same) in
+    let before : c.word_of-word.result - 1 ≡ place_of order c.args.which c.args.v = omega arith in
+    let by : c.loaded_lift-lifted.result ≡ lift_at key seen (c.word_of-word.result - 1) =
+    lifts ∙ sym (lift_place order c.args.which seen c.args.v less) ∙ ap (λ p. lift_at order seen p) (sym before) ∙ ap (λ x. lift_at x seen (c.word_of-word.result - 1)) (sym c.self.invariant.key) in (
+      lift.table ∙ load.0 ∙ c.requires.board ∙ sym (ap (λ b. b.table) c.self.view_is),
       omega (arith, c.self.invariant.words),
       raises key (subst IsOrder (sym c.self.invariant.key) c.self.invariant.order) _ _ _ _ _ (omega arith) (omega arith) stands by,
     )
 
-pub returns-clause-lifted : goal.returns-clause-lifted
-returns-clause-lifted c =
+-- what the seat has seen once it has loaded the word and the successors
+more : (c : After-loaded_lift-lifted) → SeesMore c.args.seat.now.me.0 c.loaded_lift-lifted.new.seat.me.0
+more c = sees_looked c.args.seat.now.me.0 c.load-before.new.seat.me.0 c.loaded_lift-lifted.new.seat.me.0 (c.word_of-word.result - 1) c.load-before.result
+    (ap (λ m. m.0) c.load-before.ensures.2.0) c.load-before.ensures.2.1 c.loaded_lift-lifted.ensures.seen
+
+pub returns-then-lifted-before-clause-seen : goal.returns-then-lifted-before-clause-seen
+returns-then-lifted-before-clause-seen c = more (goal.at.returns-then-lifted-before-clause-seen c).After-loaded_lift-lifted
+
+pub returns-then-lifted-before-clause-lifted : goal.returns-then-lifted-before-clause-lifted
+returns-then-lifted-before-clause-lifted c =
     let order = c.self.inside.order in
-    let i = c.loop-successor.invariant in
     let same : order ≡ c.args.self.now.order = ap (λ b. b.order) c.self.view_is in
     let less : c.args.v < vertices order = subst (λ x. c.args.v < vertices x) (sym same) c.requires.vertex in
-    let word : c.word_of-word-2.result ≡ place_of order c.args.which c.args.v + 1 = c.word_of-word-2.ensures ∙ ap (λ x. place_of x c.args.which c.args.v + 1) (sym same) in
-    let lifts = lift_from order c.self.invariant.order c.args.which c.args.v c.shape-shape.result.now c.arena-arena.result.now c.kept-kept.result.now c.shape-shape.ensures c.arena-arena.ensures c.kept-kept.ensures.kept c.args.seat.now.me.0 c.loop-successor.seat.me.0
-    c.loop-successor.best c.lift_to-lifted.result c.loop-successor.successor-index (c.requires.order ∙ sym same) i.sees i.safe c.loop-successor-test.false i.best c.lift_to-lifted.ensures.lift in
+    let word : c.word_of-word.result ≡ place_of order c.args.which c.args.v + 1 = c.word_of-word.ensures ∙ ap (λ x. place_of x c.args.which c.args.v + 1) (sym same) in
+    let load = c.load-before.ensures in
+    let lift = c.loaded_lift-lifted.ensures in
+    let wide = c.requires.safe.wide ∙ ap (λ x. places x) (c.requires.order ∙ sym same) in
+    let seen : List ℕ = c.loaded_lift-lifted.new.seat.me.0.seen in
+    let lifts : c.loaded_lift-lifted.result ≡ lift_in order c.args.which seen c.args.v = lift.lift ∙ ap (λ x. lift_in x c.args.which seen c.args.v) (sym same) in
+    let after = after_look order c.self.invariant.order c.args.which c.args.v c.args.seat.now.me.0 c.load-before.new.seat.me.0 c.loaded_lift-lifted.new.seat.me.0 c.word_of-word.result c.load-before.result c.loaded_lift-lifted.result less word
+    (c.requires.order ∙ sym same) wide (ap (λ m. m.0) load.2.0) load.2.1 lift.seen lift.safe lifts in
+    subst (λ x. lift_in x c.args.which c.args.seat.now.me.0.seen c.args.v ≤ slice_index (table_in x c.args.which seen) c.args.v) same (after c.if-lifted-before.true)
+
+-- what the seat has seen once it has raised the word
+raised : (c : After-fetch_max-found) → (SeesMore c.args.seat.now.me.0 c.fetch_max-found.new.seat.me.0
+    × (lift_in c.args.self.now.order c.args.which c.args.seat.now.me.0.seen c.args.v ≤ slice_index (table_in c.args.self.now.order c.args.which c.fetch_max-found.new.seat.me.0.seen) c.args.v)
+    × (c.fetch_max-found.result < c.loaded_lift-lifted.result →
+    slice_index (table_in c.args.self.now.order c.args.which c.args.seat.now.me.0.seen) c.args.v < slice_index (table_in c.args.self.now.order c.args.which c.fetch_max-found.new.seat.me.0.seen) c.args.v))
+raised c =
+    let order = c.self.inside.order in
+    let seen_more = sees_looked c.args.seat.now.me.0 c.load-before.new.seat.me.0 c.loaded_lift-lifted.new.seat.me.0 (c.word_of-word.result - 1) c.load-before.result
+    (ap (λ m. m.0) c.load-before.ensures.2.0) c.load-before.ensures.2.1 c.loaded_lift-lifted.ensures.seen in
+    let same : order ≡ c.args.self.now.order = ap (λ b. b.order) c.self.view_is in
+    let less : c.args.v < vertices order = subst (λ x. c.args.v < vertices x) (sym same) c.requires.vertex in
+    let word : c.word_of-word.result ≡ place_of order c.args.which c.args.v + 1 = c.word_of-word.ensures ∙ ap (λ x. place_of x c.args.which c.args.v + 1) (sym same) in
+    let lift = c.loaded_lift-lifted.ensures in
     let raise = c.fetch_max-found.ensures in
     let wide = c.requires.safe.wide ∙ ap (λ x. places x) (c.requires.order ∙ sym same) in
-    let after = after_raise order c.self.invariant.order c.args.which c.args.v c.args.seat.now.me.0 c.loop-successor.seat.me.0 c.fetch_max-found.new.seat.me.0 c.word_of-word-2.result c.fetch_max-found.result c.lift_to-lifted.result less word
-    (c.requires.order ∙ sym same) wide i.sees i.safe lifts (ap (λ m. m.0) raise.2.0) raise.2.1 in
-    subst (λ x. lift_in x c.args.which c.args.seat.now.me.0.seen c.args.v ≤ slice_index (table_in x c.args.which c.fetch_max-found.new.seat.me.0.seen) c.args.v) same after.1
+    let seen : List ℕ = c.loaded_lift-lifted.new.seat.me.0.seen in
+    let lifts : c.loaded_lift-lifted.result ≡ lift_in order c.args.which seen c.args.v = lift.lift ∙ ap (λ x. lift_in x c.args.which seen c.args.v) (sym same) in
+    subst
+    (λ x. SeesMore c.args.seat.now.me.0 c.fetch_max-found.new.seat.me.0
+    × (lift_in x c.args.which c.args.seat.now.me.0.seen c.args.v ≤ slice_index (table_in x c.args.which c.fetch_max-found.new.seat.me.0.seen) c.args.v)
+    × (c.fetch_max-found.result < c.loaded_lift-lifted.result →
+    slice_index (table_in x c.args.which c.args.seat.now.me.0.seen) c.args.v < slice_index (table_in x c.args.which c.fetch_max-found.new.seat.me.0.seen) c.args.v))
+    same
+    (after_raise order c.self.invariant.order c.args.which c.args.v c.args.seat.now.me.0 c.loaded_lift-lifted.new.seat.me.0 c.fetch_max-found.new.seat.me.0 c.word_of-word.result c.fetch_max-found.result c.loaded_lift-lifted.result less word
+    (c.requires.order ∙ sym same) wide seen_more lift.safe lifts (ap (λ m. m.0) raise.2.0) raise.2.1)
+
+pub returns-clause-seen : goal.returns-clause-seen
+returns-clause-seen c = (raised (goal.at.returns-clause-seen c).After-fetch_max-found).0
+
+pub returns-clause-lifted : goal.returns-clause-lifted
+returns-clause-lifted c = (raised (goal.at.returns-clause-lifted c).After-fetch_max-found).1
 
 pub returns-clause-raised : goal.returns-clause-raised
-returns-clause-raised c = λ rose.
-    let order = c.self.inside.order in
-    let i = c.loop-successor.invariant in
-    let same : order ≡ c.args.self.now.order = ap (λ b. b.order) c.self.view_is in
-    let less : c.args.v < vertices order = subst (λ x. c.args.v < vertices x) (sym same) c.requires.vertex in
-    let word : c.word_of-word-2.result ≡ place_of order c.args.which c.args.v + 1 = c.word_of-word-2.ensures ∙ ap (λ x. place_of x c.args.which c.args.v + 1) (sym same) in
-    let lifts = lift_from order c.self.invariant.order c.args.which c.args.v c.shape-shape.result.now c.arena-arena.result.now c.kept-kept.result.now c.shape-shape.ensures c.arena-arena.ensures c.kept-kept.ensures.kept c.args.seat.now.me.0 c.loop-successor.seat.me.0
-    c.loop-successor.best c.lift_to-lifted.result c.loop-successor.successor-index (c.requires.order ∙ sym same) i.sees i.safe c.loop-successor-test.false i.best c.lift_to-lifted.ensures.lift in
-    let raise = c.fetch_max-found.ensures in
-    let wide = c.requires.safe.wide ∙ ap (λ x. places x) (c.requires.order ∙ sym same) in
-    let after = after_raise order c.self.invariant.order c.args.which c.args.v c.args.seat.now.me.0 c.loop-successor.seat.me.0 c.fetch_max-found.new.seat.me.0 c.word_of-word-2.result c.fetch_max-found.result c.lift_to-lifted.result less word
-    (c.requires.order ∙ sym same) wide i.sees i.safe lifts (ap (λ m. m.0) raise.2.0) raise.2.1 in
-    subst (λ x. slice_index (table_in x c.args.which c.args.seat.now.me.0.seen) c.args.v < slice_index (table_in x c.args.which c.fetch_max-found.new.seat.me.0.seen) c.args.v) same (after.2 (ltb-true _ _ rose))
+returns-clause-raised c = λ rose. (raised (goal.at.returns-clause-raised c).After-fetch_max-found).2 (ltb-true _ _ rose)

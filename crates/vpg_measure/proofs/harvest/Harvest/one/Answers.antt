@@ -15,7 +15,7 @@ lifted : (c : goal.After-raise_room) → c.raise_room.new.self ≡
     with_room c.args.which (raised (order_levels c.args.which c.args.order) (order_arena c.args.which c.args.order) (order_table c.args.which c.args.order) c.args.v) (filled c.args.order)
 lifted c =
     let which = c.args.which in
-    c.raise_room.ensures
+    c.raise_room.ensures.raised
     ∙ ap (λ (o : OrderView). with_room which (raised (order_levels which o) (order_arena which o) (order_room which o) c.args.v) o) c.fill_room.ensures.filled
     ∙ ap (λ (table : List ℕ). with_room which (raised (order_levels which c.args.order) (order_arena which c.args.order) table c.args.v) (filled c.args.order)) (filled_room c.args.order which)
 

@@ -1,7 +1,7 @@
 use Rattle.std.proofs.Common.{◌≡◌}
 use Rattle.vpg_board.specs.Seats.{SeesMore, IsSafe}
 use Rattle.vpg_board.specs.Loading.{best_of}
-use Rattle.vpg_board.proofs.board.Board.raise.Given as goal
+use Rattle.vpg_board.proofs.board.Board.loaded_lift.Given as goal
 
 abbrev pub invariant-loop-successor : goal.invariant-loop-successor
 invariant-loop-successor l = record {

@@ -1,0 +1,18 @@
+use Rattle.vpg_board.proofs.Lone.{rises_one, lifted_one}
+use Rattle.vpg_board.proofs.alone.raise_and_hint.Goals as goal
+
+pub returns-then-raise-clause-rises : goal.returns-then-raise-clause-rises
+returns-then-raise-clause-rises g c =
+    let r = c.raise.ensures in rises_one c.args.harvest.now c.raise.new.self c.args.which c.args.v r.harvests.0 r.harvests.1 r.order r.raised r.other
+
+pub returns-then-raise-clause-lifted : goal.returns-then-raise-clause-lifted
+returns-then-raise-clause-lifted g c =
+    let r = c.raise.ensures in lifted_one c.args.harvest.now c.raise.new.self c.args.which c.args.v r.harvests.0 c.requires.vertex r.raised
+
+pub returns-else-raise-clause-rises : goal.returns-else-raise-clause-rises
+returns-else-raise-clause-rises g c =
+    let r = c.raise.ensures in rises_one c.args.harvest.now c.raise.new.self c.args.which c.args.v r.harvests.0 r.harvests.1 r.order r.raised r.other
+
+pub returns-else-raise-clause-lifted : goal.returns-else-raise-clause-lifted
+returns-else-raise-clause-lifted g c =
+    let r = c.raise.ensures in lifted_one c.args.harvest.now c.raise.new.self c.args.which c.args.v r.harvests.0 c.requires.vertex r.raised

@@ -1,0 +1,20 @@
+use Rattle.std.proofs.Common.{◌≡◌, ◌∙◌, length, ap, arith}
+use Rattle.vpg_game.specs.Game.{NamedGame}
+use Rattle.vpg_measure.specs.Orders.{OrderView}
+use Rattle.vpg_board.specs.Places.{vertices}
+use Rattle.vpg_board.proofs.Lone.{rises_none, rises_trans, lifted_next}
+use Rattle.vpg_board.proofs.alone.raise_table.Goals as goal
+
+pub claims-init : goal.claims-init
+claims-init g c = record { rises = rises_none c.args.harvest.now c.order.ensures.harvest; lifted = λ v less. absurd (omega (arith, less)) }
+
+pub claims-preserved : goal.claims-preserved
+claims-preserved g c =
+    let i = c.claims.invariant in
+    let r = c.raise_and_hint.ensures in
+    let h = c.raise_hinted.ensures in
+    let count : c.vertices-count.result ≡ vertices c.args.harvest.now.order =
+    c.vertices-count.ensures.count ∙ ap (λ (g : NamedGame). length g.vertices) (c.deref.ensures ∙ c.game.ensures.game ∙ ap (λ (o : OrderView). o.game) c.order.ensures.order) in record {
+      rises = rises_trans c.args.harvest.now c.claims.harvest c.raise_hinted.new.harvest i.rises (rises_trans c.claims.harvest c.raise_and_hint.new.harvest c.raise_hinted.new.harvest r.rises h);
+      lifted = lifted_next c.args.harvest.now c.claims.harvest c.raise_and_hint.new.harvest c.raise_hinted.new.harvest c.args.which c.claims.v (omega arith) i.lifted i.rises r.rises r.lifted h;
+    }
