@@ -1,10 +1,13 @@
 //! Claims, lifts and splits worked by hand.
 
 ghost use Rattle.std.specs.Prelude.{◌≡◌, IfOk};
+ghost use Rattle.std.specs.Thread.{IsSync};
 
-use crate::given::small;
+use crate::given::{loops, small};
 use std::alloc::Global;
-use std::test::Fail;
+use std::sync::Wait;
+use std::test::*;
+use std::thread::{Threads, join};
 use vpg_board::{Board, Seat};
 use vpg_measure::{Harvest, Order, Which};
 
@@ -126,6 +129,130 @@ fn the_opening_seat_splits_63_times(rt: HostRuntime) -> Result<(), Fail> {
     let (board, seat) = board_of(rt.alloc(), small(rt.alloc(), &[])?)?;
     let mut seat = seat;
     assert!(rt; splits_stop(&board, &mut seat));
+    assert!(rt; board.close(rt.alloc(), seat).is_ok());
+    Ok(())
+}
+
+/// What a seat claimed: the vertices of each table as bits, and how many claims there were.
+#[derive(Clone, Copy)]
+struct Noted {
+    hopeful: u64,
+    dual: u64,
+    claims: u32,
+}
+
+const NOTHING: Noted = Noted {
+    hopeful: 0,
+    dual: 0,
+    claims: 0,
+};
+
+/// What two seats claimed.
+fn both(one: Noted, other: Noted) -> Noted {
+    Noted {
+        hopeful: one.hopeful | other.hopeful,
+        dual: one.dual | other.dual,
+        claims: one.claims.saturating_add(other.claims),
+    }
+}
+
+/// Claims until none is left, out of at most this many tries.
+fn claims_of(board: &Board, seat: Seat, tries: u32) -> (Seat, Noted)
+    requires { seat.board ≡ board.now }
+    ensures { result.0.board ≡ board.now }
+{
+    let mut seat = seat;
+    let mut noted = NOTHING;
+    for _ in 0..tries {
+        let Some((which, v)) = board.claim(&mut seat) else {
+            return (seat, noted);
+        };
+        let bit = 1u64.wrapping_shl(v);
+        let (hopeful, dual) = match which {
+            Which::Hopeful => (bit, 0),
+            Which::Dual => (0, bit),
+        };
+        noted = both(
+            noted,
+            Noted {
+                hopeful,
+                dual,
+                claims: 1,
+            },
+        );
+    }
+    (seat, noted)
+}
+
+/// What two seats claim, each in a thread of its own, and the first with the second taken in.
+fn claims_of_two<R: Threads + Wait + Sync>(
+    rt: &R,
+    board: &Board,
+    one: Seat,
+    other: Seat,
+    tries: u32,
+) -> (Seat, Noted)
+    requires sync { IsSync R.row }
+    requires one { one.board ≡ board.now }
+    requires other { other.board ≡ board.now }
+    ensures { result.0.board ≡ board.now }
+{
+    let ((one, first), (other, second)) = join(
+        rt,
+        move || -> (Seat, Noted)
+            requires { one.board ≡ board.now }
+            ensures { result.0.board ≡ board.entry.now }
+        { claims_of(board, one, tries) },
+        move || -> (Seat, Noted)
+            requires { other.board ≡ board.now }
+            ensures { result.0.board ≡ board.entry.now }
+        { claims_of(board, other, tries) },
+    );
+    let mut one = one;
+    board.join(&mut one, other);
+    (one, both(first, second))
+}
+
+/// What a board's opening seat and three that it splits off claim, each in a thread of its own.
+fn claims_of_four<R: Threads + Wait + Sync>(
+    rt: &R,
+    board: &Board,
+    seat: Seat,
+    tries: u32,
+) -> (Seat, Noted)
+    requires { seat.board ≡ board.now }
+    ensures { result.0.board ≡ board.now }
+{
+    let mut seat = seat;
+    let (Ok(second), Ok(third), Ok(fourth)) = (
+        board.split(&mut seat),
+        board.split(&mut seat),
+        board.split(&mut seat),
+    ) else {
+        return (seat, NOTHING);
+    };
+    let ((seat, first), (third, last)) = join(
+        rt,
+        move || -> (Seat, Noted)
+            requires { IsSync R.row × (seat.board ≡ board.now) × (second.board ≡ board.now) }
+            ensures { result.0.board ≡ board.entry.now }
+        { claims_of_two(rt, board, seat, second, tries) },
+        move || -> (Seat, Noted)
+            requires { IsSync R.row × (third.board ≡ board.now) × (fourth.board ≡ board.now) }
+            ensures { result.0.board ≡ board.entry.now }
+        { claims_of_two(rt, board, third, fourth, tries) },
+    );
+    let mut seat = seat;
+    board.join(&mut seat, third);
+    (seat, both(first, last))
+}
+
+#[test]
+fn four_seats_in_four_threads_claim_each_place_once(rt: HostRuntime) -> Result<(), Fail> {
+    let (board, seat) = board_of(rt.alloc(), loops(rt.alloc(), 62)?)?;
+    let (seat, noted) = claims_of_four(&rt, &board, seat, 1000);
+    let all = (1u64 << 62) - 1;
+    assert!(rt; noted.hopeful == all && noted.dual == all && noted.claims == 124);
     assert!(rt; board.close(rt.alloc(), seat).is_ok());
     Ok(())
 }

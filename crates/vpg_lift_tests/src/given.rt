@@ -76,6 +76,27 @@ pub(crate) fn small(alloc: Global, choices: &[(u16, bool)]) -> Result<Order, Fai
     }
 }
 
+/// The text of a game of vertices of Even, each with an edge to itself alone, of the priorities 1, 3, 5 and so on.
+fn loops_text(alloc: Global, count: u32) -> Result<String, Fail> {
+    let mut text = String::new(alloc);
+    let mut priority = 1u32;
+    for i in 0..count {
+        write!(text, "{i} {priority} 0 {i};")?;
+        priority = priority.saturating_add(2);
+    }
+    Ok(text)
+}
+
+/// The order of such a game without decisions.
+pub(crate) fn loops(alloc: Global, count: u32) -> Result<Order, Fail> {
+    let diagram = Diagram::read(alloc, OPTIONS)?;
+    let game = game_of(alloc, &diagram, loops_text(alloc, count)?.as_bytes())?;
+    match order_of(alloc, game, diagram, Vec::new(alloc))? {
+        Some(Ok(order)) => Ok(order),
+        _ => Err("no order")?,
+    }
+}
+
 /// Whether this is a table of the arena's measures.
 pub(crate) fn is_table(shape: &Shape, arena: &Arena, table: &Table) -> bool
     ensures { IsTrue result → IsTableOf shape.now arena.now table.now }
