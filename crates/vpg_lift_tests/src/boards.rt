@@ -3,7 +3,7 @@
 ghost use Rattle.std.specs.Prelude.{◌≡◌, IfOk};
 ghost use Rattle.std.specs.Thread.{IsSync};
 
-use crate::given::{loops, small};
+use crate::given::{let_go, loops, small};
 use std::alloc::Global;
 use std::sync::Wait;
 use std::test::*;
@@ -17,7 +17,10 @@ fn board_of(alloc: Global, order: Order) -> Result<(Board, Seat), Fail>
 {
     match Board::open(alloc, order) {
         Ok(opened) => Ok(opened),
-        Err(_) => Err("no board")?,
+        Err(order) => {
+            let_go(order);
+            Err("no board")?
+        }
     }
 }
 
@@ -61,7 +64,10 @@ fn harvest_of(alloc: Global, board: Board, seat: Seat) -> Result<Harvest, Fail>
 {
     match board.close(alloc, seat) {
         Ok(harvest) => Ok(harvest),
-        Err(_) => Err("no harvest")?,
+        Err(order) => {
+            let_go(order);
+            Err("no harvest")?
+        }
     }
 }
 
@@ -74,6 +80,7 @@ fn lifted(alloc: Global, order: Order, answers: [bool; 4]) -> Result<Harvest, Fa
     if answered {
         Ok(harvest)
     } else {
+        let_go(harvest.again());
         Err("another answer")?
     }
 }
@@ -92,6 +99,7 @@ fn one_seat_settles_the_small_game(rt: HostRuntime) -> Result<(), Fail> {
     assert!(rt; is_settled(&first));
     let second = lifted(rt.alloc(), first.again(), [false; 4])?;
     assert!(rt; is_settled(&second));
+    let_go(second.again());
     Ok(())
 }
 
@@ -129,7 +137,8 @@ fn the_opening_seat_splits_63_times(rt: HostRuntime) -> Result<(), Fail> {
     let (board, seat) = board_of(rt.alloc(), small(rt.alloc(), &[])?)?;
     let mut seat = seat;
     assert!(rt; splits_stop(&board, &mut seat));
-    assert!(rt; board.close(rt.alloc(), seat).is_ok());
+    let harvest = harvest_of(rt.alloc(), board, seat)?;
+    let_go(harvest.again());
     Ok(())
 }
 
@@ -253,6 +262,7 @@ fn four_seats_in_four_threads_claim_each_place_once(rt: HostRuntime) -> Result<(
     let (seat, noted) = claims_of_four(&rt, &board, seat, 1000);
     let all = (1u64 << 62) - 1;
     assert!(rt; noted.hopeful == all && noted.dual == all && noted.claims == 124);
-    assert!(rt; board.close(rt.alloc(), seat).is_ok());
+    let harvest = harvest_of(rt.alloc(), board, seat)?;
+    let_go(harvest.again());
     Ok(())
 }

@@ -1,6 +1,6 @@
 //! Bounds with ranks that raise a table, and those that don't.
 
-use crate::given::{is_table, small};
+use crate::given::{is_table, let_go, small};
 use std::alloc::{AllocError, Global};
 use std::test::Fail;
 use vpg_measure::{Certificate, Order, Table, Which, raise_to_bounds};
@@ -71,6 +71,7 @@ fn bounds_of_the_loop(rt: HostRuntime) -> Result<(), Fail> {
     ] {
         assert!(rt; answer_so(rt.alloc(), &order, bounds, ranks, answer, values));
     }
+    let_go(order);
     Ok(())
 }
 
@@ -79,5 +80,6 @@ fn bounds_of_the_loop(rt: HostRuntime) -> Result<(), Fail> {
 fn no_bounds_where_the_loop_ends(rt: HostRuntime) -> Result<(), Fail> {
     let order = small(rt.alloc(), &[])?;
     assert!(rt; answer_so(rt.alloc(), &order, [2, 0], [0, 0], Some(false), [0, 0]));
+    let_go(order);
     Ok(())
 }

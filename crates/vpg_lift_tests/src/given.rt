@@ -65,6 +65,9 @@ pub(crate) fn order_of(
     Ok(Some(Order::of(alloc, game, diagram, decisions, hopeful, dual)))
 }
 
+/// Lets an order go. A function that does so itself takes the prover seconds; so all call this one.
+pub(crate) fn let_go(_order: Order) {}
+
 /// The order of the game of two vertices with these decisions: feature 1 is `f`, feature 2 is `g`.
 pub(crate) fn small(alloc: Global, choices: &[(u16, bool)]) -> Result<Order, Fail> {
     let diagram = Diagram::read(alloc, OPTIONS)?;

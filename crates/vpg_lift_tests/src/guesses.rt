@@ -1,6 +1,6 @@
 //! What no clause says: that tables are raised, and how far.
 
-use crate::given::{game_of, is_table, small};
+use crate::given::{game_of, is_table, let_go, small};
 use std::alloc::{AllocError, Global};
 use std::fmt::Write;
 use std::test::Fail;
@@ -8,7 +8,7 @@ use vpg_diagram::Diagram;
 use vpg_game::GuardedGame;
 use vpg_guess::{harvest_by_bounds, raise_by_bounds};
 use vpg_hope::Arena;
-use vpg_measure::{Harvest, Shape, Table, Which};
+use vpg_measure::{Harvest, Order, Shape, Table, Which};
 use vpg_partial::Partial;
 
 // Vertex 0 keeps going round priority 1, vertex 3 does until it leaves for priority 3.
@@ -145,12 +145,24 @@ fn has_tables(harvest: &Harvest, hopeful: [u64; 2], dual: [u64; 2]) -> bool {
         && harvest.check()
 }
 
+/// Whether an order is raised to these two tables, which are progress tables.
+fn raises_to(alloc: Global, order: Order, hopeful: [u64; 2], dual: [u64; 2]) -> bool {
+    match harvest_by_bounds(alloc, order, BUDGET) {
+        Ok(harvest) => {
+            let raised = has_tables(&harvest, hopeful, dual);
+            let_go(harvest.again());
+            raised
+        }
+        Err(order) => {
+            let_go(order);
+            false
+        }
+    }
+}
+
 #[test]
 fn harvests(rt: HostRuntime) -> Result<(), Fail> {
     let order = small(rt.alloc(), &[(1, false)])?;
-    match harvest_by_bounds(rt.alloc(), order, BUDGET) {
-        Ok(harvest) => assert!(rt; has_tables(&harvest, [2, 0], [0, 1])),
-        Err(_) => return Err("memory")?,
-    }
+    assert!(rt; raises_to(rt.alloc(), order, [2, 0], [0, 1]));
     Ok(())
 }

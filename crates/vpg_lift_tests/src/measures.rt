@@ -4,7 +4,7 @@ ghost use Rattle.std.specs.Prelude.{IfOk};
 ghost use Rattle.vpg_measure.specs.Lifts.{IsTableOf};
 ghost use Rattle.vpg_measure.specs.Orders.{IsRaised, order_levels, order_arena};
 
-use crate::given::{OPTIONS, decisions_of, game_of, is_table, order_of, small};
+use crate::given::{OPTIONS, decisions_of, game_of, is_table, let_go, order_of, small};
 use std::alloc::{AllocError, Global};
 use std::test::Fail;
 use vpg_diagram::Diagram;
@@ -175,6 +175,7 @@ fn lifted_once(order: Order, which: Which, v: u32) -> Option<Harvest> {
     if (v as usize) < order.game().vertices() {
         Some(Harvest::one(order, which, v))
     } else {
+        let_go(order);
         None
     }
 }
@@ -203,9 +204,11 @@ fn values_after(
 /// The harvest of copies of an order's tables after so many rounds.
 fn handed_in(alloc: Global, order: Order, rounds: u64) -> Option<Harvest> {
     let Ok(hopeful) = values_after(alloc, &order, Which::Hopeful, rounds) else {
+        let_go(order);
         return None;
     };
     let Ok(dual) = values_after(alloc, &order, Which::Dual, rounds) else {
+        let_go(order);
         return None;
     };
     Some(Harvest::of(order, hopeful, dual))
@@ -308,6 +311,7 @@ fn rounds(rt: HostRuntime) -> Result<(), Fail> {
     ] {
         assert!(rt; ends_as(alloc, &order, Which::Hopeful, rounds, &values, outcome));
     }
+    let_go(order);
     Ok(())
 }
 
@@ -316,6 +320,7 @@ fn lifts_of_each_vertex(rt: HostRuntime) -> Result<(), Fail> {
     let order = small(rt.alloc(), &[])?;
     assert!(rt; lifts_to(rt.alloc(), &order, Which::Hopeful, [1, 0]));
     assert!(rt; lifts_to(rt.alloc(), &order, Which::Dual, [0, 1]));
+    let_go(order);
     Ok(())
 }
 
@@ -326,6 +331,7 @@ fn strategies(rt: HostRuntime) -> Result<(), Fail> {
     assert!(rt; is_planned(rt.alloc(), &order, Which::Hopeful, &[Some(1), None]));
     let unsettled = plan(rt.alloc(), &order, Which::Hopeful, 0).err();
     assert_eq!(rt; unsettled, Some(StrategyFault::NotSettled));
+    let_go(order);
     Ok(())
 }
 
@@ -335,6 +341,7 @@ fn no_choice_at_the_top(rt: HostRuntime) -> Result<(), Fail> {
     let order = small(rt.alloc(), &[(1, false)])?;
     assert!(rt; is_planned(rt.alloc(), &order, Which::Hopeful, &[None, None]));
     assert!(rt; is_planned(rt.alloc(), &order, Which::Dual, &[None, Some(0)]));
+    let_go(order);
     Ok(())
 }
 
@@ -346,6 +353,7 @@ fn orders(rt: HostRuntime) -> Result<(), Fail> {
     assert!(rt; order.game().tops() == (2, 2) && order.diagram().features() == 3);
     assert!(rt; has_game(&order, Which::Hopeful, 2, &[0, 1]));
     assert!(rt; has_game(&order, Which::Dual, 3, &[0, 1]));
+    let_go(order);
     Ok(())
 }
 
@@ -381,7 +389,10 @@ fn no_order_with_a_conflict(rt: HostRuntime) -> Result<(), Fail> {
 fn is_lifted(order: Order, which: Which, v: u32, hopeful: [u64; 2], dual: [u64; 2]) -> bool {
     match lifted_once(order, which, v) {
         Some(harvest) => {
-            has_tables(&harvest, [&hopeful, &dual], [&[0, 0], &[0, 0]]) && !harvest.check()
+            let raised = has_tables(&harvest, [&hopeful, &dual], [&[0, 0], &[0, 0]]);
+            let settled = harvest.check();
+            let_go(harvest.again());
+            raised && !settled
         }
         None => false,
     }
@@ -404,10 +415,12 @@ fn harvests_of_one_lift(rt: HostRuntime) -> Result<(), Fail> {
 /// Whether settling in so many rounds gives these tables and these values, and progress tables or not.
 fn is_settled(order: Order, rounds: u64, hopeful: [u64; 2], dual: [u64; 2], settled: bool) -> bool {
     let harvest = Harvest::alone(order, rounds);
-    has_tables(&harvest, [&hopeful, &dual], [&[0, 0], &[0, 0]])
+    let answer = has_tables(&harvest, [&hopeful, &dual], [&[0, 0], &[0, 0]])
         && value_in(&harvest, Which::Hopeful, 0) == Some(hopeful[0])
         && value_in(&harvest, Which::Dual, 1) == Some(dual[1])
-        && harvest.check() == settled
+        && harvest.check() == settled;
+    let_go(harvest.again());
+    answer
 }
 
 #[test]
@@ -433,7 +446,9 @@ fn is_handed_in_twice(alloc: Global, order: Order) -> bool {
     let Some(second) = handed_in(alloc, first.again(), 1) else {
         return false;
     };
-    is_first && has_tables(&second, [&[2, 0], &[0, 1]], [&[1, 0], &[0, 1]]) && second.check()
+    let is_second = has_tables(&second, [&[2, 0], &[0, 1]], [&[1, 0], &[0, 1]]) && second.check();
+    let_go(second.again());
+    is_first && is_second
 }
 
 #[test]

@@ -2,7 +2,7 @@
 
 ghost use Rattle.std.specs.Prelude.{◌≤◌};
 
-use crate::given::small;
+use crate::given::{let_go, small};
 use std::alloc::Global;
 use std::sync::Wait;
 use std::sync::atomic::{AtomicU64, Ordering};
@@ -112,7 +112,10 @@ fn swept<G: Gate + Sync, R: Threads + Wait + Sync>(
 {
     match sweep(rt, alloc, order, lifters, gate) {
         Ok(harvest) => Ok(harvest),
-        Err(_) => Err("no harvest")?,
+        Err(order) => {
+            let_go(order);
+            Err("no harvest")?
+        }
     }
 }
 
@@ -129,6 +132,7 @@ fn one_sweep_settles_the_small_game(rt: HostRuntime) -> Result<(), Fail> {
         assert!(rt; is_settled_small(&harvest));
         let again = swept(&rt, rt.alloc(), harvest.again(), lifters, &OpenGate)?;
         assert!(rt; is_settled_small(&again));
+        let_go(again.again());
     }
     Ok(())
 }
@@ -143,6 +147,7 @@ fn two_lifters_wait_for_one_another(rt: HostRuntime) -> Result<(), Fail> {
     };
     let harvest = swept(&rt, rt.alloc(), small(rt.alloc(), &[])?, 2, &relay)?;
     assert!(rt; is_settled_small(&harvest));
+    let_go(harvest.again());
     assert!(rt; relay.passed.load(Ordering::SeqCst) == 2);
     Ok(())
 }
@@ -152,6 +157,7 @@ fn four_lifters_meet_before_their_first_claims(rt: HostRuntime) -> Result<(), Fa
     let meeting = Meeting::of(4);
     let harvest = swept(&rt, rt.alloc(), small(rt.alloc(), &[])?, 4, &meeting)?;
     assert!(rt; is_settled_small(&harvest));
+    let_go(harvest.again());
     assert!(rt; meeting.met.load(Ordering::SeqCst) == 4);
     Ok(())
 }
