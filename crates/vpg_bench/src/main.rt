@@ -2,7 +2,7 @@
 //!
 //!     vpg_bench GAME NUMBER MOST
 //!
-//! NUMBER is 1 to 64 for sweeps by so many lifters with hints; 100 more for sweeps without hints; 200 more for sweeps with hints
+//! NUMBER is 1 to 64 for sweeps by so many lifters with hints; 100 more for just MOST sweeps without hints; 200 more for sweeps with hints
 //! whose lifts are counted; 300 for rounds of one thread without sweeps; 401 to 464 for certified guesses and then sweeps as with 200
 //! more, where the guesses leave anything to lift; 500 for a board that one seat claims and lifts by calls. MOST is how many sweeps
 //! or rounds there may be.
@@ -133,6 +133,32 @@ fn swept<G: Gate + Sync, T: Threads + Wait + Sync>(
     Ok((Harvest::alone(order, 0), most))
 }
 
+/// The harvest of just so many sweeps, whether or not they settle the order before.
+fn swept_on<T: Threads + Wait + Sync>(
+    rt: &T,
+    alloc: Global,
+    order: Order,
+    lifters: u32,
+    most: u64,
+    predecessors: &Predecessors,
+) -> Result<Reached>
+    requires lifters { (1 ≤ lifters) × (lifters ≤ 64) }
+    requires predecessors { predecessors.now ≡ vertices order }
+{
+    let mut order = order;
+    for _ in 0..most {
+        let Ok(harvest) = sweep_along(rt, alloc, order, lifters, &OpenGate, predecessors) else {
+            bail!("no memory for a board");
+        };
+        order = harvest.again();
+    }
+    Ok(Reached {
+        harvest: Harvest::alone(order, 0),
+        sweeps: most,
+        lifts: 0,
+    })
+}
+
 /// The order swept so, without a count of lifts.
 fn uncounted<T: Threads + Wait + Sync>(
     rt: &T,
@@ -254,7 +280,7 @@ fn reach<T: Threads + Wait + Sync>(
         }),
         How::Plain => {
             let predecessors = Predecessors::none(alloc, &order);
-            uncounted(rt, alloc, order, lifters, most, &predecessors)
+            swept_on(rt, alloc, order, lifters, most, &predecessors)
         }
         How::Hinted => {
             let predecessors = Predecessors::of_or_none(alloc, &order);
