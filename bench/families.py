@@ -13,8 +13,9 @@ Families (VERTICES is the number of vertices, at most 65,536; each game is over 
   near      three successors each at random among the twenty nearest, six priorities
   loops     vertices of priority 1 with an edge to themselves that f takes away, and an exit that g takes away
   selfloops levels of odd priorities: each vertex has an edge to itself and one, guarded by f, to the next level; the top is near 2^62
-  climb     levels of odd priorities: cycles that Even leaves for the next level, which is dear. Lifts, in whatever order, climb through
-            as many values as the levels' sizes multiplied (in the manner of Jurdzinski 2000)
+  climb     levels of odd priorities: cycles that Even leaves for the next level, which is dear. A lift raises the greatest value of the first
+            cycle by one at most, and it ends near the product of the other levels' sizes: so many lifts it takes, in whatever order (the
+            kind of family with which Jurdzinski 2000 shows his bound; the construction is this project's own)
   clique    cliques of sixteen vertices of four priorities, with one edge each to the next clique: 1,048,576 edges at 65,536 vertices
   pump      a mine pump: levels of water and of methane, the pump on or off, and turns of the mine (Odd) and the controller (Even)
   elevator  floors, calls at each of them and turns of the passengers (Odd) and the controller (Even); the greatest such game

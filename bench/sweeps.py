@@ -3,9 +3,9 @@
 
     sweeps.py VPG_BENCH [VERTICES [ROUNDS [FAMILY..]]]
 
-Both tables are raised from zero: first by ROUNDS rounds (100 if left out), then by as many boards that one seat claims and lifts by calls (a sweep of one lifter has no
-board), then by as many sweeps without hints, then by sweeps with hints until the tables are settled, or at most ROUNDS / 10 sweeps. One line for each: milliseconds by the clock (the least of three runs, less that of runs that raise nothing), lifts (as many a round or sweep as both
-tables have places, also where one is settled before; those of hints are counted in a run of their own), lifts in a microsecond, sweeps, and whether the tables are settled. For plain sweeps
+Both tables are raised from zero: first by ROUNDS rounds (200 if left out), then by as many boards that one seat claims and lifts by calls (a sweep of one lifter has no
+board), then by as many sweeps without hints, then by sweeps with hints until the tables are settled, or at most ROUNDS / 10 sweeps. One line for each: milliseconds by the clock (the least of five runs, less that of runs that raise nothing), lifts (as many a round or sweep as both
+tables have places: take families of which neither table is settled so soon; those of hints are counted in a run of their own), lifts in a microsecond, sweeps, and whether the tables are settled. For plain sweeps
 the time is also told as a multiple of the rounds' time.
 """
 import os
@@ -26,9 +26,9 @@ def ran(program, *words):
 
 
 def best(program, game, number, most):
-    """The least of three runs, less the least of three runs that raise nothing."""
-    nothing = min(ran(program, game, number, 0)["millis"] for _ in range(3))
-    it = min((ran(program, game, number, most) for _ in range(3)), key=lambda it: it["millis"])
+    """The least of five runs, less the least of five runs that raise nothing."""
+    nothing = min(ran(program, game, number, 0)["millis"] for _ in range(5))
+    it = min((ran(program, game, number, most) for _ in range(5)), key=lambda it: it["millis"])
     it["millis"] = max(it["millis"] - nothing, 0.1)
     return it
 
@@ -44,8 +44,8 @@ def main():
         sys.exit(__doc__)
     program = sys.argv[1]
     vertices = sys.argv[2] if len(sys.argv) > 2 else "65536"
-    rounds = int(sys.argv[3]) if len(sys.argv) > 3 else 100
-    for family in sys.argv[4:] or ["random", "random7", "ladder", "wide", "climb"]:
+    rounds = int(sys.argv[3]) if len(sys.argv) > 3 else 200
+    for family in sys.argv[4:] or ["ladder", "random7", "random20", "near"]:
         with tempfile.TemporaryDirectory() as folder:
             subprocess.run([sys.executable, f"{HERE}/families.py", family, vertices, folder], check=True)
             game = f"{folder}/game"

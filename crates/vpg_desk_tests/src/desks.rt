@@ -13,6 +13,12 @@ use vpg_diagram::Diagram;
 use vpg_game::GuardedGame;
 use vpg_measure::{Harvest, Order, Verdict, Which};
 
+// Each function that lets a desk, an order or a harvest go itself takes the prover seconds; so all call these.
+
+fn let_go(_desk: Desk) {}
+
+fn let_order_go(_order: Order) {}
+
 /// The diagram and the game of most examples.
 const DIAGRAM: &[u8] = b"root r\noptional r f\noptional r g\n";
 
@@ -236,7 +242,9 @@ fn page(rt: &(impl Abort + AllocGlobal), desk: &Desk) -> (usize, [u64; 2], [u64;
 fn verdict(rt: &(impl Abort + AllocGlobal), desk: &Desk, v: u32) -> Verdict {
     let order = order(rt, desk);
     assert!(rt; (v as usize) < order.game().vertices());
-    desk.verdict(v)
+    let verdict = desk.verdict(v);
+    let_order_go(order);
+    verdict
 }
 
 fn fault_of(opened: Option<Result<Desk, OpenFault>>) -> Option<OpenFault> {
@@ -330,6 +338,7 @@ fn decisions_are_refused(rt: HostRuntime) -> Result<(), Fail> {
         assert!(&rt; undecided(&rt, &mut desk, feature, true) == fault);
     }
     assert!(&rt; unretracted(&rt, &mut desk, 3) == RetractFault::UnknownFeature);
+    let_go(desk);
     Ok(())
 }
 
@@ -415,13 +424,16 @@ fn harvests_come_late(rt: HostRuntime) -> Result<(), Fail> {
     keep(&rt, &mut desk, token);
     assert!(&rt; added(&rt, &mut desk, harvest) == 2);
     assert!(&rt; page(&rt, &desk) == (3, [2, 0], [0, 1]));
+    let_go(desk);
     Ok(())
 }
 
 /// The harvest of a desk on these texts.
 fn harvest_of(rt: &(impl Abort + AllocGlobal), game: &[u8], diagram: &[u8]) -> Harvest {
     let desk = desk_on(rt, game, diagram);
-    settled_order(order(rt, &desk))
+    let harvest = settled_order(order(rt, &desk));
+    let_go(desk);
+    harvest
 }
 
 /// How many vertices the harvest's game has, and how many clauses its diagram.
@@ -437,10 +449,13 @@ fn harvests_of_other_games_come_back(rt: HostRuntime) -> Result<(), Fail> {
     let (fault, harvest) = refused(&rt, &mut desk, harvest);
     assert!(&rt; fault == CommitFault::OtherGame);
     assert!(&rt; sizes(&harvest) == (1, 3));
+    let_order_go(harvest.again());
     let harvest = harvest_of(&rt, GAME, b"root r\noptional r f\nmandatory r g\n");
     let (fault, harvest) = refused(&rt, &mut desk, harvest);
     assert!(&rt; fault == CommitFault::OtherGame);
     assert!(&rt; sizes(&harvest) == (2, 4));
+    let_order_go(harvest.again());
+    let_go(desk);
     Ok(())
 }
 
@@ -453,5 +468,6 @@ fn changes_are_limited(rt: HostRuntime) -> Result<(), Fail> {
         forget(&rt, &mut desk, token);
     }
     assert!(&rt; undecided(&rt, &mut desk, F, true) == DecideFault::TooManyChanges);
+    let_go(desk);
     Ok(())
 }
