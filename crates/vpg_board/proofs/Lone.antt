@@ -15,7 +15,7 @@ use Rattle.vpg_measure.specs.TwoGames.{levels_for, arena_for}
 use Rattle.vpg_measure.proofs.OrderLemmas.{arena_count}
 use Rattle.vpg_measure.proofs.Progs.{lift_grows}
 use Rattle.vpg_measure.proofs.Rounds.{below_self, below_trans, raised_above}
-use Rattle.vpg_board.specs.Alone.{Rises, LiftAt, AreLifted}
+use Rattle.vpg_board.specs.Alone.{Rises, lift_over, AreLifted}
 use Rattle.vpg_board.specs.Places.{vertices}
 use Rattle.vpg_board.proofs.Moving as moving
 
@@ -64,20 +64,20 @@ table_wide : (h : HarvestView) → IsHarvest h → (which : Which) → length (h
 table_wide h is which = (is.below which).is_table.len ∙ arena_count h.order.known which h.order.game
 
 pub lifted_one : (old new : HarvestView) (which : Which) (v : ℕ) → IsHarvest old → v < vertices old.order
-    → harvest_table which new ≡ raised (order_levels which old.order) (order_arena which old.order) (harvest_table which old) v → LiftAt which old v ≤ slice_index (harvest_table which new) v
+    → harvest_table which new ≡ raised (order_levels which old.order) (order_arena which old.order) (harvest_table which old) v → lift_over which old v ≤ slice_index (harvest_table which new) v
 lifted_one old new which v is less one =
-    subst (λ t. LiftAt which old v ≤ slice_index t v) (sym one)
-    (let s = get_or-set_same (harvest_table which old) v (max (slice_index (harvest_table which old) v) (LiftAt which old v)) 0 (omega (arith, less, table_wide old is which)) in omega arith)
+    subst (λ t. lift_over which old v ≤ slice_index t v) (sym one)
+    (let s = get_or-set_same (harvest_table which old) v (max (slice_index (harvest_table which old) v) (lift_over which old v)) 0 (omega (arith, less, table_wide old is which)) in omega arith)
 
 -- a vertex of the same game
 pub less_still : (a b : HarvestView) (v : ℕ) → Rises a b → v < vertices a.order → v < vertices b.order
 less_still a b v h less = subst (λ (g : NamedGame). v < length g.vertices) (sym h.order.game) less
 
 -- lifts rise with the table
-pub lift_later : (a b : HarvestView) (which : Which) (v : ℕ) → Rises a b → LiftAt which a v ≤ LiftAt which b v
+pub lift_later : (a b : HarvestView) (which : Which) (v : ℕ) → Rises a b → lift_over which a v ≤ lift_over which b v
 lift_later a b which v h =
-    subst (λ (g : NamedGame). LiftAt which a v ≤ at g b.order.known) (sym h.order.game)
-    (subst (λ (k : List Tri). LiftAt which a v ≤ at a.order.game k) (sym h.order.known)
+    subst (λ (g : NamedGame). lift_over which a v ≤ at g b.order.known) (sym h.order.game)
+    (subst (λ (k : List Tri). lift_over which a v ≤ at a.order.game k) (sym h.order.known)
     (lift_grows (order_levels which a.order) (order_arena which a.order) (harvest_table which a) (harvest_table which b) (vertex_at (order_arena which a.order) v)
     (h.from.below which).is_table wide (h.above which)))
   where
@@ -95,7 +95,7 @@ lifted_still a b d which n few lifted rise rises v less =
     omega (arith, lifted v less, (rises.above which).1 v (omega (arith, less, few)))
 
 -- one more vertex was lifted, and what was hinted at
-pub lifted_next : (a b d e : HarvestView) (which : Which) (v : ℕ) → v < vertices a.order → AreLifted which a b v → Rises a b → Rises b d → LiftAt which b v ≤ slice_index (harvest_table which d) v → Rises d e
+pub lifted_next : (a b d e : HarvestView) (which : Which) (v : ℕ) → v < vertices a.order → AreLifted which a b v → Rises a b → Rises b d → lift_over which b v ≤ slice_index (harvest_table which d) v → Rises d e
     → AreLifted which a e (v + 1)
 lifted_next a b d e which v less lifted rise one here rest u low = go (cases_eq u v)
   where
@@ -108,10 +108,10 @@ lifted_next a b d e which v less lifted rise one here rest u low = go (cases_eq 
     later : slice_index (harvest_table which d) u ≤ slice_index (harvest_table which e) u
     later = (rest.above which).1 u (omega (arith, low, less, wide))
 
-    go : (u ≡ v) ⊎ (u ≢ v) → LiftAt which a u ≤ slice_index (harvest_table which e) u
+    go : (u ≡ v) ⊎ (u ≢ v) → lift_over which a u ≤ slice_index (harvest_table which e) u
     go (inl same) =
-        let first : LiftAt which a u ≤ LiftAt which b u = lift_later a b which u rise in
-        let now : LiftAt which b u ≤ slice_index (harvest_table which d) u = subst (λ k. LiftAt which b k ≤ slice_index (harvest_table which d) k) (sym same) here in
+        let first : lift_over which a u ≤ lift_over which b u = lift_later a b which u rise in
+        let now : lift_over which b u ≤ slice_index (harvest_table which d) u = subst (λ k. lift_over which b k ≤ slice_index (harvest_table which d) k) (sym same) here in
         omega (arith, later)
     go (inr apart) =
         let before = lifted_still a b d which v (omega (arith, less)) lifted rise one u (omega (arith, low, apart)) in
@@ -135,10 +135,10 @@ module _ (order : OrderView) (is : IsOrder order) (h0 h1 h2 : HarvestView) (same
   }
 
   -- the lift over the order's own table
-  own : (which : Which) (v : ℕ) → lift_of (order_levels which order) (order_table which order) (vertex_at (order_arena which order) v) ≡ LiftAt which h0 v
+  own : (which : Which) (v : ℕ) → lift_of (order_levels which order) (order_table which order) (vertex_at (order_arena which order) v) ≡ lift_over which h0 v
   own which v = λ k. lift_of (levels_for which (graph_of (sym same.game k))) (sym (tables which) k) (vertex_at (arena_for (kleene (sym same.known k)) which (graph_of (sym same.game k))) v)
 
-  at : (which : Which) (v : ℕ) → v < vertices h0.order → LiftAt which h0 v ≤ slice_index (harvest_table which h2) v
+  at : (which : Which) (v : ℕ) → v < vertices h0.order → lift_over which h0 v ≤ slice_index (harvest_table which h2) v
   at Hopeful v less = lifted_still h0 h1 h2 Hopeful (vertices h0.order) (omega arith) hopeful first second v less
   at Dual v less = omega (arith, lift_later h0 h1 Dual v first, dual v (less_still h0 h1 v first less))
 

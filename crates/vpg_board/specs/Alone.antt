@@ -13,9 +13,9 @@ pub record Rises (old new : HarvestView) : Type 0 where
   pub above : (which : Which) → IsBelowTable (harvest_table which old) (harvest_table which new)
 
 -- the lift of a vertex over a harvest's table (Jurdzinski 2000)
-abbrev pub LiftAt : Which → HarvestView → ℕ → ℕ
-LiftAt which harvest v = lift_of (order_levels which harvest.order) (harvest_table which harvest) (vertex_at (order_arena which harvest.order) v)
+abbrev pub lift_over : Which → HarvestView → ℕ → ℕ
+lift_over which harvest v = lift_of (order_levels which harvest.order) (harvest_table which harvest) (vertex_at (order_arena which harvest.order) v)
 
 -- at the first n vertices the table is on or above the lift of the table before
 abbrev pub AreLifted : Which → HarvestView → HarvestView → ℕ → Type 0
-AreLifted which old new n = (v : ℕ) → v < n → LiftAt which old v ≤ slice_index (harvest_table which new) v
+AreLifted which old new n = (v : ℕ) → v < n → lift_over which old v ≤ slice_index (harvest_table which new) v

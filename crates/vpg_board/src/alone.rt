@@ -4,7 +4,7 @@ ghost use Rattle.std.specs.Prelude.{◌≡◌, ◌<◌, ◌≤◌, ◌+◌, ℕ,
 ghost use Rattle.vpg_hope.specs.Arena.{vertex_at};
 ghost use Rattle.vpg_measure.specs.Lifts.{lift_of, IsBelowTable};
 ghost use Rattle.vpg_measure.specs.Orders.{IsSameOrder, IsHarvest, IsSettledHarvest, order_levels, order_arena, order_table, harvest_table};
-ghost use Rattle.vpg_board.specs.Alone.{Rises, AreLifted, LiftAt};
+ghost use Rattle.vpg_board.specs.Alone.{Rises, AreLifted, lift_over};
 ghost use Rattle.vpg_board.specs.Places.{vertices};
 
 use crate::hints::{Hints, Vertices};
@@ -24,7 +24,7 @@ fn raise_and_hint<J: Vertices>(
     requires vertex { v < vertices harvest.old.order }
     requires predecessors { predecessors.now ≡ J.vertices }
     ensures rises { Rises harvest.old harvest.new }
-    ensures lifted { LiftAt which harvest.old v ≤ slice_index (harvest_table which harvest.new) v }
+    ensures lifted { lift_over which harvest.old v ≤ slice_index (harvest_table which harvest.new) v }
 {
     if harvest.raise(which, v) {
         hints.give_all(which, predecessors.in_game(which), v);
@@ -53,7 +53,7 @@ fn raise_hinted<J: Vertices, G: Gate>(
 }
 
 // Claims the vertices of one table in file order, and lifts what it claims.
-fn raise_unhinted<G: Gate>(harvest: &mut Harvest, gate: &G, which: Which)
+fn raise_without_hints<G: Gate>(harvest: &mut Harvest, gate: &G, which: Which)
     ensures rises { Rises harvest.old harvest.new }
     ensures lifted { AreLifted which harvest.old harvest.new (vertices harvest.old.order) }
 {
@@ -66,7 +66,7 @@ fn raise_unhinted<G: Gate>(harvest: &mut Harvest, gate: &G, which: Which)
 }
 
 // The same, and lifts what it is hinted at.
-fn raise_hinted_at<J: Vertices, G: Gate>(
+fn raise_with_hints<J: Vertices, G: Gate>(
     harvest: &mut Harvest,
     gate: &G,
     predecessors: &Predecessors,
@@ -101,9 +101,9 @@ fn raise_table<J: Vertices, G: Gate>(
     ensures lifted { AreLifted which harvest.old harvest.new (vertices harvest.old.order) }
 {
     if predecessors.are_none() {
-        raise_unhinted(harvest, gate, which);
+        raise_without_hints(harvest, gate, which);
     } else {
-        raise_hinted_at(harvest, gate, predecessors, hints, which);
+        raise_with_hints(harvest, gate, predecessors, hints, which);
     }
 }
 

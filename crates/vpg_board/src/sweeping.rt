@@ -1,6 +1,6 @@
 //! Sweeps: lifters in threads of their own.
 
-ghost use Rattle.std.specs.Prelude.{◌≡◌, ℕ, ◌+◌, ◌<◌, ◌≤◌, slice_index, sum, IfOk, IfErr, IfSome, IfNone};
+ghost use Rattle.std.specs.Prelude.{◌≡◌, ℕ, ◌+◌, ◌<◌, ◌≤◌, slice_index, sum, IfOk, IfErr, OnErr, IfSome, IfNone};
 ghost use Rattle.std.specs.Thread.{IsSync};
 ghost use Rattle.vpg_hope.specs.Arena.{vertex_at};
 ghost use Rattle.vpg_measure.specs.Lifts.{lift_of, IsBelowTable};
@@ -196,7 +196,7 @@ fn work_with_hints<J: Vertices + Send + Sync, G: Gate + Sync, R: Threads + Wait 
 /// lifter hints at the vertices that keep an edge to the raised one, for itself and for one other, and behind each claim it lifts
 /// at most 16 hinted vertices. For want of memory the order comes back; where only hints found none, they are left out.
 ///
-/// One lifter shares its tables with nobody: it raises them in the order's room, without a board, and never wants memory.
+/// One lifter shares its tables with nobody: it raises them in the order's room, without a board, and always brings a harvest.
 ///
 /// A sweep whose harvest has no greater value than its order proves the order settled.
 pub fn sweep<G: Gate + Sync, R: Threads + Wait + Sync>(
@@ -220,6 +220,8 @@ pub fn sweep<G: Gate + Sync, R: Threads + Wait + Sync>(
     // A harvest that does not check has risen, in sum: so where nothing rose the order was settled.
     ensures moved { IfOk result (λ harvest. ¬ IsSettledHarvest harvest → sum order.hopeful + sum order.dual < sum harvest.hopeful + sum harvest.dual) }
     ensures back { IfErr result (λ returned. returned ≡ order) }
+    // One lifter never gives it back.
+    ensures several { OnErr result (1 < lifters) }
 {
     let predecessors = Predecessors::of_or_none(alloc, &order);
     sweep_along(rt, alloc, order, lifters, gate, &predecessors)
@@ -249,6 +251,8 @@ pub fn sweep_along<G: Gate + Sync, R: Threads + Wait + Sync>(
     // A harvest that does not check has risen, in sum: so where nothing rose the order was settled.
     ensures moved { IfOk result (λ harvest. ¬ IsSettledHarvest harvest → sum order.hopeful + sum order.dual < sum harvest.hopeful + sum harvest.dual) }
     ensures back { IfErr result (λ returned. returned ≡ order) }
+    // One lifter never gives it back.
+    ensures several { OnErr result (1 < lifters) }
 {
     if lifters == 1 {
         return Ok(sweep_alone::<Brand, G>(alloc, order, gate, predecessors));

@@ -3,7 +3,7 @@ use Rattle.vpg_game.specs.Game.{NamedGame}
 use Rattle.vpg_measure.specs.Orders.{OrderView}
 use Rattle.vpg_board.specs.Places.{vertices}
 use Rattle.vpg_board.proofs.Lone.{rises_none, rises_trans, lifted_next}
-use Rattle.vpg_board.proofs.alone.raise_hinted_at.Goals as goal
+use Rattle.vpg_board.proofs.alone.raise_with_hints.Goals as goal
 
 pub claims-init : goal.claims-init
 claims-init g c = record { rises = rises_none c.args.harvest.now c.order.ensures.harvest; lifted = λ v less. absurd (omega (arith, less)) }
