@@ -1,0 +1,105 @@
+#!/usr/bin/env python3
+"""What can be told of the repository in seconds, before the gate: each wrong body fits its text, each link leads somewhere, each file is laid out.
+
+    python3 .ci/quick.py        names each fault, one a line, and exits with 1 where there is one
+
+A wrong body is a file NAME.edit in crates/CRATE/must-fail (tried by the gate) or crates/CRATE/wrong-bodies (tried by bench/wrong_bodies.py): a line
+'file: PATH', and then pairs of lines 'old: TEXT' and 'new: TEXT', applied in turn; each old text stands in that file exactly once. A first line that
+begins with '# ' is a comment.
+"""
+import glob
+import os
+import re
+import shutil
+import subprocess
+import sys
+
+ROOT = os.path.dirname(os.path.dirname(os.path.abspath(__file__)))
+FOLDERS = ("must-fail", "wrong-bodies")
+READ = ("README.md", "docs/*.md", "bench/*.md", "examples/**/README.md", "crates/*/data/**/README.md")
+
+
+def text_of(path):
+    with open(path, encoding="utf-8") as it:
+        return it.read()
+
+
+def fault_of(edit, crate):
+    """Says why the edit does not fit the crate's text, or returns None."""
+    lines = text_of(edit).split("\n")
+    if lines[-1] or len(lines) < 2:
+        return "its last line does not end"
+    path, old, texts = "", None, {}
+    for number, line in enumerate(lines[:-1], 1):
+        word, _, rest = line.partition(" ")
+        if word == "#" and number == 1:
+            continue
+        if word == "file:" and rest and old is None:
+            path = rest
+            if os.path.normpath(path) != path or not path.startswith(("src/", "specs/", "proofs/")):
+                return f"line {number}: {path} is no file below src/, specs/ or proofs/"
+            if not os.path.isfile(f"{crate}/{path}"):
+                return f"line {number}: there is no file {path}"
+            texts.setdefault(path, text_of(f"{crate}/{path}"))
+        elif word == "old:" and rest and path and old is None:
+            old = rest
+        elif word == "new:" and old is not None:
+            found = texts[path].count(old)
+            if found != 1:
+                return f"line {number - 1}: the old text stands in {path} {found} times, and not once"
+            texts[path], old = texts[path].replace(old, rest), None
+        else:
+            return f"line {number} is no line 'file: PATH', 'old: TEXT' or 'new: TEXT' in its place"
+    if old is not None or all(text == text_of(f"{crate}/{path}") for path, text in texts.items()):
+        return "it changes nothing"
+    return None
+
+
+def of_edits():
+    for crate in sorted(glob.glob(f"{ROOT}/crates/*")):
+        names = [name for folder in FOLDERS if os.path.isdir(f"{crate}/{folder}") for name in os.listdir(f"{crate}/{folder}")]
+        for folder in FOLDERS:
+            for path in sorted(glob.glob(f"{crate}/{folder}/*")):
+                name = os.path.basename(path)
+                short = os.path.relpath(path, ROOT)
+                if not re.fullmatch(r"[a-z0-9_]+\.edit", name) or not os.path.isfile(path):
+                    yield f"{short} is no edit: its name is of a to z, digits and _, and ends in .edit"
+                    continue
+                if names.count(name) > 1:
+                    yield f"{short}: a wrong body stands in one of the two folders"
+                why = fault_of(path, crate)
+                if why:
+                    yield f"{short}: {why}"
+
+
+def of_links():
+    for path in sorted({it for words in READ for it in glob.glob(f"{ROOT}/{words}", recursive=True)}):
+        for link in re.findall(r"\]\(([^)\s]+)\)", text_of(path)):
+            target = link.partition("#")[0]
+            if target and not re.match(r"[a-z]+:", target) and not os.path.exists(f"{os.path.dirname(path)}/{target}"):
+                yield f"{os.path.relpath(path, ROOT)}: the link {link} leads nowhere"
+
+
+def of_layout():
+    rt = shutil.which("rt")
+    if not rt:
+        yield "the command rt is not there, so no layout was looked at"
+        return
+    rattle = f"{os.path.dirname(os.path.realpath(rt))}/rattle"
+    for crate in sorted(glob.glob(f"{ROOT}/crates/*")):
+        files = [it for part in ("src", "specs", "proofs") for it in sorted(glob.glob(f"{crate}/{part}/**/*", recursive=True)) if it.endswith((".rt", ".antt"))]
+        ran = subprocess.run([rattle, "fmt", "--check", *files], stdout=subprocess.PIPE, stderr=subprocess.STDOUT, text=True) if files else None
+        if ran and ran.returncode:
+            yield f"{os.path.relpath(crate, ROOT)}: run rt fmt there: {ran.stdout.strip()[:300]}"
+
+
+def main():
+    faults = [*of_edits(), *of_links(), *of_layout()]
+    for it in faults:
+        print(f"quick: {it}")
+    print(f"quick: {len(faults)} faults" if faults else "quick: ok")
+    return 1 if faults else 0
+
+
+if __name__ == "__main__":
+    sys.exit(main())
