@@ -1,0 +1,13 @@
+pub mod Monotone
+pub mod Asked
+pub mod Forced
+pub mod Fronts
+pub mod Halving
+pub mod InTurn
+pub mod Listing
+pub mod Next
+pub mod Losing
+pub mod Ordered
+pub mod Examples
+pub mod Splits
+pub mod Tops

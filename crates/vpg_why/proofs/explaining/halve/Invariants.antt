@@ -1,0 +1,10 @@
+use Rattle.std.proofs.Common.{◌-◌}
+use Rattle.vpg_why.specs.Suffices.{Suffice, IsSettled}
+use Rattle.vpg_why.proofs.Halving.{IsBetween}
+use Rattle.vpg_why.proofs.explaining.halve.Given as goal
+
+abbrev pub invariant-halving : goal.invariant-halving
+invariant-halving l = IsBetween (Suffice l.game l.diagram l.question) (IsSettled l.question) l.decisions l.kept l.most l.low l.high l.exact
+
+abbrev pub decreases-halving : goal.decreases-halving
+decreases-halving l = l.high - l.low

@@ -1,0 +1,195 @@
+//! Explanations: some of a page's decisions that suffice, of which none can be left out.
+ghost use Rattle.std.specs.Prelude.{◌≡◌, ◌≢◌, ◌<◌, ◌≤◌, ◌+◌, length, take, IfOk, IfSome, IsNone, IsTrue};
+ghost use Rattle.vpg_diagram.specs.FeatureDiagram.{feature_count};
+ghost use Rattle.vpg_partial.specs.TableLaws.{AreChoicesOf};
+ghost use Rattle.vpg_why.specs.Explained.{choices, front_with, IsLast, Explains};
+ghost use Rattle.vpg_why.specs.Suffices.{Suffice, IsAskable, IsSettled};
+
+use crate::answering::suffice;
+use crate::question::{Limits, Question, Shown};
+use std::alloc::{AllocError, Global};
+use vpg_diagram::Diagram;
+use vpg_game::GuardedGame;
+use vpg_partial::Decision;
+
+/// Some decisions that suffice, in the page's order.
+#[derive(Debug, Drop)]
+pub struct Explanation {
+    pub decisions: Vec<Decision>,
+    /// Whether it was shown that none of them can be left out.
+    pub exact: bool,
+}
+
+// The first decisions, and others behind them.
+fn joined(
+    alloc: Global,
+    decisions: &[Decision],
+    most: usize,
+    kept: &[Decision],
+) -> Result<Vec<Decision>, AllocError>
+    requires { most ≤ length decisions.now }
+    ensures { IfOk result (λ joined. joined.items ≡ front_with most decisions.now kept.now) }
+{
+    let mut joined = Vec::from_slice(alloc, &decisions[..most])?;
+    joined.extend_from_slice(kept)?;
+    Ok(joined)
+}
+
+// Whether the first decisions and others behind them suffice.
+fn front_suffices(
+    alloc: Global,
+    game: &GuardedGame,
+    diagram: &Diagram,
+    question: Question,
+    decisions: &[Decision],
+    most: usize,
+    kept: &[Decision],
+    limits: Limits,
+) -> Result<Shown, AllocError>
+    requires features { game.now.features ≡ feature_count diagram.now.lines }
+    requires named { AreChoicesOf diagram.now.lines (choices decisions.now) }
+    requires kept_named { AreChoicesOf diagram.now.lines (choices kept.now) }
+    requires askable { IsAskable game.now diagram.now question }
+    requires within { most ≤ length decisions.now }
+    ensures yes { IfOk result (λ shown. shown ≡ Shown.Yes → Suffice game.now diagram.now question (choices (front_with most decisions.now kept.now))) }
+    ensures no { IfOk result (λ shown. shown ≡ Shown.No → Suffice game.now diagram.now question (choices (front_with most decisions.now kept.now)) → ⊥) }
+    ensures settled { IfOk result (λ shown. IsSettled question → shown ≢ Shown.Unsettled) }
+{
+    let joined = joined(alloc, decisions, most, kept)?;
+    let shown = suffice(alloc, game, diagram, question, &joined, limits)?;
+    Ok(shown)
+}
+
+// The last decision that is needed, and whether it was shown that those before it do not suffice.
+#[derive(Clone, Copy, Debug)]
+struct Last {
+    place: usize,
+    exact: bool,
+}
+
+// Of the first decisions, of which some are needed beside the kept ones, the last that is.
+fn halve(
+    alloc: Global,
+    game: &GuardedGame,
+    diagram: &Diagram,
+    question: Question,
+    decisions: &[Decision],
+    most: usize,
+    kept: &[Decision],
+    exact: bool,
+    limits: Limits,
+) -> Result<Last, AllocError>
+    requires features { game.now.features ≡ feature_count diagram.now.lines }
+    requires named { AreChoicesOf diagram.now.lines (choices decisions.now) }
+    requires kept_named { AreChoicesOf diagram.now.lines (choices kept.now) }
+    requires askable { IsAskable game.now diagram.now question }
+    requires within { most ≤ length decisions.now }
+    requires some { 0 < most }
+    requires enough { Suffice game.now diagram.now question (choices (front_with most decisions.now kept.now)) }
+    requires settled { IsSettled question → IsTrue exact }
+    requires short { IsTrue exact → Suffice game.now diagram.now question (choices (front_with 0 decisions.now kept.now)) → ⊥ }
+    ensures place { IfOk result (λ last. last.place < most) }
+    ensures enough { IfOk result (λ last. Suffice game.now diagram.now question (choices (front_with (last.place + 1) decisions.now kept.now))) }
+    ensures short { IfOk result (λ last. IsTrue last.exact → Suffice game.now diagram.now question (choices (front_with last.place decisions.now kept.now)) → ⊥) }
+    ensures settled { IfOk result (λ last. IsSettled question → IsTrue last.exact) }
+{
+    let mut low = 0;
+    let mut high = most;
+    let mut exact = exact;
+    'halving: while high - low > 1 {
+        let middle = low + (high - low) / 2;
+        let shown = front_suffices(
+            alloc, game, diagram, question, decisions, middle, kept, limits,
+        )?;
+        match shown {
+            Shown::Yes => high = middle,
+            Shown::No => {
+                low = middle;
+                exact = true;
+            }
+            Shown::Unsettled => {
+                low = middle;
+                exact = false;
+            }
+        }
+    }
+    Ok(Last { place: low, exact })
+}
+
+// The last of the first decisions that is needed beside the kept ones, if one is.
+fn last_needed(
+    alloc: Global,
+    game: &GuardedGame,
+    diagram: &Diagram,
+    question: Question,
+    decisions: &[Decision],
+    most: usize,
+    kept: &[Decision],
+    limits: Limits,
+) -> Result<Option<Last>, AllocError>
+    requires features { game.now.features ≡ feature_count diagram.now.lines }
+    requires named { AreChoicesOf diagram.now.lines (choices decisions.now) }
+    requires kept_named { AreChoicesOf diagram.now.lines (choices kept.now) }
+    requires askable { IsAskable game.now diagram.now question }
+    requires within { most ≤ length decisions.now }
+    requires some { 0 < most }
+    requires enough { Suffice game.now diagram.now question (choices (front_with most decisions.now kept.now)) }
+    ensures none { IfOk result (λ found. IsNone found → Suffice game.now diagram.now question (choices (front_with 0 decisions.now kept.now))) }
+    ensures some { IfOk result (λ found. IfSome found (λ last. IsLast (Suffice game.now diagram.now question) decisions.now kept.now most last.place last.exact)) }
+    ensures settled { IfOk result (λ found. IfSome found (λ last. IsSettled question → IsTrue last.exact)) }
+{
+    let shown = front_suffices(alloc, game, diagram, question, decisions, 0, kept, limits)?;
+    let exact = match shown {
+        Shown::Yes => return Ok(None),
+        Shown::No => true,
+        Shown::Unsettled => false,
+    };
+    let last = halve(
+        alloc, game, diagram, question, decisions, most, kept, exact, limits,
+    )?;
+    Ok(Some(last))
+}
+
+/// Some of the decisions, which suffice, that suffice alone. None of them can be left out, where that is told: then no list of
+/// them that lacks one suffices.
+///
+/// It is the explanation whose last decision comes earliest on the page, and before it the next, and so on, as far as the tables of
+/// its trials were settled. It takes about the logarithm of the page's decisions in trials for each decision that it lists.
+/// The one error is want of memory.
+pub fn explain(
+    alloc: Global,
+    game: &GuardedGame,
+    diagram: &Diagram,
+    question: Question,
+    decisions: &[Decision],
+    limits: Limits,
+) -> Result<Explanation, AllocError>
+    requires features { game.now.features ≡ feature_count diagram.now.lines }
+    requires named { AreChoicesOf diagram.now.lines (choices decisions.now) }
+    requires askable { IsAskable game.now diagram.now question }
+    requires enough { Suffice game.now diagram.now question (choices decisions.now) }
+    ensures explains { IfOk result (λ found. Explains (Suffice game.now diagram.now question) decisions.now found.decisions.items found.exact) }
+    ensures settled { IfOk result (λ found. IsSettled question → IsTrue found.exact) }
+{
+    let _features = diagram.features();
+    let mut kept = Vec::new(alloc);
+    let mut exact = true;
+    let mut most = decisions.len();
+    'listing: while most > 0 {
+        let found = last_needed(
+            alloc, game, diagram, question, decisions, most, &kept, limits,
+        )?;
+        match found {
+            Some(last) => {
+                kept.insert(0, decisions[last.place])?;
+                most = last.place;
+                exact = exact && last.exact;
+            }
+            None => most = 0,
+        }
+    }
+    Ok(Explanation {
+        decisions: kept,
+        exact,
+    })
+}

@@ -1,0 +1,17 @@
+//! Laws of the definitions. Each function does nothing: its contract is the law.
+ghost use Rattle.vpg_why.specs.Laws.{ExplanationsAreOne, MoreChoicesSuffice, SufficientChoicesLose};
+
+/// What suffices still suffices with more decisions.
+pub fn more_choices_suffice()
+    ensures { MoreChoicesSuffice }
+{}
+
+/// Where decisions suffice for a verdict, its loser wins in no product that agrees with these alone.
+pub fn sufficient_choices_lose()
+    ensures { SufficientChoicesLose }
+{}
+
+/// A question has one explanation from given decisions: an answer that was shown to be least is a function of them.
+pub fn explanations_are_one()
+    ensures { ExplanationsAreOne }
+{}
