@@ -1,0 +1,425 @@
+#!/usr/bin/env python3
+"""Tries wrong bodies on a copy of the repository, and writes what became of each into bench/wrong_bodies.tsv.
+
+    python3 bench/wrong_bodies.py [CRATE..] [--only WORD] [--gate | --outside] [--together NUMBER] [--room FOLDER] [--table FILE]
+
+A wrong body is a file of crates/CRATE/must-fail (tried by the gate) or crates/CRATE/wrong-bodies (outside it); with no CRATE all crates are tried, lowest
+first. --only takes those whose name holds the word. Wrong bodies of different functions are tried in one check, up to eight (--together), since each function
+is proved by itself; what is not told apart so is tried alone. What was tried on the same text (the crate's, and the code and definitions below it) is not
+tried again, so a run that was broken off goes on where it ended. The copy is made in a folder that is removed, or in --room, where what was proved stays for
+the next run. Kept work (out/) of the checkout is copied, so that little is proved again; the checkout itself is only read, but for the table.
+
+What the table says of a wrong body:
+
+    refused    a goal of the function is open: `clause NAME` of its contract, `returns` (its whole contract), an `invariant`, a `loop`'s invariant, or what
+               a `call`, an index or a sum needs. In the column `seen`: `open` where the goal had no written answer, `answer` where its written answer is of
+               another type than the goal now is, `name` where a proof file names what is gone. In the last two cases it was tried again without those
+               answers, and then the goal was open
+    mismatch   only a proof file is in the way, also without those answers: this shows nothing of the contract
+    PROVED     the contract lets the wrong body through
+    compiler   refused by the compiler, as the edit's first line says
+    bad        it does not fit, or does not compile
+    untried    no run has tried it, or none since the table is kept
+"""
+import argparse
+import datetime
+import fcntl
+import hashlib
+import importlib.machinery
+import importlib.util
+import os
+import re
+import resource
+import shutil
+import subprocess
+import sys
+import tempfile
+
+sys.dont_write_bytecode = True
+LOADER = importlib.machinery.SourceFileLoader("rt", os.path.realpath(shutil.which("rt")))
+SPEC = importlib.util.spec_from_loader("rt", LOADER)
+RT = importlib.util.module_from_spec(SPEC)
+LOADER.exec_module(RT)
+
+ROOT = os.path.dirname(os.path.dirname(os.path.abspath(__file__)))
+FOLDERS = {"gate": "must-fail", "outside": "wrong-bodies"}
+COLUMNS = ["crate", "edit", "where", "date", "commit", "text", "verdict", "seen", "function", "goal", "seconds"]
+ROUNDS = 8
+SIGNED = re.compile(r"(?:(?:pub|abbrev|unfoldable|opaque) )*([^\s(){},]+) :(?:\s|$)")
+GONE = re.compile(r"has no field|is not in scope|has no `|was not admitted")
+BY_COMPILER = "# refused by the compiler: "
+
+
+def copied(room):
+    """Copies the checkout into the room: texts anew, and kept work where the room has none."""
+    for name in ("crates.txt", "HANDLES"):
+        if os.path.isfile(f"{ROOT}/{name}"):
+            shutil.copy(f"{ROOT}/{name}", f"{room}/{name}")
+    for crate in sorted(os.listdir(f"{ROOT}/crates")):
+        for part in (*RT.rtlib.PARTS, *FOLDERS.values()):
+            mirror(f"{ROOT}/crates/{crate}/{part}", f"{room}/crates/{crate}/{part}")
+        out = f"{room}/crates/{crate}/out"
+        if not os.path.isdir(out) and os.path.isdir(f"{ROOT}/crates/{crate}/out"):
+            shutil.copytree(f"{ROOT}/crates/{crate}/out", out)
+
+
+def mirror(source, target):
+    """Makes the target's files those of the source, and writes only those that differ."""
+    files = lambda top: {os.path.relpath(f"{at}/{name}", top) for at, _, names in os.walk(top) for name in names}
+    for name in files(target) - files(source):
+        os.remove(f"{target}/{name}")
+    for name in files(source):
+        os.makedirs(os.path.dirname(f"{target}/{name}"), exist_ok=True)
+        if not os.path.isfile(f"{target}/{name}") or read(f"{target}/{name}") != read(f"{source}/{name}"):
+            shutil.copyfile(f"{source}/{name}", f"{target}/{name}")
+
+
+def read(path):
+    with open(path, "rb") as it:
+        return it.read()
+
+
+def text_of(crate, edit):
+    """Names the text that a verdict rests on: the crate's, the code and definitions below it, and the edit's own."""
+    found = hashlib.sha256(read(edit))
+    for it in [crate, *crate.below()]:
+        for part in RT.rtlib.PARTS if it is crate else ("src", "specs"):
+            for at, folders, names in os.walk(f"{it.folder}/{part}"):
+                folders.sort()
+                for name in sorted(names):
+                    found.update(f"{it.name} {os.path.relpath(f'{at}/{name}', it.folder)}\0".encode() + read(f"{at}/{name}"))
+    return found.hexdigest()[:12]
+
+
+def seconds():
+    used = resource.getrusage(resource.RUSAGE_CHILDREN)
+    return used.ru_utime + used.ru_stime
+
+
+def kind_of(goal):
+    """Names what an open goal is of: a clause, the contract, an invariant, a loop, or what a step needs."""
+    if re.search(r"(^|-)returns(-|$)", goal):
+        clause = re.search(r"-clause-([^-]+)(-\d+)?$", goal)
+        return f"clause {clause[1]}" if clause else "returns"
+    if "-requires" in goal:
+        return f"call {goal}"
+    if goal.startswith("invariant_of") or "-invariant_of" in goal:
+        return "invariant"
+    if re.search(r"-(init|preserved|smaller)(-|$)", goal):
+        return f"loop {goal}"
+    return f"step {goal}"
+
+
+def open_goals(said):
+    """The goals that no proof was found for: pairs of function and goal."""
+    found = []
+    for function, rest in re.findall(r"(?m)^fn (\S+): no proof: (?!it calls)(.*)$", said):
+        names = rest.rpartition("did not prove")[2] if "did not prove" in rest else ""
+        found += [(function, goal) for goal in re.findall(r"`([^`]+)`", names)] or [(function, "")]
+    return found
+
+
+def waiting(said):
+    """The functions that were not tried, since one that they call is not proved."""
+    return re.findall(r"(?m)^fn (\S+): no proof: it calls", said)
+
+
+def faults(said):
+    """The faults of proof files: where each stands, of which definition it is, and what is said."""
+    found = re.findall(r"(?m)^(?:\./)?(proofs/\S+?):(\d+):\d+: error: (.*)$", said)
+    return [(path, int(line), text) for path, line, text in found]
+
+
+def without(text, line):
+    """The text of a proof file without the definition that stands at this line, and its name."""
+    lines = text.split("\n")
+    signed = {at: it[1] for at, line in enumerate(lines) if (it := SIGNED.match(line))}
+    begin = max((at for at in signed if at < line), default=None)
+    if begin is None:
+        return None, ""
+    name, end = signed[begin], begin + 1
+    while end < len(lines) and (not lines[end].strip() or lines[end].startswith((" ", f"{name} "))):
+        end += 1
+    begin -= lines[begin - 1].startswith("unfolding ")
+    return "\n".join([*lines[:begin], *lines[end:]]), name.rpartition("::")[2]
+
+
+def best(goals):
+    """The function and the open goals that say most of its contract."""
+    order = ("clause", "returns", "invariant", "loop", "call", "step")
+    rank = lambda it: order.index(kind_of(it[1]).split()[0])
+    function, goal = min(goals, key=rank)
+    same = [kind_of(it[1]) for it in goals if it[0] == function and rank(it) == rank((function, goal))]
+    return function, ", ".join(dict.fromkeys(same))
+
+
+class Body:
+    """A wrong body that is being tried: what it changes, which function stands around that, and what was seen of it so far."""
+
+    def __init__(self, crate, name, part, edit, text):
+        self.crate, self.name, self.part, self.text = crate, name, part, text
+        lines = read(edit).decode().split("\n")
+        self.compiler = lines[0][len(BY_COMPILER) :].strip() if lines[0].startswith(BY_COMPILER) else ""
+        self.pairs = pairs_of(lines)
+        self.why = RT.read_edit(edit, crate.folder)[1]
+        self.place, self.functions = place_of(self.pairs, crate)
+        # a wrong body outside any function is tried alone, as is one that is tried again
+        self.alone = bool(self.compiler) or len(self.functions) != 1 or None in self.functions
+        # proof files without the answers that were in the way, and the names of those that fell only with another
+        self.cuts, self.fallen = {}, set()
+        self.seen, self.first, self.rounds, self.seconds, self.is_proved = "open", ("", ""), 0, 0.0, False
+
+
+def pairs_of(lines):
+    path, old, found = "", "", []
+    for line in lines:
+        if line.startswith("file: "):
+            path = line[6:]
+        elif line.startswith("old: "):
+            old = line[5:]
+        elif line.startswith("new:"):
+            found.append((path, old, line[4:].removeprefix(" ")))
+    return found
+
+
+def place_of(pairs, crate):
+    """Where the first change stands, and the names of the functions around the changes: None where one stands in no function."""
+    place, functions, texts = None, set(), {}
+    for path, old, new in pairs:
+        file = f"{crate.folder}/{path}"
+        text = texts.setdefault(path, read(file).decode() if os.path.isfile(file) else "")
+        at = text.find(old)
+        place = place or (path, at)
+        functions.add(function_at(text, at + len(old) - len(old.lstrip())))
+        texts[path] = text.replace(old, new, 1)
+    return place or ("", 0), functions
+
+
+def function_at(text, at):
+    found = None
+    for it in re.finditer(r"(?m)^( *)(?:pub(?:\([a-z]+\))? )?(?:const )?fn (\w+)", text):
+        if it.start() > at:
+            break
+        end = re.compile(rf"(?m)^{it[1]}\}}").search(text, it.end())
+        if end and at <= end.start():
+            found = it[2]
+    return found
+
+
+def applied(bodies, folder):
+    """The texts with each of these wrong bodies in turn, and those among them that fitted."""
+    texts, fitted = {}, []
+    for body in bodies:
+        changed = dict(texts)
+        for path, old, new in body.pairs:
+            if path not in changed:
+                changed[path] = read(f"{folder}/{path}").decode()
+            if changed[path].count(old) != 1:
+                break
+            changed[path] = changed[path].replace(old, new)
+        else:
+            texts = changed
+            fitted.append(body)
+    for body in fitted:
+        texts.update(body.cuts)
+    return texts, fitted
+
+
+def is_of(function, body):
+    """Whether the prover's function is the body's, or a closure in it."""
+    name, within = next(iter(body.functions)), re.search(r"::fn::(\w+)", function)
+    return name is None or name == (within[1] if within else re.findall(r"\w+", function)[-1])
+
+
+def tried(crate, bodies, kept, log):
+    """Tries wrong bodies of different functions in one check, and returns those that have a verdict, as pairs, and those that are to be tried again."""
+    texts, fitted = applied(bodies, crate.folder)
+    again = [it for it in bodies if it not in fitted]
+    before = seconds()
+    ran = RT.checked(crate, texts, ["--jobs", "1"], kept)
+    said = ran.stdout
+    log.write(f"{' '.join(it.name for it in fitted)}\n{said}\n{'=' * 100}\n")
+    done = []
+    for body in fitted:
+        body.seconds += (seconds() - before) / len(fitted)
+    whole = len(fitted) == 1
+    if ran.returncode == 0:
+        for body in fitted:
+            if whole and kept is None:
+                done.append((body, ("PROVED", body.seen if body.seen != "open" else "", *body.first)))
+            else:
+                body.alone = body.is_proved = True
+                again.append(body)
+        return done, again
+    if not re.search(r"(?m)^logic=not-proved", said):
+        if not whole:
+            for body in fitted:
+                body.alone = True
+            return done, again + fitted
+        told = [it for it in said.rstrip("\n").split("\n") if re.match(r"\S+:\d+:\d+: error", it)] or said.strip().split("\n")
+        done.append((fitted[0], ("bad", "", "", re.sub(r"\s+", " ", told[0])[:200])))
+        return done, again
+    goals, wrong, blocked = open_goals(said), faults(said), waiting(said)
+    for body in fitted:
+        left = [it for it in goals if whole or is_of(it[0], body)]
+        # (a goal whose answer was cut only since that cited another shows nothing)
+        own = [it for it in left if it[1].rpartition("::")[2] not in body.fallen]
+        told = [it for it in own if kind_of(it[1]).startswith(("clause", "returns", "invariant"))]
+        bad = [it for it in wrong if whole or is_of(os.path.dirname(it[0]).replace("/", "::"), body)]
+        if told or own and not bad:
+            function, goal = best(told or own)
+            done.append((body, ("refused", body.seen, function, goal) if own[0][1] else ("bad", body.seen, function, "no proof was made")))
+        elif not bad:
+            # not told apart from the others, or proved: alone it is seen which
+            if whole or left:
+                done.append((body, ("mismatch", body.seen, *body.first)))
+            else:
+                body.alone = not any(is_of(it, body) for it in blocked)
+                again.append(body)
+        else:
+            if body.seen == "open":
+                body.seen = "name" if any(GONE.search(text) for _, _, text in bad) else "answer"
+                inside = re.match(r"proofs/(.*)/\w+\.antt", bad[0][0])
+                body.first = (inside[1].replace("/", "::") if inside else bad[0][0], re.sub(r"\s+", " ", bad[0][2])[:120])
+            body.rounds += 1
+            if body.rounds < ROUNDS and cut(crate, body, bad):
+                again.append(body)
+            else:
+                done.append((body, ("refused", body.seen, *best(own)) if own else ("mismatch", body.seen, *body.first)))
+    return done, again
+
+
+def cut(crate, body, wrong):
+    """Takes the answers that are in the way out of the proof files that the body is tried with."""
+    is_less = False
+    for path, line, _ in sorted(wrong, key=lambda it: (it[0], -it[1])):
+        if re.search(r"(Answers|Invariants)\.antt$", path):
+            new, name = without(body.cuts.get(path) or read(f"{crate.folder}/{path}").decode(), line)
+            if new is not None:
+                body.cuts[path], is_less = new, True
+                body.fallen |= {name} if body.rounds > 1 else set()
+    return is_less
+
+
+def batches(bodies, most):
+    """Takes the next wrong bodies to be tried at once: of different functions, or one alone."""
+    if bodies[0].alone:
+        return bodies[:1]
+    taken = []
+    for body in bodies:
+        if not body.alone and len(taken) < most and not any(body.functions & it.functions for it in taken):
+            taken.append(body)
+    return taken
+
+
+def try_all(crate, bodies, kept, most, log):
+    """Tries the wrong bodies, and yields each with its verdict."""
+    left = sorted(bodies, key=lambda it: (it.alone, it.place))
+    while left:
+        now = batches(left, most)
+        left = [it for it in left if it not in now]
+        if now[0].why:
+            yield now[0], ("bad", "", "", now[0].why)
+        elif now[0].compiler:
+            said = RT.checked(crate, applied(now, crate.folder)[0], ["--jobs", "1"], None).stdout
+            log.write(said)
+            is_so = now[0].compiler in said and "logic=" not in said
+            yield now[0], ("compiler", "", "", now[0].compiler) if is_so else ("bad", "", "", f"the compiler does not say {now[0].compiler}")
+        else:
+            # (what seems to be proved is proved again from nothing, not over what earlier ones left)
+            is_proved = len(now) == 1 and now[0].is_proved
+            done, again = tried(crate, now, None if is_proved else kept, log)
+            log.flush()
+            yield from done
+            left = sorted(left + again, key=lambda it: (it.alone, it.place))
+
+
+def rows_of(table):
+    if not os.path.isfile(table):
+        return {}
+    with open(table, encoding="utf-8") as it:
+        lines = [line.rstrip("\n").split("\t") for line in it]
+    return {(row[0], row[1]): dict(zip(COLUMNS, row)) for row in lines[1:]}
+
+
+def write_row(table, row, names):
+    """Puts a row into the table, which has one for each edit, in the order of the crates and, within one, of the names."""
+    with open(f"{table}.lock", "w") as lock:
+        fcntl.flock(lock, fcntl.LOCK_EX)
+        rows = rows_of(table)
+        if row:
+            rows[row["crate"], row["edit"]] = row
+        with open(f"{table}.new", "w", encoding="utf-8") as it:
+            it.write("\t".join(COLUMNS) + "\n")
+            for crate, edit in sorted(names, key=names.get):
+                found = {**rows.get((crate, edit), {"verdict": "untried"}), "crate": crate, "edit": edit, "where": names[crate, edit][2]}
+                it.write("\t".join(found.get(column, "") for column in COLUMNS) + "\n")
+        os.replace(f"{table}.new", table)
+    os.remove(f"{table}.lock")
+
+
+def main():
+    asked = argparse.ArgumentParser(description=__doc__, formatter_class=argparse.RawDescriptionHelpFormatter)
+    asked.add_argument("crates", nargs="*", metavar="CRATE")
+    asked.add_argument("--only", default="", metavar="WORD")
+    asked.add_argument("--gate", action="store_true")
+    asked.add_argument("--outside", action="store_true")
+    asked.add_argument("--together", type=int, default=8, metavar="NUMBER")
+    asked.add_argument("--room", metavar="FOLDER")
+    asked.add_argument("--table", default=f"{ROOT}/bench/wrong_bodies.tsv", metavar="FILE")
+    asked = asked.parse_args()
+    with tempfile.TemporaryDirectory(prefix="wrong-bodies-") as made:
+        room = os.path.abspath(asked.room) if asked.room else made
+        os.makedirs(room, exist_ok=True)
+        return tried_all(asked, room)
+
+
+def tried_all(asked, room):
+    commit = subprocess.run(["git", "-C", ROOT, "rev-parse", "--short", "HEAD"], stdout=subprocess.PIPE, text=True).stdout.strip()
+    copied(room)
+    os.chdir(room)
+    RT.rtlib.guarded()
+    crates = sorted(RT.rtlib.crates_below(room), key=lambda it: len(it.below()))
+    parts = [part for part in FOLDERS if not (asked.gate or asked.outside) or getattr(asked, part)]
+    edits, names = {}, {}
+    for at, crate in enumerate(crates):
+        for part in FOLDERS:
+            folder = f"{crate.folder}/{FOLDERS[part]}"
+            found = [it for it in sorted(os.listdir(folder) if os.path.isdir(folder) else []) if it.endswith(".edit")]
+            names.update({(crate.name, it[: -len(".edit")]): (at, it, part) for it in found})
+            edits.setdefault(crate.name, []).extend((part, f"{folder}/{it}") for it in found if part in parts and asked.only in it)
+    write_row(asked.table, None, names)
+    loud = []
+    for crate in crates:
+        if asked.crates and crate.name not in asked.crates:
+            continue
+        rows = rows_of(asked.table)
+        left = []
+        for part, edit in edits.get(crate.name, []):
+            name, text = os.path.basename(edit)[: -len(".edit")], text_of(crate, edit)
+            row = rows.get((crate.name, name))
+            if not row or row["text"] != text or row["verdict"] == "bad":
+                left.append(Body(crate, name, part, edit, text))
+        if not left:
+            continue
+        print(f"== {crate.name}: {len(left)} wrong bodies", flush=True)
+        kept = f"{crate.folder}/out/incremental"
+        os.makedirs(kept, exist_ok=True)
+        if any(dep.build_rlib(["--jobs", "1"], anew=False) for dep in crate.below()) or RT.checked(crate, {}, ["--jobs", "1"], kept).returncode:
+            print(f"{crate.name}: IT IS NOT PROVED AS IT STANDS, so none of its wrong bodies was tried", flush=True)
+            loud.append(crate.name)
+            continue
+        with open(f"{room}/said-{crate.name}", "a", encoding="utf-8") as log:
+            for body, said in try_all(crate, left, kept, asked.together, log):
+                row = [crate.name, body.name, body.part, datetime.date.today().isoformat(), commit, body.text, *said, f"{body.seconds:.0f}"]
+                write_row(asked.table, dict(zip(COLUMNS, row)), names)
+                print(f"{crate.name} {body.name}: {' '.join(it for it in said if it)} ({body.seconds:.0f} s)", flush=True)
+                if said[0] in ("PROVED", "bad"):
+                    print(f"{'*' * 20} {said[0]}: {crate.name} {body.name}", flush=True)
+                    loud.append(f"{crate.name}/{body.name}")
+    print(f"{len(loud)} to look at: {' '.join(loud)}" if loud else "none was proved and none was bad")
+    return 1 if loud else 0
+
+
+if __name__ == "__main__":
+    sys.exit(main())
