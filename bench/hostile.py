@@ -1,0 +1,128 @@
+#!/usr/bin/env python3
+"""Runs the program on inputs of hostile size, and checks that each ends as docs/FORMATS.md says, in time and memory in proportion to its bytes.
+
+    hostile.py PROGRAM [WORD..]      the cases whose names have one of the words; all without one
+
+One line a case: bytes read, seconds of the processor, peak memory in MB, and how it ended. The status is 1 where a case ended in another way, took more than
+SECONDS for each million bytes (and one more for all), or more than 1,000 MB.
+"""
+import os
+import resource
+import subprocess
+import sys
+import tempfile
+
+SECONDS = 0.5
+MEMORY = 1000
+
+ROOT = b"root r\noptional r f\n"
+GAME = b"0 1 0 0;\n"
+
+
+def lines(form, numbers):
+    return b"".join(form.replace(b"%d", b"%d" % i) for i in numbers)
+
+
+def name(number, length=8):
+    return b"n%0*d" % (length - 1, number)
+
+
+def cases():
+    """Names with the words, the game, the diagram, the script, and the status and standard error that are expected."""
+    check, run = ["check", "game", "diagram"], ["run", "game", "diagram", "script"]
+    done = (0, b"")
+
+    def told(text):
+        return (1, b"vpgdesk: " + text + b"\n")
+
+    # numbers and names of a megabyte
+    million = 1_000_000
+    yield "identifier of a megabyte of zeros and a 7", check, b"0" * million + b"7 0 0 7;", ROOT, b"", done
+    yield "identifier of a megabyte of nines", check, b"9" * million + b" 0 0 0;", ROOT, b"", told(b"game Syntax 0")
+    yield "priority of a megabyte of nines", check, b"0 " + b"9" * million + b" 0 0;", ROOT, b"", told(b"game PriorityTooLarge 2")
+    yield "owner of a megabyte of zeros", check, b"0 0 " + b"0" * million + b" 0;", ROOT, b"", done
+    yield "header of a megabyte of nines", check, b"parity " + b"9" * million + b";" + GAME, ROOT, b"", done
+    yield "remark of a megabyte", check, b'0 0 0 0 "' + b"x" * million + b'";', ROOT, b"", done
+    yield "remark that never ends", check, b'0 0 0 0 "' + b"x" * million, ROOT, b"", told(b"game Syntax %d" % (9 + million))
+    yield "guard of a megabyte that never ends", check, b"0 0 0 0[" + b"f&" * (million // 2), ROOT, b"", told(b"game Syntax %d" % (8 + million))
+    yield "feature name of a megabyte in a guard", check, b"0 0 0 0[" + b"f" * million + b"];", ROOT, b"", told(b"game Guard 8 UnknownFeature 0")
+    yield "feature name of a megabyte in a diagram", check, GAME, b"root " + b"r" * million, b"", told(b"diagram Syntax 1")
+    yield "range of a megabyte of nines", check, GAME, b"root r\ngroup r 0 " + b"9" * million + b": a b\n", b"", told(b"diagram BadRange 2")
+    yield "serial of four thousand nines", run, GAME, ROOT, b"undo " + b"9" * 4000 + b"\n", told(b"script Line 1 Args")
+    yield "script line of a megabyte", run, GAME, ROOT, b"x" * million, told(b"script Line 1 TooLong")
+
+    # limits, and one past
+    vertices = range(65_536)
+    yield "65,536 vertices in reverse order", check, lines(b"%d 0 0 %d;\n", reversed(vertices)), ROOT, b"", done
+    yield "65,537 vertices", check, b"0 0 0;" * 65_537, ROOT, b"", told(b"game TooMany 393216")
+    yield "a million repeated successors", check, b"0 0 0 " + b",".join([b"0"] * 1_048_576) + b";", ROOT, b"", done
+    yield "one successor more", check, b"0 0 0 " + b",".join([b"0"] * 1_048_577) + b";", ROOT, b"", told(b"game TooMany 2097158")
+    yield "a hundred thousand repeated successors with guards", check, b"0 0 0 " + b",".join([b"0[f]"] * 100_000) + b";", ROOT, b"", done
+    yield "a million repeated successors with guards", check, b"0 0 0 " + b",".join([b"0[f]"] * 1_048_576) + b";", ROOT, b"", done
+    yield "65,536 vertices that name one missing vertex last", check, lines(b"%d 0 0 %d;\n", range(65_535)) + b"65535 0 0 70000;", ROOT, b"", told(b"game MissingVertex 70000")
+    yield "65,536 vertices of which the last is double", check, lines(b"%d 0 0 %d;\n", range(65_535)) + b"0 0 0 0;", ROOT, b"", told(b"game DoubleVertex 0")
+    yield "a quarter of a million edges with guards at the depth limit", check, edges_at_depth(), ROOT, b"", done
+    yield "guard of a million parentheses", check, b"0 0 0 0[" + b"(" * million + b"];", ROOT, b"", told(b"game Guard 8 TooDeep 64")
+    yield "guard of half a million parts", check, b"0 0 0 0[" + b"|".join([b"f"] * 500_000) + b"];", ROOT, b"", done
+
+    # diagrams
+    chain = b"root r\n" + b"".join(b"optional r %s\n" % name(i) for i in range(511))
+    rules = b"".join(b"requires %s %s\n" % (name(i), name(i + 1)) for i in range(510))
+    yield "511 features in a chain of rules", run, GAME, chain + rules, b"select %s\nproducts\nexclude %s\n" % (name(0), name(510)), done
+    many = chain + rules * 32 + b"requires %s %s\n" % (name(0), name(1)) * 64
+    yield "16,384 rules that close in a chain", run, GAME, many, b"".join(b"select %s\nundo\n" % name(0) for _ in range(50)), done
+    yield "one rule more", check, GAME, many + b"requires r r\n", b"", told(b"diagram TooMany %d" % (512 + 16_384 + 1))
+    yield "513 features", check, GAME, chain + b"optional r z\n", b"", told(b"diagram TooMany 513")
+    yield "one group of half a million repeated children", check, GAME, b"root r\nor r: " + b"f " * 500_000, b"", told(b"diagram TwoParents 2")
+    yield "a million blank lines", check, GAME, b"\n" * million, b"", told(b"diagram NoRoot")
+
+    # scripts
+    yield "script of 64 MB of comments", run, GAME, ROOT, (b"# " + b"x" * 1021 + b"\n") * 65_536, done
+    yield "script of 64 MB of blank lines", run, GAME, ROOT, b"\n" * (64 << 20), done
+    yield "script of a hundred thousand decisions undone", run, GAME, ROOT, b"select f\nundo\nforget 1\n" + b"".join(b"select f\nundo\nforget %d\n" % i for i in range(2, 100_001)), done
+    yield "script of a million lines that are refused", run, GAME, ROOT, b"undo 7\n" * million, done
+
+
+def edges_at_depth():
+    """A game of 4,096 vertices with 64 successors each, of which each guard opens 64 times."""
+    guard = b"!" * 64 + b"f"
+    entry = b",".join(b"%d[%s]" % (w, guard) for w in range(64))
+    return b"".join(b"%d 0 0 %s;\n" % (v, entry) for v in range(4_096))
+
+
+def run(program, folder, words):
+    """Status, standard error, seconds of the processor and peak memory of a run."""
+    errors, used = os.path.join(folder, "errors"), os.path.join(folder, "used")
+    # a small program in between, since a child's peak memory counts what its parent had when it began
+    with open(errors, "wb") as err:
+        timed = ["/usr/bin/env", "time", "--quiet", "-f", "%U %S %M", "-o", used, program, *words]
+        status = subprocess.run(timed, stdin=subprocess.DEVNULL, stdout=subprocess.DEVNULL, stderr=err, cwd=folder).returncode
+    with open(errors, "rb") as err, open(used) as figures:
+        user, system, kilobytes = figures.read().split()
+        return status, err.read(), float(user) + float(system), int(kilobytes) / 1024
+
+
+def main():
+    if len(sys.argv) < 2:
+        sys.exit(__doc__)
+    program, picked, bad = os.path.abspath(sys.argv[1]), sys.argv[2:], 0
+    resource.setrlimit(resource.RLIMIT_CPU, (300, 300))
+    with tempfile.TemporaryDirectory() as folder:
+        for title, words, game, diagram, script, expected in cases():
+            if picked and not any(word in title for word in picked):
+                continue
+            for file, text in (("game", game), ("diagram", diagram), ("script", script)):
+                with open(os.path.join(folder, file), "wb") as out:
+                    out.write(text)
+            size = len(game) + len(diagram) + len(script)
+            status, text, seconds, memory = run(program, folder, words)
+            right = (status, text) == expected and seconds <= 1 + SECONDS * size / 1_000_000 and memory <= MEMORY
+            bad += not right
+            end = "as expected" if right else f"NOT AS EXPECTED: status {status}, {text[:120]!r}"
+            print(f"{size:10} bytes {seconds:7.2f} s {memory:6.0f} MB  {title}: {end}", flush=True)
+    print(f"{bad} ended in another way")
+    sys.exit(1 if bad else 0)
+
+
+if __name__ == "__main__":
+    main()
