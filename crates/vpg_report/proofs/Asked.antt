@@ -8,10 +8,10 @@ use Rattle.vpg_trail.specs.Page.{Which, Decision, Entry}
 use Rattle.vpg_desk.specs.Book.{Book, Harvest, Call, Reply, Decide, Order, Commit, Settled, Page, Changed, Ordered, Added, IsSettled, PageIs, Refused, Refusal, IsReply}
 use Rattle.vpg_desk.specs.Desk.{family_of}
 use Rattle.vpg_desk.specs.State.{DeskState, setting_between, setting_of, IsStep, Replies}
-use Rattle.vpg_report.specs.Script as script
-use Rattle.vpg_report.specs.Script.{Request}
+use Rattle.vpg_script.specs.Script as script
+use Rattle.vpg_script.specs.Script.{Request}
 use Rattle.vpg_report.specs.Held.{Held, with_harvest}
-use Rattle.vpg_report.specs.Scene.{Scene}
+use Rattle.vpg_texts.specs.Scene.{Scene}
 use Rattle.vpg_report.specs.Answers.{Own, NoFeature, NoVertex, own_text, refused_line, refusal_text, numbered, settled_text, call_or, vertex_of, first_call, IsSwept, IsLifted, most_sweeps, sweeps_of, Follows, Continues, Begins}
 use Rattle.vpg_report.specs.Run.{answering}
 use Rattle.vpg_report.specs.Engine.{EngineState, scene_at, between_of, deciding, TellsRefusal, AnswersTo}

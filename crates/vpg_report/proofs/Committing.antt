@@ -12,12 +12,12 @@ use Rattle.vpg_trail.specs.Page.{Literal, stands, choices_of}
 use Rattle.vpg_desk.specs.Book.{Harvest, Commit, Added, Refused, Refusal, Outdated, first_missing, outdated_at, refuses_commit}
 use Rattle.vpg_desk.specs.Commit.{IsOrderOf, handed_in}
 use Rattle.vpg_desk.specs.State.{DeskState, IsStep, Replies}
-use Rattle.vpg_report.specs.Script as script
+use Rattle.vpg_script.specs.Script as script
 use Rattle.vpg_report.specs.Held.{harvest_kept, without_harvest}
 use Rattle.vpg_report.specs.Answers.{NoHarvest, own_text, refused_line, call_or, numbered}
 use Rattle.vpg_report.specs.Engine.{EngineState, TellsRefusal, AnswersTo}
 use Rattle.vpg_report.specs.EngineFields.{IsOwnHarvest, AreOwnHarvests, harvests_of}
-use Rattle.vpg_report.specs.Sweeping.{IsOfPage}
+use Rattle.vpg_settle.specs.Sweeping.{IsOfPage}
 use Rattle.vpg_report.proofs.Asked.{unasked, asked, refused}
 use Rattle.vpg_report.proofs.KeptHarvests.{kept_seen}
 

@@ -4,7 +4,7 @@ use Rattle.std.specs.Prelude.{codes, IfSome}
 use Rattle.vpg_guards.specs.Names.{index_of}
 use Rattle.vpg_desk.specs.Book.{Family, Book, Decide, Retract, Changed, Refused, Refusal, Conflict, RefusesDecide, IsReply}
 use Rattle.vpg_desk.specs.State.{IsStep, Replies}
-use Rattle.vpg_report.specs.Script as script
+use Rattle.vpg_script.specs.Script as script
 use Rattle.vpg_report.specs.Held.{after_change}
 use Rattle.vpg_report.specs.Answers.{NoFeature, own_text, refused_line, numbered, call_or, first_call}
 use Rattle.vpg_report.specs.Engine.{EngineState, scene_at, deciding, TellsRefusal, AnswersTo}

@@ -8,13 +8,14 @@ use Rattle.vpg_desk.specs.Book.{Family, Book, Harvest, next, Call, Decide, Retra
 use Rattle.vpg_desk.specs.History.{Event, IsLegalFrom, book_after}
 use Rattle.vpg_desk.specs.Desk.{family_of}
 use Rattle.vpg_desk.specs.Lawful.{IsLawful, HandsIn, AllHandIn}
-use Rattle.vpg_report.specs.Script as script
-use Rattle.vpg_report.specs.Script.{Said, Request, said}
-use Rattle.vpg_report.specs.Output.{Speaks, Answered}
+use Rattle.vpg_script.specs.Script as script
+use Rattle.vpg_script.specs.Script.{Said, Request, said}
+use Rattle.vpg_script.specs.Output.{Speaks, Answered}
 use Rattle.vpg_report.specs.Held.{Held, undo_meant, redo_meant, harvest_kept, after_change, after_undo, after_redo, after_keep, after_forget, with_harvest, without_harvest}
-use Rattle.vpg_report.specs.Scene.{Scene}
+use Rattle.vpg_texts.specs.Scene.{Scene}
 use Rattle.vpg_report.specs.Answers.{Own, NoFeature, NoToken, NoHarvest, NoVertex, vertex_of, call_or, first_call, Rest, Ends, Follows, Asks, TellsSettled, AsksSettled, TellsAdded, Sweeps, Keeps, Lifts, TellsChanged, TellsUndone, TellsRedone, TellsSpent, ShowsPage, TellsEntries, TellsProducts, TellsPlan, TellsPage, Continues, Begins}
 use Rattle.vpg_report.specs.Run.{Between, begun, answering, Asked, asking, AnswersAreHistories}
+use Rattle.vpg_report.specs.Setting.{setting_in}
 
 -- ---- lists of events
 
@@ -112,7 +113,7 @@ module _ (L : Harvest → Type 0) where
 
 module _ (scene : Scene) (held : Held) where
   abbrev L : Harvest → Type 0
-  L = IsLawful (family_of scene.setting)
+  L = IsLawful (family_of (setting_in scene))
 
   module _ (all : AreLawful L held.harvests) where
     sweeps : (label n : ℕ) (reply : Reply) → IsFine L (Sweeps scene held label n reply)
@@ -176,7 +177,7 @@ module _ (scene : Scene) (held : Held) where
 
 module _ (scene : Scene) where
   abbrev family : Family
-  family = family_of scene.setting
+  family = family_of (setting_in scene)
 
   -- the calls of one line, or of several
   record Calls (Asks : Asked → Asked → Type 0) (old : Between) (before : List Event) (new : Between) : Type 0 where

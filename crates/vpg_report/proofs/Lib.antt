@@ -1,14 +1,5 @@
-pub mod Commands
-pub mod LineLemmas
-pub mod ScriptLemmas
-pub mod DeviceLemmas
-pub mod Whole
 pub mod Histories
-pub mod Settled
 pub mod Asked
-pub mod Shown
-pub mod Sweeps
-pub mod Swept
 pub mod Deciding
 pub mod Paged
 pub mod Counted
@@ -19,7 +10,6 @@ pub mod LiftedOnce
 pub mod Committing
 pub mod Enduring
 pub mod Settling
-pub mod Planned
 pub mod Within
 pub mod Replies
 pub mod LeastHarvests

@@ -19,8 +19,8 @@ use Rattle.vpg_desk.specs.Desk.{family_of}
 use Rattle.vpg_desk.specs.Lawful.{harvested}
 use Rattle.vpg_desk.specs.State.{DeskState, setting_between, setting_of, Replies, IsStep}
 use Rattle.vpg_desk.proofs.Lawful.{harvests_are_lawful}
-use Rattle.vpg_report.specs.Script as script
-use Rattle.vpg_report.specs.Scene.{table_in}
+use Rattle.vpg_script.specs.Script as script
+use Rattle.vpg_texts.specs.Scene.{table_in}
 use Rattle.vpg_report.specs.Answers.{IsOf, IsLifted, vertex_of, numbered}
 use Rattle.vpg_report.specs.Engine.{EngineState, scene_at, AnswersTo}
 use Rattle.vpg_report.proofs.Asked.{lifts}

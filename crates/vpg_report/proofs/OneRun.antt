@@ -5,17 +5,18 @@ use Rattle.std.specs.List.{list_all, AllByRecursion}
 use Rattle.std.specs.Str.Lines.{strip_carriage_return}
 use Rattle.std.proofs.lemmas.Bool.{lt-ltb}
 use Rattle.std.proofs.lemmas.List.{length-take}
-use Rattle.vpg_report.specs.Lines.{is_within_line, IsUnended, BeginsTooLong}
-use Rattle.vpg_report.specs.Output.{Machine, Speaks, Answered, NextLine, ReadLines, Wrote, IsEmptyKnown, BeginsFaulty, FaultyKnown, Outcome}
+use Rattle.vpg_script.specs.Lines.{is_within_line, IsUnended, BeginsTooLong}
+use Rattle.vpg_script.specs.Output.{Machine, Speaks, Answered, NextLine, ReadLines, Wrote, IsEmptyKnown, BeginsFaulty, FaultyKnown}
+use Rattle.vpg_report.specs.Output.{Outcome}
 use Rattle.vpg_report.specs.Results.{IsThrough}
 use Rattle.vpg_report.specs.Run.{Between, begun}
 use Rattle.vpg_report.specs.Settling.{settling, SettledRunsAreOne}
-use Rattle.vpg_report.specs.Scene.{Scene}
-use Rattle.vpg_report.specs.Script.{Said, said, said_by, words, longest_line}
-use Rattle.vpg_report.specs.declared.command.LineFault.{LineFault}
-use Rattle.vpg_report.specs.declared.command.LineFault.TheVariants as faults
-use Rattle.vpg_report.specs.declared.run.RunFault.{RunFault}
-use Rattle.vpg_report.specs.declared.run.RunFault.TheVariants as stops
+use Rattle.vpg_texts.specs.Scene.{Scene}
+use Rattle.vpg_script.specs.Script.{Said, said, said_by, words, longest_line}
+use Rattle.vpg_script.specs.declared.command.LineFault.{LineFault}
+use Rattle.vpg_script.specs.declared.command.LineFault.TheVariants as faults
+use Rattle.vpg_report.specs.declared.runs.RunFault.{RunFault}
+use Rattle.vpg_report.specs.declared.runs.RunFault.TheVariants as stops
 use Rattle.vpg_report.proofs.OneText.{lines_one}
 
 -- ---- the first line of a text

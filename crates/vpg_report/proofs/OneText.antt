@@ -16,27 +16,28 @@ use Rattle.vpg_desk.specs.Book.{Family, Book, Harvest, IsSettledPage, raises_of,
 use Rattle.vpg_desk.specs.History.{Event, IsLegalFrom, book_after}
 use Rattle.vpg_desk.specs.Desk.{family_of}
 use Rattle.vpg_desk.specs.Lawful.{harvested}
-use Rattle.vpg_report.specs.Script as script
-use Rattle.vpg_report.specs.Script.{Said, Request, said}
-use Rattle.vpg_report.specs.Output.{Speaks, Answered}
-use Rattle.vpg_report.specs.Plan.{PlansUnder}
-use Rattle.vpg_report.specs.Text.{plan_text, show_text}
+use Rattle.vpg_script.specs.Script as script
+use Rattle.vpg_script.specs.Script.{Said, Request, said}
+use Rattle.vpg_script.specs.Output.{Speaks, Answered}
+use Rattle.vpg_texts.specs.Plan.{PlansUnder}
+use Rattle.vpg_texts.specs.Text.{plan_text, show_text}
 use Rattle.vpg_report.specs.Held.{Held, undo_meant, redo_meant, harvest_kept, after_change, after_undo, after_redo, after_keep, after_forget, with_harvest, without_harvest}
-use Rattle.vpg_report.specs.Scene.{Scene, UnderKnown, IsShown, TellsKnown, table_in}
+use Rattle.vpg_texts.specs.Scene.{Scene, UnderKnown, IsShown, TellsKnown, table_in}
 use Rattle.vpg_report.specs.Answers.{Own, NoFeature, NoToken, NoHarvest, NoVertex, Checks, IsOf, IsLifted, IsPlanAnswer, vertex_of, call_or, first_call, Rest, Ends, Follows, Asks, TellsSettled, AsksSettled, TellsAdded, Sweeps, Keeps, Lifts, TellsChanged, TellsUndone, TellsRedone, TellsSpent, ShowsPage, TellsEntries, TellsProducts, TellsPlan, TellsPage, Continues, Begins}
 use Rattle.vpg_report.specs.Run.{Between, begun}
 use Rattle.vpg_report.specs.Settling.{settling, AreSettled, AreChecked, SettledAnswersAreOne}
-use Rattle.vpg_report.proofs.Planned.{known_is_one}
+use Rattle.vpg_texts.proofs.Planned.{known_is_one}
 use Rattle.vpg_report.proofs.Replies.{reply_one}
 use Rattle.vpg_report.proofs.LeastHarvests.{same_harvests, checked_are_one, settling_are_one}
 use Rattle.vpg_report.proofs.Settling.{none_missing}
+use Rattle.vpg_report.specs.Setting.{setting_in}
 
 -- ---- texts of a page
 
 module _ (scene : Scene) (decisions : List Decision) where
   under_one : {X : Type 0} (P Q : List Tri → Type 0) → ((known : List Tri) → P known → Q known → X) → UnderKnown scene decisions P → UnderKnown scene decisions Q → X
   under_one P Q k a b =
-      k a.0 a.1.1 (subst Q (known_is_one scene.setting.lines (map literal_of decisions) b.0 a.0 b.1.0 a.1.0) b.1.1)
+      k a.0 a.1.1 (subst Q (known_is_one scene.lines (map literal_of decisions) b.0 a.0 b.1.0 a.1.0) b.1.1)
 
   shown_one : (hopeful dual one other : List ℕ) → IsShown scene decisions hopeful dual one → IsShown scene decisions hopeful dual other → one ≡ other
   shown_one hopeful dual one other =
@@ -53,7 +54,7 @@ module _ (scene : Scene) (decisions : List Decision) where
     where
       same : (v : ℕ) (d : Option ℕ) → v < length a.chosen → get_or a.chosen v d ≡ get_or b.chosen v d
       same v d l =
-          let within : v < length (arena_for (kleene known) Hopeful scene.setting.game) = subst (λ (n : ℕ). v < n) a.chosen_are.0 l in
+          let within : v < length (arena_for (kleene known) Hopeful scene.game) = subst (λ (n : ℕ). v < n) a.chosen_are.0 l in
           get_or_from_slice_get a.chosen v _ d (a.chosen_are.1 v within) ∙ sym (get_or_from_slice_get b.chosen v _ d (b.chosen_are.1 v within))
 
   planned_one : (hopeful dual one other : List ℕ) → IsPlanAnswer scene decisions hopeful dual one → IsPlanAnswer scene decisions hopeful dual other → one ≡ other
@@ -71,15 +72,15 @@ module _ (scene : Scene) (decisions : List Decision) where
 
 module _ (scene : Scene) (decisions : List Decision) (hopeful dual : List ℕ) where
   abbrev family : Family
-  family = family_of scene.setting
+  family = family_of (setting_in scene)
 
-  lifted_one : (table : Which) (v : ℕ) (one other : Harvest) → IsLifted scene.setting table v decisions hopeful dual one → IsLifted scene.setting table v decisions hopeful dual other → one ≡ other
+  lifted_one : (table : Which) (v : ℕ) (one other : Harvest) → IsLifted (setting_in scene) table v decisions hopeful dual one → IsLifted (setting_in scene) table v decisions hopeful dual other → one ≡ other
   lifted_one table v one other a b = same_harvests family decisions hopeful dual one other a.of_order b.of_order (both table lifted (a.other_stays ∙ sym b.other_stays))
     where
       lifted : harvested one table ≡ harvested other table
       lifted = a.lifted
-          ∙ ap (λ (known : List Tri). raised (levels_for table scene.setting.game) (arena_for (kleene known) table scene.setting.game) (table_in hopeful dual table) v)
-          (known_is_one scene.setting.lines (map literal_of decisions) a.known b.known a.known_is b.known_is) ∙ sym b.lifted
+          ∙ ap (λ (known : List Tri). raised (levels_for table scene.game) (arena_for (kleene known) table scene.game) (table_in hopeful dual table) v)
+          (known_is_one scene.lines (map literal_of decisions) a.known b.known a.known_is b.known_is) ∙ sym b.lifted
 
       both : (t : Which) → harvested one t ≡ harvested other t → harvested one (other_table t) ≡ harvested other (other_table t) → (which : Which) → harvested one which ≡ harvested other which
       both Hopeful first second Hopeful = first
@@ -91,7 +92,7 @@ module _ (scene : Scene) (decisions : List Decision) (hopeful dual : List ℕ) w
 
 module _ (scene : Scene) (held : Held) where
   abbrev all : Family
-  all = family_of scene.setting
+  all = family_of (setting_in scene)
 
   -- what the machine asks of calls
   record Fits (book : Book) (calls : List Event) (new : Held) : Type 0 where
@@ -262,7 +263,7 @@ module _ (scene : Scene) (held : Held) where
     lifted : (label : ℕ) (table : Which) (identifier : ℕ) → IsOne book (Lifts scene held label table identifier (Ordered decisions hopeful dual))
     lifted label table identifier calls more text other new newer a b fit fits =
         let here : b.0 ≡ a.0 = cc (a.2, b.2) in
-        let same : b.1 ≡ a.1 = lifted_one scene decisions hopeful dual table a.0 b.1 a.1 (subst (λ (v : ℕ). IsLifted scene.setting table v decisions hopeful dual b.1) here b.3) a.3 in
+        let same : b.1 ≡ a.1 = lifted_one scene decisions hopeful dual table a.0 b.1 a.1 (subst (λ (v : ℕ). IsLifted (setting_in scene) table v decisions hopeful dual b.1) here b.3) a.3 in
         asks book label (Commit a.1) (TellsAdded held) (λ reply told. tells_added (next all book label (Commit a.1) reply) held reply) calls more text other new newer a.4
         (subst (λ (m : Harvest). Asks scene held label (Commit m) (TellsAdded held) more other newer) same b.4) fit fits
 
@@ -317,7 +318,7 @@ module _ (scene : Scene) where
       let one : (a.0 ≡ b.0) × (text ≡ other) × (new.held ≡ newer.held) =
       serves scene old.held old.book request.label request.command a.0 b.0 text other new.held newer.held a.1.0 b.1.0
       (record { legal = a.1.1; settled = a.1.3; checked = a.1.4 }) (record { legal = b.1.1; settled = b.1.3; checked = b.1.4 }) in
-      let book : new.book ≡ newer.book = a.1.2 ∙ ap (λ (es : List Event). book_after (family_of scene.setting) old.book es) one.0 ∙ sym b.1.2 in
+      let book : new.book ≡ newer.book = a.1.2 ∙ ap (λ (es : List Event). book_after (family_of (setting_in scene)) old.book es) one.0 ∙ sym b.1.2 in
       (one.1, λ i. record { book = book i; held = one.2 i })
   line_one old (Err fault) text other new newer a b = absurd a
 

@@ -21,11 +21,11 @@ use Rattle.vpg_desk.specs.Setting.{IsSetting}
 use Rattle.vpg_desk.specs.State.{DeskState, setting_of, IsReached, Replies}
 use Rattle.vpg_desk.proofs.Deciding.{choices_inside}
 use Rattle.vpg_desk.proofs.Reaching.{reached_well_formed}
-use Rattle.vpg_report.specs.Script as script
-use Rattle.vpg_report.specs.Plan.{IsPlanned, IsPlanFault}
-use Rattle.vpg_report.specs.declared.showing.plans.PlanFault.TheVariants.{NotFull, NotSettled}
-use Rattle.vpg_report.specs.Scene.{EntryIsWithin, IsShown, TellsKnown, scene_of}
-use Rattle.vpg_report.specs.Text.{trail_text}
+use Rattle.vpg_script.specs.Script as script
+use Rattle.vpg_texts.specs.Plan.{IsPlanned, IsPlanFault}
+use Rattle.vpg_texts.specs.declared.showing.plans.PlanFault.TheVariants.{NotFull, NotSettled}
+use Rattle.vpg_texts.specs.Scene.{EntryIsWithin, IsShown, TellsKnown, scene_of}
+use Rattle.vpg_texts.specs.Text.{trail_text}
 use Rattle.vpg_report.specs.Answers.{IsPlanAnswer, refused_line}
 use Rattle.vpg_report.specs.Engine.{EngineState, AnswersTo}
 use Rattle.vpg_report.proofs.Asked.{page_told}

@@ -1,6 +1,6 @@
 -- A harvest that sweeps made, as the book sees it.
-use Rattle.std.proofs.Common.{◌≡◌, ℕ, ◌+◌, ◌<◌, ◌≤◌, List, [], ◌++◌, ◌∷◌, Option, Some, None, length, refl, sym, ap, ◌∙◌, inl, inr, arith, subst, Bool, true, false, eq-eqb}
-use Rattle.std.specs.Prelude.{codes, sum, unwrap_or, if◌then◌else◌, ◌⊎◌, ◌||◌, ◌&&◌, ◌==◌, map, IfSome}
+use Rattle.std.proofs.Common.{◌≡◌, ℕ, ◌+◌, ◌<◌, List, [], ◌++◌, ◌∷◌, Option, Some, None, length, refl, sym, ap, ◌∙◌, inl, inr, arith, subst, Bool, true, false, eq-eqb}
+use Rattle.std.specs.Prelude.{codes, unwrap_or, if◌then◌else◌, ◌⊎◌, ◌||◌, ◌&&◌, ◌==◌, map, IfSome}
 use Rattle.std.specs.Bool.{Decides, beq}
 use Rattle.std.proofs.lemmas.Bool.{or_right}
 use Rattle.vpg_guards.specs.Known.{kleene}
@@ -23,7 +23,7 @@ use Rattle.vpg_desk.specs.Lawful.{harvested}
 use Rattle.vpg_desk.proofs.Lawful.{harvests_are_lawful}
 use Rattle.vpg_desk.proofs.Deciding.{setting_stands, known_is_consistent}
 use Rattle.vpg_desk.specs.State.{DeskState, setting_between, setting_of, Replies, IsStep}
-use Rattle.vpg_report.specs.Script as script
+use Rattle.vpg_script.specs.Script as script
 use Rattle.vpg_report.specs.Held.{with_harvest}
 use Rattle.vpg_report.specs.Engine.{EngineState, AnswersTo}
 use Rattle.vpg_report.proofs.Asked.{settles, keeps}
@@ -32,8 +32,8 @@ use Rattle.vpg_desk.specs.declared.fault.CommitFault.{CommitFault}
 use Rattle.vpg_desk.specs.declared.fault.CommitFault.TheVariants.{OtherGame, Outdated, Memory}
 use Rattle.vpg_trail.specs.Page.{Literal, Decision, same_literal, stands, decisions_of, choices_of}
 use Rattle.vpg_report.specs.Answers.{IsSwept, Checks, most_sweeps, sweeps_of, numbered, settled_text}
-use Rattle.vpg_report.specs.Sweeping.{IsSweptOrder}
-use Rattle.vpg_report.proofs.Swept.{progress_moves}
+use Rattle.vpg_settle.specs.Sweeping.{IsSweptOrder}
+use Rattle.vpg_settle.proofs.Repeated.{progress_moves}
 
 -- an order's game and diagram are a setting
 pub order_setting : (order : OrderView) → IsOrder order → IsSetting (setting_between order.game order.diagram)

@@ -1,10 +1,10 @@
 -- The entries of a desk's pages are of the diagram's features and the game's vertices.
 use Rattle.std.proofs.Common.{◌≡◌, ℕ, zero, suc, ◌<◌, ◌≤◌, ◌⊎◌, inl, inr, max, Bool, true, false, ◌&&◌, ◌||◌, ◌==◌, List, [], ◌∷◌, ◌++◌, length, get_or, All, IsTrue, refl, sym, ap, ◌∙◌, subst, arith, append_assoc, eq-eqb}
-use Rattle.std.specs.Prelude.{if◌then◌else◌, map}
+use Rattle.std.specs.Prelude.{if◌then◌else◌}
 use Rattle.std.specs.Bool.{beq}
 use Rattle.std.specs.List.{AllByRecursion}
 use Rattle.std.proofs.lemmas.Bool.{cases_lt}
-use Rattle.std.proofs.lemmas.List.{get_or_past, get_or-map, length-map}
+use Rattle.std.proofs.lemmas.List.{get_or_past}
 use Rattle.vpg_guards.specs.Formula.{Formula}
 use Rattle.vpg_guards.specs.Known.{kleene}
 use Rattle.vpg_guards.specs.declared.tri.Tri.{Tri}
@@ -13,15 +13,13 @@ use Rattle.vpg_partial.specs.TableLaws.{IsKnownTable, AreChoicesOf}
 use Rattle.vpg_measure.specs.TwoGames.{IsProgressOf}
 use Rattle.vpg_measure.proofs.TwoGames.{arena_length, tops, tops_progress}
 use Rattle.vpg_trail.specs.Page.{Which, Hopeful, Dual, Literal, Lift, Entry, Decided, Lifted, literal_of, choices_of, value_at, same_table, same_literal, stands}
-use Rattle.vpg_trail.specs.Shown.{entry_of}
-use Rattle.vpg_trail.specs.declared.entry.Entry.{Entry as Item}
 use Rattle.vpg_trail.specs.WellFormed.{StandsAfter, IsWellFormed, IsWellFormedAfter}
 use Rattle.vpg_trail.proofs.PageLemmas.{choices_of-append, value_at-append, same_literal-true}
 use Rattle.vpg_desk.specs.Headline.{Tells}
 use Rattle.vpg_desk.specs.Setting.{Setting, IsSetting}
 use Rattle.vpg_desk.proofs.Deciding.{choices_inside}
 use Rattle.vpg_desk.proofs.Sound.{sound_of}
-use Rattle.vpg_report.specs.Scene.{EntryIsWithin}
+use Rattle.vpg_texts.specs.Scene.{EntryIsWithin}
 
 -- ---- features
 
@@ -114,10 +112,3 @@ module _ (setting : Setting) (is_setting : IsSetting setting) (page : List Entry
 
   pub entries_within : IsWellFormed page → All (EntryIsWithin (feature_count setting.lines) (length setting.game)) page
   entries_within formed = within_after [] page refl formed
-
--- ---- reading an entry of the code
-
-pub read_within : (features vertices : ℕ) (entries : List Item) (i : ℕ) (x : Item) → All (EntryIsWithin features vertices) (map entry_of entries) → i < length entries →
-    x ≡ get_or entries i x → EntryIsWithin features vertices (entry_of x)
-read_within features vertices entries i x all l is =
-    subst (EntryIsWithin features vertices) (get_or-map entry_of entries i x (entry_of x) l ∙ ap entry_of (sym is)) (all i (entry_of x) (subst (λ n. i < n) (sym (length-map entries entry_of)) l))

@@ -14,12 +14,13 @@ use Rattle.vpg_desk.specs.Lawful.{IsLawful, harvested}
 use Rattle.vpg_desk.specs.Setting.{Setting}
 use Rattle.vpg_desk.specs.Desk.{family_of}
 use Rattle.vpg_report.specs.Held.{Held, undo_meant, redo_meant, harvest_kept, after_change, after_undo, after_redo, after_keep, after_forget, with_harvest, without_harvest}
-use Rattle.vpg_report.specs.Script as script
-use Rattle.vpg_report.specs.Script.{Request}
-use Rattle.vpg_report.specs.Plan.{IsPlanned, IsPlanFault}
-use Rattle.vpg_report.specs.declared.showing.plans.PlanFault.TheVariants.{NotFull, NotSettled}
-use Rattle.vpg_report.specs.Text.{blank_number, blank_name, trail_text}
-use Rattle.vpg_report.specs.Scene.{Scene, table_in, IsShown, TellsKnown}
+use Rattle.vpg_script.specs.Script as script
+use Rattle.vpg_script.specs.Script.{Request}
+use Rattle.vpg_texts.specs.Plan.{IsPlanned, IsPlanFault}
+use Rattle.vpg_texts.specs.declared.showing.plans.PlanFault.TheVariants.{NotFull, NotSettled}
+use Rattle.vpg_texts.specs.Text.{blank_number, blank_name, trail_text}
+use Rattle.vpg_texts.specs.Scene.{Scene, table_in, IsShown, TellsKnown}
+use Rattle.vpg_report.specs.Setting.{setting_in}
 
 -- ---- the texts of replies
 
@@ -165,20 +166,20 @@ TellsAdded held _ calls text new = ⊥
 -- an order is swept, and what was made is committed
 abbrev pub Sweeps : Scene → Held → ℕ → ℕ → Reply → Rest
 Sweeps scene held label sweeps (Ordered decisions hopeful dual) calls text new =
-    (made : Harvest) × IsSwept (family_of scene.setting) sweeps decisions hopeful dual made × Asks scene held label (Commit made) (AsksSettled scene held label) calls text new
+    (made : Harvest) × IsSwept (family_of (setting_in scene)) sweeps decisions hopeful dual made × Asks scene held label (Commit made) (AsksSettled scene held label) calls text new
 Sweeps scene held label sweeps _ calls text new = ⊥
 
 -- an order is swept, and what was made is kept
 abbrev pub Keeps : Scene → Held → Reply → Rest
 Keeps scene held (Ordered decisions hopeful dual) calls text new =
-    (made : Harvest) × IsSwept (family_of scene.setting) most_sweeps decisions hopeful dual made
+    (made : Harvest) × IsSwept (family_of (setting_in scene)) most_sweeps decisions hopeful dual made
     × Ends (numbered (codes "harvest") (length held.harvests + 1)) (with_harvest held made) calls text new
 Keeps scene held _ calls text new = ⊥
 
 -- a vertex of an order is lifted, and what was made is committed
 abbrev pub Lifts : Scene → Held → ℕ → Which → ℕ → Reply → Rest
 Lifts scene held label table identifier (Ordered decisions hopeful dual) calls text new =
-    (v : ℕ) × (made : Harvest) × (vertex_of scene identifier ≡ Some v) × IsLifted scene.setting table v decisions hopeful dual made
+    (v : ℕ) × (made : Harvest) × (vertex_of scene identifier ≡ Some v) × IsLifted (setting_in scene) table v decisions hopeful dual made
     × Asks scene held label (Commit made) (TellsAdded held) calls text new
 Lifts scene held label table identifier _ calls text new = ⊥
 
@@ -202,7 +203,7 @@ TellsSpent answer held _ calls text new = ⊥
 -- ---- texts of a page
 
 abbrev pub ShowsPage : Scene → List Entry → List ℕ → Type 0
-ShowsPage scene page text = IsShown scene (decisions_of page) (table_of Hopeful page (length scene.setting.game)) (table_of Dual page (length scene.setting.game)) text
+ShowsPage scene page text = IsShown scene (decisions_of page) (table_of Hopeful page (length scene.game)) (table_of Dual page (length scene.game)) text
 
 abbrev pub TellsEntries : Scene → List Entry → List ℕ → Type 0
 TellsEntries scene page text = text ≡ trail_text scene.names scene.identifiers page
@@ -218,7 +219,7 @@ IsPlanAnswer scene decisions hopeful dual text =
     ⊎ (IsPlanFault scene decisions hopeful dual NotSettled × (text ≡ refused_line (codes "NotSettled")))
 
 abbrev pub TellsPlan : Scene → List Entry → List ℕ → Type 0
-TellsPlan scene page text = IsPlanAnswer scene (decisions_of page) (table_of Hopeful page (length scene.setting.game)) (table_of Dual page (length scene.setting.game)) text
+TellsPlan scene page text = IsPlanAnswer scene (decisions_of page) (table_of Hopeful page (length scene.game)) (table_of Dual page (length scene.game)) text
 
 -- one of these is told of the page
 abbrev pub TellsPage : (List Entry → List ℕ → Type 0) → Held → Reply → Rest

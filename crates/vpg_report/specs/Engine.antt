@@ -10,9 +10,9 @@ use Rattle.vpg_desk.specs.declared.fault.OpenFault.TheVariants.{AtLimit, Conflic
 use Rattle.vpg_report.specs.Answers.{refused_line, refusal_text}
 use Rattle.vpg_report.specs.Held.{Held, nothing_held}
 use Rattle.vpg_report.specs.Run.{Between, answering}
-use Rattle.vpg_report.specs.Scene.{Scene, scene_of}
-use Rattle.vpg_report.specs.Script as script
-use Rattle.vpg_report.specs.Script.{Request}
+use Rattle.vpg_texts.specs.Scene.{Scene, scene_of}
+use Rattle.vpg_script.specs.Script as script
+use Rattle.vpg_script.specs.Script.{Request}
 
 -- a desk, and what is held beside it
 pub record EngineState : Type 0 where

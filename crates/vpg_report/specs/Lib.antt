@@ -1,16 +1,9 @@
 pub mod Answers
-pub mod Devices
 pub mod Engine
 pub mod EngineFields
 pub mod Held
-pub mod Lines
 pub mod Output
-pub mod Plan
 pub mod Results
 pub mod Run
-pub mod Scene
-pub mod Script
+pub mod Setting
 pub mod Settling
-pub mod Sweeping
-pub mod Text
-pub mod View

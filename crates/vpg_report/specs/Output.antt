@@ -1,100 +1,25 @@
--- What is written for what is read.
-use Rattle.std.specs.Prelude.{◌≡◌, ℕ, ◌+◌, ◌-◌, ◌*◌, ◌⊎◌, List, [], ◌∷◌, ◌++◌, length, Option, Some, None, Result, Ok, Err, ⊤}
-use Rattle.std.specs.Io.KnownBytes.{Appends, prepend_known}
-use Rattle.std.specs.Str.Lines.{lines}
-use Rattle.vpg_report.specs.Devices.{AppendsSome}
-use Rattle.vpg_report.specs.Script.{Request, Said, said}
-use Rattle.vpg_report.specs.Lines.{IsUnended, IsEnded, IsLast, BeginsTooLong}
-use Rattle.vpg_report.specs.declared.lines.Next.{Next}
-use Rattle.vpg_report.specs.declared.lines.Next.TheVariants as next
-use Rattle.vpg_report.specs.declared.command.LineFault.{LineFault}
+-- What is written for what is read, by a run.
+use Rattle.std.specs.Prelude.{◌≡◌, ℕ, List, Option, Result, Ok, Err}
 use Rattle.vpg_desk.specs.declared.fault.OpenFault.{OpenFault}
-use Rattle.vpg_report.specs.declared.run.RunFault.{RunFault}
-use Rattle.vpg_report.specs.declared.run.RunFault.TheVariants as stops
-use Rattle.vpg_report.specs.declared.command.LineFault.TheVariants as faults
+use Rattle.vpg_script.specs.Output.{Machine, ScriptOutcome}
+use Rattle.vpg_script.specs.declared.serving.ScriptFault.{ScriptFault}
+use Rattle.vpg_script.specs.declared.serving.ScriptFault.TheVariants as ends
+use Rattle.vpg_report.specs.declared.runs.RunFault.{RunFault}
+use Rattle.vpg_report.specs.declared.runs.RunFault.TheVariants as stops
 
--- what a machine does with requests: from a state, with this answer, to a state
-abbrev pub Machine : Type 0 → Type 1
-Machine S = S → Request → List ℕ → S → Type 0
+-- how a run ends that opened a desk, and carried its script out to this end
+abbrev pub ended : Result (Unit {0}) ScriptFault → Result (Unit {0}) RunFault
+ended (Ok done) = Ok done
+ended (Err (ends.Line n fault)) = Err (stops.Line n fault)
+ended (Err ends.Read) = Err stops.Read
+ended (Err ends.Write) = Err stops.Write
+ended (Err ends.Memory) = Err stops.Memory
 
--- with what a line says
-abbrev pub Speaks : {S : Type 0} → Machine S → S → Said → List ℕ → S → Type 0
-Speaks serves s (Ok None) text new = (text ≡ []) × (new ≡ s)
-Speaks serves s (Ok (Some request)) text new = serves s request text new
-Speaks serves s (Err fault) text new = ⊥
-
--- with one line after another, none of which has a fault
-abbrev pub Answered : {S : Type 0} → Machine S → S → List (List ℕ) → List ℕ → S → Type 0
-Answered serves s [] text new = (text ≡ []) × (new ≡ s)
-Answered {S} serves s (line ∷ lines) text new =
-    (mid : S) × (one : List ℕ) × (more : List ℕ) × (Speaks serves s (said line) one mid) × (text ≡ one ++ more) × (Answered serves mid lines more new)
-
-abbrev pub NextLine : List ℕ → List ℕ → List ℕ → Type 0
-NextLine text line rest = IsEnded text line rest ⊎ IsLast text line rest
-
--- the text is these lines, and then the rest
-abbrev pub ReadLines : List ℕ → List (List ℕ) → List ℕ → Type 0
-ReadLines text [] rest = text ≡ rest
-ReadLines text (line ∷ lines) rest = (more : List ℕ) × NextLine text line more × ReadLines more lines rest
-
--- the same, where the bytes are known
-abbrev pub ReadKnown : Option (List ℕ) → List (List ℕ) → Option (List ℕ) → Type 0
-ReadKnown None lines rest = ⊤
-ReadKnown (Some text) lines None = ⊥
-ReadKnown (Some text) lines (Some rest) = ReadLines text lines rest
-
--- lines were read, and their answers were written
-pub record Wrote {S : Type 0} (serves : Machine S) (old new : S) (input rest : Option (List ℕ)) (before after : Option (List ℕ)) (lines : List (List ℕ)) : Type 0 where
-  pub text : List ℕ
-  pub read : ReadKnown input lines rest
-  pub answered : Answered serves old lines text new
-  pub written : Appends before after text
-
--- this line comes next
-abbrev pub NextKnown : Option (List ℕ) → List ℕ → Type 0
-NextKnown None line = ⊤
-NextKnown (Some rest) line = (more : List ℕ) × NextLine rest line more
-
--- the rest has nothing, or it begins with a line with this fault
-abbrev pub IsEmptyKnown : Option (List ℕ) → Type 0
-IsEmptyKnown None = ⊤
-IsEmptyKnown (Some rest) = rest ≡ []
-
-abbrev pub BeginsFaulty : LineFault → List ℕ → Type 0
-BeginsFaulty fault rest = ((line more : List ℕ) × (NextLine rest line more × (said line ≡ Err fault))) ⊎ ((fault ≡ faults.TooLong) × BeginsTooLong rest)
-
-abbrev pub FaultyKnown : LineFault → Option (List ℕ) → Type 0
-FaultyKnown fault None = ⊤
-FaultyKnown fault (Some rest) = BeginsFaulty fault rest
-
--- how many more lines there can be: by the reads that are left, and what is held
-abbrev pub lines_left : ℕ → ℕ → ℕ
-lines_left reads held = (16777216 - reads) * 8193 + held
-
-abbrev pub IsLine : Next → Type 0
-IsLine (next.Line line) = ⊤
-IsLine next.End = ⊥
-IsLine next.TooLong = ⊥
-
--- what a run's result says of what was read and written; a refused opening comes before any line
+-- what a run's result says of what was read and written: what its script's does; a refused opening comes before any line
 abbrev pub Outcome : {S : Type 0} → Machine S → (OpenFault → Type 0) → S → Option (List ℕ) → Option (List ℕ) → Option (List ℕ) → Option (List ℕ) → Result (Unit {0}) RunFault → Type 0
--- all lines were answered
-Outcome {S} serves Refuses old input left before after (Ok done) =
-    (lines : List (List ℕ)) × (new : S) × (rest : Option (List ℕ)) × (Wrote serves old new input rest before after lines × IsEmptyKnown rest)
--- the lines before it were, and line n has the fault
-Outcome {S} serves Refuses old input left before after (Err (stops.Line n fault)) =
-    (lines : List (List ℕ)) × (new : S) × (rest : Option (List ℕ)) × (Wrote serves old new input rest before after lines × FaultyKnown fault rest × (n ≡ length lines + 1))
--- all lines with their ends that were read were answered; what was read behind them is a line without its end
-Outcome {S} serves Refuses old input left before after (Err stops.Read) =
-    (lines : List (List ℕ)) × (new : S) × (held : List ℕ) × (Wrote serves old new input (prepend_known held left) before after lines × IsUnended held)
--- some first lines were answered; where a write failed, a front of the answer to the line after them was written
-Outcome {S} serves Refuses old input left before after (Err stops.Memory) =
-    (lines : List (List ℕ)) × (new : S) × (rest : Option (List ℕ)) × Wrote serves old new input rest before after lines
-Outcome {S} serves Refuses old input left before after (Err stops.Write) =
-    (lines : List (List ℕ)) × (new : S) × (rest : Option (List ℕ)) × (mid : Option (List ℕ)) × (text : List ℕ)
-    × (Wrote serves old new input rest before mid lines × (last : S) × (line : List ℕ) × (NextKnown rest line × Speaks serves new (said line) text last × AppendsSome mid after text))
+Outcome {S} serves Refuses old input left before after (Ok done) = ScriptOutcome serves old input left before after (Ok done)
+Outcome {S} serves Refuses old input left before after (Err (stops.Line n fault)) = ScriptOutcome serves old input left before after (Err (ends.Line n fault))
+Outcome {S} serves Refuses old input left before after (Err stops.Read) = ScriptOutcome serves old input left before after (Err ends.Read)
+Outcome {S} serves Refuses old input left before after (Err stops.Write) = ScriptOutcome serves old input left before after (Err ends.Write)
+Outcome {S} serves Refuses old input left before after (Err stops.Memory) = ScriptOutcome serves old input left before after (Err ends.Memory)
 Outcome {S} serves Refuses old input left before after (Err (stops.Open fault)) = Refuses fault × (left ≡ input) × (after ≡ before)
-
--- Lines that were read one by one, and the lines of the rest, are the lines of the text.
-abbrev pub ReadIsWhole : Type 0
-ReadIsWhole = (text : List ℕ) (before : List (List ℕ)) (rest : List ℕ) → ReadLines text before rest → lines text ≡ before ++ lines rest

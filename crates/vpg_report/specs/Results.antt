@@ -1,11 +1,7 @@
 -- What the result of a run says.
 use Rattle.std.specs.Prelude.{Result, Ok, Err, ⊤}
-use Rattle.vpg_report.specs.declared.run.RunFault.{RunFault}
-use Rattle.vpg_report.specs.declared.run.RunFault.TheVariants as stops
-use Rattle.vpg_report.specs.declared.lines.NextFault.{NextFault}
-use Rattle.vpg_report.specs.declared.lines.NextFault.TheVariants as nexts
-use Rattle.vpg_report.specs.declared.serving.LineStop.{LineStop}
-use Rattle.vpg_report.specs.declared.serving.LineStop.TheVariants as ends
+use Rattle.vpg_report.specs.declared.runs.RunFault.{RunFault}
+use Rattle.vpg_report.specs.declared.runs.RunFault.TheVariants as stops
 
 -- This holds of a run that opened a desk: of each but one that ends in Open, or in Memory, which may have come before.
 abbrev pub Opens : Result (Unit {0}) RunFault → Type 0 → Type 0
@@ -28,12 +24,3 @@ UnlessRead result P = P
 abbrev pub UnlessWrite : Result (Unit {0}) RunFault → Type 0 → Type 0
 UnlessWrite (Err stops.Write) P = ⊤
 UnlessWrite result P = P
-
--- The same of one more piece of a script, and of one line.
-abbrev pub UnlessUnread : {A : Type 0} → Result A NextFault → Type 0 → Type 0
-UnlessUnread (Err nexts.Read) P = ⊤
-UnlessUnread result P = P
-
-abbrev pub UnlessUnwritten : Result (Unit {0}) LineStop → Type 0 → Type 0
-UnlessUnwritten (Err ends.Write) P = ⊤
-UnlessUnwritten result P = P

@@ -5,9 +5,10 @@ use Rattle.vpg_desk.specs.History.{Event, IsLegalFrom, book_after}
 use Rattle.vpg_desk.specs.Desk.{family_of}
 use Rattle.vpg_desk.specs.State.{IsHistoryOf}
 use Rattle.vpg_report.specs.Held.{Held, nothing_held}
-use Rattle.vpg_report.specs.Output.{Machine, Answered}
-use Rattle.vpg_report.specs.Scene.{Scene}
+use Rattle.vpg_script.specs.Output.{Machine, Answered}
+use Rattle.vpg_texts.specs.Scene.{Scene}
 use Rattle.vpg_report.specs.Answers.{Serves}
+use Rattle.vpg_report.specs.Setting.{setting_in}
 
 -- between two lines: the book of the desk, and what the engine holds
 pub record Between : Type 0 where
@@ -21,7 +22,7 @@ begun = record { book = opened; held = nothing_held }
 -- A request makes calls, each with the reply that the book gives at that point, is answered with this text, and leaves the book after them.
 abbrev pub answering : Scene → Machine Between
 answering scene old request text new =
-    (calls : List Event) × (Serves scene old.held request calls text new.held × IsLegalFrom (family_of scene.setting) old.book calls × (new.book ≡ book_after (family_of scene.setting) old.book calls))
+    (calls : List Event) × (Serves scene old.held request calls text new.held × IsLegalFrom (family_of (setting_in scene)) old.book calls × (new.book ≡ book_after (family_of (setting_in scene)) old.book calls))
 
 -- the calls so far, and what the engine holds
 pub record Asked : Type 0 where
@@ -39,4 +40,4 @@ asking scene old request text new = (calls : List Event) × (Serves scene old.he
 -- handed, which are exactly the calls of these lines in their order, and which leaves the book.
 abbrev pub AnswersAreHistories : Type 0
 AnswersAreHistories = (scene : Scene) (lines : List (List ℕ)) (text : List ℕ) (new : Between) → Answered (answering scene) begun lines text new →
-    (history : List Event) × (IsHistoryOf scene.setting new.book history × Answered (asking scene) unasked lines text (record { calls = history; held = new.held }))
+    (history : List Event) × (IsHistoryOf (setting_in scene) new.book history × Answered (asking scene) unasked lines text (record { calls = history; held = new.held }))

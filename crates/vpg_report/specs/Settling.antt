@@ -6,11 +6,13 @@ use Rattle.vpg_desk.specs.History.{Event, IsLegalFrom, book_after}
 use Rattle.vpg_desk.specs.Desk.{family_of}
 use Rattle.vpg_report.specs.Answers.{Serves, Checks}
 use Rattle.vpg_report.specs.Held.{Held}
-use Rattle.vpg_report.specs.Output.{Machine, Answered, Outcome}
+use Rattle.vpg_script.specs.Output.{Machine, Answered}
+use Rattle.vpg_report.specs.Output.{Outcome}
 use Rattle.vpg_report.specs.Results.{IsThrough}
 use Rattle.vpg_report.specs.Run.{Between, begun}
-use Rattle.vpg_report.specs.Scene.{Scene}
-use Rattle.vpg_report.specs.declared.run.RunFault.{RunFault}
+use Rattle.vpg_texts.specs.Scene.{Scene}
+use Rattle.vpg_report.specs.declared.runs.RunFault.{RunFault}
+use Rattle.vpg_report.specs.Setting.{setting_in}
 
 -- no page is told to be unsettled
 abbrev pub AreSettled : List Event → Type 0
@@ -18,12 +20,12 @@ AreSettled calls = AllByRecursion (λ e. e.reply ≢ IsSettled false) calls
 
 -- each harvest that is held passes `check`
 abbrev pub AreChecked : Scene → Held → Type 0
-AreChecked scene held = AllByRecursion (λ h. IfSome h (Checks (family_of scene.setting))) held.harvests
+AreChecked scene held = AllByRecursion (λ h. IfSome h (Checks (family_of (setting_in scene)))) held.harvests
 
 -- It answers, and so far each settle was answered `settled`, and each harvest that a line keeps passes `check`.
 abbrev pub settling : Scene → Machine Between
 settling scene old request text new =
-    (calls : List Event) × (Serves scene old.held request calls text new.held × IsLegalFrom (family_of scene.setting) old.book calls × (new.book ≡ book_after (family_of scene.setting) old.book calls)
+    (calls : List Event) × (Serves scene old.held request calls text new.held × IsLegalFrom (family_of (setting_in scene)) old.book calls × (new.book ≡ book_after (family_of (setting_in scene)) old.book calls)
     × AreSettled calls × AreChecked scene new.held)
 
 -- Then the text, the book and what is held are one function of the scene and the lines, whichever lawful harvests the lines made.

@@ -4,19 +4,19 @@ ghost use Rattle.vpg_desk.specs.Commit.{commit_refusal};
 ghost use Rattle.vpg_desk.specs.Faults.{decide_refusal, retract_refusal, undo_refusal, redo_refusal};
 ghost use Rattle.vpg_report.specs.Answers.{numbered, refused_line, settled_text};
 ghost use Rattle.vpg_report.specs.Engine.{TellsRefusal};
-ghost use Rattle.vpg_report.specs.Text.{blank_number, blank_name};
+ghost use Rattle.vpg_texts.specs.Text.{blank_number, blank_name};
 
-use crate::text;
 use std::alloc::AllocError;
 use vpg_desk::{CommitFault, DecideFault, RedoFault, RetractFault, UndoFault};
 use vpg_guards::Names;
+use vpg_texts::{blank_name, blank_number};
 
 /// A word and a number.
 pub(crate) fn numbered(word: &[u8], n: u64, out: &mut Vec<u8>) -> Result<(), AllocError>
     ensures { OnOk result (out.new.items ≡ out.old.items ++ numbered word.now n) }
 {
     out.extend_from_slice(word)?;
-    text::blank_number(n, out)?;
+    blank_number(n, out)?;
     out.push(b'\n')?;
     Ok(())
 }
@@ -48,7 +48,7 @@ fn refused_at(why: &[u8], serial: u64, out: &mut Vec<u8>) -> Result<(), AllocErr
 {
     out.extend_from_slice(b"refused ")?;
     out.extend_from_slice(why)?;
-    text::blank_number(serial, out)?;
+    blank_number(serial, out)?;
     out.push(b'\n')?;
     Ok(())
 }
@@ -65,7 +65,7 @@ fn refused_feature(
 {
     out.extend_from_slice(b"refused ")?;
     out.extend_from_slice(why)?;
-    text::blank_name(names, feature, out)?;
+    blank_name(names, feature, out)?;
     out.push(b'\n')?;
     Ok(())
 }

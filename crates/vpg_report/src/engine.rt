@@ -8,18 +8,15 @@ ghost use Rattle.vpg_desk.specs.Book.{Commit as Commits, Added};
 ghost use Rattle.vpg_desk.specs.Commit.{IsOrderOf, handed_in};
 ghost use Rattle.vpg_desk.specs.State.{IsOpened, IsStep};
 ghost use Rattle.vpg_report.specs.Engine.{AnswersTo, IsOpenFault, deciding, between_of, engine_of, scene_at};
-ghost use Rattle.vpg_report.specs.Script.{Retract, Undo as Undoes, Redo as Redoes, Keep, Forget, Lift, Harvest as Harvests, Commit, Settle, Show, Trail, Products, Plan};
-ghost use Rattle.vpg_report.specs.View.{request_shown};
+ghost use Rattle.vpg_report.specs.Run.{answering};
+ghost use Rattle.vpg_script.specs.Script.{Retract, Undo as Undoes, Redo as Redoes, Keep, Forget, Lift, Harvest as Harvests, Commit, Settle, Show, Trail, Products, Plan};
+ghost use Rattle.vpg_script.specs.View.{request_shown};
 
 use crate::answer;
-use crate::command::{Command, Request};
 use crate::held::{
     forget_all, hold_redo, hold_undo, keep_all, put_back, redo_place, return_harvest, take_harvest,
     undo_place,
 };
-use crate::serving::Server;
-use crate::showing::{PlanFault, plan, products, show, trail};
-use crate::sweeping::swept;
 use std::alloc::{AllocError, Global};
 use std::marker::Model;
 use std::sync::{Arc, Wait};
@@ -29,6 +26,9 @@ use vpg_diagram::Diagram;
 use vpg_game::GuardedGame;
 use vpg_guards::Names;
 use vpg_measure::{Harvest, Which};
+use vpg_script::{Command, Request, Server};
+use vpg_settle::swept;
+use vpg_texts::{PlanFault, plan, products, show, trail};
 
 /// The sweeps of a `harvest`, and of a `settle` without a number.
 const SWEEPS: u64 = 1_000_000;
@@ -370,9 +370,18 @@ impl Engine {
 }
 
 impl Server for Engine {
+    ghost use Rattle.vpg_report.specs.Run.{Between};
+    ghost use Rattle.vpg_texts.specs.Scene.{Scene as OfScene};
+
+    ghost Scene = { OfScene };
+
+    ghost State = { Between };
+
+    ghost answering = { λ scene _. answering scene };
+
     ghost scene = { λ e. scene_at e };
 
-    ghost between = { λ e. between_of e };
+    ghost state = { λ e. between_of e };
 
     fn serve<T: Threads + Wait + Sync>(
         &mut self,

@@ -1,12 +1,6 @@
-//! Laws of reading and answering.
-ghost use Rattle.vpg_report.specs.Output.{ReadIsWhole};
+//! Laws of answering.
 ghost use Rattle.vpg_report.specs.Run.{AnswersAreHistories};
 ghost use Rattle.vpg_report.specs.Settling.{SettledAnswersAreOne, SettledRunsAreOne};
-
-/// Lines that are read one by one are the lines of the whole text.
-pub fn read_lines_are_the_lines()
-    ensures { ReadIsWhole }
-{}
 
 /// The answers to lines are those of a legal history of their calls, into which lawful harvests alone are handed. Of each history
 /// that a run leaves, `vpg_desk::laws::headline` holds with no further premise: by its clause `opened`, game and diagram are a setting.

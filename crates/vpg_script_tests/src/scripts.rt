@@ -9,10 +9,7 @@ use std::io::{Read, Write};
 use std::sync::Wait;
 use std::test::*;
 use std::thread::Threads;
-use vpg_report::command::{Command, LineFault, Request};
-use vpg_report::device::Device;
-use vpg_report::run::RunFault;
-use vpg_report::serving::{Server, answer_script};
+use vpg_script::{Command, Device, LineFault, Request, ScriptFault, Server, answer_script};
 
 // Refuses what asks for a token or a harvest; it has no desk for the rest.
 #[derive(Drop)]
@@ -20,11 +17,18 @@ struct Refuser;
 
 impl Server for Refuser {
     ghost use Rattle.std.specs.Prelude.{[]};
-    ghost use Rattle.vpg_report.specs.Run.{begun};
+    ghost use Rattle.vpg_report.specs.Run.{Between, answering, begun};
+    ghost use Rattle.vpg_texts.specs.Scene.{Scene as OfScene};
 
-    ghost scene = { λ _. record { setting = record { game = []; lines = [] }; names = []; identifiers = [] } };
+    ghost Scene = { OfScene };
 
-    ghost between = { λ _. begun };
+    ghost State = { Between };
+
+    ghost answering = { λ scene _. answering scene };
+
+    ghost scene = { λ _. record { game = []; lines = []; names = []; identifiers = [] } };
+
+    ghost state = { λ _. begun };
 
     fn serve<T: Threads + Wait + Sync>(
         &mut self,
@@ -92,7 +96,7 @@ fn outcome<T: Threads + Wait + Sync>(
     alloc: Global,
     text: &'static [u8],
     calls: u32,
-) -> (Result<(), RunFault>, Vec<u8>) {
+) -> (Result<(), ScriptFault>, Vec<u8>) {
     let mut reader = Device::reader(text);
     let mut writer = Device::writer(FailsAt {
         got: Vec::new(alloc),
@@ -128,7 +132,7 @@ fn is_refused<T: Threads + Wait + Sync>(
     answers: &[u8],
 ) -> bool {
     let (result, got) = outcome(rt, alloc, text, 100);
-    result == Err(RunFault::Line { line, fault }) && got.as_slice() == answers
+    result == Err(ScriptFault::Line { line, fault }) && got.as_slice() == answers
 }
 
 #[test]
@@ -171,13 +175,13 @@ fn a_failing_reader_and_writer(rt: HostRuntime) -> Result<(), Fail> {
     });
     let mut writer = Device::writer(Vec::new(rt.alloc()));
     let result = answer_script(&rt, rt.alloc(), 1, &mut Refuser, &mut reader, &mut writer);
-    assert!(rt; result == Err(RunFault::Read));
+    assert!(rt; result == Err(ScriptFault::Read));
     assert_eq!(rt;
         writer.into_writer().as_slice(),
         b"refused NoToken\n".as_slice()
     );
     let (result, got) = outcome(&rt, rt.alloc(), b"undo\nundo\n", 9);
-    assert!(rt; result == Err(RunFault::Write));
+    assert!(rt; result == Err(ScriptFault::Write));
     assert_eq!(rt; got.as_slice(), b"refused NoToken\nre".as_slice());
     Ok(())
 }

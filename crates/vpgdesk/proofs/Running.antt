@@ -7,9 +7,9 @@ use Rattle.vpg_diagram.specs.DiagramText.{NamedDiagram}
 use Rattle.vpg_game.specs.Game.{NamedGame}
 use Rattle.vpg_desk.specs.declared.fault.OpenFault.{OpenFault}
 use Rattle.vpg_desk.specs.declared.fault.OpenFault.TheVariants as opens
-use Rattle.vpg_report.specs.Output.{ReadKnown}
+use Rattle.vpg_script.specs.Output.{ReadKnown}
 use Rattle.vpg_report.specs.Run.{begun}
-use Rattle.vpg_report.specs.declared.run.RunFault.TheVariants as stops
+use Rattle.vpg_report.specs.declared.runs.RunFault.TheVariants as stops
 use Rattle.vpgdesk.specs.Runs.{TellsOpening, Ends, IsRun}
 use Rattle.vpgdesk.specs.declared.fault.Fault.{Fault}
 use Rattle.vpgdesk.specs.declared.fault.Fault.TheVariants as told

@@ -7,8 +7,8 @@ use Rattle.vpg_game.specs.declared.fault.GameFault.{GameFault}
 use Rattle.vpg_game.specs.declared.fault.GameFault.TheVariants as game
 use Rattle.vpg_diagram.specs.declared.fault.DiagramFault.{DiagramFault}
 use Rattle.vpg_diagram.specs.declared.fault.DiagramFault.TheVariants as diagram
-use Rattle.vpg_report.specs.declared.command.LineFault.{LineFault}
-use Rattle.vpg_report.specs.declared.command.LineFault.TheVariants as stops
+use Rattle.vpg_script.specs.declared.command.LineFault.{LineFault}
+use Rattle.vpg_script.specs.declared.command.LineFault.TheVariants as stops
 use Rattle.vpgdesk.specs.Counts.{labelled}
 use Rattle.vpgdesk.specs.declared.fault.Fault.{Fault}
 use Rattle.vpgdesk.specs.declared.fault.Fault.TheVariants as told

@@ -10,9 +10,9 @@ use Rattle.vpg_report.specs.Engine.{IsOpenRefusal}
 use Rattle.vpg_report.specs.Output.{Outcome}
 use Rattle.vpg_report.specs.Results.{Opens}
 use Rattle.vpg_report.specs.Run.{answering, begun}
-use Rattle.vpg_report.specs.Scene.{scene_of}
-use Rattle.vpg_report.specs.declared.run.RunFault.{RunFault}
-use Rattle.vpg_report.specs.declared.run.RunFault.TheVariants as stops
+use Rattle.vpg_texts.specs.Scene.{scene_of}
+use Rattle.vpg_report.specs.declared.runs.RunFault.{RunFault}
+use Rattle.vpg_report.specs.declared.runs.RunFault.TheVariants as stops
 use Rattle.vpgdesk.specs.declared.fault.Fault.{Fault}
 use Rattle.vpgdesk.specs.declared.fault.Fault.TheVariants as told
 

@@ -18,8 +18,8 @@ use vpg_diagram::{Diagram, DiagramFault};
 use vpg_game::{GameFault, GuardedGame};
 use vpg_guards::Names;
 use vpg_hope::{ProjectFault, project};
-use vpg_report::device::{Sink, Source};
-use vpg_report::run::{RunFault, run};
+use vpg_report::{RunFault, run};
+use vpg_script::{Sink, Source};
 
 /// A game and a diagram with the features of its guards.
 #[derive(Drop)]

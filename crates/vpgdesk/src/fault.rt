@@ -8,7 +8,7 @@ use std::alloc::AllocError;
 use std::process::ExitCode;
 use vpg_diagram::DiagramFault;
 use vpg_game::GameFault;
-use vpg_report::command::LineFault;
+use vpg_script::LineFault;
 
 /// A fault. What is told of each stands in `specs/Faults`.
 #[derive(Drop, Debug)]

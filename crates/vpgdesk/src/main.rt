@@ -32,7 +32,7 @@ use std::process::ExitCode;
 use std::sync::Wait;
 use std::thread::Threads;
 use std::{env, io};
-use vpg_report::device::{Device, Sink};
+use vpg_script::{Device, Sink};
 
 /// The diagram that is built in: a root with two features, each of which may be left out.
 const DIAGRAM: &str = "root r\noptional r f\noptional r g\n";

@@ -9,7 +9,7 @@ use std::alloc::{AllocError, Global};
 use vpg_diagram::DiagramFault;
 use vpg_game::GameFault;
 use vpg_guards::GuardFault;
-use vpg_report::command::LineFault;
+use vpg_script::LineFault;
 
 /// A byte of a word as it is shown: `?` where it is a control character.
 fn shown_byte(byte: u8) -> u8

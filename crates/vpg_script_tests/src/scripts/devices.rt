@@ -8,9 +8,8 @@ use std::sync::Wait;
 use std::test::*;
 use std::thread::Threads;
 use vpg_desk::OpenFault;
-use vpg_report::command::LineFault;
-use vpg_report::device::Device;
-use vpg_report::run::{RunFault, run};
+use vpg_report::{RunFault, run};
+use vpg_script::{Device, LineFault};
 
 /// What the first example of a session answers.
 const ANSWERS: &[u8] =

@@ -8,8 +8,8 @@ use std::test::*;
 use std::thread::Threads;
 use vpg_diagram::Diagram;
 use vpg_game::GuardedGame;
-use vpg_report::device::Device;
-use vpg_report::run::{RunFault, run};
+use vpg_report::{RunFault, run};
+use vpg_script::Device;
 
 /// The diagram and the game of most examples.
 const DIAGRAM: &str = "root r / optional r f / optional r g";

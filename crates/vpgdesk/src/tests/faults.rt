@@ -8,7 +8,7 @@ use std::io::{self, Read, Write};
 use std::sync::Wait;
 use std::test::*;
 use std::thread::Threads;
-use vpg_report::device::Device;
+use vpg_script::Device;
 
 /// A diagram that contradicts itself, and a game that Even wins.
 const NONE: &str = "root r\nmandatory r a\nexcludes r a\n";

@@ -6,7 +6,7 @@ use Rattle.vpg_desk.specs.Book.{Harvest, Commit, Refused}
 use Rattle.vpg_desk.specs.Commit.{IsOrderOf, handed_in, commit_refusal}
 use Rattle.vpg_desk.specs.State.{DeskState, Replies}
 use Rattle.vpg_desk.specs.declared.fault.CommitFault.{CommitFault}
-use Rattle.vpg_report.specs.Script as script
+use Rattle.vpg_script.specs.Script as script
 use Rattle.vpg_report.specs.Held.{Held}
 use Rattle.vpg_report.specs.Engine.{EngineState, AnswersTo}
 use Rattle.vpg_report.specs.EngineFields.{engine_in, harvests_of, AreOwnHarvests}

@@ -4,7 +4,7 @@ use Rattle.std.proofs.lemmas.Option.{slice_get_within}
 use Rattle.std.specs.Prelude.{slice_get, position, ◌==◌}
 use Rattle.vpg_game.specs.Game.{NamedGame, NamedVertex, vertex_ids}
 use Rattle.vpg_desk.specs.Book.{Order}
-use Rattle.vpg_report.specs.Script as script
+use Rattle.vpg_script.specs.Script as script
 use Rattle.vpg_report.specs.Answers.{NoVertex, call_or}
 use Rattle.vpg_report.specs.EngineFields.{engine_in}
 use Rattle.vpg_report.proofs.Asked.{on_view, on_same_view, unasked}

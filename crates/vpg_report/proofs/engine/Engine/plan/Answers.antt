@@ -1,10 +1,10 @@
 use Rattle.std.proofs.Common.{ℕ, List, ◌++◌, ap, ◌∙◌, subst}
 use Rattle.std.specs.Prelude.{codes}
 use Rattle.vpg_trail.specs.Page.{Hopeful, Dual}
-use Rattle.vpg_report.specs.declared.showing.plans.PlanFault.{PlanFault}
-use Rattle.vpg_report.specs.Script.{Plan}
-use Rattle.vpg_report.specs.Plan.{IsPlanFault}
-use Rattle.vpg_report.specs.Scene.{scene_of}
+use Rattle.vpg_texts.specs.declared.showing.plans.PlanFault.{PlanFault}
+use Rattle.vpg_script.specs.Script.{Plan}
+use Rattle.vpg_texts.specs.Plan.{IsPlanFault}
+use Rattle.vpg_texts.specs.Scene.{scene_of}
 use Rattle.vpg_report.specs.Answers.{refused_line}
 use Rattle.vpg_report.specs.Engine.{EngineState, AnswersTo}
 use Rattle.vpg_report.specs.EngineFields.{engine_in}

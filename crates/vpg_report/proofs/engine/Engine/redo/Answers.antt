@@ -8,7 +8,7 @@ use Rattle.vpg_report.proofs.Enduring.{endures}
 use Rattle.vpg_report.proofs.Places.{Stands, stands}
 use Rattle.vpg_desk.specs.Book.{Redo}
 use Rattle.vpg_desk.specs.Faults.{redo_refusal}
-use Rattle.vpg_report.specs.Script as script
+use Rattle.vpg_script.specs.Script as script
 use Rattle.vpg_report.specs.Answers.{NoToken, call_or}
 use Rattle.vpg_report.proofs.Counted.{after_redo}
 use Rattle.vpg_report.proofs.Exchanging.{redone, fewer, restored}

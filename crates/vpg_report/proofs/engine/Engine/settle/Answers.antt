@@ -1,6 +1,6 @@
 use Rattle.std.proofs.Common.{◌∙◌, ℕ, refl, sym, subst}
 use Rattle.vpg_report.specs.EngineFields.{engine_in}
-use Rattle.vpg_report.specs.Sweeping.{IsSweptOrder}
+use Rattle.vpg_settle.specs.Sweeping.{IsSweptOrder}
 use Rattle.vpg_report.proofs.Asked.{on_view}
 use Rattle.vpg_report.proofs.Counted.{after_commit}
 use Rattle.vpg_report.proofs.Enduring.{endures}

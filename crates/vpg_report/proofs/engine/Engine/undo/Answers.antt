@@ -8,7 +8,7 @@ use Rattle.vpg_report.proofs.Enduring.{endures}
 use Rattle.vpg_report.proofs.Places.{Stands, stands}
 use Rattle.vpg_desk.specs.Book.{Undo}
 use Rattle.vpg_desk.specs.Faults.{undo_refusal}
-use Rattle.vpg_report.specs.Script as script
+use Rattle.vpg_script.specs.Script as script
 use Rattle.vpg_report.specs.Answers.{NoToken, call_or}
 use Rattle.vpg_report.proofs.Counted.{after_undo}
 use Rattle.vpg_report.proofs.Exchanging.{undone, fewer, restored}

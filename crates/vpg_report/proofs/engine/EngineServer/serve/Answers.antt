@@ -1,7 +1,7 @@
 use Rattle.std.proofs.Common.{sym, ap}
-use Rattle.vpg_report.specs.Script as script
-use Rattle.vpg_report.specs.Script.{Request}
-use Rattle.vpg_report.specs.View.{command_shown, request_shown}
+use Rattle.vpg_script.specs.Script as script
+use Rattle.vpg_script.specs.Script.{Request}
+use Rattle.vpg_script.specs.View.{command_shown, request_shown}
 use Rattle.vpg_report.proofs.Asked.{served}
 use Rattle.vpg_report.proofs.engine.EngineServer.serve.Goals as goal
 

@@ -1,6 +1,0 @@
-use Rattle.std.proofs.Common.{◌≡◌, ◌++◌}
-use Rattle.vpg_report.specs.Text.{names_known}
-use Rattle.vpg_report.proofs.text.names_known.Given as goal
-
-abbrev pub invariant-loop-f : goal.invariant-loop-f
-invariant-loop-f l = l.out.items ≡ l.fn.out.items ++ names_known l.names l.known l.value l.f

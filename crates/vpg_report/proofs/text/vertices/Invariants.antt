@@ -1,7 +1,0 @@
-use Rattle.std.proofs.Common.{◌≡◌, ◌++◌}
-use Rattle.vpg_game.specs.Game.{vertex_ids}
-use Rattle.vpg_report.specs.Text.{vertex_lines}
-use Rattle.vpg_report.proofs.text.vertices.Given as goal
-
-abbrev pub invariant-loop-v : goal.invariant-loop-v
-invariant-loop-v l = l.out.items ≡ l.fn.out.items ++ vertex_lines l.tops.hopeful l.tops.dual (vertex_ids l.game.vertices) l.hopeful l.dual l.v

@@ -1,0 +1,6 @@
+-- What the desk of a scene is opened with.
+use Rattle.vpg_desk.specs.Setting.{Setting}
+use Rattle.vpg_texts.specs.Scene.{Scene}
+
+abbrev pub setting_in : Scene → Setting
+setting_in scene = record { game = scene.game; lines = scene.lines }

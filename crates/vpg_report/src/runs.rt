@@ -1,0 +1,94 @@
+//! Runs of scripts.
+ghost use Rattle.std.specs.Arc.{arc_value};
+ghost use Rattle.std.specs.Prelude.{◌≡◌, ◌≤◌, ◌⊎◌, true, IsErrOf};
+ghost use Rattle.vpg_diagram.specs.FeatureDiagram.{feature_count};
+ghost use Rattle.vpg_desk.specs.State.{IsOpened};
+ghost use Rattle.vpg_report.specs.Engine.{IsOpenRefusal};
+ghost use Rattle.vpg_report.specs.Output.{Outcome, ended};
+ghost use Rattle.vpg_report.specs.Results.{Opens, UnlessRead, UnlessWrite};
+ghost use Rattle.vpg_report.specs.Run.{answering, begun};
+ghost use Rattle.vpg_texts.specs.Scene.{scene_of};
+
+use crate::engine::Engine;
+use std::alloc::Global;
+use std::sync::{Arc, Wait};
+use std::thread::Threads;
+use thiserror::Error;
+use vpg_desk::OpenFault;
+use vpg_diagram::Diagram;
+use vpg_game::GuardedGame;
+use vpg_script::{LineFault, ScriptFault, Sink, Source, answer_script};
+
+/// Why a run ends before the script does.
+#[derive(Clone, Copy, Debug, PartialEq, Eq, Error)]
+pub enum RunFault {
+    /// The line of this number, from 1, has a fault.
+    #[error("Line {line} {fault}")]
+    Line { line: u64, fault: LineFault },
+    /// The reader failed, or was read 16,777,216 times.
+    #[error("Read")]
+    Read,
+    /// The writer failed.
+    #[error("Write")]
+    Write,
+    /// No desk was opened.
+    #[error("{fault}")]
+    Open { fault: OpenFault },
+    #[error("Memory")]
+    Memory,
+}
+
+/// How the run ends of which the script was carried out to this end.
+fn ended(answered: Result<(), ScriptFault>) -> Result<(), RunFault>
+    ensures { result ≡ ended answered }
+{
+    match answered {
+        Ok(()) => Ok(()),
+        Err(ScriptFault::Line { line, fault }) => Err(RunFault::Line { line, fault }),
+        Err(ScriptFault::Read) => Err(RunFault::Read),
+        Err(ScriptFault::Write) => Err(RunFault::Write),
+        Err(ScriptFault::Memory) => Err(RunFault::Memory),
+    }
+}
+
+/// Opens a desk on the game and the diagram, reads a script, and answers its lines in order, each before the next is read. 1 to
+/// 64 lifters sweep at once, in threads of their own.
+///
+/// `Open` comes before any line is read; `Line`, `Read` and `Write` as the run meets them, and `Memory` only where a growth was refused.
+/// What earlier lines wrote stays written. At the script's end, and after each fault, all tokens are spent and the desk is closed.
+pub fn run<T: Threads + Wait + Sync, R: Source, W: Sink>(
+    rt: &T,
+    alloc: Global,
+    game: Arc<GuardedGame>,
+    diagram: Arc<Diagram>,
+    reader: &mut R,
+    writer: &mut W,
+    lifters: u32,
+) -> Result<(), RunFault>
+    requires unread { R.calls reader.old ≡ 0 }
+    requires lifters { (1 ≤ lifters) × (lifters ≤ 64) }
+    requires features { (arc_value game).features ≡ feature_count (arc_value diagram).lines }
+
+    // What is written are the answers to the lines read, each by calls on the desk's book with the replies that it gives.
+    ensures output { Outcome (answering (scene_of (arc_value game) (arc_value diagram))) (IsOpenRefusal (arc_value game) (arc_value diagram)) begun (R.remaining reader.old) (R.remaining reader.new) (W.contents writer.old) (W.contents writer.new) result }
+
+    // Unless it ends in Open, or in Memory, a desk was opened: game and diagram are a setting, of which the laws of `vpg_desk` speak.
+    ensures opened { Opens result (IsOpened (arc_value game) (arc_value diagram)) }
+
+    // Read and Write come only where the device failed, or the reads were used up.
+    ensures read { IsErrOf result RunFault.Read → (R.has_failed reader.new ≡ true) ⊎ (R.calls reader.new ≡ 16777216) }
+    ensures write { IsErrOf result RunFault.Write → W.has_failed writer.new ≡ true }
+
+    // A device that failed is told: no read failed unless the run ends in Read, and no write unless it ends in Write.
+    ensures readable { UnlessRead result (R.has_failed reader.new ≡ R.has_failed reader.old) }
+    ensures writable { UnlessWrite result (W.has_failed writer.new ≡ W.has_failed writer.old) }
+{
+    let mut engine = match Engine::open(alloc, game, diagram) {
+        Ok(engine) => engine,
+        Err(OpenFault::Memory) => return Err(RunFault::Memory),
+        Err(fault) => return Err(RunFault::Open { fault }),
+    };
+    let answered = answer_script(rt, alloc, lifters, &mut engine, reader, writer);
+    engine.end();
+    ended(answered)
+}

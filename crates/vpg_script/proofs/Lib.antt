@@ -1,0 +1,5 @@
+pub mod Commands
+pub mod LineLemmas
+pub mod ScriptLemmas
+pub mod DeviceLemmas
+pub mod Whole

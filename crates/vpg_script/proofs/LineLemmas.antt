@@ -1,0 +1,78 @@
+-- The first line of what is held.
+use Rattle.std.proofs.Common.{◌≡◌, ℕ, suc, ◌+◌, ◌<◌, ◌≤◌, Bool, true, false, cond, List, [], ◌∷◌, ◌++◌, length, take, drop, get_or, Option, Some, None, refl, sym, ap, ◌∙◌, inl, arith, subst, append_assoc, append-nil, take-append-drop, add-one, drop-cons}
+use Rattle.std.specs.Prelude.{not, ◌==◌}
+use Rattle.std.specs.List.{list_all, prefix_len}
+use Rattle.std.specs.Io.KnownBytes.{prepend_known, Keeps, IsAtEnd}
+use Rattle.std.specs.Str.Lines.{strip_carriage_return}
+use Rattle.std.proofs.lemmas.Bool.{eqb-true}
+use Rattle.std.proofs.lemmas.List.Sums.{prefix_len_stops}
+use Rattle.std.proofs.lemmas.List.{take_all}
+use Rattle.std.specs.Global.{Vec}
+use Rattle.vpg_script.specs.declared.lines.Next.{Next}
+use Rattle.vpg_script.specs.declared.lines.Next.TheVariants as next
+use Rattle.vpg_script.specs.Lines.{is_within_line, IsUnended, ComesNext, ComesKnown}
+
+-- what passes the test at the front does
+pub front_all : (p : ℕ → Bool) (text : List ℕ) → list_all p (take (prefix_len p text) text) ≡ true
+front_all p [] = refl
+front_all p (b ∷ text) = go (p b) refl (front_all p text)
+  where
+    go : (t : Bool) → p b ≡ t → list_all p (take (prefix_len p text) text) ≡ true → list_all p (take (cond t (1 + prefix_len p text) 0) (b ∷ text)) ≡ true
+    go true e rest = let one : 1 + prefix_len p text ≡ suc (prefix_len p text) = omega arith in rw (one, e) rest
+    go false e rest = refl
+
+-- a byte that doesn't pass is a line feed
+is_feed : (b : ℕ) → is_within_line b ≡ false → b ≡ 10
+is_feed b h = go (b == 10) refl h
+  where
+    go : (t : Bool) → (b == 10) ≡ t → not t ≡ false → b ≡ 10
+    go true e n = eqb-true b 10 e
+    go false e n = absurd cc
+
+-- what is held begins with a line and its feed
+pub held_parts : (held : List ℕ) (n : ℕ) → n ≡ prefix_len is_within_line held → n < length held → held ≡ take n held ++ 10 ∷ drop (n + 1) held
+held_parts held n is less =
+    let stops : is_within_line (get_or held n 0) ≡ false = rw is (prefix_len_stops is_within_line held 0 (rw is at less)) in
+    let feed : get_or held n 0 ≡ 10 = is_feed _ stops in
+    let behind : drop n held ≡ get_or held n 0 ∷ drop (suc n) held = drop-cons held n 0 less in
+    sym (take-append-drop n held) ∙ ap (λ (rest : List ℕ). take n held ++ rest) (behind ∙ ap (λ (b : ℕ). b ∷ drop (suc n) held) feed ∙ ap (λ (k : ℕ). 10 ∷ drop k held) (sym (add-one n)))
+
+pub front_unended : (held : List ℕ) (n : ℕ) → n ≡ prefix_len is_within_line held → IsUnended (take n held)
+front_unended held n is = rw is (front_all is_within_line held)
+
+pub all_unended : (held : List ℕ) (n : ℕ) → n ≡ prefix_len is_within_line held → length held ≤ n → IsUnended held
+all_unended held n is long = subst IsUnended (take_all n held long) (front_unended held n is)
+
+-- ---- what comes next in the known bytes
+
+-- a line that was held whole
+pub line_comes : (a b : Option (List ℕ)) (held new : List ℕ) (n : ℕ) (line : Vec ℕ) → Keeps a (prepend_known held b) → n ≡ prefix_len is_within_line held → n < length held
+    → line.items ≡ strip_carriage_return (take n held) → new ≡ drop (n + 1) held → ComesKnown (next.Line line) a (prepend_known new b)
+line_comes None b held new n line kept is less line_is new_is = tt
+line_comes (Some text) None held new n line kept is less line_is new_is = absurd kept
+line_comes (Some text) (Some more) held new n line kept is less line_is new_is =
+    inl (record {
+      front = take n held;
+      text_is = sym kept ∙ ap (λ (h : List ℕ). h ++ more) (held_parts held n is less) ∙ append_assoc (take n held) (10 ∷ drop (n + 1) held) more
+          ∙ ap (λ (h : List ℕ). take n held ++ 10 ∷ (h ++ more)) (sym new_is);
+      unended = front_unended held n is;
+      line_is = line_is;
+    })
+
+-- more than a line may have
+pub too_long_comes : (a b : Option (List ℕ)) (held : List ℕ) (n : ℕ) → Keeps a (prepend_known held b) → n ≡ prefix_len is_within_line held → length held ≤ n
+    → 4097 < length held → ComesKnown next.TooLong a (prepend_known held b)
+too_long_comes None b held n kept is all long = tt
+too_long_comes (Some text) None held n kept is all long = absurd kept
+too_long_comes (Some text) (Some more) held n kept is all long =
+    record { front = held; rest = more; text_is = sym kept; unended = all_unended held n is all; long = long }
+
+-- the last, where nothing more comes
+pub last_comes : (a b : Option (List ℕ)) (held new : List ℕ) (n : Next) → Keeps a (prepend_known held b) → IsAtEnd b → ComesNext n held [] → new ≡ []
+    → ComesKnown n a (prepend_known new b)
+last_comes None b held new n kept end comes new_is = tt
+last_comes (Some text) None held new n kept end comes new_is = absurd kept
+last_comes (Some text) (Some more) held new n kept end comes new_is =
+    let text_is : held ≡ text = sym (append-nil held) ∙ ap (λ (m : List ℕ). held ++ m) (sym end) ∙ kept in
+    let rest_is : [] ≡ new ++ more = sym (ap (λ (m : List ℕ). new ++ m) end ∙ ap (λ (m : List ℕ). m ++ []) new_is) in
+    subst (λ (r : List ℕ). ComesNext n text r) rest_is (subst (λ (t : List ℕ). ComesNext n t []) text_is comes)

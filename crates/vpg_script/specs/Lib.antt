@@ -1,0 +1,6 @@
+pub mod Devices
+pub mod Lines
+pub mod Output
+pub mod Results
+pub mod Script
+pub mod View

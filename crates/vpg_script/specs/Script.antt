@@ -1,0 +1,179 @@
+-- The lines of a script, and the commands that they spell.
+use Rattle.std.specs.Prelude.{ℕ, ◌-◌, Bool, true, false, ◌&&◌, ◌||◌, ◌==◌, nat_le, nat_lt, if◌then◌else◌, List, [], ◌∷◌, length, take, filter, Option, Some, None, is_none, option_map, Result, Ok, Err, slice_index, codes, bytes_eq}
+use Rattle.std.specs.List.{list_all, slice_split}
+use Rattle.std.specs.Char.{is_ascii_digit}
+use Rattle.std.specs.Str.Parse.{digits_value}
+use Rattle.vpg_guards.specs.Names.{starts_as_name, is_name_byte, constant_of}
+use Rattle.vpg_measure.specs.declared.which.Which.{Which}
+use Rattle.vpg_measure.specs.declared.which.Which.TheVariants.{Hopeful, Dual}
+use Rattle.vpg_script.specs.declared.command.Verb.{Verb}
+use Rattle.vpg_script.specs.declared.command.Verb.TheVariants as verbs
+use Rattle.vpg_script.specs.declared.command.LineFault.{LineFault}
+use Rattle.vpg_script.specs.declared.command.LineFault.TheVariants as faults
+
+-- a space or a tab
+abbrev pub is_blank : ℕ → Bool
+is_blank b = (b == 32) || (b == 9)
+
+abbrev pub is_nonempty : {X : Type 0} → List X → Bool
+is_nonempty [] = false
+is_nonempty (x ∷ xs) = true
+
+-- the words of a line: what stands between its blanks
+abbrev pub words : List ℕ → List (List ℕ)
+words line = filter is_nonempty (slice_split is_blank line)
+
+-- whether a word is a feature's name
+abbrev pub is_feature_name : List ℕ → Bool
+is_feature_name w = starts_as_name w && list_all is_name_byte w && nat_le (length w) 64 && is_none (constant_of w)
+
+-- the number that a word's digits write, where it is at most this
+abbrev pub number_of : ℕ → List ℕ → Option ℕ
+number_of most w =
+    if is_nonempty w && list_all is_ascii_digit w && nat_le (digits_value 10 w) most
+    then Some (digits_value 10 w)
+    else None
+
+abbrev pub largest_serial : ℕ
+largest_serial = 18446744073709551615
+
+abbrev pub largest_identifier : ℕ
+largest_identifier = 4294967295
+
+abbrev pub most_sweeps : ℕ
+most_sweeps = 1000000000
+
+abbrev pub longest_line : ℕ
+longest_line = 4096
+
+pub data Command : Type 0 where
+  Select : (name : List ℕ) → Command
+  Exclude : (name : List ℕ) → Command
+  Retract : (name : List ℕ) → Command
+  Undo : (serial : Option ℕ) → Command
+  Redo : (serial : Option ℕ) → Command
+  Keep : (serial : ℕ) → Command
+  Forget : (serial : ℕ) → Command
+  Lift : (table : Which) → (identifier : ℕ) → Command
+  Harvest : Command
+  Commit : (number : ℕ) → Command
+  Settle : (sweeps : Option ℕ) → Command
+  Show : Command
+  Trail : Command
+  Products : Command
+  Plan : Command
+
+-- the command that a word names
+abbrev pub verb_of : List ℕ → Option Verb
+verb_of w =
+    if bytes_eq w (codes "select") then Some verbs.Select
+    else if bytes_eq w (codes "exclude") then Some verbs.Exclude
+    else if bytes_eq w (codes "retract") then Some verbs.Retract
+    else if bytes_eq w (codes "undo") then Some verbs.Undo
+    else if bytes_eq w (codes "redo") then Some verbs.Redo
+    else if bytes_eq w (codes "keep") then Some verbs.Keep
+    else if bytes_eq w (codes "forget") then Some verbs.Forget
+    else if bytes_eq w (codes "lift") then Some verbs.Lift
+    else if bytes_eq w (codes "harvest") then Some verbs.Harvest
+    else if bytes_eq w (codes "commit") then Some verbs.Commit
+    else if bytes_eq w (codes "settle") then Some verbs.Settle
+    else if bytes_eq w (codes "show") then Some verbs.Show
+    else if bytes_eq w (codes "trail") then Some verbs.Trail
+    else if bytes_eq w (codes "products") then Some verbs.Products
+    else if bytes_eq w (codes "plan") then Some verbs.Plan
+    else None
+
+-- a command without arguments
+abbrev pub bare_command : Verb → Option Command
+bare_command verbs.Undo = Some (Undo None)
+bare_command verbs.Redo = Some (Redo None)
+bare_command verbs.Harvest = Some Harvest
+bare_command verbs.Settle = Some (Settle None)
+bare_command verbs.Show = Some Show
+bare_command verbs.Trail = Some Trail
+bare_command verbs.Products = Some Products
+bare_command verbs.Plan = Some Plan
+bare_command _ = None
+
+abbrev pub if_name : (List ℕ → Command) → List ℕ → Option Command
+if_name command w = if is_feature_name w then Some (command w) else None
+
+-- with one
+abbrev pub command_with : Verb → List ℕ → Option Command
+command_with verbs.Select w = if_name Select w
+command_with verbs.Exclude w = if_name Exclude w
+command_with verbs.Retract w = if_name Retract w
+command_with verbs.Undo w = option_map (λ s. Undo (Some s)) (number_of largest_serial w)
+command_with verbs.Redo w = option_map (λ s. Redo (Some s)) (number_of largest_serial w)
+command_with verbs.Keep w = option_map Keep (number_of largest_serial w)
+command_with verbs.Forget w = option_map Forget (number_of largest_serial w)
+command_with verbs.Commit w = option_map Commit (number_of largest_serial w)
+command_with verbs.Settle w = option_map (λ n. Settle (Some n)) (number_of most_sweeps w)
+command_with _ w = None
+
+-- the table that a word names
+abbrev pub table_named : List ℕ → Option Which
+table_named w =
+    if bytes_eq w (codes "hopeful") then Some Hopeful
+    else if bytes_eq w (codes "dual") then Some Dual
+    else None
+
+abbrev pub lift_of : Option Which → Option ℕ → Option Command
+lift_of (Some table) (Some identifier) = Some (Lift table identifier)
+lift_of _ _ = None
+
+-- with two
+abbrev pub command_with_two : Verb → List ℕ → List ℕ → Option Command
+command_with_two verbs.Lift a b = lift_of (table_named a) (number_of largest_identifier b)
+command_with_two _ a b = None
+
+abbrev pub command_of : Verb → List (List ℕ) → Option Command
+command_of verb [] = bare_command verb
+command_of verb (a ∷ []) = command_with verb a
+command_of verb (a ∷ b ∷ []) = command_with_two verb a b
+command_of verb (a ∷ b ∷ c ∷ args) = None
+
+-- the label that a word is: a number from 1 to 64 and a colon
+abbrev pub if_positive : Option ℕ → Option ℕ
+if_positive None = None
+if_positive (Some n) = if n == 0 then None else Some n
+
+abbrev pub label_of : List ℕ → Option ℕ
+label_of w = if slice_index w (length w - 1) == 58 then if_positive (number_of 64 (take (length w - 1) w)) else None
+
+-- a command under its label
+pub record Request : Type 0 where
+  pub label : ℕ
+  pub command : Command
+
+-- what a line says: nothing, a request, or its fault
+abbrev pub Said : Type 0
+Said = Result (Option Request) LineFault
+
+abbrev pub requested : ℕ → Option Command → Said
+requested label None = Err faults.Args
+requested label (Some command) = Ok (Some (record { label = label; command = command }))
+
+abbrev pub with_verb : ℕ → Option Verb → List (List ℕ) → Said
+with_verb label None args = Err faults.Word
+with_verb label (Some verb) args = requested label (command_of verb args)
+
+abbrev pub after_label : ℕ → List (List ℕ) → Said
+after_label label [] = Err faults.Word
+after_label label (w ∷ args) = with_verb label (verb_of w) args
+
+abbrev pub labelled : Option ℕ → List (List ℕ) → List (List ℕ) → Said
+labelled None all rest = after_label 1 all
+labelled (Some label) all rest = after_label label rest
+
+abbrev pub is_comment : List ℕ → Bool
+is_comment [] = false
+is_comment (b ∷ w) = b == 35
+
+abbrev pub said_by : List (List ℕ) → Said
+said_by [] = Ok None
+said_by (w ∷ rest) = if is_comment w then Ok None else labelled (label_of w) (w ∷ rest) rest
+
+-- what a line says
+abbrev pub said : List ℕ → Said
+said line = if nat_lt longest_line (length line) then Err faults.TooLong else said_by (words line)

@@ -1,0 +1,38 @@
+-- What the types of the code stand for.
+use Rattle.std.specs.Prelude.{◌≡◌, ℕ, List, map, Option, option_map, Result, Ok, Err}
+use Rattle.std.specs.Borrow.{Bor}
+use Rattle.vpg_script.specs.Script as script
+use Rattle.vpg_script.specs.declared.command.Command.{Command}
+use Rattle.vpg_script.specs.declared.command.Command.TheVariants as commands
+use Rattle.vpg_script.specs.declared.command.Request.{Request}
+use Rattle.vpg_script.specs.declared.command.ReadFault.{ReadFault}
+use Rattle.vpg_script.specs.declared.command.ReadFault.TheVariants as faults
+
+abbrev pub command_shown : Command → script.Command
+command_shown (commands.Select f) = script.Select f.now
+command_shown (commands.Exclude f) = script.Exclude f.now
+command_shown (commands.Retract f) = script.Retract f.now
+command_shown (commands.Undo s) = script.Undo s
+command_shown (commands.Redo s) = script.Redo s
+command_shown (commands.Keep s) = script.Keep s
+command_shown (commands.Forget s) = script.Forget s
+command_shown (commands.Lift table v) = script.Lift table v
+command_shown commands.Harvest = script.Harvest
+command_shown (commands.Commit k) = script.Commit k
+command_shown (commands.Settle n) = script.Settle n
+command_shown commands.Show = script.Show
+command_shown commands.Trail = script.Trail
+command_shown commands.Products = script.Products
+command_shown commands.Plan = script.Plan
+
+abbrev pub texts : List (Bor (List ℕ)) → List (List ℕ)
+texts words = map (λ w. w.now) words
+
+abbrev pub request_shown : Request → script.Request
+request_shown r = record { label = r.label; command = command_shown r.command }
+
+-- The function answers what the line says, unless memory runs out.
+abbrev pub Says : Result (Option Request) ReadFault → script.Said → Type 0
+Says (Ok request) said = said ≡ Ok (option_map request_shown request)
+Says (Err (faults.Line f)) said = said ≡ Err f
+Says (Err faults.Memory) said = Unit {0}

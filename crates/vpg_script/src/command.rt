@@ -1,0 +1,386 @@
+//! The command that a line of a script spells.
+ghost use Rattle.std.specs.Prelude.{◌≡◌, ◌≤◌, ◌^◌, ◌<◌, true, map, min, option_map, IfOk, MatchResult};
+ghost use Rattle.std.specs.List.{list_all};
+ghost use Rattle.std.specs.Char.{is_ascii_digit, digit_value};
+ghost use Rattle.std.specs.Str.Parse.{digits_value};
+ghost use Rattle.std.specs.Prelude.{bytes_eq, not, is_none};
+ghost use Rattle.vpg_guards.specs.Names.{starts_as_name, is_name_byte, constant_of};
+ghost use Rattle.vpg_script.specs.Script.{is_blank, is_nonempty, words, is_feature_name, number_of, verb_of, bare_command, command_with, table_named, command_with_two, command_of, label_of, is_comment};
+ghost use Rattle.vpg_script.specs.View.{command_shown, texts};
+
+use std::alloc::{AllocError, Global};
+use thiserror::Error;
+use vpg_measure::Which;
+
+/// The most bytes of a line before its end.
+pub const LONGEST_LINE: usize = 4096;
+
+const LARGEST_SERIAL: u64 = u64::MAX;
+
+const LARGEST_IDENTIFIER: u64 = u32::MAX as u64;
+
+const MOST_SWEEPS: u64 = 1_000_000_000;
+
+const MOST_LABELS: u64 = 64;
+
+/// The words that name commands.
+#[derive(Clone, Copy, Debug)]
+pub enum Verb {
+    Select,
+    Exclude,
+    Retract,
+    Undo,
+    Redo,
+    Keep,
+    Forget,
+    Lift,
+    Harvest,
+    Commit,
+    Settle,
+    Show,
+    Trail,
+    Products,
+    Plan,
+}
+
+/// A command. Names stand in the line that was read.
+#[derive(Clone, Copy, Debug)]
+pub enum Command<'t> {
+    Select(&'t [u8]),
+    Exclude(&'t [u8]),
+    Retract(&'t [u8]),
+    Undo(Option<u64>),
+    Redo(Option<u64>),
+    Keep(u64),
+    Forget(u64),
+    /// A table, and the identifier of a vertex.
+    Lift(Which, u32),
+    Harvest,
+    Commit(u64),
+    Settle(Option<u64>),
+    Show,
+    Trail,
+    Products,
+    Plan,
+}
+
+/// What is wrong with a line.
+#[derive(Clone, Copy, Debug, PartialEq, Eq, Error)]
+pub enum LineFault {
+    /// No command has this name, or the label is none from 1 to 64.
+    #[error("Word")]
+    Word,
+    /// An argument is missing, is one too many, or has not its form.
+    #[error("Args")]
+    Args,
+    /// The line has more than 4,096 bytes before its end.
+    #[error("TooLong")]
+    TooLong,
+}
+
+/// A command under its label.
+#[derive(Clone, Copy, Debug)]
+pub struct Request<'t> {
+    pub label: u32,
+    pub command: Command<'t>,
+}
+
+fn is_blank(byte: u8) -> bool
+    ensures { result ≡ is_blank byte }
+{
+    byte == b' ' || byte == b'\t'
+}
+
+fn is_nonempty(part: &[u8]) -> bool
+    ensures { result ≡ is_nonempty part.now }
+{
+    match part {
+        [] => false,
+        [_, ..] => true,
+    }
+}
+
+/// The words of a line: what stands between its blanks.
+fn words_of(alloc: Global, line: &[u8]) -> Result<Vec<&[u8]>, AllocError>
+    ensures { IfOk result (λ v. map (λ w. w.now) v.items ≡ words line.now) }
+{
+    line.split(|b| is_blank(*b))
+        .filter(|w| is_nonempty(w))
+        .collect(alloc)
+}
+
+fn same(a: &[u8], b: &[u8]) -> bool
+    ensures { result ≡ bytes_eq a.now b.now }
+{
+    a == b
+}
+
+fn is_name_byte(byte: u8) -> bool
+    ensures { result ≡ is_name_byte byte }
+{
+    byte.is_ascii_alphanumeric() || byte == b'_'
+}
+
+fn has_name_bytes(word: &[u8]) -> bool
+    ensures { result ≡ list_all is_name_byte word.now }
+{
+    word.iter().all(|b| is_name_byte(*b))
+}
+
+fn has_digits(word: &[u8]) -> bool
+    ensures { result ≡ list_all is_ascii_digit word.now }
+{
+    word.iter().all(|b| b.is_ascii_digit())
+}
+
+fn starts_as_name(word: &[u8]) -> bool
+    ensures { result ≡ starts_as_name word.now }
+{
+    match word {
+        [] => false,
+        [first, ..] => first.is_ascii_alphabetic() || *first == b'_',
+    }
+}
+
+fn is_constant(word: &[u8]) -> bool
+    ensures { not result ≡ is_none (constant_of word.now) }
+{
+    same(word, b"true") || same(word, b"false")
+}
+
+/// Whether a word is a feature's name.
+fn is_feature_name(word: &[u8]) -> bool
+    ensures { result ≡ is_feature_name word.now }
+{
+    starts_as_name(word) && has_name_bytes(word) && word.len() <= 64 && !is_constant(word)
+}
+
+fn digit(b: u8) -> u64
+    requires { is_ascii_digit b ≡ true }
+    ensures value { result ≡ digit_value b }
+    ensures less { result < 10 }
+{
+    (b - b'0') as u64
+}
+
+/// The number that digits write, or one more than the most where it is larger.
+fn bounded_value(digits: &[u8], above: u128) -> u128
+    requires above { above ≤ 2 ^ 64 }
+    requires digits { list_all is_ascii_digit digits.now ≡ true }
+    ensures { result ≡ min above (digits_value 10 digits.now) }
+{
+    let mut value: u128 = 0;
+    for b in digits {
+        value = above.min(value * 10 + digit(*b) as u128);
+    }
+    value
+}
+
+/// The number that a word's digits write, where it is at most this.
+fn number(word: &[u8], most: u64) -> Option<u64>
+    ensures { result ≡ number_of most word.now }
+{
+    if !is_nonempty(word) || !has_digits(word) {
+        return None;
+    }
+    let value = bounded_value(word, most as u128 + 1);
+    if value <= most as u128 {
+        Some(value as u64)
+    } else {
+        None
+    }
+}
+
+fn verb_named(word: &[u8]) -> Option<Verb>
+    ensures { result ≡ verb_of word.now }
+{
+    if same(word, b"select") {
+        Some(Verb::Select)
+    } else if same(word, b"exclude") {
+        Some(Verb::Exclude)
+    } else if same(word, b"retract") {
+        Some(Verb::Retract)
+    } else if same(word, b"undo") {
+        Some(Verb::Undo)
+    } else if same(word, b"redo") {
+        Some(Verb::Redo)
+    } else if same(word, b"keep") {
+        Some(Verb::Keep)
+    } else if same(word, b"forget") {
+        Some(Verb::Forget)
+    } else if same(word, b"lift") {
+        Some(Verb::Lift)
+    } else if same(word, b"harvest") {
+        Some(Verb::Harvest)
+    } else if same(word, b"commit") {
+        Some(Verb::Commit)
+    } else if same(word, b"settle") {
+        Some(Verb::Settle)
+    } else if same(word, b"show") {
+        Some(Verb::Show)
+    } else if same(word, b"trail") {
+        Some(Verb::Trail)
+    } else if same(word, b"products") {
+        Some(Verb::Products)
+    } else if same(word, b"plan") {
+        Some(Verb::Plan)
+    } else {
+        None
+    }
+}
+
+/// A command without arguments.
+fn bare_command<'t>(verb: Verb) -> Option<Command<'t>>
+    ensures { option_map command_shown result ≡ bare_command verb }
+{
+    match verb {
+        Verb::Undo => Some(Command::Undo(None)),
+        Verb::Redo => Some(Command::Redo(None)),
+        Verb::Harvest => Some(Command::Harvest),
+        Verb::Settle => Some(Command::Settle(None)),
+        Verb::Show => Some(Command::Show),
+        Verb::Trail => Some(Command::Trail),
+        Verb::Products => Some(Command::Products),
+        Verb::Plan => Some(Command::Plan),
+        Verb::Select
+        | Verb::Exclude
+        | Verb::Retract
+        | Verb::Keep
+        | Verb::Forget
+        | Verb::Lift
+        | Verb::Commit => None,
+    }
+}
+
+/// A command with one argument.
+fn command_with(verb: Verb, word: &[u8]) -> Option<Command>
+    ensures { option_map command_shown result ≡ command_with verb word.now }
+{
+    match verb {
+        Verb::Select if is_feature_name(word) => Some(Command::Select(word)),
+        Verb::Exclude if is_feature_name(word) => Some(Command::Exclude(word)),
+        Verb::Retract if is_feature_name(word) => Some(Command::Retract(word)),
+        Verb::Undo => Some(Command::Undo(Some(number(word, LARGEST_SERIAL)?))),
+        Verb::Redo => Some(Command::Redo(Some(number(word, LARGEST_SERIAL)?))),
+        Verb::Keep => Some(Command::Keep(number(word, LARGEST_SERIAL)?)),
+        Verb::Forget => Some(Command::Forget(number(word, LARGEST_SERIAL)?)),
+        Verb::Commit => Some(Command::Commit(number(word, LARGEST_SERIAL)?)),
+        Verb::Settle => Some(Command::Settle(Some(number(word, MOST_SWEEPS)?))),
+        _ => None,
+    }
+}
+
+fn table_named(word: &[u8]) -> Option<Which>
+    ensures { result ≡ table_named word.now }
+{
+    if same(word, b"hopeful") {
+        Some(Which::Hopeful)
+    } else if same(word, b"dual") {
+        Some(Which::Dual)
+    } else {
+        None
+    }
+}
+
+/// A command with two arguments.
+fn command_with_two<'t>(verb: Verb, first: &[u8], second: &[u8]) -> Option<Command<'t>>
+    ensures { option_map command_shown result ≡ command_with_two verb first.now second.now }
+{
+    match verb {
+        Verb::Lift => {
+            let table = table_named(first)?;
+            let identifier = number(second, LARGEST_IDENTIFIER)?;
+            Some(Command::Lift(table, identifier as u32))
+        }
+        _ => None,
+    }
+}
+
+/// The command of a verb and its arguments.
+fn command_of<'t>(verb: Verb, args: &[&'t [u8]]) -> Option<Command<'t>>
+    ensures { option_map command_shown result ≡ command_of verb (texts args.now) }
+{
+    match args {
+        [] => bare_command(verb),
+        [a] => command_with(verb, a),
+        [a, b] => command_with_two(verb, a, b),
+        [_, _, _, ..] => None,
+    }
+}
+
+/// The label that a word is.
+fn label(word: &[u8]) -> Option<u32>
+    ensures { result ≡ label_of word.now }
+{
+    match word {
+        [digits @ .., b':'] => match number(digits, MOST_LABELS) {
+            Some(0) => None,
+            Some(n) => Some(n as u32),
+            None => None,
+        },
+        _ => None,
+    }
+}
+
+ghost use Rattle.std.specs.Prelude.{Some};
+ghost use Rattle.vpg_script.specs.Script.{requested, with_verb, after_label, labelled, said_by, said};
+ghost use Rattle.vpg_script.specs.View.{Says};
+
+/// Why a line gives no request.
+#[derive(Clone, Copy, Debug, PartialEq, Eq)]
+pub enum ReadFault {
+    Line(LineFault),
+    Memory,
+}
+
+fn is_comment(word: &[u8]) -> bool
+    ensures { result ≡ is_comment word.now }
+{
+    match word {
+        [] => false,
+        [first, ..] => *first == b'#',
+    }
+}
+
+fn after_label<'t>(label: u32, words: &[&'t [u8]]) -> Result<Option<Request<'t>>, ReadFault>
+    ensures { Says result (after_label label (texts words.now)) }
+{
+    let [word, args @ ..] = words else {
+        return Err(ReadFault::Line(LineFault::Word));
+    };
+    let Some(verb) = verb_named(word) else {
+        return Err(ReadFault::Line(LineFault::Word));
+    };
+    match command_of(verb, args) {
+        Some(command) => Ok(Some(Request { label, command })),
+        None => Err(ReadFault::Line(LineFault::Args)),
+    }
+}
+
+fn said_by<'t>(words: &[&'t [u8]]) -> Result<Option<Request<'t>>, ReadFault>
+    ensures { Says result (said_by (texts words.now)) }
+{
+    let [word, rest @ ..] = words else {
+        return Ok(None);
+    };
+    if is_comment(word) {
+        return Ok(None);
+    }
+    match label(word) {
+        Some(n) => after_label(n, rest),
+        None => after_label(1, words),
+    }
+}
+
+/// What a line says: nothing, or a command under its label.
+pub fn read_line(alloc: Global, line: &[u8]) -> Result<Option<Request>, ReadFault>
+    ensures { Says result (said line.now) }
+{
+    if line.len() > LONGEST_LINE {
+        return Err(ReadFault::Line(LineFault::TooLong));
+    }
+    let Ok(words) = words_of(alloc, line) else {
+        return Err(ReadFault::Memory);
+    };
+    said_by(&words)
+}

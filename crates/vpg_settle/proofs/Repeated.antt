@@ -1,0 +1,128 @@
+-- Sweeps of an order, one after another.
+use Rattle.std.proofs.Common.{◌≡◌, ℕ, ◌+◌, ◌<◌, ◌≤◌, List, ◌⊎◌, inl, inr, sym, ap, ◌∙◌, subst, arith}
+use Rattle.std.specs.Prelude.{sum}
+use Rattle.vpg_guards.specs.Known.{kleene}
+use Rattle.vpg_game.specs.Game.{graph_of}
+use Rattle.vpg_measure.specs.declared.which.Which.{Which}
+use Rattle.vpg_measure.specs.declared.which.Which.TheVariants.{Hopeful, Dual}
+use Rattle.vpg_measure.specs.Lifts.{IsProgressTable, IsBelowTable, after_rounds}
+use Rattle.vpg_measure.specs.Orders.{OrderView, HarvestView, IsOrder, IsHarvest, IsSameOrder, IsOrderAgain, IsSettledHarvest, order_table, harvest_table, order_levels, order_arena}
+use Rattle.vpg_measure.specs.TwoGames.{levels_for, arena_for}
+use Rattle.vpg_measure.proofs.Rounds.{after_above, below_trans}
+use Rattle.vpg_settle.specs.Sweeping.{IsOfPage, IsSweptOrder}
+use Rattle.vpg_settle.proofs.Sweeps.{sums_rise, rounds_settle_or_move}
+
+same_page : (one other : OrderView) → IsSameOrder one other → IsOfPage one other
+same_page one other same = record { game = same.game; diagram = same.diagram; decisions = same.decisions; known = same.known }
+
+-- a progress table of one order of a page is one of the other
+pub progress_moves : (one other : OrderView) → IsOfPage one other → (which : Which) (table : List ℕ) → IsProgressTable (order_levels which one) (order_arena which one) table →
+    IsProgressTable (order_levels which other) (order_arena which other) table
+progress_moves one other page which table p =
+    coe 0 1 (i. IsProgressTable (levels_for which (graph_of (page.game i))) (arena_for (kleene (page.known i)) which (graph_of (page.game i))) table) p
+
+page_back : (one other : OrderView) → IsOfPage one other → IsOfPage other one
+page_back one other page = record { game = sym page.game; diagram = sym page.diagram; decisions = sym page.decisions; known = sym page.known }
+
+-- ---- sweeps alone
+
+module _ (order : OrderView) (harvest : HarvestView) (sweeps : ℕ) (is_order : IsOrder order) (lawful : IsHarvest harvest) (same : IsSameOrder harvest.order order)
+    (tables : (which : Which) → harvest_table which harvest ≡ after_rounds (order_levels which order) (order_arena which order) sweeps (order_table which order)) where
+  above : (which : Which) → IsBelowTable (order_table which order) (harvest_table which harvest)
+  above which = subst (λ (t : List ℕ). IsBelowTable (order_table which order) t) (sym (tables which)) (after_above (order_levels which order) (order_arena which order) sweeps (order_table which order))
+
+  abbrev IsDone : Which → Type 0
+  IsDone which = IsProgressTable (order_levels which harvest.order) (order_arena which harvest.order) (harvest_table which harvest)
+
+  -- one table is settled, or it moved
+  moves : (which : Which) → IsDone which ⊎ (sum (order_table which order) + sweeps ≤ sum (harvest_table which harvest))
+  moves which =
+      go (rounds_settle_or_move (order_levels which order) (order_arena which order) sweeps (order_table which order) (is_order.below which).is_table)
+    where
+      go : IsProgressTable (order_levels which order) (order_arena which order) (after_rounds (order_levels which order) (order_arena which order) sweeps (order_table which order)) ⊎
+          (sum (order_table which order) + sweeps ≤ sum (after_rounds (order_levels which order) (order_arena which order) sweeps (order_table which order))) →
+          IsDone which ⊎ (sum (order_table which order) + sweeps ≤ sum (harvest_table which harvest))
+      go (inl progress) =
+          inl (progress_moves order harvest.order (page_back harvest.order order (same_page harvest.order order same)) which (harvest_table which harvest)
+          (subst (λ (t : List ℕ). IsProgressTable (order_levels which order) (order_arena which order) t) (sym (tables which)) progress))
+      go (inr moved) = inr (subst (λ (t : List ℕ). sum (order_table which order) + sweeps ≤ sum t) (sym (tables which)) moved)
+
+  both : IsDone Hopeful → IsDone Dual → (which : Which) → IsDone which
+  both first second Hopeful = first
+  both first second Dual = second
+
+  moved_enough : IsDone Hopeful ⊎ (sum order.hopeful + sweeps ≤ sum harvest.hopeful) → IsDone Dual ⊎ (sum order.dual + sweeps ≤ sum harvest.dual) →
+      ¬ IsSettledHarvest harvest → sum order.hopeful + sum order.dual + sweeps ≤ sum harvest.hopeful + sum harvest.dual
+  moved_enough (inl first) (inl second) unsettled = absurd (unsettled (both first second))
+  moved_enough (inr moved) second unsettled = omega (arith, moved, sums_rise order.dual harvest.dual (above Dual))
+  moved_enough (inl first) (inr moved) unsettled = omega (arith, moved, sums_rise order.hopeful harvest.hopeful (above Hopeful))
+
+  pub rounds_sweep : IsSweptOrder order sweeps harvest
+  rounds_sweep = record { lawful = lawful; page = same_page harvest.order order same; above = above; moved = moved_enough (moves Hopeful) (moves Dual) }
+
+-- ---- one after another
+
+-- the tables of the order that a harvest came of, seen from its own order
+tables_stay : (order : OrderView) (harvest : HarvestView) → IsHarvest harvest → IsSameOrder harvest.order order → (which : Which) → IsBelowTable (order_table which order) (harvest_table which harvest)
+tables_stay order harvest lawful same Hopeful = subst (λ (t : List ℕ). IsBelowTable t harvest.hopeful) same.hopeful (lawful.above Hopeful)
+tables_stay order harvest lawful same Dual = subst (λ (t : List ℕ). IsBelowTable t harvest.dual) same.dual (lawful.above Dual)
+
+-- a settled harvest needs no sweep
+pub settled_sweeps : (order : OrderView) (harvest : HarvestView) (sweeps : ℕ) → IsHarvest harvest → IsSameOrder harvest.order order → IsSettledHarvest harvest → IsSweptOrder order sweeps harvest
+settled_sweeps order harvest sweeps lawful same settled = record { lawful = lawful; page = same_page harvest.order order same; above = tables_stay order harvest lawful same; moved = λ unsettled. absurd (unsettled settled) }
+
+-- nor does one that sweeps settled need more of them
+pub settled_early : (order : OrderView) (harvest : HarvestView) (done sweeps : ℕ) → IsSweptOrder order done harvest → IsSettledHarvest harvest → IsSweptOrder order sweeps harvest
+settled_early order harvest done sweeps swept settled = record { lawful = swept.lawful; page = swept.page; above = swept.above; moved = λ unsettled. absurd (unsettled settled) }
+
+module _ (order again : OrderView) (first second : HarvestView) (more : ℕ) (is_again : IsOrderAgain again first) (further : IsSweptOrder again more second) where
+  again_table : (which : Which) → order_table which again ≡ harvest_table which first
+  again_table Hopeful = is_again.hopeful
+  again_table Dual = is_again.dual
+
+  -- the first harvest moved by so much, and its tables are swept on
+  moved_then : (done : ℕ) → IsOfPage first.order order → ((which : Which) → IsBelowTable (order_table which order) (harvest_table which first)) →
+      sum order.hopeful + sum order.dual + done ≤ sum first.hopeful + sum first.dual → IsSweptOrder order (done + more) second
+  moved_then done page above moved = record {
+    lawful = further.lawful;
+    page = record {
+      game = further.page.game ∙ is_again.game ∙ page.game;
+      diagram = further.page.diagram ∙ is_again.diagram ∙ page.diagram;
+      decisions = further.page.decisions ∙ is_again.decisions ∙ page.decisions;
+      known = further.page.known ∙ is_again.known ∙ page.known;
+    };
+    above = λ which. below_trans (order_table which order) (harvest_table which first) (harvest_table which second) (above which)
+        (subst (λ (t : List ℕ). IsBelowTable t (harvest_table which second)) (again_table which) (further.above which));
+    moved = λ unsettled. omega (arith, moved, further.moved unsettled, ap sum is_again.hopeful, ap sum is_again.dual);
+  }
+
+  -- after sweeps that didn't settle it
+  pub swept_then : (done : ℕ) → IsSweptOrder order done first → (¬ IsSettledHarvest first) → IsSweptOrder order (done + more) second
+  swept_then done swept unsettled = moved_then done swept.page swept.above (swept.moved unsettled)
+
+  -- after any raise
+  pub raised_then : IsHarvest first → IsSameOrder first.order order → IsSweptOrder order more second
+  raised_then lawful same =
+      subst (λ (n : ℕ). IsSweptOrder order n second) (omega arith)
+      (moved_then 0 (same_page first.order order same) (tables_stay order first lawful same)
+      (omega (arith, sums_rise order.hopeful first.hopeful (tables_stay order first lawful same Hopeful), sums_rise order.dual first.dual (tables_stay order first lawful same Dual))))
+
+-- one sweep of several lifters
+pub board_sweeps : (order : OrderView) (harvest : HarvestView) → IsHarvest harvest → IsSameOrder harvest.order order →
+    ((which : Which) → IsBelowTable (order_table which order) (harvest_table which harvest)) →
+    (¬ IsSettledHarvest harvest → sum order.hopeful + sum order.dual < sum harvest.hopeful + sum harvest.dual) → IsSweptOrder order 1 harvest
+board_sweeps order harvest lawful same above moved = record {
+  lawful = lawful;
+  page = same_page harvest.order order same;
+  above = above;
+  moved = λ unsettled. omega (arith, moved unsettled);
+}
+
+-- what each further sweep leaves to do: whatever is swept of the order that is now there is swept of the first one
+abbrev pub LeavesTo : (first now : OrderView) (sweeps left : ℕ) → Type 0
+LeavesTo first now sweeps left = (harvest : HarvestView) → IsSweptOrder now left harvest → IsSweptOrder first sweeps harvest
+
+pub swept_on : (first now again : OrderView) (harvest : HarvestView) (sweeps left : ℕ) → LeavesTo first now sweeps (1 + left) → IsSweptOrder now 1 harvest → ¬ IsSettledHarvest harvest → IsOrderAgain again harvest →
+    LeavesTo first again sweeps left
+swept_on first now again harvest sweeps left leaves swept unsettled is_again last further =
+    leaves last (swept_then now again harvest last left is_again further 1 swept unsettled)

@@ -1,0 +1,4 @@
+pub mod Settled
+pub mod Shown
+pub mod Planned
+pub mod Reading

@@ -1,0 +1,3 @@
+pub mod Plan
+pub mod Scene
+pub mod Text

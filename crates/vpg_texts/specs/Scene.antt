@@ -1,0 +1,64 @@
+-- A game over the features of a diagram, with the names that texts write.
+use Rattle.std.specs.Prelude.{◌≡◌, ℕ, ◌<◌, Bool, List, length, map, All}
+use Rattle.std.specs.Bool.{Decides}
+use Rattle.vpg_guards.specs.declared.tri.Tri.{Tri}
+use Rattle.vpg_guards.specs.Formula.{Formula}
+use Rattle.vpg_guards.specs.Known.{kleene, AreAllKnown}
+use Rattle.vpg_diagram.specs.FeatureDiagram.{Line}
+use Rattle.vpg_diagram.specs.DiagramText.{NamedDiagram}
+use Rattle.vpg_game.specs.Game.{NamedGame, graph_of, vertex_ids}
+use Rattle.vpg_partial.specs.TableLaws.{IsKnownTable}
+use Rattle.vpg_game.specs.Guarded.{GuardedGame}
+use Rattle.vpg_measure.specs.TwoGames.{top_for, IsProgressOf}
+use Rattle.vpg_trail.specs.Page.{Which, Hopeful, Dual, Entry, Decided, Lifted, Decision, literal_of}
+use Rattle.vpg_texts.specs.Text.{show_text, products_text}
+
+pub record Scene : Type 0 where
+  pub game : GuardedGame Formula
+  pub lines : List Line
+  -- of the features, and of the vertices
+  pub names : List (List ℕ)
+  pub identifiers : List ℕ
+
+abbrev pub scene_of : NamedGame → NamedDiagram → Scene
+scene_of game diagram =
+    record {
+      game = graph_of game;
+      lines = diagram.lines;
+      names = diagram.names;
+      identifiers = vertex_ids game.vertices;
+    }
+
+-- it is so of what the decisions make known
+abbrev pub UnderKnown : Scene → List Decision → (List Tri → Type 0) → Type 0
+UnderKnown scene decisions P = (known : List Tri) × (IsKnownTable scene.lines (map literal_of decisions) known × P known)
+
+-- the one of two tables
+abbrev pub table_in : List ℕ → List ℕ → Which → List ℕ
+table_in hopeful dual Hopeful = hopeful
+table_in hopeful dual Dual = dual
+
+-- under what is known, both are progress tables of their games
+abbrev pub AreProgressTables : List Tri → GuardedGame Formula → (hopeful dual : List ℕ) → Type 0
+AreProgressTables known game hopeful dual = (table : Which) → IsProgressOf (kleene known) table game (table_in hopeful dual table)
+
+-- Under what is known, the text shows these decisions and tables.
+pub record ShowsUnder (scene : Scene) (known : List Tri) (decisions : List Decision) (hopeful dual text : List ℕ) : Type 0 where
+  pub full : Bool
+  pub settled : Bool
+  pub full_is : Decides full (AreAllKnown (length known) known)
+  pub settled_is : Decides settled (AreProgressTables known scene.game hopeful dual)
+  pub text_is : text ≡ show_text scene.names scene.identifiers (top_for Hopeful scene.game) (top_for Dual scene.game) (map literal_of decisions) full settled hopeful dual
+
+-- The text shows these decisions, under what they make known, and these tables.
+abbrev pub IsShown : Scene → List Decision → (hopeful dual text : List ℕ) → Type 0
+IsShown scene decisions hopeful dual text = UnderKnown scene decisions (λ known. ShowsUnder scene known decisions hopeful dual text)
+
+-- The text tells of each feature whether the decisions make it known.
+abbrev pub TellsKnown : Scene → List Decision → List ℕ → Type 0
+TellsKnown scene decisions text = UnderKnown scene decisions (λ known. text ≡ products_text scene.names known)
+
+-- the features and the vertex of an entry are below these counts
+abbrev pub EntryIsWithin : ℕ → ℕ → Entry → Type 0
+EntryIsWithin features vertices (Decided d) = d.feature < features
+EntryIsWithin features vertices (Lifted l) = (l.vertex < vertices) × All (λ c. c.feature < features) l.under
