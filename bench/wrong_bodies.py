@@ -131,8 +131,10 @@ def faults(said):
 
 
 def without(text, line):
-    """The text of a proof file without the definition that stands at this line, and its name."""
+    """The text of a proof file without the definition, or the `use`, that stands at this line, and its name."""
     lines = text.split("\n")
+    if lines[line - 1].startswith("use "):
+        return "\n".join([*lines[: line - 1], *lines[line:]]), ""
     signed = {at: it[1] for at, line in enumerate(lines) if (it := SIGNED.match(line))}
     begin = max((at for at in signed if at < line), default=None)
     if begin is None:
@@ -344,8 +346,9 @@ def rows_of(table):
 
 def write_row(table, row, names):
     """Puts a row into the table, which has one for each edit, in the order of the crates and, within one, of the names."""
-    with open(f"{table}.lock", "w") as lock:
-        fcntl.flock(lock, fcntl.LOCK_EX)
+    folder = os.open(os.path.dirname(os.path.abspath(table)), os.O_RDONLY)
+    try:
+        fcntl.flock(folder, fcntl.LOCK_EX)
         rows = rows_of(table)
         if row:
             rows[row["crate"], row["edit"]] = row
@@ -355,7 +358,8 @@ def write_row(table, row, names):
                 found = {**rows.get((crate, edit), {"verdict": "untried"}), "crate": crate, "edit": edit, "where": names[crate, edit][2]}
                 it.write("\t".join(found.get(column, "") for column in COLUMNS) + "\n")
         os.replace(f"{table}.new", table)
-    os.remove(f"{table}.lock")
+    finally:
+        os.close(folder)
 
 
 def main():
