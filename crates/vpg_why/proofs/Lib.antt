@@ -1,5 +1,6 @@
 pub mod Monotone
 pub mod Asked
+pub mod First
 pub mod Forced
 pub mod Fronts
 pub mod Halving

@@ -150,6 +150,33 @@ fn last_needed(
     Ok(Some(last))
 }
 
+// How many of the first decisions suffice: the fewest, as far as the trials were settled.
+pub(crate) fn least_front(
+    alloc: Global,
+    game: &GuardedGame,
+    diagram: &Diagram,
+    question: Question,
+    decisions: &[Decision],
+    limits: Limits,
+) -> Result<usize, AllocError>
+    requires features { game.now.features ≡ feature_count diagram.now.lines }
+    requires named { AreChoicesOf diagram.now.lines (choices decisions.now) }
+    requires askable { IsAskable game.now diagram.now question }
+    requires enough { Suffice game.now diagram.now question (choices decisions.now) }
+    ensures within { IfOk result (λ front. front ≤ length decisions.now) }
+    ensures enough { IfOk result (λ front. Suffice game.now diagram.now question (choices (take front decisions.now))) }
+{
+    let most = decisions.len();
+    if most == 0 {
+        return Ok(0);
+    }
+    let found = last_needed(alloc, game, diagram, question, decisions, most, &[], limits)?;
+    match found {
+        Some(last) => Ok(last.place + 1),
+        None => Ok(0),
+    }
+}
+
 /// Some of the decisions, which suffice, that suffice alone. None of them can be left out, where that is told: then no list of
 /// them that lacks one suffices.
 ///

@@ -1,5 +1,6 @@
 //! Searching for a product, by splitting over features that are not known.
-ghost use Rattle.std.specs.Prelude.{◌≡◌, ◌<◌, length, IfOk, IfSome, IsNone};
+ghost use Rattle.std.specs.Prelude.{◌≡◌, ◌≢◌, ℕ, ◌<◌, length, slice_index_or, IfOk, IfSome, IsNone};
+ghost use Rattle.vpg_guards.specs.declared.tri.Tri.TheVariants.{Unknown};
 ghost use Rattle.vpg_diagram.specs.FeatureDiagram.{feature_count};
 ghost use Rattle.vpg_partial.specs.TableLaws.{AreChoicesOf, AreAmong};
 ghost use Rattle.vpg_why.specs.Explained.{choices};
@@ -28,11 +29,21 @@ pub(crate) enum Outlook {
     Unsettled,
 }
 
+/// A product, by decisions that leave it alone.
+#[derive(Debug, Drop)]
+pub struct Example {
+    /// Those of the page, and behind them those of the search, with the serial 0.
+    pub decisions: Vec<Decision>,
+    /// Whether it was shown to be the first: of the products that are left and in which the verdict does not hold, none comes before
+    /// it in the order of the features, where a product with a feature comes before one without.
+    pub first: bool,
+}
+
 /// What a search found.
 #[derive(Debug, Drop)]
 pub enum Found {
-    /// Decisions that leave one product, in which the verdict does not hold.
-    Product(Vec<Decision>),
+    /// A product in which the verdict does not hold.
+    Product(Example),
     /// The verdict holds in each product.
     Nothing,
     /// There were too many trials, or some tables were not settled.
@@ -42,7 +53,8 @@ pub enum Found {
 // A feature that is not known.
 fn open_feature(known: &Partial, features: u16) -> Option<u16>
     requires { length known.now ≡ features }
-    ensures { IfSome result (λ f. f < features) }
+    ensures within { IfSome result (λ f. f < features) }
+    ensures below { IfSome result (λ f. (g : ℕ) → g < f → slice_index_or known.now g Unknown ≢ Unknown) }
 {
     for f in 0..features {
         if known.value(f) == Tri::Unknown {
@@ -109,12 +121,18 @@ pub(crate) fn search(
     *trials -= 1;
     let feature = match look(alloc, game, diagram, which, vertex, decisions, budget)? {
         Outlook::Lost => return Ok(Found::Nothing),
-        Outlook::Won => return Ok(Found::Product(Vec::from_slice(alloc, decisions)?)),
+        Outlook::Won => {
+            let decisions = Vec::from_slice(alloc, decisions)?;
+            return Ok(Found::Product(Example {
+                decisions,
+                first: true,
+            }));
+        }
         Outlook::Open { feature } => feature,
         Outlook::Unsettled => return Ok(Found::Unsettled),
     };
     let more = with_one(alloc, decisions, feature, true)?;
-    let first = search(
+    let with_it = search(
         alloc,
         game,
         diagram,
@@ -125,11 +143,11 @@ pub(crate) fn search(
         depth - 1,
         trials,
     )?;
-    if let Found::Product(found) = first {
+    if let Found::Product(found) = with_it {
         return Ok(Found::Product(found));
     }
     let more = with_one(alloc, decisions, feature, false)?;
-    let second = search(
+    let without = search(
         alloc,
         game,
         diagram,
@@ -140,8 +158,12 @@ pub(crate) fn search(
         depth - 1,
         trials,
     )?;
-    match (first, second) {
-        (_, Found::Product(found)) => Ok(Found::Product(found)),
+    match (with_it, without) {
+        (Found::Nothing, Found::Product(found)) => Ok(Found::Product(found)),
+        (_, Found::Product(found)) => Ok(Found::Product(Example {
+            decisions: found.decisions,
+            first: false,
+        })),
         (Found::Nothing, Found::Nothing) => Ok(Found::Nothing),
         _ => Ok(Found::Unsettled),
     }

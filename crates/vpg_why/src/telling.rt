@@ -1,5 +1,5 @@
 //! Why a verdict, a loss, a known feature or a conflict is so.
-ghost use Rattle.std.specs.Prelude.{◌≡◌, ◌↔◌, ◌<◌, length, slice_index, IfOk, IfSome, IsSome, IsTrue};
+ghost use Rattle.std.specs.Prelude.{◌≡◌, ◌↔◌, ◌<◌, ◌≤◌, length, take, slice_index, IfOk, IfSome, IsSome, IsTrue};
 ghost use Rattle.vpg_game.specs.Game.{graph_of};
 ghost use Rattle.vpg_measure.specs.Orders.{order_table};
 ghost use Rattle.vpg_measure.specs.TwoGames.{top_for};
@@ -10,12 +10,11 @@ ghost use Rattle.vpg_diagram.specs.FeatureDiagram.{feature_count};
 ghost use Rattle.vpg_why.specs.Suffices.{Suffice, IsAskable, IsSettled};
 
 use crate::answering::suffice;
-use crate::explaining::{Explanation, explain};
+use crate::explaining::{Explanation, explain, least_front};
 use crate::question::{Limits, Question, Shown};
-use crate::searching::{Found, find};
+use crate::searching::{Example, Found, find};
 use std::alloc::{AllocError, Global};
 use vpg_measure::{Order, Which};
-use vpg_partial::Decision;
 
 /// Which of the page's decisions make the vertex hopeless, by the first table, or sure, by the second: nothing where the page's
 /// table has it not so.
@@ -48,13 +47,64 @@ pub fn why(
     Ok(Some(found))
 }
 
+// How many of the page's first decisions make its verdict so. With these alone it is lost, so no search for a product has to go further.
+fn verdict_front(
+    alloc: Global,
+    order: &Order,
+    which: Which,
+    vertex: u32,
+    limits: Limits,
+) -> Result<usize, AllocError>
+    requires vertex { vertex < length order.now.game.vertices }
+    requires top { slice_index (order_table which order.now) vertex ≡ top_for which (graph_of order.now.game) }
+    ensures within { IfOk result (λ front. front ≤ length order.now.decisions) }
+    ensures lost { IfOk result (λ front. IsLostUnder order.now.game order.now.diagram which vertex (choices (take front order.now.decisions))) }
+{
+    let question = Question::Verdict { which, vertex };
+    let front = least_front(
+        alloc,
+        order.game(),
+        order.diagram(),
+        question,
+        order.decisions(),
+        limits,
+    )?;
+    Ok(front)
+}
+
+// Why it is lost, where the first decisions of the page make it so.
+fn lost_by_front(
+    alloc: Global,
+    order: &Order,
+    which: Which,
+    vertex: u32,
+    front: usize,
+    limits: Limits,
+) -> Result<Explanation, AllocError>
+    requires vertex { vertex < length order.now.game.vertices }
+    requires within { front ≤ length order.now.decisions }
+    requires lost { IsLostUnder order.now.game order.now.diagram which vertex (choices (take front order.now.decisions)) }
+    ensures { IfOk result (λ found. Explains (Suffice order.now.game order.now.diagram (Question.Lost which vertex)) order.now.decisions found.decisions.items found.exact) }
+{
+    let question = Question::Lost { which, vertex };
+    let found = explain(
+        alloc,
+        order.game(),
+        order.diagram(),
+        question,
+        &order.decisions()[..front],
+        limits,
+    )?;
+    Ok(found)
+}
+
 /// Why a vertex is lost: which decisions make it so, or a product in which it is not.
 #[derive(Debug, Drop)]
 pub enum WhyLost {
     /// These decisions alone leave no product in which Even wins from the vertex, for the first table; or Odd, for the second.
     Because(Explanation),
-    /// It is not lost: these decisions, which have those of the page, leave one product, in which that player wins.
-    Unless(Vec<Decision>),
+    /// It is not lost: a product that is left, in which that player wins.
+    Unless(Example),
     /// There were too many trials, or some tables were not settled.
     Unsettled,
 }
@@ -71,20 +121,18 @@ pub fn why_lost(
     requires { vertex < length order.now.game.vertices }
     ensures { IfOk result (IsWhyLost order.now.game order.now.diagram which vertex order.now.decisions) }
 {
+    if order.table(which).get(vertex) == order.shape(which).top() {
+        let front = verdict_front(alloc, order, which, vertex, limits)?;
+        let found = lost_by_front(alloc, order, which, vertex, front, limits)?;
+        return Ok(WhyLost::Because(found));
+    }
     match find(alloc, order, which, vertex, limits)? {
-        Found::Product(decisions) => return Ok(WhyLost::Unless(decisions)),
+        Found::Product(example) => return Ok(WhyLost::Unless(example)),
         Found::Unsettled => return Ok(WhyLost::Unsettled),
         Found::Nothing => {}
     }
-    let question = Question::Lost { which, vertex };
-    let found = explain(
-        alloc,
-        order.game(),
-        order.diagram(),
-        question,
-        order.decisions(),
-        limits,
-    )?;
+    let front = order.decisions().len();
+    let found = lost_by_front(alloc, order, which, vertex, front, limits)?;
     Ok(WhyLost::Because(found))
 }
 

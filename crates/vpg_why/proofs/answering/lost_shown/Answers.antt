@@ -7,7 +7,7 @@ pub returns-clause-no : goal.returns-clause-no
 returns-clause-no c = elim c.match-found.branch [
   | in-Product w ↦
       let found = rw w.in-Product.is at c.in_ok-found.ensures in
-      rw w.result-is (λ e. example_refutes c.args.game.now c.args.diagram.now c.args.which c.args.vertex (choices c.args.decisions.now) _ found.0 found.1)
+      rw w.result-is (λ e. example_refutes c.args.game.now c.args.diagram.now c.args.which c.args.vertex (choices c.args.decisions.now) _ found.among found.example)
   | in-Nothing w ↦ rw w.result-is (λ e. absurd cc)
   | in-Unsettled w ↦ rw w.result-is (λ e. absurd cc)
 ]

@@ -1,18 +1,17 @@
-use Rattle.std.proofs.Common.{◌++◌, ◌∷◌, [], refl}
+use Rattle.std.proofs.Common.{refl}
 use Rattle.vpg_measure.specs.declared.which.Which.TheVariants.{Hopeful, Dual}
 use Rattle.vpg_why.specs.Explained.{choices}
-use Rattle.vpg_why.specs.Suffices.{choice}
 use Rattle.vpg_why.proofs.Asked.{verdict_by}
 use Rattle.vpg_why.proofs.Monotone.{no_conflict}
 use Rattle.vpg_why.proofs.offering.offered.Goals as goal
 
 pub returns-in-None : goal.returns-in-None
-returns-in-None c = (rw (c.in-None.is, c.deref.ensures.value, c.in_ok-more.ensures) at c.in_ok-known.ensures.conflict) refl
+returns-in-None c = (rw c.in-None.is at c.in_ok-known.ensures.conflict) refl
 
 pub returns : goal.returns
 returns c =
-    let chosen = choices c.args.decisions.now ++ choice c.args.feature c.args.value ∷ [] in
-    let t = rw (c.in-Some.is, c.deref.ensures.value, c.in_ok-more.ensures) at c.in_ok-known.ensures.known in (
+    let chosen = choices c.args.decisions.now in
+    let t = rw c.in-Some.is at c.in_ok-known.ensures.known in (
       (λ h. no_conflict c.args.diagram.now.lines chosen c.in-Some.known t h),
       record {
         yes = λ e. verdict_by c.args.game.now c.args.diagram.now chosen Hopeful c.args.vertex c.in-Some.known t (c.in_ok-hopeless.ensures.yes e);
