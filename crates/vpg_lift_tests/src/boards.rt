@@ -92,14 +92,20 @@ fn is_settled(harvest: &Harvest) -> bool {
         && harvest.table(Which::Dual).values() == [0, 1].as_slice()
 }
 
+/// Whether lifts that answer so settle an order of the small game, and the order of the tables then.
+fn settled_by(alloc: Global, order: Order, answers: [bool; 4]) -> Result<(bool, Order), Fail> {
+    let harvest = lifted(alloc, order, answers)?;
+    let settled = is_settled(&harvest);
+    Ok((settled, harvest.again()))
+}
+
 #[test]
 fn one_seat_settles_the_small_game(rt: HostRuntime) -> Result<(), Fail> {
     let order = small(rt.alloc(), &[])?;
-    let first = lifted(rt.alloc(), order, [true, false, false, true])?;
-    assert!(rt; is_settled(&first));
-    let second = lifted(rt.alloc(), first.again(), [false; 4])?;
-    assert!(rt; is_settled(&second));
-    let_go(second.again());
+    let (first, order) = settled_by(rt.alloc(), order, [true, false, false, true])?;
+    let (second, order) = settled_by(rt.alloc(), order, [false; 4])?;
+    let_go(order);
+    assert_eq!(rt; (first, second), (true, true));
     Ok(())
 }
 
@@ -132,13 +138,22 @@ fn splits_stop(board: &Board, seat: &mut Seat) -> bool
     refused && rest == 62
 }
 
+/// Lets a board and its seat go by a harvest.
+fn close(alloc: Global, board: Board, seat: Seat) -> Result<(), Fail>
+    requires { seat.board ≡ board }
+{
+    let harvest = harvest_of(alloc, board, seat)?;
+    let_go(harvest.again());
+    Ok(())
+}
+
 #[test]
 fn the_opening_seat_splits_63_times(rt: HostRuntime) -> Result<(), Fail> {
     let (board, seat) = board_of(rt.alloc(), small(rt.alloc(), &[])?)?;
     let mut seat = seat;
-    assert!(rt; splits_stop(&board, &mut seat));
-    let harvest = harvest_of(rt.alloc(), board, seat)?;
-    let_go(harvest.again());
+    let stop = splits_stop(&board, &mut seat);
+    close(rt.alloc(), board, seat)?;
+    assert!(rt; stop);
     Ok(())
 }
 
@@ -260,9 +275,8 @@ fn claims_of_four<R: Threads + Wait + Sync>(
 fn four_seats_in_four_threads_claim_each_place_once(rt: HostRuntime) -> Result<(), Fail> {
     let (board, seat) = board_of(rt.alloc(), loops(rt.alloc(), 62)?)?;
     let (seat, noted) = claims_of_four(&rt, &board, seat, 1000);
+    close(rt.alloc(), board, seat)?;
     let all = (1u64 << 62) - 1;
     assert!(rt; noted.hopeful == all && noted.dual == all && noted.claims == 124);
-    let harvest = harvest_of(rt.alloc(), board, seat)?;
-    let_go(harvest.again());
     Ok(())
 }

@@ -30,17 +30,27 @@ fn undecided(alloc: Global) -> Result<Partial, Fail> {
     Ok(Partial::close(alloc, &diagram, &[])?)
 }
 
-/// The arena of the game, or of its dual.
-fn arena_of(alloc: Global, game: &GuardedGame, which: Which) -> Result<Arena, Fail> {
-    let known = undecided(alloc)?;
+/// The arena of the game, or of its dual, where so much is known.
+fn arena_with(
+    alloc: Global,
+    game: &GuardedGame,
+    which: Which,
+    known: &Partial,
+) -> Result<Arena, Fail> {
     if known.values().len() != game.features() {
         return Err("features")?;
     }
     let arena = match which {
-        Which::Hopeful => Arena::hopeful(alloc, game, &known),
-        Which::Dual => Arena::hopeful_of_dual(alloc, game, &known),
+        Which::Hopeful => Arena::hopeful(alloc, game, known),
+        Which::Dual => Arena::hopeful_of_dual(alloc, game, known),
     };
     Ok(arena?)
+}
+
+/// The arena of the game, or of its dual.
+fn arena_of(alloc: Global, game: &GuardedGame, which: Which) -> Result<Arena, Fail> {
+    let known = undecided(alloc)?;
+    arena_with(alloc, game, which, &known)
 }
 
 /// Its shape, and that of its dual.
@@ -56,6 +66,21 @@ fn shapes_of(
     }
 }
 
+/// Raises a table within a budget, and says whether it is a progress table then.
+fn raise(
+    alloc: Global,
+    shape: &Shape,
+    dual_shape: &Shape,
+    arena: &Arena,
+    table: &mut Table,
+    budget: u64,
+) -> Result<bool, Fail> {
+    if !is_table(shape, arena, table) {
+        return Err("no table")?;
+    }
+    Ok(raise_by_bounds(alloc, shape, dual_shape, arena, table, budget)?)
+}
+
 /// A table of zeros raised within a budget, and whether it is a progress table then.
 fn raised_from_zero(
     alloc: Global,
@@ -65,19 +90,37 @@ fn raised_from_zero(
     budget: u64,
 ) -> Result<(bool, Table), Fail> {
     let mut table = Table::zero(alloc, arena.vertices())?;
-    if !is_table(shape, arena, &table) {
-        return Err("no table")?;
-    }
-    let settled = raise_by_bounds(alloc, shape, dual_shape, arena, &mut table, budget)?;
+    let settled = raise(alloc, shape, dual_shape, arena, &mut table, budget)?;
     Ok((settled, table))
+}
+
+/// The table of a game, or of its dual, over its arena, so raised.
+fn raised_over(
+    alloc: Global,
+    game: &GuardedGame,
+    arena: &Arena,
+    which: Which,
+    budget: u64,
+) -> Result<(bool, Table), Fail> {
+    let (shape, dual_shape) = shapes_of(alloc, game, which)?;
+    raised_from_zero(alloc, &shape, &dual_shape, arena, budget)
+}
+
+/// The table of a game, or of its dual, so raised.
+fn raised_in(
+    alloc: Global,
+    game: &GuardedGame,
+    which: Which,
+    budget: u64,
+) -> Result<(bool, Table), Fail> {
+    let arena = arena_of(alloc, game, which)?;
+    raised_over(alloc, game, &arena, which, budget)
 }
 
 /// The table of a game without guards, or of its dual, so raised.
 fn raised(alloc: Global, text: &[u8], which: Which, budget: u64) -> Result<(bool, Table), Fail> {
     let game = plain_game(alloc, text)?;
-    let arena = arena_of(alloc, &game, which)?;
-    let (shape, dual_shape) = shapes_of(alloc, &game, which)?;
-    raised_from_zero(alloc, &shape, &dual_shape, &arena, budget)
+    raised_in(alloc, &game, which, budget)
 }
 
 /// Whether it is a progress table with these values.
@@ -115,26 +158,45 @@ fn are_all(table: &Table, value: u64) -> bool {
     table.values().iter().all(|n| *n == value)
 }
 
+/// Whether a climb's table is settled, and has 61 values, each at the top.
+fn is_at_the_top(alloc: Global, text: &[u8]) -> Result<bool, Fail> {
+    let (settled, table) = raised(alloc, text, Which::Hopeful, BUDGET)?;
+    Ok(settled && table.values().len() == 61 && are_all(&table, 2_305_843_009_213_693_952))
+}
+
+/// Whether the table of a game, or of its dual, is settled within a budget.
+fn settles(alloc: Global, text: &[u8], which: Which, budget: u64) -> Result<bool, Fail> {
+    let (settled, _) = raised(alloc, text, which, budget)?;
+    Ok(settled)
+}
+
+/// Whether a climb ends at the top, and that of the dual settled.
+fn climbs(alloc: Global) -> Result<(bool, bool), Fail> {
+    let text = climb(alloc, 60)?;
+    let top = is_at_the_top(alloc, text.as_bytes())?;
+    let dual = settles(alloc, text.as_bytes(), Which::Dual, BUDGET)?;
+    Ok((top, dual))
+}
+
 // The top is 2^61: no rounds of lifts would come there.
 #[test]
 fn a_climb_to_the_top(rt: HostRuntime) -> Result<(), Fail> {
-    let text = climb(rt.alloc(), 60)?;
-    let (settled, table) = raised(rt.alloc(), text.as_bytes(), Which::Hopeful, BUDGET)?;
-    assert!(rt; settled && table.values().len() == 61);
-    assert!(rt; are_all(&table, 2_305_843_009_213_693_952));
-    let (settled, _) = raised(rt.alloc(), text.as_bytes(), Which::Dual, BUDGET)?;
-    assert!(rt; settled);
+    assert_eq!(rt; climbs(rt.alloc())?, (true, true));
     Ok(())
+}
+
+/// Whether the tables of a climb and of its dual are settled within a budget of one step.
+fn settled_within_one(alloc: Global) -> Result<(bool, bool), Fail> {
+    let text = climb(alloc, 60)?;
+    let hopeful = settles(alloc, text.as_bytes(), Which::Hopeful, 1)?;
+    let dual = settles(alloc, text.as_bytes(), Which::Dual, 1)?;
+    Ok((hopeful, dual))
 }
 
 // A budget that is spent leaves what was raised until then; the table of the dual is settled from the start.
 #[test]
 fn a_small_budget(rt: HostRuntime) -> Result<(), Fail> {
-    let text = climb(rt.alloc(), 60)?;
-    for (which, expected) in [(Which::Hopeful, false), (Which::Dual, true)] {
-        let (settled, _) = raised(rt.alloc(), text.as_bytes(), which, 1)?;
-        assert_eq!(rt; settled, expected);
-    }
+    assert_eq!(rt; settled_within_one(rt.alloc())?, (false, true));
     Ok(())
 }
 

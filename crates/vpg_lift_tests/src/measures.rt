@@ -45,6 +45,21 @@ fn refusal(
     }
 }
 
+/// The fault, where all that was handed in with these two decisions comes back.
+fn fault_where_back(
+    alloc: Global,
+    refused: &Refused,
+    features: usize,
+    choices: [(u16, bool); 2],
+) -> Result<Option<OrderFault>, Fail> {
+    let expected = decisions_of(alloc, &choices)?;
+    if is_all_back(refused, features, &expected) {
+        Ok(Some(refused.fault))
+    } else {
+        Ok(None)
+    }
+}
+
 /// The fault of an order with these two decisions, where all that was handed in comes back.
 fn fault_of(
     alloc: Global,
@@ -54,13 +69,8 @@ fn fault_of(
 ) -> Result<Option<OrderFault>, Fail> {
     let features = diagram.features();
     let decisions = decisions_of(alloc, &choices)?;
-    let expected = decisions_of(alloc, &choices)?;
     let refused = refusal(alloc, game, diagram, decisions)?;
-    if is_all_back(&refused, features, &expected) {
-        Ok(Some(refused.fault))
-    } else {
-        Ok(None)
-    }
+    fault_where_back(alloc, &refused, features, choices)
 }
 
 /// A copy of one of an order's tables after so many rounds, and how they ended.
@@ -238,13 +248,9 @@ fn prog_of(shape: &Shape, priority: u32, value: u64) -> Option<u64> {
     }
 }
 
-// Two vertices of priority 1 and one of priority 3: the radices are 3 and 2.
-#[test]
-fn progs(rt: HostRuntime) -> Result<(), Fail> {
-    assert_eq!(rt; top_within_limit(rt.alloc(), &[1, 1, 3])?, Some(6));
-    let shape = shape_of(rt.alloc(), b"0 1 0 0; 1 1 0 1; 2 3 0 2;")?;
-    assert_eq!(rt; shape.top(), 6);
-    for (priority, value, least) in [
+/// The place of the first of these numbers that is another, or of a top that isn't 6.
+fn first_other(shape: &Shape) -> Option<usize> {
+    let rows = [
         (0, 5, 5),
         (1, 5, 6),
         (2, 5, 3),
@@ -252,10 +258,30 @@ fn progs(rt: HostRuntime) -> Result<(), Fail> {
         (4, 5, 0),
         (1, 2, 3),
         (5, 0, 6),
-    ] {
-        let found = prog_of(&shape, priority, value);
-        assert_eq!(rt; found, Some(least), "at {priority}, {value}");
+    ];
+    for k in 0..rows.len() {
+        let (priority, value, least) = rows[k];
+        if shape.top() != 6 || prog_of(shape, priority, value) != Some(least) {
+            return Some(k);
+        }
     }
+    None
+}
+
+/// The same of the shape of a game.
+fn first_other_of(alloc: Global, text: &[u8]) -> Result<Option<usize>, Fail> {
+    let shape = shape_of(alloc, text)?;
+    Ok(first_other(&shape))
+}
+
+// Two vertices of priority 1 and one of priority 3: the radices are 3 and 2.
+#[test]
+fn progs(rt: HostRuntime) -> Result<(), Fail> {
+    assert_eq!(rt; top_within_limit(rt.alloc(), &[1, 1, 3])?, Some(6));
+    assert_eq!(rt;
+        first_other_of(rt.alloc(), b"0 1 0 0; 1 1 0 1; 2 3 0 2;")?,
+        None
+    );
     Ok(())
 }
 
@@ -282,56 +308,95 @@ fn assign(table: &mut Table, other: &Table) {
     }
 }
 
+/// A copy of a table whose second value was set before, and whose first is set behind it.
+fn copied_between(alloc: Global, table: &mut Table) -> Result<Table, AllocError> {
+    set(table, 1, 7);
+    let copy = table.copy(alloc)?;
+    set(table, 0, 5);
+    Ok(copy)
+}
+
+/// Whether the copy has what was set before it, and the table both.
+fn are_set(alloc: Global, table: &mut Table) -> Result<bool, AllocError> {
+    let copy = copied_between(alloc, table)?;
+    Ok(copy.values() == [0, 7].as_slice() && get(table, 0) == Some(5) && get(table, 1) == Some(7))
+}
+
+/// Whether another table takes a table's values.
+fn is_assigned(alloc: Global, table: &Table) -> Result<bool, AllocError> {
+    let mut other = Table::of(vec![in alloc; 9; 2]?);
+    assign(&mut other, table);
+    Ok(other.values() == [5, 7].as_slice())
+}
+
+/// Whether a table is set and copied, and another takes its values.
+fn are_tables(alloc: Global) -> Result<(bool, bool), AllocError> {
+    let mut table = Table::zero(alloc, 2)?;
+    let set = are_set(alloc, &mut table)?;
+    let assigned = is_assigned(alloc, &table)?;
+    Ok((set, assigned))
+}
+
 #[test]
 fn tables(rt: HostRuntime) -> Result<(), Fail> {
-    let mut table = Table::zero(rt.alloc(), 2)?;
-    set(&mut table, 1, 7);
-    let copy = table.copy(rt.alloc())?;
-    set(&mut table, 0, 5);
-    assert_eq!(rt; copy.values(), [0, 7].as_slice());
-    assert_eq!(rt; get(&table, 0), Some(5));
-    assert_eq!(rt; get(&table, 1), Some(7));
-    let mut other = Table::of(vec![in rt.alloc(); 9; 2]?);
-    assign(&mut other, &table);
-    assert_eq!(rt; other.values(), [5, 7].as_slice());
+    assert_eq!(rt; are_tables(rt.alloc())?, (true, true));
     Ok(())
 }
 
-// Without `f` vertex 0 keeps its loop alone, and climbs one a round.
-#[test]
-fn rounds(rt: HostRuntime) -> Result<(), Fail> {
-    let alloc = rt.alloc();
-    let order = small(alloc, &[(1, false)])?;
-    for (rounds, values, outcome) in [
+// Each of the tests below lets its order go before it asserts: a function that holds one where it may end takes the prover seconds.
+
+/// The place of the first number of rounds that ends in another way.
+fn first_other_end(alloc: Global, order: &Order) -> Option<usize> {
+    let rows = [
         (0, [0, 0], Outcome::RanOut),
         (1, [1, 0], Outcome::RanOut),
         (2, [2, 0], Outcome::RanOut),
         (3, [2, 0], Outcome::Settled),
         (u64::MAX, [2, 0], Outcome::Settled),
-    ] {
-        assert!(rt; ends_as(alloc, &order, Which::Hopeful, rounds, &values, outcome));
+    ];
+    for k in 0..rows.len() {
+        let (rounds, values, outcome) = rows[k];
+        if !ends_as(alloc, order, Which::Hopeful, rounds, &values, outcome) {
+            return Some(k);
+        }
     }
+    None
+}
+
+// Without `f` vertex 0 keeps its loop alone, and climbs one a round.
+#[test]
+fn rounds(rt: HostRuntime) -> Result<(), Fail> {
+    let order = small(rt.alloc(), &[(1, false)])?;
+    let other = first_other_end(rt.alloc(), &order);
     let_go(order);
+    assert_eq!(rt; other, None);
     Ok(())
 }
 
 #[test]
 fn lifts_of_each_vertex(rt: HostRuntime) -> Result<(), Fail> {
     let order = small(rt.alloc(), &[])?;
-    assert!(rt; lifts_to(rt.alloc(), &order, Which::Hopeful, [1, 0]));
-    assert!(rt; lifts_to(rt.alloc(), &order, Which::Dual, [0, 1]));
+    let hopeful = lifts_to(rt.alloc(), &order, Which::Hopeful, [1, 0]);
+    let dual = lifts_to(rt.alloc(), &order, Which::Dual, [0, 1]);
     let_go(order);
+    assert_eq!(rt; (hopeful, dual), (true, true));
     Ok(())
+}
+
+/// Why there is no strategy from one of an order's tables after so many rounds.
+fn unplanned(alloc: Global, order: &Order, which: Which, rounds: u64) -> Option<StrategyFault> {
+    plan(alloc, order, which, rounds).err()
 }
 
 // With `f` and `g` vertex 0 leaves its loop.
 #[test]
 fn strategies(rt: HostRuntime) -> Result<(), Fail> {
     let order = small(rt.alloc(), &[(1, true), (2, true)])?;
-    assert!(rt; is_planned(rt.alloc(), &order, Which::Hopeful, &[Some(1), None]));
-    let unsettled = plan(rt.alloc(), &order, Which::Hopeful, 0).err();
-    assert_eq!(rt; unsettled, Some(StrategyFault::NotSettled));
+    let planned = is_planned(rt.alloc(), &order, Which::Hopeful, &[Some(1), None]);
+    let unsettled = unplanned(rt.alloc(), &order, Which::Hopeful, 0);
     let_go(order);
+    assert!(rt; planned);
+    assert_eq!(rt; unsettled, Some(StrategyFault::NotSettled));
     Ok(())
 }
 
@@ -339,31 +404,63 @@ fn strategies(rt: HostRuntime) -> Result<(), Fail> {
 #[test]
 fn no_choice_at_the_top(rt: HostRuntime) -> Result<(), Fail> {
     let order = small(rt.alloc(), &[(1, false)])?;
-    assert!(rt; is_planned(rt.alloc(), &order, Which::Hopeful, &[None, None]));
-    assert!(rt; is_planned(rt.alloc(), &order, Which::Dual, &[None, Some(0)]));
+    let hopeful = is_planned(rt.alloc(), &order, Which::Hopeful, &[None, None]);
+    let dual = is_planned(rt.alloc(), &order, Which::Dual, &[None, Some(0)]);
     let_go(order);
+    assert_eq!(rt; (hopeful, dual), (true, true));
     Ok(())
+}
+
+/// Whether an order of the game of two vertices has these decisions, and its two games.
+fn is_order_of(alloc: Global, order: &Order, choices: &[(u16, bool)]) -> Result<bool, AllocError> {
+    let decisions = decisions_of(alloc, choices)?;
+    Ok(
+        order.decisions() == decisions.as_slice()
+            && order.game().tops() == (2, 2)
+            && order.diagram().features() == 3
+            && has_game(order, Which::Hopeful, 2, &[0, 1])
+            && has_game(order, Which::Dual, 3, &[0, 1]),
+    )
 }
 
 #[test]
 fn orders(rt: HostRuntime) -> Result<(), Fail> {
-    let decisions = decisions_of(rt.alloc(), &[(2, true), (1, false)])?;
     let order = small(rt.alloc(), &[(2, true), (1, false)])?;
-    assert!(rt; order.decisions() == decisions.as_slice());
-    assert!(rt; order.game().tops() == (2, 2) && order.diagram().features() == 3);
-    assert!(rt; has_game(&order, Which::Hopeful, 2, &[0, 1]));
-    assert!(rt; has_game(&order, Which::Dual, 3, &[0, 1]));
+    let is = is_order_of(rt.alloc(), &order, &[(2, true), (1, false)]);
     let_go(order);
+    assert!(rt; is == Ok(true));
     Ok(())
+}
+
+/// The dual of the game of the greatest priority.
+fn dual_at_limit(alloc: Global, diagram: &Diagram) -> Result<GuardedGame, Fail> {
+    let game = game_of(alloc, diagram, HIGHEST)?;
+    Ok(game.dual(alloc)?)
+}
+
+/// Why there is no order of that dual over a diagram.
+fn fault_at_limit(alloc: Global, text: &[u8]) -> Result<Option<OrderFault>, Fail> {
+    let diagram = Diagram::read(alloc, text)?;
+    let game = dual_at_limit(alloc, &diagram)?;
+    fault_of(alloc, game, diagram, [(1, true), (0, true)])
+}
+
+/// Why there is no order of a game of one vertex with these decisions.
+fn fault_with(
+    alloc: Global,
+    text: &[u8],
+    choices: [(u16, bool); 2],
+) -> Result<Option<OrderFault>, Fail> {
+    let diagram = Diagram::read(alloc, text)?;
+    let game = game_of(alloc, &diagram, LONE)?;
+    fault_of(alloc, game, diagram, choices)
 }
 
 // A priority of 65,536, which only a dual has, is told before a conflict.
 #[test]
 fn no_order_at_the_limit(rt: HostRuntime) -> Result<(), Fail> {
     for text in [OPTIONS, CONTRADICTORY] {
-        let diagram = Diagram::read(rt.alloc(), text)?;
-        let game = game_of(rt.alloc(), &diagram, HIGHEST)?.dual(rt.alloc())?;
-        let fault = fault_of(rt.alloc(), game, diagram, [(1, true), (0, true)])?;
+        let fault = fault_at_limit(rt.alloc(), text)?;
         assert_eq!(rt; fault, Some(OrderFault::AtLimit));
     }
     Ok(())
@@ -377,9 +474,7 @@ fn no_order_with_a_conflict(rt: HostRuntime) -> Result<(), Fail> {
         (ALTERNATIVE, [(1, true), (2, true)], 2),
         (ALTERNATIVE, [(0, false), (2, true)], 0),
     ] {
-        let diagram = Diagram::read(rt.alloc(), text)?;
-        let game = game_of(rt.alloc(), &diagram, LONE)?;
-        let fault = fault_of(rt.alloc(), game, diagram, choices)?;
+        let fault = fault_with(rt.alloc(), text, choices)?;
         assert_eq!(rt; fault, Some(OrderFault::Conflict { feature }));
     }
     Ok(())

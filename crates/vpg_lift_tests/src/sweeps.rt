@@ -125,14 +125,59 @@ fn is_settled_small(harvest: &Harvest) -> bool {
         && harvest.table(Which::Dual).values() == [0, 1].as_slice()
 }
 
+/// Whether a sweep of an order has the progress tables of the small game, and the order of its tables.
+fn settled_by<G: Gate + Sync, R: Threads + Wait + Sync>(
+    rt: &R,
+    alloc: Global,
+    order: Order,
+    lifters: u32,
+    gate: &G,
+) -> Result<(bool, Order), Fail>
+    requires { (1 ≤ lifters) × (lifters ≤ 64) }
+{
+    let harvest = swept(rt, alloc, order, lifters, gate)?;
+    let settled = is_settled_small(&harvest);
+    Ok((settled, harvest.again()))
+}
+
+/// Whether a sweep settles the small game, and another one leaves it so.
+fn settles<R: Threads + Wait + Sync>(
+    rt: &R,
+    alloc: Global,
+    lifters: u32,
+) -> Result<(bool, bool), Fail>
+    requires { (1 ≤ lifters) × (lifters ≤ 64) }
+{
+    let order = small(alloc, &[])?;
+    let (first, order) = settled_by(rt, alloc, order, lifters, &OpenGate)?;
+    let (second, order) = settled_by(rt, alloc, order, lifters, &OpenGate)?;
+    let_go(order);
+    Ok((first, second))
+}
+
+/// Whether a sweep with a gate settles the small game.
+fn settles_through<G: Gate + Sync, R: Threads + Wait + Sync>(
+    rt: &R,
+    alloc: Global,
+    lifters: u32,
+    gate: &G,
+) -> Result<bool, Fail>
+    requires { (1 ≤ lifters) × (lifters ≤ 64) }
+{
+    let order = small(alloc, &[])?;
+    let (settled, order) = settled_by(rt, alloc, order, lifters, gate)?;
+    let_go(order);
+    Ok(settled)
+}
+
 #[test]
 fn one_sweep_settles_the_small_game(rt: HostRuntime) -> Result<(), Fail> {
     for lifters in 1..65 {
-        let harvest = swept(&rt, rt.alloc(), small(rt.alloc(), &[])?, lifters, &OpenGate)?;
-        assert!(rt; is_settled_small(&harvest));
-        let again = swept(&rt, rt.alloc(), harvest.again(), lifters, &OpenGate)?;
-        assert!(rt; is_settled_small(&again));
-        let_go(again.again());
+        assert_eq!(rt;
+            settles(&rt, rt.alloc(), lifters)?,
+            (true, true),
+            "by {lifters}"
+        );
     }
     Ok(())
 }
@@ -145,9 +190,7 @@ fn two_lifters_wait_for_one_another(rt: HostRuntime) -> Result<(), Fail> {
         passed: AtomicU64::new(0),
         seen: AtomicU64::new(0),
     };
-    let harvest = swept(&rt, rt.alloc(), small(rt.alloc(), &[])?, 2, &relay)?;
-    assert!(rt; is_settled_small(&harvest));
-    let_go(harvest.again());
+    assert!(rt; settles_through(&rt, rt.alloc(), 2, &relay)?);
     assert!(rt; relay.passed.load(Ordering::SeqCst) == 2);
     Ok(())
 }
@@ -155,9 +198,7 @@ fn two_lifters_wait_for_one_another(rt: HostRuntime) -> Result<(), Fail> {
 #[test]
 fn four_lifters_meet_before_their_first_claims(rt: HostRuntime) -> Result<(), Fail> {
     let meeting = Meeting::of(4);
-    let harvest = swept(&rt, rt.alloc(), small(rt.alloc(), &[])?, 4, &meeting)?;
-    assert!(rt; is_settled_small(&harvest));
-    let_go(harvest.again());
+    assert!(rt; settles_through(&rt, rt.alloc(), 4, &meeting)?);
     assert!(rt; meeting.met.load(Ordering::SeqCst) == 4);
     Ok(())
 }
