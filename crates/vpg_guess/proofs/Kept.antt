@@ -1,8 +1,8 @@
 -- What raising keeps of a table.
-use Rattle.std.proofs.Common.{ℕ, ◌<◌, List, length}
+use Rattle.std.proofs.Common.{◌≡◌, ℕ, ◌<◌, List, length, sym, subst}
 use Rattle.vpg_game.specs.declared.levels.Level.{Level}
 use Rattle.vpg_hope.specs.Arena.{Vertex as Node}
-use Rattle.vpg_measure.specs.Lifts.{IsTableOf, raised}
+use Rattle.vpg_measure.specs.Lifts.{IsTableOf, IsBelowTable, raised}
 use Rattle.vpg_measure.proofs.Rounds.{below_self, below_trans, raised_table, raised_above, raised_stays}
 use Rattle.vpg_guess.specs.Kept.{IsRaisedFrom}
 
@@ -16,6 +16,12 @@ module _ (levels : List Level) (arena : List Node) where
     above = below_trans old mid new a.above b.above;
     below = λ other t p h. b.below other t p (a.below other t p h);
   }
+
+  pub kept_above : (least old new : List ℕ) → old ≡ least → IsRaisedFrom levels arena old new → IsBelowTable least new
+  kept_above least old new e h = subst (λ table. IsBelowTable table new) e h.above
+
+  pub same_above : (least new : List ℕ) → new ≡ least → IsBelowTable least new
+  same_above least new e = subst (λ table. IsBelowTable least table) (sym e) (below_self least)
 
   pub kept_raised : (table : List ℕ) (v : ℕ) → IsTableOf levels arena table → v < length arena → IsRaisedFrom levels arena table (raised levels arena table v)
   kept_raised table v is inside = record {

@@ -111,6 +111,7 @@ impl Draft {
         Ok(())
     }
 
+    /// The game, with as few priorities as have the same winners.
     pub(crate) fn finish(self, alloc: Global) -> Result<Graph, AllocError> {
         let Draft {
             count,
@@ -119,10 +120,15 @@ impl Draft {
             successors,
         } = self;
         let predecessors = successors.reversed(alloc, count)?;
+        let merged = merged(alloc, &occurring(alloc, &priorities)?)?;
+        let mut least = Vec::with_capacity(alloc, priorities.len())?;
+        for priority in &priorities {
+            least.push(merged.get(*priority))?;
+        }
         Ok(Graph {
             count,
             owners,
-            priorities,
+            priorities: least,
             successors,
             predecessors,
         })
@@ -140,14 +146,14 @@ pub(crate) struct Graph {
 }
 
 // Whether each priority up to the greatest occurs.
-fn occurring(alloc: Global, arena: &Arena) -> Result<PerVertex<bool>, AllocError> {
+fn occurring(alloc: Global, priorities: &[u32]) -> Result<PerVertex<bool>, AllocError> {
     let mut greatest = 0;
-    for v in 0..arena.vertices() {
-        greatest = greatest.max(arena.priority(v));
+    for priority in priorities {
+        greatest = greatest.max(*priority);
     }
     let mut occurs = PerVertex::of(alloc, greatest.saturating_add(1), false)?;
-    for v in 0..arena.vertices() {
-        occurs.set(arena.priority(v), true);
+    for priority in priorities {
+        occurs.set(*priority, true);
     }
     Ok(occurs)
 }
@@ -166,13 +172,12 @@ fn merged(alloc: Global, occurs: &PerVertex<bool>) -> Result<PerVertex<u32>, All
 }
 
 impl Graph {
-    /// The game of an arena, with as few priorities as have the same winners.
+    /// The game of an arena.
     pub(crate) fn of(alloc: Global, arena: &Arena) -> Result<Graph, AllocError> {
-        let merged = merged(alloc, &occurring(alloc, arena)?)?;
         let mut draft = Draft::new(alloc);
         for v in 0..arena.vertices() {
             draft.successors.items.extend_from_slice(arena.kept(v))?;
-            draft.vertex(arena.owner(v), merged.get(arena.priority(v)))?;
+            draft.vertex(arena.owner(v), arena.priority(v))?;
         }
         draft.finish(alloc)
     }
@@ -181,8 +186,9 @@ impl Graph {
         self.count
     }
 
-    pub(crate) fn edges(&self) -> usize {
-        self.successors.items.len()
+    /// How many edges and vertices there are.
+    pub(crate) fn size(&self) -> u64 {
+        u64::from(self.count).saturating_add(self.successors.items.len() as u64)
     }
 
     pub(crate) fn owner(&self, v: u32) -> Player {

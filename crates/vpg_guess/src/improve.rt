@@ -1,18 +1,21 @@
 //! The least values of Even's region, by strategy improvement: each strategy is valued exactly, and then changed where that is better.
+//! Only what leads to a changed choice is valued again, and only what moves to a changed value is looked at again.
+use crate::budget::Budget;
+use crate::even_cycles::Level;
 use crate::graph::Graph;
+use crate::ground::{GuessGround, value_in};
 use crate::per_vertex::PerVertex;
-use crate::regions::solve_regions;
+use crate::regions::Regions;
 use crate::scale::Scale;
-use crate::subgame::Subgame;
-use crate::values::evaluate;
+use crate::values::Evaluation;
 use std::alloc::{AllocError, Global};
 use vpg_game::Player;
 
-/// What is taken to be the least progress table.
+/// What is taken to be the least progress table, and choices of Even that have these values.
 #[derive(Drop)]
 pub(crate) struct Guess {
     pub(crate) values: PerVertex<u64>,
-    pub(crate) work: u64,
+    pub(crate) choice: PerVertex<Option<u32>>,
 }
 
 #[derive(Drop)]
@@ -20,89 +23,122 @@ struct Improvement<'a> {
     graph: &'a Graph,
     scale: &'a Scale,
     table: &'a [u64],
-    // the vertices that Even is taken to win, and for each even priority there one vertex, greatest first
-    region: Vec<u32>,
-    evens: Vec<u32>,
     choice: PerVertex<Option<u32>>,
     values: PerVertex<u64>,
-    work: u64,
-    budget: u64,
-}
-
-// One vertex for each even priority that occurs among some vertices, greatest first.
-fn one_of_each_even(
-    alloc: Global,
-    graph: &Graph,
-    vertices: &[u32],
-) -> Result<Vec<u32>, AllocError> {
-    let greatest = graph.greatest_priority(vertices);
-    let mut of_priority = PerVertex::of(alloc, greatest.saturating_add(1), None)?;
-    for v in vertices {
-        of_priority.set(graph.priority(*v), Some(*v));
-    }
-    let mut each = Vec::new(alloc);
-    for below in 0..=greatest {
-        let priority = greatest.saturating_sub(below);
-        if let Some(v) = of_priority.get(priority)
-            && priority % 2 == 0
-        {
-            each.push(v)?;
-        }
-    }
-    Ok(each)
+    // the values before the last evaluation
+    before: PerVertex<u64>,
+    // whether the value exceeds the table, and may still fall
+    open: PerVertex<bool>,
+    mark: PerVertex<u32>,
+    stamp: u32,
+    evaluation: Evaluation,
 }
 
 impl<'a> Improvement<'a> {
-    fn present(&self, v: u32) -> u64 {
-        match self.table.get(v as usize) {
-            Some(value) => *value,
-            None => 0,
+    fn new(
+        alloc: Global,
+        ground: &'a GuessGround,
+        regions: &Regions,
+        table: &'a [u64],
+    ) -> Result<Improvement<'a>, AllocError> {
+        let vertices = ground.graph.vertices();
+        let mut values = PerVertex::of(alloc, vertices, 0)?;
+        for v in 0..vertices {
+            values.set(v, value_in(table, v));
         }
-    }
-
-    fn spend(&mut self, work: u64) {
-        self.work = self.work.saturating_add(work);
+        Ok(Improvement {
+            graph: &ground.graph,
+            scale: &ground.even,
+            table,
+            choice: regions.choice.copy(alloc)?,
+            values,
+            before: PerVertex::of(alloc, vertices, 0)?,
+            open: PerVertex::of(alloc, vertices, false)?,
+            mark: PerVertex::of(alloc, vertices, 0)?,
+            stamp: 0,
+            evaluation: Evaluation::new(alloc, vertices)?,
+        })
     }
 
     // Values the choices, and changes them until nothing is better.
-    fn run(&mut self, alloc: Global) -> Result<(), AllocError> {
-        for _ in 0..self.budget {
-            let work = evaluate(
-                alloc,
-                self.graph,
-                self.scale,
-                &self.choice,
-                &self.region,
-                &mut self.values,
-            )?;
-            self.spend(work);
-            let switched = self.switch_all();
-            if self.budget < self.work || !switched && !self.turn_round(alloc)? {
+    fn run(
+        &mut self,
+        alloc: Global,
+        region: &[u32],
+        budget: &mut Budget,
+    ) -> Result<(), AllocError> {
+        self.value(alloc, region, budget)?;
+        let mut look = self.open_all(alloc, region)?;
+        for _ in 0..u64::MAX {
+            let mut changed = self.switch(alloc, &look, budget)?;
+            if changed.is_empty() {
+                changed = self.switch_even_cycles(alloc, region, budget)?;
+            }
+            if changed.is_empty() || budget.is_spent() {
                 break;
             }
+            let affected = self.leading_to(changed, budget)?;
+            self.value(alloc, &affected, budget)?;
+            look = self.looks_again(alloc, &affected, budget)?;
         }
         Ok(())
     }
 
-    // Moves to lesser values, and says whether one changed.
-    fn switch_all(&mut self) -> bool {
-        let mut switched = false;
-        for at in 0..self.region.len() {
-            let v = match self.region.get(at) {
-                Some(v) => *v,
-                None => break,
-            };
-            if self.graph.owner(v) == Player::Even {
-                let better = self.better(v);
-                if better.is_some() {
-                    self.choice.set(v, better);
-                    switched = true;
+    fn value(
+        &mut self,
+        alloc: Global,
+        vertices: &[u32],
+        budget: &mut Budget,
+    ) -> Result<(), AllocError> {
+        for v in vertices {
+            self.before.set(*v, self.values.get(*v));
+        }
+        self.evaluation.run(
+            alloc,
+            self.graph,
+            self.scale,
+            &self.choice,
+            vertices,
+            &mut self.values,
+            budget,
+        )
+    }
+
+    fn exceeds(&self, v: u32) -> bool {
+        value_in(self.table, v) < self.values.get(v)
+    }
+
+    // Notes which vertices exceed the table, and gives Even's of them.
+    fn open_all(&mut self, alloc: Global, region: &[u32]) -> Result<Vec<u32>, AllocError> {
+        let mut own = Vec::new(alloc);
+        for v in region {
+            if self.exceeds(*v) {
+                self.open.set(*v, true);
+                if self.graph.owner(*v) == Player::Even {
+                    own.push(*v)?;
                 }
-                let looked = self.graph.successors(v).len() as u64;
-                self.spend(looked);
             }
         }
-        switched
+        Ok(own)
+    }
+
+    // Moves of these vertices to lesser values. Gives those that changed.
+    fn switch(
+        &mut self,
+        alloc: Global,
+        look: &[u32],
+        budget: &mut Budget,
+    ) -> Result<Vec<u32>, AllocError> {
+        let mut changed = Vec::new(alloc);
+        for v in look {
+            budget.spend(self.graph.successors(*v).len());
+            let better = self.better(*v);
+            if better.is_some() {
+                self.choice.set(*v, better);
+                changed.push(*v)?;
+            }
+        }
+        Ok(changed)
     }
 
     // The move of least value, where that is less than the present one.
@@ -123,129 +159,141 @@ impl<'a> Improvement<'a> {
         better
     }
 
-    // Goes round cycles of an even priority on which the values above it stay equal: there they fall. Says whether there are any.
-    fn turn_round(&mut self, alloc: Global) -> Result<bool, AllocError> {
-        for at in 0..self.evens.len() {
-            if let Some(v) = self.evens.get(at) {
-                let even = *v;
-                if self.turn_round_at(alloc, even)? {
-                    return Ok(true);
-                }
+    // Moves round cycles of an even priority. Gives those that changed.
+    fn switch_even_cycles(
+        &mut self,
+        alloc: Global,
+        region: &[u32],
+        budget: &mut Budget,
+    ) -> Result<Vec<u32>, AllocError> {
+        let mut open = Vec::new(alloc);
+        for v in region {
+            if self.open.get(*v) {
+                open.push(*v)?;
             }
         }
-        Ok(false)
-    }
-
-    fn turn_round_at(&mut self, alloc: Global, even: u32) -> Result<bool, AllocError> {
-        let looked = self.region.len() as u64;
-        self.spend(looked);
-        let Some(game) = self.level_game(alloc, even)? else {
-            return Ok(false);
+        let level = Level {
+            graph: self.graph,
+            scale: self.scale,
+            table: self.table,
+            values: &self.values,
         };
-        let solved = game.solve(alloc, self.budget)?;
-        self.spend(solved.work);
-        let mut turned = false;
-        for v in solved.vertices() {
-            if solved.winner(*v) == Some(Player::Even) {
-                turned = true;
-                if self.graph.owner(*v) == Player::Even {
-                    self.choice.set(*v, solved.choice(*v));
-                }
-            }
-        }
-        Ok(turned)
+        let choices = level.even_cycles(alloc, &open, budget)?;
+        self.choose(alloc, &choices)
     }
 
-    // The game of the vertices up to this one's priority that exceed the table above it, over edges to values that are no greater.
-    fn level_game(&self, alloc: Global, even: u32) -> Result<Option<Subgame>, AllocError> {
-        let limit = self.graph.priority(even);
-        let weight = self.scale.weight(even);
-        let mut vertices = Vec::new(alloc);
-        let mut attained = false;
-        for v in &self.region {
-            if self.graph.priority(*v) <= limit && self.may_fall(*v, weight) {
-                attained = attained || self.graph.priority(*v) == limit;
-                vertices.push(*v)?;
+    // Takes over these choices. Gives Even's vertices that changed.
+    fn choose(&mut self, alloc: Global, choices: &[(u32, u32)]) -> Result<Vec<u32>, AllocError> {
+        let mut changed = Vec::new(alloc);
+        for (v, w) in choices {
+            if self.graph.owner(*v) == Player::Even && self.choice.get(*v) != Some(*w) {
+                self.choice.set(*v, Some(*w));
+                changed.push(*v)?;
             }
         }
-        if !attained {
-            return Ok(None);
-        }
-        let mut game = Subgame::new(alloc, self.graph, vertices)?;
-        for at in 0..game.vertices.len() {
-            if let Some(v) = game.vertices.get(at) {
-                let vertex = *v;
-                self.level_edges(&mut game, vertex, weight)?;
-                game.vertex(self.graph, vertex)?;
-            }
-        }
-        Ok(Some(game))
+        Ok(changed)
     }
 
-    fn may_fall(&self, v: u32, weight: u64) -> bool {
-        let value = self.values.get(v);
-        value < self.scale.top
-            && self.scale.cut(self.present(v), weight) < self.scale.cut(value, weight)
-    }
-
-    fn level_edges(&self, game: &mut Subgame, v: u32, weight: u64) -> Result<(), AllocError> {
-        let mine = self.scale.cut(self.values.get(v), weight);
-        let even = self.graph.owner(v) == Player::Even;
-        for w in self.graph.successors(v) {
-            let value = self.scale.cut(self.values.get(*w), weight);
-            let stays = if even {
-                value <= mine && game.has(*w)
-            } else {
-                mine <= value
+    // The vertices that changed, and the open ones from where moves lead there.
+    fn leading_to(
+        &mut self,
+        changed: Vec<u32>,
+        budget: &mut Budget,
+    ) -> Result<Vec<u32>, AllocError> {
+        self.stamp = self.stamp.saturating_add(1);
+        let mut leading = changed;
+        for v in &leading {
+            self.mark.set(*v, self.stamp);
+        }
+        for at in 0..self.graph.vertices() as usize {
+            let v = match leading.get(at) {
+                Some(v) => *v,
+                None => break,
             };
-            if stays {
-                game.edge(*w)?;
+            budget.spend(self.graph.predecessors(v).len());
+            self.lead(v, &mut leading)?;
+        }
+        Ok(leading)
+    }
+
+    fn lead(&mut self, v: u32, leading: &mut Vec<u32>) -> Result<(), AllocError> {
+        for u in self.graph.predecessors(v) {
+            if self.open.get(*u) && self.mark.get(*u) != self.stamp && self.moves_to(*u, v) {
+                self.mark.set(*u, self.stamp);
+                leading.push(*u)?;
+            }
+        }
+        Ok(())
+    }
+
+    // Whether the edge from u to v is a move of the strategy's game.
+    fn moves_to(&self, u: u32, v: u32) -> bool {
+        self.graph.owner(u) == Player::Odd || self.choice.get(u) == Some(v)
+    }
+
+    // Even's open vertices with an edge to one of these whose value changed.
+    fn looks_again(
+        &mut self,
+        alloc: Global,
+        affected: &[u32],
+        budget: &mut Budget,
+    ) -> Result<Vec<u32>, AllocError> {
+        self.stamp = self.stamp.saturating_add(1);
+        let mut look = Vec::new(alloc);
+        for v in affected {
+            if self.values.get(*v) != self.before.get(*v) {
+                if !self.exceeds(*v) {
+                    self.open.set(*v, false);
+                }
+                budget.spend(self.graph.predecessors(*v).len());
+                self.look_from(*v, &mut look)?;
+            }
+        }
+        Ok(look)
+    }
+
+    fn look_from(&mut self, v: u32, look: &mut Vec<u32>) -> Result<(), AllocError> {
+        for u in self.graph.predecessors(v) {
+            if self.open.get(*u)
+                && self.mark.get(*u) != self.stamp
+                && self.graph.owner(*u) == Player::Even
+            {
+                self.mark.set(*u, self.stamp);
+                look.push(*u)?;
             }
         }
         Ok(())
     }
 }
 
-/// Guesses the least progress table above a table: over at most so many edges and vertices in each step.
-pub(crate) fn guess_table(
+// The vertices below the top that Even is taken to win.
+fn even_region(
     alloc: Global,
-    graph: &Graph,
-    scale: &Scale,
+    ground: &GuessGround,
+    regions: &Regions,
     table: &[u64],
-    budget: u64,
-) -> Result<Guess, AllocError> {
-    let regions = solve_regions(alloc, graph, budget)?;
+) -> Result<Vec<u32>, AllocError> {
     let mut region = Vec::new(alloc);
-    let mut values = PerVertex::of(alloc, graph.vertices(), 0)?;
-    let mut choice = PerVertex::of(alloc, graph.vertices(), None)?;
-    for v in 0..graph.vertices() {
-        choice.set(v, regions.choice(v));
-        let present = match table.get(v as usize) {
-            Some(value) => *value,
-            None => 0,
-        };
-        match regions.winner(v) {
-            Some(Player::Even) => {
-                region.push(v)?;
-                values.set(v, scale.top);
-            }
-            Some(Player::Odd) => values.set(v, scale.top),
-            None => values.set(v, present),
+    for v in 0..ground.graph.vertices() {
+        if regions.winner(v) == Some(Player::Even) && value_in(table, v) < ground.even.top {
+            region.push(v)?;
         }
     }
-    let evens = one_of_each_even(alloc, graph, &region)?;
-    let mut improvement = Improvement {
-        graph,
-        scale,
-        table,
-        region,
-        evens,
-        choice,
-        values,
-        work: regions.work,
-        budget,
-    };
-    improvement.run(alloc)?;
-    let Improvement { values, work, .. } = improvement;
-    Ok(Guess { values, work })
+    Ok(region)
+}
+
+/// Guesses the least progress table above a table, from the choices in Even's region on. Where the budget is spent, the values are
+/// those of some choices.
+pub(crate) fn guess_table(
+    alloc: Global,
+    ground: &GuessGround,
+    regions: &Regions,
+    table: &[u64],
+    budget: &mut Budget,
+) -> Result<Guess, AllocError> {
+    let region = even_region(alloc, ground, regions, table)?;
+    let mut improvement = Improvement::new(alloc, ground, regions, table)?;
+    improvement.run(alloc, &region, budget)?;
+    let Improvement { values, choice, .. } = improvement;
+    Ok(Guess { values, choice })
 }

@@ -28,6 +28,14 @@ impl<T: Copy> PerVertex<T> {
         self.count
     }
 
+    pub(crate) fn copy(&self, alloc: Global) -> Result<PerVertex<T>, AllocError> {
+        Ok(PerVertex {
+            values: Vec::from_slice(alloc, self.values.as_slice())?,
+            rest: self.rest,
+            count: self.count,
+        })
+    }
+
     pub(crate) fn get(&self, v: u32) -> T {
         match self.values.get(v as usize) {
             Some(value) => *value,

@@ -1,16 +1,26 @@
-//! Who wins where, and how: Zielonka's recursion (Zielonka 1998) with a stack of its own and a budget.
+//! Who wins where, and how: by Zielonka's recursion and by the weights of paths, in turns. Each is slow on other games than the other.
+//! Where the recursion's first turn does not end, strongly connected components are solved one by one.
+use crate::budget::Budget;
+use crate::components::{Components, Moves};
 use crate::graph::Graph;
 use crate::per_vertex::PerVertex;
+use crate::recursion::solve_by_recursion;
+use crate::solution::Solution;
+use crate::weights::solve_by_weights;
 use std::alloc::{AllocError, Global};
 use vpg_game::Player;
+
+/// How often the recursion may look at a whole game in its first turn.
+const FIRST_PASSES: u64 = 32;
+
+/// The least that the weights may look at in their first turn.
+const FIRST_WEIGHTS: u64 = 1 << 20;
 
 /// Who is taken to win at each vertex, and the winner's choices.
 #[derive(Drop)]
 pub(crate) struct Regions {
     winner: PerVertex<Option<Player>>,
-    choice: PerVertex<Option<u32>>,
-    /// How many edges and vertices were looked at.
-    pub(crate) work: u64,
+    pub(crate) choice: PerVertex<Option<u32>>,
 }
 
 impl Regions {
@@ -25,355 +35,130 @@ impl Regions {
     }
 }
 
-// A game on the stack: its vertices, and those that were found to be won by the player against whom its greatest priority is.
-#[derive(Drop)]
-enum Frame {
-    Open {
-        all: Vec<u32>,
-        gone: Vec<u32>,
-    },
-    // what is left without the attractor of the greatest priority is being solved
-    Inner {
-        all: Vec<u32>,
-        gone: Vec<u32>,
-        attracted: Vec<u32>,
-        player: Player,
-    },
+// One turn of the recursion; says whether all is solved.
+fn recur(
+    alloc: Global,
+    solution: &mut Solution<'_>,
+    vertices: &[u32],
+    most: u64,
+    budget: &mut Budget,
+) -> Result<bool, AllocError> {
+    let mut turn = budget.take(most);
+    let solved = solve_by_recursion(alloc, solution, vertices, &mut turn)?;
+    budget.give_back(turn);
+    solution.reopen(vertices);
+    Ok(solved)
 }
 
-#[derive(Drop)]
-struct Solver {
-    // the vertices of the present game
-    alive: PerVertex<bool>,
-    winner: PerVertex<Option<Player>>,
-    choice: PerVertex<Option<u32>>,
-    // the last attractor that took the vertex
-    mark: PerVertex<u32>,
-    // the last attractor that counted its successors, and how many are left
-    seen: PerVertex<u32>,
-    left: PerVertex<u32>,
-    stamp: u32,
-    work: u64,
+// One turn of the weights; says whether all is solved.
+fn weigh(
+    alloc: Global,
+    solution: &mut Solution<'_>,
+    vertices: &[u32],
+    most: u64,
+    budget: &mut Budget,
+) -> Result<bool, AllocError> {
+    let mut turn = budget.take(most);
+    let solved = solve_by_weights(alloc, solution, vertices, &mut turn)?;
+    budget.give_back(turn);
+    solution.reopen(vertices);
+    Ok(solved)
 }
 
-impl Solver {
-    fn new(alloc: Global, graph: &Graph) -> Result<Solver, AllocError> {
-        let vertices = graph.vertices();
-        Ok(Solver {
-            alive: PerVertex::of(alloc, vertices, true)?,
-            winner: PerVertex::of(alloc, vertices, None)?,
-            choice: PerVertex::of(alloc, vertices, None)?,
-            mark: PerVertex::of(alloc, vertices, 0)?,
-            seen: PerVertex::of(alloc, vertices, 0)?,
-            left: PerVertex::of(alloc, vertices, 0)?,
-            stamp: 0,
-            work: 0,
-        })
+// Solves the present game, which is of some of these vertices, by turns, each longer than the one before it, until one ends or the
+// budget is spent; says whether all is solved.
+fn take_turns(
+    alloc: Global,
+    solution: &mut Solution<'_>,
+    vertices: &[u32],
+    budget: &mut Budget,
+) -> Result<bool, AllocError> {
+    let mut passes = (vertices.len() as u64).saturating_mul(FIRST_PASSES);
+    let mut weights = passes.saturating_mul(4).max(FIRST_WEIGHTS);
+    for _ in 0..u64::MAX {
+        if recur(alloc, solution, vertices, passes, budget)?
+            || weigh(alloc, solution, vertices, weights, budget)?
+        {
+            return Ok(true);
+        }
+        if budget.is_spent() {
+            break;
+        }
+        passes = passes.saturating_mul(8).max(FIRST_WEIGHTS / 4);
+        weights = weights.saturating_mul(8);
     }
-
-    fn spend(&mut self, work: usize) {
-        self.work = self.work.saturating_add(work as u64);
-    }
-
-    fn first_alive(&self, graph: &Graph, v: u32) -> Option<u32> {
-        for w in graph.successors(v) {
-            if self.alive.get(*w) {
-                return Some(*w);
-            }
-        }
-        None
-    }
-
-    fn count_alive(&self, graph: &Graph, v: u32) -> u32 {
-        let mut count = 0u32;
-        for w in graph.successors(v) {
-            if self.alive.get(*w) {
-                count = count.saturating_add(1);
-            }
-        }
-        count
-    }
-
-    // Whether the attractor takes u, which has an edge to v that it took.
-    fn takes(&mut self, graph: &Graph, u: u32, v: u32, player: Player) -> bool {
-        if !self.alive.get(u) || self.mark.get(u) == self.stamp {
-            return false;
-        }
-        if graph.owner(u) == player {
-            self.choice.set(u, Some(v));
-            return true;
-        }
-        if self.seen.get(u) != self.stamp {
-            self.seen.set(u, self.stamp);
-            let count = self.count_alive(graph, u);
-            self.left.set(u, count);
-            self.spend(graph.successors(u).len());
-        }
-        let left = self.left.get(u).saturating_sub(1);
-        self.left.set(u, left);
-        left == 0
-    }
-
-    // What a player can force into the seed; it leaves the present game.
-    fn attract(
-        &mut self,
-        graph: &Graph,
-        player: Player,
-        seed: Vec<u32>,
-    ) -> Result<Vec<u32>, AllocError> {
-        self.stamp = self.stamp.saturating_add(1);
-        let mut taken = seed;
-        for v in &taken {
-            self.mark.set(*v, self.stamp);
-        }
-        for at in 0..graph.vertices() as usize {
-            let v = match taken.get(at) {
-                Some(v) => *v,
-                None => break,
-            };
-            self.spend(graph.predecessors(v).len());
-            self.take_from(graph, player, v, &mut taken)?;
-        }
-        for v in &taken {
-            self.alive.set(*v, false);
-        }
-        Ok(taken)
-    }
-
-    fn take_from(
-        &mut self,
-        graph: &Graph,
-        player: Player,
-        v: u32,
-        taken: &mut Vec<u32>,
-    ) -> Result<(), AllocError> {
-        for u in graph.predecessors(v) {
-            if self.takes(graph, *u, v, player) {
-                self.mark.set(*u, self.stamp);
-                taken.push(*u)?;
-            }
-        }
-        Ok(())
-    }
-
-    fn revive(&mut self, vertices: &[u32]) {
-        for v in vertices {
-            self.alive.set(*v, true);
-        }
-    }
-
-    fn living(&self, alloc: Global, vertices: &[u32]) -> Result<Vec<u32>, AllocError> {
-        let mut living = Vec::new(alloc);
-        for v in vertices {
-            if self.alive.get(*v) {
-                living.push(*v)?;
-            }
-        }
-        Ok(living)
-    }
-
-    // Who stands without a move loses, and so does who can be forced there.
-    fn take_dead_ends(
-        &mut self,
-        alloc: Global,
-        graph: &Graph,
-        player: Player,
-    ) -> Result<(), AllocError> {
-        let mut dead = Vec::new(alloc);
-        for v in 0..graph.vertices() {
-            if self.alive.get(v)
-                && graph.owner(v) != player
-                && self.first_alive(graph, v).is_none()
-            {
-                dead.push(v)?;
-            }
-        }
-        let taken = self.attract(graph, player, dead)?;
-        self.give(player, &taken);
-        Ok(())
-    }
-
-    fn give(&mut self, player: Player, vertices: &[u32]) {
-        for v in vertices {
-            self.winner.set(*v, Some(player));
-        }
-    }
-
-    // Goes on to the game without the attractor of the greatest priority.
-    fn descend(
-        &mut self,
-        alloc: Global,
-        graph: &Graph,
-        stack: &mut Vec<Frame>,
-        all: Vec<u32>,
-        gone: Vec<u32>,
-    ) -> Result<(), AllocError> {
-        if all.is_empty() {
-            self.revive(&gone);
-            return Ok(());
-        }
-        self.spend(all.len());
-        let greatest = graph.greatest_priority(&all);
-        let player = if greatest % 2 == 1 {
-            Player::Odd
-        } else {
-            Player::Even
-        };
-        let mut seed = Vec::new(alloc);
-        for v in &all {
-            self.choice.set(*v, None);
-            if graph.priority(*v) == greatest {
-                seed.push(*v)?;
-            }
-        }
-        let attracted = self.attract(graph, player, seed)?;
-        let inner = self.living(alloc, &all)?;
-        stack.push(Frame::Inner {
-            all,
-            gone,
-            attracted,
-            player,
-        })?;
-        stack.push(Frame::Open {
-            all: inner,
-            gone: Vec::new(alloc),
-        })?;
-        Ok(())
-    }
-
-    // The inner game is solved: what the other player wins there it wins in the whole.
-    fn ascend(
-        &mut self,
-        alloc: Global,
-        graph: &Graph,
-        stack: &mut Vec<Frame>,
-        all: Vec<u32>,
-        gone: Vec<u32>,
-        attracted: Vec<u32>,
-        player: Player,
-    ) -> Result<(), AllocError> {
-        let other = player.opponent();
-        let lost = self.won_by(alloc, other, &all)?;
-        self.revive(&attracted);
-        if lost.is_empty() {
-            self.give(player, &attracted);
-            self.choose_any(graph, &attracted);
-            self.revive(&gone);
-            return Ok(());
-        }
-        let taken = self.attract(graph, other, lost)?;
-        self.give(other, &taken);
-        let mut gone = gone;
-        gone.extend_from_slice(&taken)?;
-        let all = self.living(alloc, &all)?;
-        stack.push(Frame::Open { all, gone })?;
-        Ok(())
-    }
-
-    fn won_by(
-        &self,
-        alloc: Global,
-        player: Player,
-        vertices: &[u32],
-    ) -> Result<Vec<u32>, AllocError> {
-        let mut won = Vec::new(alloc);
-        for v in vertices {
-            if self.alive.get(*v) && self.winner.get(*v) == Some(player) {
-                won.push(*v)?;
-            }
-        }
-        Ok(won)
-    }
-
-    // Where the greatest priority stands any move within the game will do.
-    fn choose_any(&mut self, graph: &Graph, vertices: &[u32]) {
-        for v in vertices {
-            if self.choice.get(*v).is_none() {
-                let first = self.first_alive(graph, *v);
-                self.choice.set(*v, first);
-            }
-        }
-    }
-
-    // Solves the games on the stack until it is empty or the budget is spent.
-    fn solve(
-        &mut self,
-        alloc: Global,
-        graph: &Graph,
-        stack: &mut Vec<Frame>,
-        budget: u64,
-    ) -> Result<(), AllocError> {
-        for _ in 0..budget {
-            if budget < self.work {
-                break;
-            }
-            match stack.pop() {
-                Some(Frame::Open { all, gone }) => self.descend(alloc, graph, stack, all, gone)?,
-                Some(
-                    Frame::Inner {
-                        all,
-                        gone,
-                        attracted,
-                        player,
-                    },
-                ) => self.ascend(alloc, graph, stack, all, gone, attracted, player)?,
-                None => break,
-            }
-        }
-        Ok(())
-    }
-
-    // On a spent budget only what the outermost game gave away is known.
-    fn forget(&mut self, stack: &[Frame]) {
-        let all = match stack.first() {
-            Some(Frame::Open { all, gone: _ }) => all,
-            Some(
-                Frame::Inner {
-                    all,
-                    gone: _,
-                    attracted: _,
-                    player: _,
-                },
-            ) => all,
-            None => return,
-        };
-        for v in all {
-            self.winner.set(*v, None);
-        }
-    }
+    Ok(false)
 }
 
-/// Zielonka's recursion over at most so many edges and vertices; what is open then has no winner.
+// Solves one component, where those that it leads to are solved; says whether all of it is.
+fn solve_component(
+    alloc: Global,
+    solution: &mut Solution<'_>,
+    members: &[u32],
+    budget: &mut Budget,
+) -> Result<bool, AllocError> {
+    solution.revive(members);
+    solution.win_exits(alloc, members, budget)?;
+    let rest = solution.living(alloc, members)?;
+    let solved = rest.is_empty() || take_turns(alloc, solution, &rest, budget)?;
+    solution.leave(members);
+    Ok(solved)
+}
+
+// Solves the present game component by component, until one is not solved. What was solved apart is easier than what was not.
+fn solve_apart(
+    alloc: Global,
+    solution: &mut Solution<'_>,
+    vertices: &[u32],
+    budget: &mut Budget,
+) -> Result<(), AllocError> {
+    let living = solution.living(alloc, vertices)?;
+    let components = components_of(alloc, solution, &living, budget)?;
+    solution.leave(&living);
+    let mut from = 0;
+    for to in &components.ends {
+        let members = components.between(alloc, from, *to)?;
+        if !solve_component(alloc, solution, &members, budget)? {
+            break;
+        }
+        from = *to;
+    }
+    Ok(())
+}
+
+// The components of some vertices, each behind those that it leads to.
+fn components_of(
+    alloc: Global,
+    solution: &Solution<'_>,
+    vertices: &[u32],
+    budget: &mut Budget,
+) -> Result<Components, AllocError> {
+    let moves = Moves {
+        graph: solution.graph,
+        player: None,
+        choice: &solution.choice,
+    };
+    let mut components = Components::new(alloc, solution.graph.vertices())?;
+    components.search(&moves, vertices, budget)?;
+    Ok(components)
+}
+
+/// Who wins where; what is open on a spent budget has no winner. Odd is known to win at the lost vertices.
 pub(crate) fn solve_regions(
     alloc: Global,
     graph: &Graph,
-    budget: u64,
+    lost: Vec<u32>,
+    budget: &mut Budget,
 ) -> Result<Regions, AllocError> {
-    let mut solver = Solver::new(alloc, graph)?;
-    solver.take_dead_ends(alloc, graph, Player::Even)?;
-    solver.take_dead_ends(alloc, graph, Player::Odd)?;
-    let mut all = Vec::new(alloc);
-    for v in 0..graph.vertices() {
-        if solver.alive.get(v) {
-            all.push(v)?;
-        }
+    let mut solution = Solution::new(alloc, graph)?;
+    solution.win(Player::Odd, lost, budget)?;
+    solution.win_dead_ends(alloc, Player::Even, budget)?;
+    solution.win_dead_ends(alloc, Player::Odd, budget)?;
+    let all = solution.all_living(alloc)?;
+    let most = graph.size().saturating_mul(FIRST_PASSES);
+    if !recur(alloc, &mut solution, &all, most, budget)? {
+        solve_apart(alloc, &mut solution, &all, budget)?;
     }
-    let mut stack = Vec::new(alloc);
-    stack.push(Frame::Open {
-        all,
-        gone: Vec::new(alloc),
-    })?;
-    solver.solve(alloc, graph, &mut stack, budget)?;
-    solver.forget(&stack);
-    let Solver {
-        winner,
-        choice,
-        work,
-        ..
-    } = solver;
-    Ok(Regions {
-        winner,
-        choice,
-        work,
-    })
+    let (winner, choice) = solution.finish();
+    Ok(Regions { winner, choice })
 }

@@ -1,4 +1,5 @@
 //! Games over some of a graph's vertices.
+use crate::budget::Budget;
 use crate::graph::{Draft, Graph};
 use crate::per_vertex::PerVertex;
 use crate::regions::{Regions, solve_regions};
@@ -49,7 +50,7 @@ impl Subgame {
     }
 
     /// Solves the game.
-    pub(crate) fn solve(self, alloc: Global, budget: u64) -> Result<Solved, AllocError> {
+    pub(crate) fn solve(self, alloc: Global, budget: &mut Budget) -> Result<Solved, AllocError> {
         let Subgame {
             vertices,
             places,
@@ -59,13 +60,11 @@ impl Subgame {
         let mut draft = draft;
         draft.vertex(Player::Even, 0)?;
         let graph = draft.finish(alloc)?;
-        let regions = solve_regions(alloc, &graph, budget)?;
-        let work = regions.work.saturating_add(graph.edges() as u64);
+        let regions = solve_regions(alloc, &graph, Vec::new(alloc), budget)?;
         Ok(Solved {
             vertices,
             places,
             regions,
-            work,
         })
     }
 }
@@ -76,7 +75,6 @@ pub(crate) struct Solved {
     vertices: Vec<u32>,
     places: PerVertex<Option<u32>>,
     regions: Regions,
-    pub(crate) work: u64,
 }
 
 impl Solved {

@@ -1,6 +1,6 @@
 use Rattle.std.proofs.Common.{◌<◌, length, arith}
 use Rattle.vpg_guess.proofs.Kept.{kept_raised}
-use Rattle.vpg_guess.proofs.left.lift_vertex.Goals as goal
+use Rattle.vpg_guess.proofs.remaining.lift_vertex.Goals as goal
 
 pub returns-then-v-vertices : goal.returns-then-v-vertices
 returns-then-v-vertices c =

@@ -1,0 +1,276 @@
+//! Certificates for guesses: for the top of what Odd is taken to win, and for values cut to a weight.
+ghost use Rattle.std.specs.Prelude.{IfOk, IfSome};
+ghost use Rattle.vpg_measure.specs.Lifts.{IsTableOf};
+
+use crate::budget::Budget;
+use crate::ground::{GuessGround, value_in};
+use crate::per_vertex::PerVertex;
+use crate::regions::Regions;
+use crate::subgame::{Solved, Subgame};
+use crate::values::Evaluation;
+use std::alloc::{AllocError, Global};
+use vpg_game::Player;
+use vpg_hope::Arena;
+use vpg_measure::{Certificate, Shape, Table};
+
+// Values that a table is to be raised to, and the vertices where they exceed it.
+#[derive(Drop)]
+struct Raises {
+    bounds: PerVertex<u64>,
+    exceeding: Vec<u32>,
+}
+
+// Bounds with the ranks that are to show them.
+#[derive(Drop)]
+struct RankedBounds {
+    bounds: PerVertex<u64>,
+    ranks: PerVertex<u64>,
+}
+
+// A table of these numbers, each cut to the top.
+#[tactic(auto, using(vpg_measure::proofs::Rounds::table_set))]
+fn table_of(
+    alloc: Global,
+    shape: &Shape,
+    arena: &Arena,
+    numbers: &PerVertex<u64>,
+) -> Result<Table, AllocError>
+    ensures { IfOk result (λ table. IsTableOf shape.now arena.now table) }
+{
+    let mut table = Table::zero(alloc, arena.vertices())?;
+    for v in 0..arena.vertices() {
+        table.set(v, numbers.get(v).min(shape.top()));
+    }
+    Ok(table)
+}
+
+// The top where Odd is taken to win, and the table elsewhere.
+fn raises_to_top(
+    alloc: Global,
+    ground: &GuessGround,
+    regions: &Regions,
+    table: &[u64],
+) -> Result<Raises, AllocError> {
+    let mut bounds = PerVertex::of(alloc, ground.graph.vertices(), 0)?;
+    let mut exceeding = Vec::new(alloc);
+    for v in 0..ground.graph.vertices() {
+        let present = value_in(table, v);
+        bounds.set(v, present);
+        if regions.winner(v) == Some(Player::Odd) && present < ground.even.top {
+            bounds.set(v, ground.even.top);
+            exceeding.push(v)?;
+        }
+    }
+    Ok(Raises { bounds, exceeding })
+}
+
+// Values cut to a weight, nowhere below the table.
+fn raises_to(
+    alloc: Global,
+    ground: &GuessGround,
+    values: &PerVertex<u64>,
+    table: &[u64],
+    weight: u64,
+) -> Result<Raises, AllocError> {
+    let mut bounds = PerVertex::of(alloc, ground.graph.vertices(), 0)?;
+    let mut exceeding = Vec::new(alloc);
+    for v in 0..ground.graph.vertices() {
+        let present = value_in(table, v);
+        let bound = ground.even.cut(values.get(v), weight).max(present);
+        bounds.set(v, bound);
+        if present < bound {
+            exceeding.push(v)?;
+        }
+    }
+    Ok(Raises { bounds, exceeding })
+}
+
+// Whether the bound of v follows from that of w.
+fn follows(ground: &GuessGround, bounds: &PerVertex<u64>, v: u32, w: u32) -> bool {
+    bounds.get(v) <= ground.even.prog(&ground.graph, v, bounds.get(w))
+}
+
+// The game of the vertices to be raised: Odd has the edges over which the bound follows.
+fn raising_game(
+    alloc: Global,
+    ground: &GuessGround,
+    bounds: &PerVertex<u64>,
+    exceeding: Vec<u32>,
+) -> Result<Subgame, AllocError> {
+    let mut game = Subgame::new(alloc, &ground.graph, exceeding)?;
+    for at in 0..game.vertices.len() {
+        if let Some(vertex) = game.vertices.get(at) {
+            let v = *vertex;
+            raising_edges(ground, bounds, &mut game, v)?;
+            game.vertex(&ground.graph, v)?;
+        }
+    }
+    Ok(game)
+}
+
+fn raising_edges(
+    ground: &GuessGround,
+    bounds: &PerVertex<u64>,
+    game: &mut Subgame,
+    v: u32,
+) -> Result<(), AllocError> {
+    let even = ground.graph.owner(v) == Player::Even;
+    for w in ground.graph.successors(v) {
+        if even || follows(ground, bounds, v, *w) {
+            game.edge(*w)?;
+        }
+    }
+    Ok(())
+}
+
+// Odd's move at a vertex of its own: the game's choice, or one that leaves the game and still gives the bound.
+fn move_of(ground: &GuessGround, bounds: &PerVertex<u64>, solved: &Solved, v: u32) -> Option<u32> {
+    if let Some(w) = solved.choice(v) {
+        return Some(w);
+    }
+    for w in ground.graph.successors(v) {
+        if !solved.has(*w) && follows(ground, bounds, v, *w) {
+            return Some(*w);
+        }
+    }
+    None
+}
+
+// Ranks of these vertices along Odd's choices.
+fn ranks_along(
+    alloc: Global,
+    ground: &GuessGround,
+    choice: &PerVertex<Option<u32>>,
+    raised: &[u32],
+    budget: &mut Budget,
+) -> Result<PerVertex<u64>, AllocError> {
+    let vertices = ground.graph.vertices();
+    let mut ranks = PerVertex::of(alloc, vertices, 0)?;
+    let mut evaluation = Evaluation::new(alloc, vertices)?;
+    evaluation.run(
+        alloc,
+        &ground.graph,
+        &ground.odd,
+        choice,
+        raised,
+        &mut ranks,
+        budget,
+    )?;
+    Ok(ranks)
+}
+
+// Ranks of what Odd wins, along its moves; what it does not win keeps its value.
+fn rank(
+    alloc: Global,
+    ground: &GuessGround,
+    bounds: PerVertex<u64>,
+    solved: &Solved,
+    table: &[u64],
+    budget: &mut Budget,
+) -> Result<RankedBounds, AllocError> {
+    let mut bounds = bounds;
+    let mut choice = PerVertex::of(alloc, ground.graph.vertices(), None)?;
+    let mut raised = Vec::new(alloc);
+    for v in solved.vertices() {
+        if solved.winner(*v) == Some(Player::Odd) {
+            choice.set(*v, move_of(ground, &bounds, solved, *v));
+            raised.push(*v)?;
+        }
+    }
+    for v in solved.vertices() {
+        if solved.winner(*v) != Some(Player::Odd) {
+            bounds.set(*v, value_in(table, *v));
+        }
+    }
+    let ranks = ranks_along(alloc, ground, &choice, &raised, budget)?;
+    Ok(RankedBounds { bounds, ranks })
+}
+
+fn ranked_top(
+    alloc: Global,
+    ground: &GuessGround,
+    regions: &Regions,
+    table: &[u64],
+    budget: &mut Budget,
+) -> Result<Option<RankedBounds>, AllocError> {
+    let Raises { bounds, exceeding } = raises_to_top(alloc, ground, regions, table)?;
+    if exceeding.is_empty() {
+        return Ok(None);
+    }
+    let ranks = ranks_along(alloc, ground, &regions.choice, &exceeding, budget)?;
+    Ok(Some(RankedBounds { bounds, ranks }))
+}
+
+fn ranked(
+    alloc: Global,
+    ground: &GuessGround,
+    values: &PerVertex<u64>,
+    table: &[u64],
+    weight: u64,
+    budget: &mut Budget,
+) -> Result<Option<RankedBounds>, AllocError> {
+    budget.spend(ground.graph.vertices() as usize);
+    let Raises { bounds, exceeding } = raises_to(alloc, ground, values, table, weight)?;
+    if exceeding.is_empty() {
+        return Ok(None);
+    }
+    let solved = raising_game(alloc, ground, &bounds, exceeding)?.solve(alloc, budget)?;
+    Ok(Some(rank(alloc, ground, bounds, &solved, table, budget)?))
+}
+
+fn certificate_of(
+    alloc: Global,
+    shape: &Shape,
+    dual_shape: &Shape,
+    arena: &Arena,
+    ranked: &RankedBounds,
+) -> Result<Certificate, AllocError>
+    ensures bounds { IfOk result (λ certificate. IsTableOf shape.now arena.now certificate.bounds) }
+    ensures ranks { IfOk result (λ certificate. IsTableOf dual_shape.now arena.now certificate.ranks) }
+{
+    Ok(Certificate {
+        bounds: table_of(alloc, shape, arena, &ranked.bounds)?,
+        ranks: table_of(alloc, dual_shape, arena, &ranked.ranks)?,
+    })
+}
+
+/// Bounds and ranks for the top where Odd is taken to win, or nothing where that raises nothing.
+pub(crate) fn top_certificate(
+    alloc: Global,
+    shape: &Shape,
+    dual_shape: &Shape,
+    arena: &Arena,
+    ground: &GuessGround,
+    regions: &Regions,
+    table: &Table,
+    budget: &mut Budget,
+) -> Result<Option<Certificate>, AllocError>
+    ensures bounds { IfOk result (λ found. IfSome found (λ certificate. IsTableOf shape.now arena.now certificate.bounds)) }
+    ensures ranks { IfOk result (λ found. IfSome found (λ certificate. IsTableOf dual_shape.now arena.now certificate.ranks)) }
+{
+    match ranked_top(alloc, ground, regions, table.values(), budget)? {
+        Some(ranked) => Ok(Some(certificate_of(alloc, shape, dual_shape, arena, &ranked)?)),
+        None => Ok(None),
+    }
+}
+
+/// Bounds and ranks for values cut to a weight, or nothing where they exceed the table nowhere.
+pub(crate) fn certificate(
+    alloc: Global,
+    shape: &Shape,
+    dual_shape: &Shape,
+    arena: &Arena,
+    ground: &GuessGround,
+    values: &PerVertex<u64>,
+    table: &Table,
+    weight: u64,
+    budget: &mut Budget,
+) -> Result<Option<Certificate>, AllocError>
+    ensures bounds { IfOk result (λ found. IfSome found (λ certificate. IsTableOf shape.now arena.now certificate.bounds)) }
+    ensures ranks { IfOk result (λ found. IfSome found (λ certificate. IsTableOf dual_shape.now arena.now certificate.ranks)) }
+{
+    match ranked(alloc, ground, values, table.values(), weight, budget)? {
+        Some(ranked) => Ok(Some(certificate_of(alloc, shape, dual_shape, arena, &ranked)?)),
+        None => Ok(None),
+    }
+}

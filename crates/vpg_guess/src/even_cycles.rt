@@ -1,0 +1,140 @@
+//! Cycles of an even priority on which the values above it stay equal. Going round them, they fall.
+use crate::budget::Budget;
+use crate::graph::Graph;
+use crate::ground::value_in;
+use crate::per_vertex::PerVertex;
+use crate::scale::Scale;
+use crate::subgame::{Solved, Subgame};
+use std::alloc::{AllocError, Global};
+use vpg_game::Player;
+
+/// The values of a strategy, and the table that they lie above.
+#[derive(Drop)]
+pub(crate) struct Level<'a> {
+    pub(crate) graph: &'a Graph,
+    pub(crate) scale: &'a Scale,
+    pub(crate) table: &'a [u64],
+    pub(crate) values: &'a PerVertex<u64>,
+}
+
+// One vertex for each even priority that occurs among some vertices, greatest first.
+fn one_of_each_even(
+    alloc: Global,
+    graph: &Graph,
+    vertices: &[u32],
+) -> Result<Vec<u32>, AllocError> {
+    let greatest = graph.greatest_priority(vertices);
+    let mut of_priority = PerVertex::of(alloc, greatest.saturating_add(1), None)?;
+    for v in vertices {
+        of_priority.set(graph.priority(*v), Some(*v));
+    }
+    let mut each = Vec::new(alloc);
+    for below in 0..=greatest {
+        let priority = greatest.saturating_sub(below);
+        if let Some(v) = of_priority.get(priority)
+            && priority % 2 == 0
+        {
+            each.push(v)?;
+        }
+    }
+    Ok(each)
+}
+
+impl<'a> Level<'a> {
+    fn may_fall(&self, v: u32, weight: u64) -> bool {
+        let value = self.values.get(v);
+        value < self.scale.top
+            && self.scale.cut(value_in(self.table, v), weight) < self.scale.cut(value, weight)
+    }
+
+    // Those of the region up to this vertex's priority that exceed the table above it; none where nothing of that priority does.
+    fn falling(&self, alloc: Global, region: &[u32], even: u32) -> Result<Vec<u32>, AllocError> {
+        let limit = self.graph.priority(even);
+        let weight = self.scale.weight(even);
+        let mut falling = Vec::new(alloc);
+        let mut attained = false;
+        for v in region {
+            if self.graph.priority(*v) <= limit && self.may_fall(*v, weight) {
+                attained = attained || self.graph.priority(*v) == limit;
+                falling.push(*v)?;
+            }
+        }
+        if !attained {
+            falling.clear();
+        }
+        Ok(falling)
+    }
+
+    // The game of these vertices over edges to values that are no greater above the even priority.
+    fn game(&self, alloc: Global, falling: Vec<u32>, even: u32) -> Result<Subgame, AllocError> {
+        let weight = self.scale.weight(even);
+        let mut game = Subgame::new(alloc, self.graph, falling)?;
+        for at in 0..game.vertices.len() {
+            if let Some(v) = game.vertices.get(at) {
+                let vertex = *v;
+                self.edges(&mut game, vertex, weight)?;
+                game.vertex(self.graph, vertex)?;
+            }
+        }
+        Ok(game)
+    }
+
+    fn edges(&self, game: &mut Subgame, v: u32, weight: u64) -> Result<(), AllocError> {
+        let mine = self.scale.cut(self.values.get(v), weight);
+        let even = self.graph.owner(v) == Player::Even;
+        for w in self.graph.successors(v) {
+            let value = self.scale.cut(self.values.get(*w), weight);
+            let stays = if even {
+                value <= mine && game.has(*w)
+            } else {
+                mine <= value
+            };
+            if stays {
+                game.edge(*w)?;
+            }
+        }
+        Ok(())
+    }
+
+    // Even's choices where it wins, or nothing where it wins nowhere.
+    fn choices(
+        &self,
+        alloc: Global,
+        solved: &Solved,
+    ) -> Result<Option<Vec<(u32, u32)>>, AllocError> {
+        let mut choices = Vec::new(alloc);
+        let mut wins = false;
+        for v in solved.vertices() {
+            if solved.winner(*v) == Some(Player::Even) {
+                wins = true;
+                if let Some(w) = solved.choice(*v) {
+                    choices.push((*v, w))?;
+                }
+            }
+        }
+        Ok(if wins { Some(choices) } else { None })
+    }
+
+    /// Choices of Even in a region that go round such cycles, of the greatest even priority that has some.
+    pub(crate) fn even_cycles(
+        &self,
+        alloc: Global,
+        region: &[u32],
+        budget: &mut Budget,
+    ) -> Result<Vec<(u32, u32)>, AllocError> {
+        for even in &one_of_each_even(alloc, self.graph, region)? {
+            if budget.is_spent() {
+                break;
+            }
+            budget.spend(region.len());
+            let falling = self.falling(alloc, region, *even)?;
+            if !falling.is_empty() {
+                let solved = self.game(alloc, falling, *even)?.solve(alloc, budget)?;
+                if let Some(choices) = self.choices(alloc, &solved)? {
+                    return Ok(choices);
+                }
+            }
+        }
+        Ok(Vec::new(alloc))
+    }
+}

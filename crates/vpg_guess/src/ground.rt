@@ -1,0 +1,85 @@
+//! What guesses of one table are made over.
+use crate::graph::Graph;
+use crate::per_vertex::PerVertex;
+use crate::scale::Scale;
+use std::alloc::{AllocError, Global};
+use vpg_game::Player;
+use vpg_hope::Arena;
+use vpg_measure::Shape;
+
+/// A graph, and how measures grow along its edges for either player.
+#[derive(Drop)]
+pub(crate) struct GuessGround {
+    pub(crate) graph: Graph,
+    pub(crate) even: Scale,
+    pub(crate) odd: Scale,
+}
+
+impl GuessGround {
+    pub(crate) fn of(
+        alloc: Global,
+        shape: &Shape,
+        dual_shape: &Shape,
+        arena: &Arena,
+    ) -> Result<GuessGround, AllocError> {
+        let graph = Graph::of(alloc, arena)?;
+        let even = Scale::of(alloc, arena, shape, Player::Even)?;
+        let odd = Scale::of(alloc, arena, dual_shape, Player::Odd)?;
+        Ok(GuessGround { graph, even, odd })
+    }
+
+    /// The vertices that stand at the top.
+    pub(crate) fn lost(&self, alloc: Global, table: &[u64]) -> Result<Vec<u32>, AllocError> {
+        let mut lost = Vec::new(alloc);
+        for v in 0..self.graph.vertices() {
+            if self.even.top <= value_in(table, v) {
+                lost.push(v)?;
+            }
+        }
+        Ok(lost)
+    }
+
+    /// So many looks at each vertex.
+    pub(crate) fn looks(&self, each: u64) -> u64 {
+        u64::from(self.graph.vertices()).saturating_mul(each)
+    }
+
+    /// Whether a table has these values, or greater ones.
+    pub(crate) fn is_reached(&self, values: &PerVertex<u64>, table: &[u64]) -> bool {
+        for v in 0..self.graph.vertices() {
+            if value_in(table, v) < values.get(v) {
+                return false;
+            }
+        }
+        true
+    }
+
+    /// The weights that values are cut to, stage by stage: the top, and those of the odd priorities, greatest first.
+    pub(crate) fn weights(&self, alloc: Global) -> Result<Vec<u64>, AllocError> {
+        let mut all = Vec::new(alloc);
+        for v in 0..self.graph.vertices() {
+            if self.graph.priority(v) % 2 == 1 {
+                all.push(self.even.weight(v))?;
+            }
+        }
+        all.sort()?;
+        let mut weights = Vec::new(alloc);
+        let mut last = self.even.top;
+        weights.push(last)?;
+        for weight in all.iter().rev() {
+            if *weight < last {
+                last = *weight;
+                weights.push(last)?;
+            }
+        }
+        Ok(weights)
+    }
+}
+
+/// A vertex's value in a table.
+pub(crate) fn value_in(table: &[u64], v: u32) -> u64 {
+    match table.get(v as usize) {
+        Some(value) => *value,
+        None => 0,
+    }
+}

@@ -1,0 +1,325 @@
+//! A game that is being solved: who is taken to win where, and what a player can force.
+use crate::budget::Budget;
+use crate::graph::Graph;
+use crate::per_vertex::PerVertex;
+use std::alloc::{AllocError, Global};
+use vpg_game::Player;
+
+/// The vertices that are still played on, and who wins at the others.
+#[derive(Drop)]
+pub(crate) struct Solution<'a> {
+    pub(crate) graph: &'a Graph,
+    /// The winner's choices, and others where nobody is taken to win.
+    pub(crate) choice: PerVertex<Option<u32>>,
+    winner: PerVertex<Option<Player>>,
+    // the vertices of the present game
+    alive: PerVertex<bool>,
+    // the last attractor that took the vertex
+    mark: PerVertex<u32>,
+    // the last attractor that counted its successors, and how many are left
+    seen: PerVertex<u32>,
+    left: PerVertex<u32>,
+    stamp: u32,
+}
+
+impl<'a> Solution<'a> {
+    pub(crate) fn new(alloc: Global, graph: &'a Graph) -> Result<Solution<'a>, AllocError> {
+        let vertices = graph.vertices();
+        Ok(Solution {
+            graph,
+            choice: PerVertex::of(alloc, vertices, None)?,
+            winner: PerVertex::of(alloc, vertices, None)?,
+            alive: PerVertex::of(alloc, vertices, true)?,
+            mark: PerVertex::of(alloc, vertices, 0)?,
+            seen: PerVertex::of(alloc, vertices, 0)?,
+            left: PerVertex::of(alloc, vertices, 0)?,
+            stamp: 0,
+        })
+    }
+
+    pub(crate) fn is_alive(&self, v: u32) -> bool {
+        self.alive.get(v)
+    }
+
+    /// The first move that stays in the present game.
+    pub(crate) fn first_alive(&self, v: u32) -> Option<u32> {
+        for w in self.graph.successors(v) {
+            if self.alive.get(*w) {
+                return Some(*w);
+            }
+        }
+        None
+    }
+
+    fn count_alive(&self, v: u32) -> u32 {
+        let mut count = 0u32;
+        for w in self.graph.successors(v) {
+            if self.alive.get(*w) {
+                count = count.saturating_add(1);
+            }
+        }
+        count
+    }
+
+    // Whether the attractor takes u, which has an edge to v that it took.
+    fn takes(&mut self, u: u32, v: u32, player: Player, budget: &mut Budget) -> bool {
+        if !self.alive.get(u) || self.mark.get(u) == self.stamp {
+            return false;
+        }
+        if self.graph.owner(u) == player {
+            self.choice.set(u, Some(v));
+            return true;
+        }
+        if self.seen.get(u) != self.stamp {
+            self.seen.set(u, self.stamp);
+            let count = self.count_alive(u);
+            self.left.set(u, count);
+            budget.spend(self.graph.successors(u).len());
+        }
+        let left = self.left.get(u).saturating_sub(1);
+        self.left.set(u, left);
+        left == 0
+    }
+
+    /// What a player can force into the seed; it leaves the present game.
+    pub(crate) fn attract(
+        &mut self,
+        player: Player,
+        seed: Vec<u32>,
+        budget: &mut Budget,
+    ) -> Result<Vec<u32>, AllocError> {
+        self.attract_around(player, seed, &[], budget)
+    }
+
+    // The same without the barred vertices, which the opponent has for sure.
+    fn attract_around(
+        &mut self,
+        player: Player,
+        seed: Vec<u32>,
+        barred: &[u32],
+        budget: &mut Budget,
+    ) -> Result<Vec<u32>, AllocError> {
+        self.stamp = self.stamp.saturating_add(1);
+        for v in barred {
+            self.mark.set(*v, self.stamp);
+        }
+        let mut taken = seed;
+        for v in &taken {
+            self.mark.set(*v, self.stamp);
+        }
+        for at in 0..self.graph.vertices() as usize {
+            let v = match taken.get(at) {
+                Some(v) => *v,
+                None => break,
+            };
+            self.take_from(player, v, &mut taken, budget)?;
+        }
+        for v in &taken {
+            self.alive.set(*v, false);
+        }
+        Ok(taken)
+    }
+
+    fn take_from(
+        &mut self,
+        player: Player,
+        v: u32,
+        taken: &mut Vec<u32>,
+        budget: &mut Budget,
+    ) -> Result<(), AllocError> {
+        let graph = self.graph;
+        budget.spend(graph.predecessors(v).len());
+        for u in graph.predecessors(v) {
+            if self.takes(*u, v, player, budget) {
+                self.mark.set(*u, self.stamp);
+                taken.push(*u)?;
+            }
+        }
+        Ok(())
+    }
+
+    /// Gives a player the seed and what it can force there, which leave the present game.
+    pub(crate) fn win(
+        &mut self,
+        player: Player,
+        seed: Vec<u32>,
+        budget: &mut Budget,
+    ) -> Result<Vec<u32>, AllocError> {
+        let taken = self.attract(player, seed, budget)?;
+        self.give(player, &taken);
+        Ok(taken)
+    }
+
+    /// Gives a player some vertices.
+    pub(crate) fn give(&mut self, player: Player, vertices: &[u32]) {
+        for v in vertices {
+            self.winner.set(*v, Some(player));
+        }
+    }
+
+    /// Who stands without a move loses, and so does who can be forced there.
+    pub(crate) fn win_dead_ends(
+        &mut self,
+        alloc: Global,
+        player: Player,
+        budget: &mut Budget,
+    ) -> Result<(), AllocError> {
+        let mut dead = Vec::new(alloc);
+        for v in 0..self.graph.vertices() {
+            if self.alive.get(v) && self.graph.owner(v) != player && self.first_alive(v).is_none() {
+                dead.push(v)?;
+            }
+        }
+        self.win(player, dead, budget)?;
+        Ok(())
+    }
+
+    pub(crate) fn revive(&mut self, vertices: &[u32]) {
+        for v in vertices {
+            self.alive.set(*v, true);
+        }
+    }
+
+    /// Those of some vertices that are in the present game.
+    pub(crate) fn living(&self, alloc: Global, vertices: &[u32]) -> Result<Vec<u32>, AllocError> {
+        let mut living = Vec::new(alloc);
+        for v in vertices {
+            if self.alive.get(*v) {
+                living.push(*v)?;
+            }
+        }
+        Ok(living)
+    }
+
+    /// The vertices of the present game.
+    pub(crate) fn all_living(&self, alloc: Global) -> Result<Vec<u32>, AllocError> {
+        let mut living = Vec::new(alloc);
+        for v in 0..self.graph.vertices() {
+            if self.alive.get(v) {
+                living.push(v)?;
+            }
+        }
+        Ok(living)
+    }
+
+    /// Those of some vertices in the present game that a player was given.
+    pub(crate) fn won_by(
+        &self,
+        alloc: Global,
+        player: Player,
+        vertices: &[u32],
+    ) -> Result<Vec<u32>, AllocError> {
+        let mut won = Vec::new(alloc);
+        for v in vertices {
+            if self.alive.get(*v) && self.winner.get(*v) == Some(player) {
+                won.push(*v)?;
+            }
+        }
+        Ok(won)
+    }
+
+    /// Any move within the present game, where there is no choice.
+    pub(crate) fn choose_any(&mut self, vertices: &[u32]) {
+        for v in vertices {
+            if self.choice.get(*v).is_none() {
+                let first = self.first_alive(*v);
+                self.choice.set(*v, first);
+            }
+        }
+    }
+
+    /// Takes some vertices back from whom they were given.
+    pub(crate) fn forget(&mut self, vertices: &[u32]) {
+        for v in vertices {
+            self.winner.set(*v, None);
+        }
+    }
+
+    /// Goes on with those of some vertices that nobody was given.
+    pub(crate) fn reopen(&mut self, vertices: &[u32]) {
+        for v in vertices {
+            self.alive.set(*v, self.winner.get(*v).is_none());
+        }
+    }
+
+    /// Leaves some vertices.
+    pub(crate) fn leave(&mut self, vertices: &[u32]) {
+        for v in vertices {
+            self.alive.set(*v, false);
+        }
+    }
+
+    // A move out of the present game to where the player was given the vertex.
+    fn exit_of(&self, v: u32, player: Player) -> Option<u32> {
+        for w in self.graph.successors(v) {
+            if !self.alive.get(*w) && self.winner.get(*w) == Some(player) {
+                return Some(*w);
+            }
+        }
+        None
+    }
+
+    // The vertices of a player, among these, with a move out of the present game to where it wins. They choose it.
+    fn exits(
+        &mut self,
+        alloc: Global,
+        player: Player,
+        vertices: &[u32],
+    ) -> Result<Vec<u32>, AllocError> {
+        let mut exits = Vec::new(alloc);
+        for v in vertices {
+            if self.graph.owner(*v) == player {
+                let exit = self.exit_of(*v, player);
+                if exit.is_some() {
+                    self.choice.set(*v, exit);
+                    exits.push(*v)?;
+                }
+            }
+        }
+        Ok(exits)
+    }
+
+    // Those of these vertices from where the opponent of a player can't but move out of the present game.
+    fn add_stuck(
+        &self,
+        player: Player,
+        vertices: &[u32],
+        seed: &mut Vec<u32>,
+    ) -> Result<(), AllocError> {
+        let other = player.opponent();
+        for v in vertices {
+            if self.alive.get(*v)
+                && self.graph.owner(*v) == other
+                && self.first_alive(*v).is_none()
+                && self.exit_of(*v, other).is_none()
+            {
+                seed.push(*v)?;
+            }
+        }
+        Ok(())
+    }
+
+    /// Gives both players what they can force out of the present game, which is of these vertices, to where they win. No move from
+    /// there may lead to a vertex that nobody was given.
+    pub(crate) fn win_exits(
+        &mut self,
+        alloc: Global,
+        vertices: &[u32],
+        budget: &mut Budget,
+    ) -> Result<(), AllocError> {
+        let mut even = self.exits(alloc, Player::Even, vertices)?;
+        let mut odd = self.exits(alloc, Player::Odd, vertices)?;
+        self.add_stuck(Player::Even, vertices, &mut even)?;
+        let taken = self.attract_around(Player::Even, even, &odd, budget)?;
+        self.give(Player::Even, &taken);
+        self.add_stuck(Player::Odd, vertices, &mut odd)?;
+        self.win(Player::Odd, odd, budget)?;
+        Ok(())
+    }
+
+    /// Who was given what, and the choices.
+    pub(crate) fn finish(self) -> (PerVertex<Option<Player>>, PerVertex<Option<u32>>) {
+        let Solution { winner, choice, .. } = self;
+        (winner, choice)
+    }
+}
