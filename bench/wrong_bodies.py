@@ -19,7 +19,7 @@ What the table says of a wrong body:
     PROVED     the contract lets the wrong body through
     compiler   refused by the compiler, as the edit's first line says
     bad        it does not fit, or does not compile
-    untried    no run has tried it, or none since the table is kept
+    untried    no run has tried it to its end since the table is kept; the column `goal` says what is known of it
 """
 import argparse
 import datetime
