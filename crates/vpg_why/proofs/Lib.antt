@@ -5,6 +5,7 @@ pub mod Forced
 pub mod Fronts
 pub mod Halving
 pub mod InTurn
+pub mod KeepingOldest
 pub mod Listing
 pub mod Next
 pub mod Losing

@@ -17,7 +17,7 @@ use Rattle.vpg_why.proofs.InTurn.{shorter, one_more, none_yet, one_list}
 use Rattle.vpg_why.proofs.Monotone.{more_choices_suffice}
 use Rattle.vpg_why.specs.Laws.{ExplanationsAreOne}
 
-choice_at : (ds : List Decision) (i : ℕ) (x : Decision) (l : Literal) → i < length ds → get_or (choices ds) i l ≡ literal_of (get_or ds i x)
+pub choice_at : (ds : List Decision) (i : ℕ) (x : Decision) (l : Literal) → i < length ds → get_or (choices ds) i l ≡ literal_of (get_or ds i x)
 choice_at [] i x l less = absurd (omega (arith, less))
 choice_at (d ∷ ds) zero x l less = refl
 choice_at (d ∷ ds) (suc i) x l less = choice_at ds i x l (omega (arith, less))

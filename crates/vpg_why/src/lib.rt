@@ -1,10 +1,18 @@
-//! Explanations: which of a page's decisions make a verdict so.
+//! Answers about a page: why a verdict is so, what else could be decided, and a product that is won.
 //!
-//! A `Question` asks of a list of decisions whether they alone make a vertex hopeless, or sure, a feature known, or one more decision
-//! contradictory. What some decisions make so, more do. `explain` lists some decisions that suffice, of which none can be left out;
-//! `why` does so for a verdict of a page.
+//! Each answer is made from an `Order` (game, diagram, decisions and tables of a page) and changes nothing. A `Question` asks of a list
+//! of decisions whether they *alone* make it so: a vertex hopeless or sure, lost in every product, a feature known, or one more
+//! decision contradictory. What some decisions make so, more do. So `explain` can look for few: it lists decisions that suffice, of
+//! which none can be left out. There is one such list that prefers older decisions, so the answer is a function of the page.
 //!
-//! Definitions: `specs/Suffices` (what decisions alone make so), `specs/Explained` (explanations). What holds of them stands in `laws`.
+//! The layer above uses `why`, `why_lost`, `why_known`, `why_conflict` (explanations), `find` (an example or a counterexample, or that
+//! there is none), `needs` (what all that are won have), `look_ahead`, `look_back` (what one more decision, or one fewer, would do) and
+//! `repair` (what to retract). `Which::Hopeful` asks for Even, `Which::Dual` for Odd. Every answer has `Limits` of work, and says where
+//! it met one: it is then unsettled, never wrong.
+//!
+//! Definitions: `specs/Suffices` (what decisions alone make so), `specs/Explained` (explanations), `specs/Products` (what holds in the
+//! products that decisions leave), `specs/Found`, `specs/Offered`, `specs/Repaired` (what the answers say). What holds of them stands
+//! in `laws`.
 #![tactic(auto)]
 
 mod answering;
@@ -14,6 +22,7 @@ mod forcing;
 pub mod laws;
 mod offering;
 mod question;
+mod repairing;
 mod searching;
 mod telling;
 
@@ -22,5 +31,6 @@ pub use explaining::{Explanation, explain};
 pub use forcing::needs;
 pub use offering::{Offer, look_ahead, look_back};
 pub use question::{Limits, Question, Shown};
+pub use repairing::{Remedy, Retraction, repair};
 pub use searching::{Example, Found, find};
 pub use telling::{WhyLost, why, why_conflict, why_known, why_lost};

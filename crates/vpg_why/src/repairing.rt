@@ -1,0 +1,117 @@
+//! What to retract so that a verdict no longer holds.
+ghost use Rattle.std.specs.Prelude.{◌≡◌, ◌↔◌, ◌<◌, ◌++◌, ◌∷◌, [], length, IfOk, IsTrue};
+ghost use Rattle.vpg_diagram.specs.FeatureDiagram.{feature_count};
+ghost use Rattle.vpg_partial.specs.TableLaws.{AreChoicesOf};
+ghost use Rattle.vpg_why.specs.Explained.{choices};
+ghost use Rattle.vpg_why.specs.Repaired.{IsRepair, IsRemedy};
+ghost use Rattle.vpg_why.specs.Suffices.{Suffice, IsAskable};
+
+use crate::answering::suffice;
+use crate::question::{Limits, Question, Shown};
+use std::alloc::{AllocError, Global};
+use vpg_diagram::Diagram;
+use vpg_game::GuardedGame;
+use vpg_measure::{Order, Which};
+use vpg_partial::Decision;
+
+/// Decisions of a page, in its order: those that stay and those to retract.
+#[derive(Debug, Drop)]
+pub struct Retraction {
+    pub kept: Vec<Decision>,
+    pub retracted: Vec<Decision>,
+    /// Whether it was shown that each of those to retract has to be, beside the older ones that stay.
+    pub exact: bool,
+}
+
+/// What to retract so that a verdict no longer holds.
+#[derive(Debug, Drop)]
+pub enum Remedy {
+    /// Once these are retracted, the vertex is not hopeless any more, for the first table; or not sure, for the second.
+    Retract(Retraction),
+    /// It is hopeless, or sure, whatever is retracted.
+    Nothing,
+    /// Some tables were not settled.
+    Unsettled,
+}
+
+// The decisions and one more.
+fn appended(
+    alloc: Global,
+    decisions: &[Decision],
+    more: Decision,
+) -> Result<Vec<Decision>, AllocError>
+    ensures { IfOk result (λ all. all.items ≡ decisions.now ++ more ∷ []) }
+{
+    let mut all = Vec::with_capacity(alloc, decisions.len())?;
+    all.extend_from_slice(decisions)?;
+    all.push(more)?;
+    Ok(all)
+}
+
+fn is_yes(shown: Shown) -> bool
+    ensures { IsTrue result ↔ (shown ≡ Shown.Yes) }
+{
+    match shown {
+        Shown::Yes => true,
+        _ => false,
+    }
+}
+
+// Which decisions to give up, the oldest first to be kept.
+fn give_up(
+    alloc: Global,
+    game: &GuardedGame,
+    diagram: &Diagram,
+    question: Question,
+    decisions: &[Decision],
+    limits: Limits,
+) -> Result<Retraction, AllocError>
+    requires features { game.now.features ≡ feature_count diagram.now.lines }
+    requires named { AreChoicesOf diagram.now.lines (choices decisions.now) }
+    requires askable { IsAskable game.now diagram.now question }
+    requires possible { Suffice game.now diagram.now question [] → ⊥ }
+    ensures { IfOk result (λ found. IsRepair (Suffice game.now diagram.now question) decisions.now found.kept.items found.retracted.items found.exact) }
+{
+    let mut kept = Vec::new(alloc);
+    let mut retracted = Vec::new(alloc);
+    let mut exact = true;
+    'deciding: for d in decisions {
+        let more = appended(alloc, &kept, *d)?;
+        let shown = suffice(alloc, game, diagram, question, &more, limits)?;
+        if let Shown::No = shown {
+            kept = more;
+        } else {
+            retracted.push(*d)?;
+            exact = exact && is_yes(shown);
+        }
+    }
+    Ok(Retraction {
+        kept,
+        retracted,
+        exact,
+    })
+}
+
+/// Which decisions to retract so that the vertex is not hopeless any more, for the first table, or not sure, for the second: as few
+/// as can be where the oldest decisions are to stay. It goes through the page from its first decision, and keeps each that leaves the
+/// verdict open.
+pub fn repair(
+    alloc: Global,
+    order: &Order,
+    which: Which,
+    vertex: u32,
+    limits: Limits,
+) -> Result<Remedy, AllocError>
+    requires { vertex < length order.now.game.vertices }
+    ensures { IfOk result (IsRemedy order.now.game order.now.diagram which vertex order.now.decisions) }
+{
+    let question = Question::Verdict { which, vertex };
+    let (game, diagram) = (order.game(), order.diagram());
+    match suffice(alloc, game, diagram, question, &[], limits)? {
+        Shown::Yes => return Ok(Remedy::Nothing),
+        Shown::No => {}
+        Shown::Unsettled => return Ok(Remedy::Unsettled),
+    }
+    let found = give_up(alloc, game, diagram, question, order.decisions(), limits)?;
+    Ok(Remedy::Retract(found))
+}
