@@ -295,100 +295,158 @@ fn still_open(rt: &(impl Abort + AllocGlobal), desk: Desk) -> (u64, Desk) {
     }
 }
 
+/// Closes a desk with no token out.
+fn close(rt: &(impl Abort + AllocGlobal), desk: Desk) {
+    match desk.close() {
+        Ok(()) => {}
+        Err(out) => {
+            let_go(out.desk);
+            panic!(rt; "tokens out")
+        }
+    }
+}
+
+// What a test does with a desk stands in a function that borrows it: one that owns it pays for each of its steps.
+
+/// Decides and undoes a feature, and decides another: the token of the second change, and the overtaken one of the first.
+fn overtake(rt: &(impl Abort + AllocGlobal), desk: &mut Desk) -> (Undo, Redo) {
+    let first = decide(rt, desk, F, true);
+    assert!(rt; first.serial() == 1);
+    let first = undo(rt, desk, first);
+    let second = decide(rt, desk, G, true);
+    assert!(rt; second.serial() == 2);
+    let first = overtaken(rt, desk, first);
+    (second, first)
+}
+
+/// Keeps the second change, and gives the overtaken token of the first.
+fn keep_second(rt: &(impl Abort + AllocGlobal), desk: &mut Desk) -> Redo {
+    let (second, first) = overtake(rt, desk);
+    keep(rt, desk, second);
+    first
+}
+
 #[test]
 fn tokens_are_spent(rt: HostRuntime) -> Result<(), Fail> {
     let mut desk = desk(&rt);
-    let first = decide(&rt, &mut desk, F, true);
-    assert!(&rt; first.serial() == 1);
-    let first = undo(&rt, &mut desk, first);
-    let second = decide(&rt, &mut desk, G, true);
-    assert!(&rt; second.serial() == 2);
-    let first = overtaken(&rt, &mut desk, first);
-    keep(&rt, &mut desk, second);
+    let first = keep_second(&rt, &mut desk);
     let (tokens, mut desk) = still_open(&rt, desk);
-    assert!(&rt; tokens == 1);
     forget(&rt, &mut desk, first);
-    assert!(&rt; desk.close().is_ok());
+    close(&rt, desk);
+    assert!(&rt; tokens == 1);
     Ok(())
+}
+
+/// Spends both tokens, the overtaken one first.
+fn spend_both(rt: &(impl Abort + AllocGlobal), desk: &mut Desk) {
+    let (second, first) = overtake(rt, desk);
+    forget(rt, desk, first);
+    keep(rt, desk, second);
 }
 
 #[test]
 fn a_desk_closes_once_no_token_is_out(rt: HostRuntime) -> Result<(), Fail> {
     let mut desk = desk(&rt);
-    let first = decide(&rt, &mut desk, F, true);
-    let first = undo(&rt, &mut desk, first);
-    let second = decide(&rt, &mut desk, G, true);
-    let first = overtaken(&rt, &mut desk, first);
-    forget(&rt, &mut desk, first);
-    keep(&rt, &mut desk, second);
-    assert!(&rt; desk.close().is_ok());
+    spend_both(&rt, &mut desk);
+    close(&rt, desk);
     Ok(())
 }
 
-#[test]
-fn decisions_are_refused(rt: HostRuntime) -> Result<(), Fail> {
-    let mut desk = desk_on(&rt, b"0 0 0 0;", b"root r\nalternative r: a b\n");
-    let token = decide(&rt, &mut desk, 1, true);
-    keep(&rt, &mut desk, token);
+/// Decides the first of two alternatives, and is refused what doesn't go with it.
+fn decide_one_of_two(rt: &(impl Abort + AllocGlobal), desk: &mut Desk) {
+    let token = decide(rt, desk, 1, true);
+    keep(rt, desk, token);
     for (feature, fault) in [
         (3, DecideFault::UnknownFeature),
         (1, DecideFault::AlreadyDecided { serial: 1 }),
         (2, DecideFault::Conflict { feature: 2 }),
     ] {
-        assert!(&rt; undecided(&rt, &mut desk, feature, true) == fault);
+        assert!(rt; undecided(rt, desk, feature, true) == fault);
     }
-    assert!(&rt; unretracted(&rt, &mut desk, 3) == RetractFault::UnknownFeature);
+    assert!(rt; unretracted(rt, desk, 3) == RetractFault::UnknownFeature);
+}
+
+#[test]
+fn decisions_are_refused(rt: HostRuntime) -> Result<(), Fail> {
+    let mut desk = desk_on(&rt, b"0 0 0 0;", b"root r\nalternative r: a b\n");
+    decide_one_of_two(&rt, &mut desk);
     let_go(desk);
     Ok(())
+}
+
+/// Whether the present page has so many entries and these tables.
+fn is_page(
+    rt: &(impl Abort + AllocGlobal),
+    desk: &Desk,
+    entries: usize,
+    hopeful: [u64; 2],
+    dual: [u64; 2],
+) -> bool {
+    page(rt, desk) == (entries, hopeful, dual)
+}
+
+/// Settles, undoes and redoes a change, with a lift between.
+fn turn_pages(rt: &(impl Abort + AllocGlobal), desk: &mut Desk) {
+    let change = decide(rt, desk, F, false);
+    assert!(rt; settle(rt, desk) == 2);
+    let change = undo(rt, desk, change);
+    assert!(rt; is_page(rt, desk, 0, [0, 0], [0, 0]));
+    assert!(rt; lift(rt, desk, 0) == 1);
+    let change = redo(rt, desk, change);
+    assert!(rt; is_page(rt, desk, 3, [2, 0], [0, 1]));
+    assert!(rt; desk.settled());
+    let change = undo(rt, desk, change);
+    assert!(rt; is_page(rt, desk, 1, [1, 0], [0, 0]));
+    forget(rt, desk, change);
 }
 
 #[test]
 fn pages_come_back(rt: HostRuntime) -> Result<(), Fail> {
     let mut desk = desk(&rt);
-    let change = decide(&rt, &mut desk, F, false);
-    assert!(&rt; settle(&rt, &mut desk) == 2);
-    let change = undo(&rt, &mut desk, change);
-    assert!(&rt; page(&rt, &desk) == (0, [0, 0], [0, 0]));
-    assert!(&rt; lift(&rt, &mut desk, 0) == 1);
-    let change = redo(&rt, &mut desk, change);
-    assert!(&rt; page(&rt, &desk) == (3, [2, 0], [0, 1]));
-    assert!(&rt; desk.settled());
-    let change = undo(&rt, &mut desk, change);
-    assert!(&rt; page(&rt, &desk) == (1, [1, 0], [0, 0]));
-    forget(&rt, &mut desk, change);
-    assert!(&rt; desk.close().is_ok());
+    turn_pages(&rt, &mut desk);
+    close(&rt, desk);
     Ok(())
+}
+
+/// Whether a vertex has this verdict.
+fn is_verdict(
+    rt: &(impl Abort + AllocGlobal),
+    desk: &Desk,
+    v: u32,
+    hopeless: bool,
+    sure: bool,
+) -> bool {
+    verdict(rt, desk, v) == Verdict { hopeless, sure }
+}
+
+/// Settles, retracts the first of two decisions, and settles again.
+fn settle_and_retract(rt: &(impl Abort + AllocGlobal), desk: &mut Desk) -> Undo {
+    assert!(rt; settle(rt, desk) == 3);
+    assert!(rt; is_verdict(rt, desk, 0, false, true));
+    let back = retract(rt, desk, F);
+    assert!(rt; is_page(rt, desk, 1, [0, 0], [0, 0]));
+    assert!(rt; !desk.settled());
+    assert!(rt; settle(rt, desk) == 2);
+    assert!(rt; is_verdict(rt, desk, 0, false, false));
+    assert!(rt; unretracted(rt, desk, F) == RetractFault::NotDecided);
+    back
+}
+
+/// Decides twice, settles, retracts, and spends all tokens.
+fn retract_first(rt: &(impl Abort + AllocGlobal), desk: &mut Desk) {
+    let f = decide(rt, desk, F, true);
+    let g = decide(rt, desk, G, true);
+    let back = settle_and_retract(rt, desk);
+    keep(rt, desk, back);
+    keep(rt, desk, g);
+    keep(rt, desk, f);
 }
 
 #[test]
 fn retracting_drops_what_was_assumed(rt: HostRuntime) -> Result<(), Fail> {
     let mut desk = desk(&rt);
-    let f = decide(&rt, &mut desk, F, true);
-    let g = decide(&rt, &mut desk, G, true);
-    assert!(&rt; settle(&rt, &mut desk) == 3);
-    assert!(&rt;
-        verdict(&rt, &desk, 0)
-            == Verdict {
-                hopeless: false,
-                sure: true
-            }
-    );
-    let back = retract(&rt, &mut desk, F);
-    assert!(&rt; page(&rt, &desk) == (1, [0, 0], [0, 0]));
-    assert!(&rt; !desk.settled());
-    assert!(&rt; settle(&rt, &mut desk) == 2);
-    assert!(&rt;
-        verdict(&rt, &desk, 0)
-            == Verdict {
-                hopeless: false,
-                sure: false
-            }
-    );
-    assert!(&rt; unretracted(&rt, &mut desk, F) == RetractFault::NotDecided);
-    keep(&rt, &mut desk, back);
-    keep(&rt, &mut desk, g);
-    keep(&rt, &mut desk, f);
-    assert!(&rt; desk.close().is_ok());
+    retract_first(&rt, &mut desk);
+    close(&rt, desk);
     Ok(())
 }
 
@@ -404,27 +462,48 @@ fn refused(
     }
 }
 
+/// A harvest of a decision that was retracted since.
+fn late_harvest(rt: &(impl Abort + AllocGlobal), desk: &mut Desk) -> Harvest {
+    let first = decide(rt, desk, F, false);
+    let harvest = settled_order(order(rt, desk));
+    let second = retract(rt, desk, F);
+    keep(rt, desk, second);
+    keep(rt, desk, first);
+    harvest
+}
+
+/// Decides out and keeps.
+fn decide_and_keep(rt: &(impl Abort + AllocGlobal), desk: &mut Desk) {
+    let token = decide(rt, desk, F, false);
+    keep(rt, desk, token);
+}
+
+/// Decides out and retracts a hundred times, and decides out.
+fn decide_often(rt: &(impl Abort + AllocGlobal), desk: &mut Desk) {
+    for _ in 0..100 {
+        decide_and_keep(rt, desk);
+        let token = retract(rt, desk, F);
+        keep(rt, desk, token);
+    }
+    decide_and_keep(rt, desk);
+}
+
+/// Hands in a harvest while its decision doesn't stand, and once it stands again.
+fn hand_in_late(rt: &(impl Abort + AllocGlobal), desk: &mut Desk) {
+    let harvest = late_harvest(rt, desk);
+    let (fault, harvest) = refused(rt, desk, harvest);
+    assert!(rt; fault == CommitFault::Outdated { feature: F });
+    decide_often(rt, desk);
+    assert!(rt; added(rt, desk, harvest) == 2);
+}
+
 #[test]
 fn harvests_come_late(rt: HostRuntime) -> Result<(), Fail> {
     let mut desk = desk(&rt);
-    let first = decide(&rt, &mut desk, F, false);
-    let harvest = settled_order(order(&rt, &desk));
-    let second = retract(&rt, &mut desk, F);
-    keep(&rt, &mut desk, second);
-    keep(&rt, &mut desk, first);
-    let (fault, harvest) = refused(&rt, &mut desk, harvest);
-    assert!(&rt; fault == CommitFault::Outdated { feature: F });
-    for _ in 0..100 {
-        let token = decide(&rt, &mut desk, F, false);
-        keep(&rt, &mut desk, token);
-        let token = retract(&rt, &mut desk, F);
-        keep(&rt, &mut desk, token);
-    }
-    let token = decide(&rt, &mut desk, F, false);
-    keep(&rt, &mut desk, token);
-    assert!(&rt; added(&rt, &mut desk, harvest) == 2);
-    assert!(&rt; page(&rt, &desk) == (3, [2, 0], [0, 1]));
+    hand_in_late(&rt, &mut desk);
+    let late = is_page(&rt, &desk, 3, [2, 0], [0, 1]);
     let_go(desk);
+    assert!(&rt; late);
     Ok(())
 }
 
@@ -442,32 +521,52 @@ fn sizes(harvest: &Harvest) -> (usize, usize) {
     (order.game().vertices(), order.diagram().clauses().len())
 }
 
+/// Whether the harvest of another game or diagram is refused as such, and comes back with these sizes.
+fn is_other(
+    rt: &(impl Abort + AllocGlobal),
+    desk: &mut Desk,
+    harvest: Harvest,
+    expected: (usize, usize),
+) -> bool {
+    let (fault, harvest) = refused(rt, desk, harvest);
+    let same = sizes(&harvest) == expected;
+    let_order_go(harvest.again());
+    same && fault == CommitFault::OtherGame
+}
+
+/// Whether a harvest of another game and one of another diagram are refused.
+fn are_others(rt: &(impl Abort + AllocGlobal), desk: &mut Desk) -> bool {
+    let harvest = harvest_of(rt, b"parity 0; 0 0 0 0[f];", DIAGRAM);
+    let game = is_other(rt, desk, harvest, (1, 3));
+    let harvest = harvest_of(rt, GAME, b"root r\noptional r f\nmandatory r g\n");
+    let diagram = is_other(rt, desk, harvest, (2, 4));
+    game && diagram
+}
+
 #[test]
 fn harvests_of_other_games_come_back(rt: HostRuntime) -> Result<(), Fail> {
     let mut desk = desk(&rt);
-    let harvest = harvest_of(&rt, b"parity 0; 0 0 0 0[f];", DIAGRAM);
-    let (fault, harvest) = refused(&rt, &mut desk, harvest);
-    assert!(&rt; fault == CommitFault::OtherGame);
-    assert!(&rt; sizes(&harvest) == (1, 3));
-    let_order_go(harvest.again());
-    let harvest = harvest_of(&rt, GAME, b"root r\noptional r f\nmandatory r g\n");
-    let (fault, harvest) = refused(&rt, &mut desk, harvest);
-    assert!(&rt; fault == CommitFault::OtherGame);
-    assert!(&rt; sizes(&harvest) == (2, 4));
-    let_order_go(harvest.again());
+    let others = are_others(&rt, &mut desk);
     let_go(desk);
+    assert!(&rt; others);
     Ok(())
+}
+
+/// Decides, undoes and forgets as often as a desk can.
+fn change_often(rt: &(impl Abort + AllocGlobal), desk: &mut Desk) {
+    for _ in 0..1_048_576 {
+        let token = decide(rt, desk, F, true);
+        let token = undo(rt, desk, token);
+        forget(rt, desk, token);
+    }
 }
 
 #[test]
 fn changes_are_limited(rt: HostRuntime) -> Result<(), Fail> {
     let mut desk = desk(&rt);
-    for _ in 0..1_048_576 {
-        let token = decide(&rt, &mut desk, F, true);
-        let token = undo(&rt, &mut desk, token);
-        forget(&rt, &mut desk, token);
-    }
-    assert!(&rt; undecided(&rt, &mut desk, F, true) == DecideFault::TooManyChanges);
+    change_often(&rt, &mut desk);
+    let fault = undecided(&rt, &mut desk, F, true);
     let_go(desk);
+    assert!(&rt; fault == DecideFault::TooManyChanges);
     Ok(())
 }

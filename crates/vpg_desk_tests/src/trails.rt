@@ -274,13 +274,21 @@ fn copied(alloc: Global) -> Result<bool, AllocError> {
 
 // ---- tests
 
+/// Whether a trail and what was cut from it are those of the exchange.
+fn is_exchange(alloc: Global, trail: &Trail, cut: &[Entry]) -> Result<bool, AllocError> {
+    let back = are(alloc, cut, " hopeful 0 0 2;")?;
+    let left = is_trail(alloc, trail, " -1; hopeful 0 0 1;", &[1, 0], &[0, 0])?;
+    Ok(back && left && level(trail, 0) == Some(0) && level(trail, 2) == Some(1))
+}
+
+fn are_exchanged(alloc: Global) -> Result<bool, AllocError> {
+    let (trail, cut) = exchanged(alloc)?;
+    is_exchange(alloc, &trail, &cut)
+}
+
 #[test]
 fn a_splice_gives_back_what_it_cuts(rt: HostRuntime) -> Result<(), Fail> {
-    let (trail, cut) = exchanged(rt.alloc())?;
-    assert!(rt; are(rt.alloc(), &cut, " hopeful 0 0 2;")?);
-    assert!(rt; is_trail(rt.alloc(), &trail, " -1; hopeful 0 0 1;", &[1, 0], &[0, 0])?);
-    assert_eq!(rt; level(&trail, 0), Some(0));
-    assert_eq!(rt; level(&trail, 2), Some(1));
+    assert!(rt; are_exchanged(rt.alloc())?);
     Ok(())
 }
 
@@ -299,32 +307,46 @@ fn entries_are_copied_and_put_again(rt: HostRuntime) -> Result<(), Fail> {
     Ok(())
 }
 
+/// Whether the decisions among entries are both, as a list and back.
+fn are_both(alloc: Global, entries: &[Entry]) -> Result<bool, AllocError> {
+    let decisions = Decisions::new(decisions_among(alloc, entries)?);
+    let listed = decisions.as_slice() == [OUT, IN].as_slice();
+    let back = decisions.into_vec();
+    Ok(listed && back.as_slice() == [OUT, IN].as_slice())
+}
+
+/// Whether the second decision is found in its place, one of the root nowhere, and both are listed.
+fn are_found(alloc: Global) -> Result<(bool, bool, bool), AllocError> {
+    let trail = two_decisions(alloc)?;
+    let found = decided(trail.entries(), 2) == Some(IN) && decided(trail.entries(), 0).is_none();
+    let placed = place_of(trail.entries(), 2) == Some(1) && place_of(trail.entries(), 0).is_none();
+    let both = are_both(alloc, trail.entries())?;
+    Ok((found, placed, both))
+}
+
 #[test]
 fn decisions_are_found(rt: HostRuntime) -> Result<(), Fail> {
-    let trail = two_decisions(rt.alloc())?;
-    assert_eq!(rt; decided(trail.entries(), 2), Some(IN));
-    assert_eq!(rt; decided(trail.entries(), 0), None);
-    assert_eq!(rt; place_of(trail.entries(), 2), Some(1));
-    assert_eq!(rt; place_of(trail.entries(), 0), None);
-    let decisions = Decisions::new(decisions_among(rt.alloc(), trail.entries())?);
-    assert_eq!(rt; decisions.as_slice(), [OUT, IN].as_slice());
-    assert_eq!(rt; decisions.into_vec().as_slice(), [OUT, IN].as_slice());
+    assert_eq!(rt; are_found(rt.alloc())?, (true, true, true));
     Ok(())
+}
+
+const SECOND: Literal = Literal {
+    feature: 2,
+    value: true,
+};
+
+/// Whether assumed decisions are held as a list and back, and asked for.
+fn are_held(alloc: Global) -> Result<bool, AllocError> {
+    let assumed = Assumed::new(Vec::from_slice(alloc, &[SECOND])?);
+    let held = assumed.has(2) && !assumed.has(1);
+    let listed = assumed.literals() == [SECOND].as_slice();
+    let back = assumed.into_vec();
+    Ok(held && listed && back.as_slice() == [SECOND].as_slice())
 }
 
 #[test]
 fn assumed_decisions_are_held(rt: HostRuntime) -> Result<(), Fail> {
-    let literal = Literal {
-        feature: 2,
-        value: true,
-    };
-    let mut literals = Vec::new(rt.alloc());
-    literals.push(literal)?;
-    let assumed = Assumed::new(literals);
-    assert!(rt; assumed.has(2));
-    assert!(rt; !assumed.has(1));
-    assert_eq!(rt; assumed.literals(), [literal].as_slice());
-    assert_eq!(rt; assumed.into_vec().as_slice(), [literal].as_slice());
+    assert!(rt; are_held(rt.alloc())?);
     Ok(())
 }
 
@@ -339,10 +361,15 @@ fn lifts_from_zero(alloc: Global, values: Vec<u64>) -> Result<Vec<Entry>, AllocE
     lifts(alloc, Which::Dual, &present, &values, &under, 3)
 }
 
+/// Whether the lifts to a table are these.
+fn are_lifts(alloc: Global) -> Result<bool, AllocError> {
+    let values = Vec::from_slice(alloc, &[2, 0, 1])?;
+    let lifts = lifts_from_zero(alloc, values)?;
+    are(alloc, &lifts, " dual 0 0 2 -1; dual 2 0 1 -1;")
+}
+
 #[test]
 fn lifts_raise_to_a_table(rt: HostRuntime) -> Result<(), Fail> {
-    let values = Vec::from_slice(rt.alloc(), &[2, 0, 1])?;
-    let lifts = lifts_from_zero(rt.alloc(), values)?;
-    assert!(rt; are(rt.alloc(), &lifts, " dual 0 0 2 -1; dual 2 0 1 -1;")?);
+    assert!(rt; are_lifts(rt.alloc())?);
     Ok(())
 }
