@@ -21,6 +21,7 @@ use std::alloc::{AllocError, Global};
 use std::marker::Model;
 use std::sync::{Arc, Wait};
 use std::thread::Threads;
+use vpg_board::OpenGate;
 use vpg_desk::{CommitFault, CommitRefused, Desk, OpenFault, Redo, RedoRefused, Undo, UndoRefused};
 use vpg_diagram::Diagram;
 use vpg_game::GuardedGame;
@@ -242,7 +243,7 @@ impl Engine {
     {
         self.harvests.reserve(1)?;
         let order = self.desk.order(alloc)?;
-        let harvest = swept(rt, alloc, order, SWEEPS, lifters);
+        let harvest = swept(rt, alloc, order, SWEEPS, lifters, &OpenGate).harvest;
         self.harvests.push_reserved(Some(harvest));
         answer::numbered(b"harvest", self.harvests.len() as u64, out)
     }
@@ -283,7 +284,15 @@ impl Engine {
         ensures { OnOk result (AnswersTo self.old (record { label = session; command = Settle sweeps }) out.old.items out.new.items self.new) }
     {
         let order = self.desk.order(alloc)?;
-        let harvest = swept(rt, alloc, order, sweeps.unwrap_or(SWEEPS), lifters);
+        let harvest = swept(
+            rt,
+            alloc,
+            order,
+            sweeps.unwrap_or(SWEEPS),
+            lifters,
+            &OpenGate,
+        )
+        .harvest;
         let added = commit_present(&mut self.desk, alloc, harvest)?;
         answer::settled(self.desk.settled(), added, out)
     }

@@ -117,12 +117,3 @@ board_sweeps order harvest lawful same above moved = record {
   above = above;
   moved = λ unsettled. omega (arith, moved unsettled);
 }
-
--- what each further sweep leaves to do: whatever is swept of the order that is now there is swept of the first one
-abbrev pub LeavesTo : (first now : OrderView) (sweeps left : ℕ) → Type 0
-LeavesTo first now sweeps left = (harvest : HarvestView) → IsSweptOrder now left harvest → IsSweptOrder first sweeps harvest
-
-pub swept_on : (first now again : OrderView) (harvest : HarvestView) (sweeps left : ℕ) → LeavesTo first now sweeps (1 + left) → IsSweptOrder now 1 harvest → ¬ IsSettledHarvest harvest → IsOrderAgain again harvest →
-    LeavesTo first again sweeps left
-swept_on first now again harvest sweeps left leaves swept unsettled is_again last further =
-    leaves last (swept_then now again harvest last left is_again further 1 swept unsettled)

@@ -1,8 +1,8 @@
 -- What sweeps make of an order. This project's own.
-use Rattle.std.specs.Prelude.{◌≡◌, ℕ, ◌+◌, ◌≤◌, sum}
+use Rattle.std.specs.Prelude.{◌≡◌, ℕ, zero, suc, ◌+◌, ◌≤◌, ◌⊎◌, sum}
 use Rattle.vpg_measure.specs.declared.which.Which.{Which}
 use Rattle.vpg_measure.specs.Lifts.{IsBelowTable}
-use Rattle.vpg_measure.specs.Orders.{OrderView, HarvestView, IsHarvest, IsSettledHarvest, order_table, harvest_table}
+use Rattle.vpg_measure.specs.Orders.{OrderView, HarvestView, IsHarvest, IsOrderAgain, IsSettledHarvest, order_table, harvest_table}
 
 -- two orders of one page: they may differ in their tables alone
 pub record IsOfPage (one other : OrderView) : Type 0 where
@@ -17,3 +17,55 @@ pub record IsSweptOrder (order : OrderView) (sweeps : ℕ) (harvest : HarvestVie
   pub page : IsOfPage harvest.order order
   pub above : (which : Which) → IsBelowTable (order_table which order) (harvest_table which harvest)
   pub moved : ¬ IsSettledHarvest harvest → sum order.hopeful + sum order.dual + sweeps ≤ sum harvest.hopeful + sum harvest.dual
+
+-- ---- how often an order was swept, and by how many lifters
+
+-- One sweep by this many lifters made the harvest of the order. Tables don't tell how many there were, nor whether it was one sweep or two: the machine may
+-- refuse each thread but the first, and each sweep raises as far as it comes. So these two stay shut: they are known of what was asked for alone.
+pub IsSweptBy : ℕ → OrderView → HarvestView → Type 0
+IsSweptBy lifters order harvest = IsSweptOrder order 1 harvest
+
+pub swept_by : (lifters : ℕ) (order : OrderView) (harvest : HarvestView) → IsSweptOrder order 1 harvest → IsSweptBy lifters order harvest
+unfolding IsSweptBy
+swept_by lifters order harvest swept = swept
+
+pub swept_of : (lifters : ℕ) (order : OrderView) (harvest : HarvestView) → IsSweptBy lifters order harvest → IsSweptOrder order 1 harvest
+unfolding IsSweptBy
+swept_of lifters order harvest swept = swept
+
+-- Certified guesses, and no sweep, raised the order's tables to the harvest's.
+pub IsGuessed : OrderView → HarvestView → Type 0
+IsGuessed order harvest = IsHarvest harvest
+
+pub guessed : (order : OrderView) (harvest : HarvestView) → IsHarvest harvest → IsGuessed order harvest
+unfolding IsGuessed
+guessed order harvest lawful = lawful
+
+-- the harvest has the order's tables
+pub record IsLeft (order : OrderView) (harvest : HarvestView) : Type 0 where
+  pub page : IsOfPage harvest.order order
+  pub same : (which : Which) → harvest_table which harvest ≡ order_table which order
+
+-- so, or so after certified guesses
+abbrev pub AfterGuess : (OrderView → HarvestView → Type 0) → OrderView → HarvestView → Type 0
+AfterGuess Makes order harvest =
+    Makes order harvest
+    ⊎ ((raised : HarvestView) × (IsGuessed order raised × ((harvest ≡ raised) ⊎ ((next : OrderView) × (IsOrderAgain next raised × Makes next harvest)))))
+
+-- These sweeps made the harvest of the order, one after another, perhaps with certified guesses between them. Only the last may have settled it, so each other
+-- one raised something.
+abbrev pub AreSweeps : ℕ → ℕ → OrderView → HarvestView → Type 0
+AreSweeps lifters zero order harvest = IsLeft order harvest
+AreSweeps lifters (suc n) order harvest =
+    (first : HarvestView) × (IsSweptBy lifters order first
+    × ((harvest ≡ first) ⊎ ((again : OrderView) × ((¬ IsSettledHarvest first) × IsOrderAgain again first × AfterGuess (AreSweeps lifters n) again harvest))))
+
+-- These sweeps left the last order of the first one, and none of them settled it.
+abbrev pub Leave : ℕ → ℕ → OrderView → OrderView → Type 0
+Leave lifters zero order last = order ≡ last
+Leave lifters (suc n) order last =
+    (first : HarvestView) × (again : OrderView) × (IsSweptBy lifters order first × (¬ IsSettledHarvest first) × IsOrderAgain again first × Leave lifters n again last)
+
+-- what settling makes of an order, by this many sweeps: sweeps, and certified guesses before or between them
+abbrev pub Settles : ℕ → ℕ → OrderView → HarvestView → Type 0
+Settles lifters n order harvest = AfterGuess (AreSweeps lifters n) order harvest

@@ -9,4 +9,4 @@
 
 mod sweeping;
 
-pub use sweeping::{BUDGET, FIRST_SWEEPS, swept};
+pub use sweeping::{BUDGET, FIRST_SWEEPS, SweptHarvest, sweep_often, swept};

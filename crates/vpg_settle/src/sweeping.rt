@@ -1,14 +1,14 @@
 //! Sweeps: what the lines `settle` and `harvest` make of an order.
-ghost use Rattle.std.specs.Prelude.{◌≡◌, ◌≤◌};
+ghost use Rattle.std.specs.Prelude.{◌≡◌, ◌<◌, ◌≤◌, IfOk, IfErr};
 ghost use Rattle.vpg_measure.specs.Lifts.{after_rounds};
-ghost use Rattle.vpg_measure.specs.Orders.{order_table, harvest_table, order_levels, order_arena};
+ghost use Rattle.vpg_measure.specs.Orders.{IsSameOrder, IsHarvest, IsSettledHarvest, order_table, harvest_table, order_levels, order_arena};
 ghost use Rattle.vpg_board.specs.Places.{vertices};
-ghost use Rattle.vpg_settle.specs.Sweeping.{IsSweptOrder};
+ghost use Rattle.vpg_settle.specs.Sweeping.{IsSweptOrder, IsSweptBy, IsGuessed, AreSweeps, Leave, Settles};
 
 use std::alloc::Global;
 use std::sync::Wait;
 use std::thread::Threads;
-use vpg_board::{OpenGate, Predecessors, sweep_along};
+use vpg_board::{Gate, Predecessors, sweep_along};
 use vpg_guess::harvest_by_bounds;
 use vpg_measure::{Harvest, Order, Which};
 
@@ -29,108 +29,194 @@ fn by_rounds(order: Order, rounds: u64) -> Harvest
     harvest
 }
 
+/// What sweeps made of an order, and how many there were.
+#[derive(Drop)]
+pub struct SweptHarvest {
+    pub harvest: Harvest,
+    pub sweeps: u64,
+}
+
 /// The order after one sweep. Where a board finds no memory, one lifter makes a round.
-fn swept_once<T: Threads + Wait + Sync>(
+fn swept_once<G: Gate + Sync, T: Threads + Wait + Sync>(
     rt: &T,
     alloc: Global,
     order: Order,
     lifters: u32,
+    gate: &G,
     predecessors: &Predecessors,
 ) -> Harvest
     requires lifters { (1 ≤ lifters) × (lifters ≤ 64) }
     requires predecessors { predecessors.now ≡ vertices order }
     ensures { IsSweptOrder order 1 result }
 {
-    match sweep_along(rt, alloc, order, lifters, &OpenGate, predecessors) {
+    match sweep_along(rt, alloc, order, lifters, gate, predecessors) {
         Ok(harvest) => harvest,
         Err(order) => by_rounds(order, 1),
     }
 }
 
-/// The order after this many sweeps at most.
-fn by_sweeps<T: Threads + Wait + Sync>(
+/// The same. Here alone a sweep is known to be one, by so many lifters.
+fn sweep<G: Gate + Sync, T: Threads + Wait + Sync>(
     rt: &T,
     alloc: Global,
     order: Order,
-    sweeps: u64,
     lifters: u32,
+    gate: &G,
     predecessors: &Predecessors,
 ) -> Harvest
     requires lifters { (1 ≤ lifters) × (lifters ≤ 64) }
     requires predecessors { predecessors.now ≡ vertices order }
-    ensures swept { IsSweptOrder order sweeps result }
-    ensures none { sweeps ≡ 0 → (which : Which) → harvest_table which result ≡ order_table which order }
+    ensures swept { IsSweptOrder order 1 result }
+    ensures by { IsSweptBy lifters order result }
+{
+    swept_once(rt, alloc, order, lifters, gate, predecessors)
+}
+
+/// Sweeps an order until a sweep settles it, and so many times at most. The order that they left comes back where none settled it.
+pub fn sweep_often<G: Gate + Sync, T: Threads + Wait + Sync>(
+    rt: &T,
+    alloc: Global,
+    order: Order,
+    sweeps: u64,
+    lifters: u32,
+    gate: &G,
+    predecessors: &Predecessors,
+) -> Result<SweptHarvest, Order>
+    requires lifters { (1 ≤ lifters) × (lifters ≤ 64) }
+    requires predecessors { predecessors.now ≡ vertices order }
+    ensures swept { IfOk result (λ found. IsSweptOrder order sweeps found.harvest) }
+    ensures settled { IfOk result (λ found. IsSettledHarvest found.harvest) }
+    ensures some { IfOk result (λ found. 0 < found.sweeps) }
+    ensures few { IfOk result (λ found. found.sweeps ≤ sweeps) }
+    ensures made { IfOk result (λ found. AreSweeps lifters found.sweeps order found.harvest) }
+    ensures left { IfErr result (λ last. Leave lifters sweeps order last) }
 {
     let mut order = order;
     for done in 0..sweeps {
-        let harvest = swept_once(rt, alloc, order, lifters, predecessors);
+        let harvest = sweep(rt, alloc, order, lifters, gate, predecessors);
         if harvest.check() {
-            return harvest;
+            return Ok(SweptHarvest {
+                harvest,
+                sweeps: done + 1,
+            });
         }
         order = harvest.again();
     }
-    by_rounds(order, 0)
+    Err(order)
+}
+
+/// The order after this many sweeps at most.
+fn by_sweeps<G: Gate + Sync, T: Threads + Wait + Sync>(
+    rt: &T,
+    alloc: Global,
+    order: Order,
+    sweeps: u64,
+    lifters: u32,
+    gate: &G,
+    predecessors: &Predecessors,
+) -> SweptHarvest
+    requires lifters { (1 ≤ lifters) × (lifters ≤ 64) }
+    requires predecessors { predecessors.now ≡ vertices order }
+    ensures swept { IsSweptOrder order sweeps result.harvest }
+    ensures few { result.sweeps ≤ sweeps }
+    ensures made { AreSweeps lifters result.sweeps order result.harvest }
+    ensures none { sweeps ≡ 0 → (which : Which) → harvest_table which result.harvest ≡ order_table which order }
+{
+    match sweep_often(rt, alloc, order, sweeps, lifters, gate, predecessors) {
+        Ok(swept) => swept,
+        Err(order) => SweptHarvest {
+            harvest: by_rounds(order, 0),
+            sweeps,
+        },
+    }
 }
 
 /// The same, where lifters hint at what to lift next.
-fn by_hints<T: Threads + Wait + Sync>(
+fn by_hints<G: Gate + Sync, T: Threads + Wait + Sync>(
     rt: &T,
     alloc: Global,
     order: Order,
     sweeps: u64,
     lifters: u32,
-) -> Harvest
+    gate: &G,
+) -> SweptHarvest
     requires lifters { (1 ≤ lifters) × (lifters ≤ 64) }
-    ensures { IsSweptOrder order sweeps result }
+    ensures swept { IsSweptOrder order sweeps result.harvest }
+    ensures few { result.sweeps ≤ sweeps }
+    ensures made { AreSweeps lifters result.sweeps order result.harvest }
 {
     let predecessors = Predecessors::of_or_none(alloc, &order);
-    by_sweeps(rt, alloc, order, sweeps, lifters, &predecessors)
+    by_sweeps(rt, alloc, order, sweeps, lifters, gate, &predecessors)
+}
+
+/// The order raised by guesses. On want of memory it comes back. Here alone a raise is known to be one of guesses.
+fn guess(alloc: Global, order: Order) -> Result<Harvest, Order>
+    ensures order { IfOk result (λ harvest. IsSameOrder harvest.order order) }
+    ensures harvest { IfOk result IsHarvest }
+    ensures guessed { IfOk result (IsGuessed order) }
+    ensures back { IfErr result (λ same. same ≡ order) }
+{
+    harvest_by_bounds(alloc, order, BUDGET)
 }
 
 /// The order raised by guesses, and swept from there where they don't settle it. On want of memory it is swept alone.
-fn by_guesses<T: Threads + Wait + Sync>(
+fn by_guesses<G: Gate + Sync, T: Threads + Wait + Sync>(
     rt: &T,
     alloc: Global,
     order: Order,
     sweeps: u64,
     lifters: u32,
-) -> Harvest
+    gate: &G,
+) -> SweptHarvest
     requires lifters { (1 ≤ lifters) × (lifters ≤ 64) }
-    ensures { IsSweptOrder order sweeps result }
+    ensures swept { IsSweptOrder order sweeps result.harvest }
+    ensures few { result.sweeps ≤ sweeps }
+    ensures made { Settles lifters result.sweeps order result.harvest }
 {
-    match harvest_by_bounds(alloc, order, BUDGET) {
+    match guess(alloc, order) {
         Ok(harvest) => {
             if harvest.check() {
-                return harvest;
+                return SweptHarvest { harvest, sweeps: 0 };
             }
-            by_hints(rt, alloc, harvest.again(), sweeps, lifters)
+            by_hints(rt, alloc, harvest.again(), sweeps, lifters, gate)
         }
-        Err(order) => by_hints(rt, alloc, order, sweeps, lifters),
+        Err(order) => by_hints(rt, alloc, order, sweeps, lifters, gate),
     }
 }
 
 /// The order swept this many times at most, by this many lifters at once; where the first few sweeps don't settle it, its tables
 /// are raised by guesses before the others. The first few go without hints: one lifter's then raise what as many rounds raise. It
-/// never fails: where a board, a hint or a guess finds no memory, the sweeps go on without.
-pub fn swept<T: Threads + Wait + Sync>(
+/// never fails: where a board, a hint or a guess finds no memory, the sweeps go on without. The lifters call the gate.
+pub fn swept<G: Gate + Sync, T: Threads + Wait + Sync>(
     rt: &T,
     alloc: Global,
     order: Order,
     sweeps: u64,
     lifters: u32,
-) -> Harvest
+    gate: &G,
+) -> SweptHarvest
     requires lifters { (1 ≤ lifters) × (lifters ≤ 64) }
-    ensures swept { IsSweptOrder order sweeps result }
+    ensures swept { IsSweptOrder order sweeps result.harvest }
+
+    // At most so many sweeps, each by this many lifters, and certified guesses made the harvest.
+    ensures few { result.sweeps ≤ sweeps }
+    ensures made { Settles lifters result.sweeps order result.harvest }
+
     // No sweep raises nothing.
-    ensures none { sweeps ≡ 0 → (which : Which) → harvest_table which result ≡ order_table which order }
+    ensures none { sweeps ≡ 0 → (which : Which) → harvest_table which result.harvest ≡ order_table which order }
 {
     let plain = Predecessors::none(alloc, &order);
     if sweeps <= FIRST_SWEEPS {
-        return by_sweeps(rt, alloc, order, sweeps, lifters, &plain);
+        return by_sweeps(rt, alloc, order, sweeps, lifters, gate, &plain);
     }
-    let first = by_sweeps(rt, alloc, order, FIRST_SWEEPS, lifters, &plain);
-    if first.check() {
-        return first;
+    match sweep_often(rt, alloc, order, FIRST_SWEEPS, lifters, gate, &plain) {
+        Ok(swept) => swept,
+        Err(order) => {
+            let more = by_guesses(rt, alloc, order, sweeps - FIRST_SWEEPS, lifters, gate);
+            SweptHarvest {
+                harvest: more.harvest,
+                sweeps: FIRST_SWEEPS + more.sweeps,
+            }
+        }
     }
-    by_guesses(rt, alloc, first.again(), sweeps - FIRST_SWEEPS, lifters)
 }

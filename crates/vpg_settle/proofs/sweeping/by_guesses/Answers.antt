@@ -1,10 +1,19 @@
+use Rattle.std.proofs.Common.{inl, inr, refl, subst, sym}
+use Rattle.vpg_settle.proofs.Often.{guess_then}
 use Rattle.vpg_settle.proofs.Repeated.{settled_sweeps, raised_then}
 use Rattle.vpg_settle.proofs.sweeping.by_guesses.Goals as goal
 
-pub returns-then-check : goal.returns-then-check
-returns-then-check g c =
+pub returns-then-check-clause-swept : goal.returns-then-check-clause-swept
+returns-then-check-clause-swept g c =
     settled_sweeps c.args.order c.in-Ok.harvest c.args.sweeps c.in-Ok.ensures.harvest c.in-Ok.ensures.order (c.check.ensures.0 c.if-check.true)
 
-pub returns-else-check : goal.returns-else-check
-returns-else-check g c =
-    raised_then c.args.order c.again.result c.in-Ok.harvest c.by_hints.result c.args.sweeps c.again.ensures c.by_hints.ensures c.in-Ok.ensures.harvest c.in-Ok.ensures.order
+pub returns-then-check-clause-made : goal.returns-then-check-clause-made
+returns-then-check-clause-made g c = inr (c.in-Ok.harvest, (c.in-Ok.ensures.guessed, inl refl))
+
+pub returns-else-check-clause-swept : goal.returns-else-check-clause-swept
+returns-else-check-clause-swept g c =
+    raised_then c.args.order c.again.result c.in-Ok.harvest c.by_hints.result.harvest c.args.sweeps c.again.ensures c.by_hints.ensures.swept c.in-Ok.ensures.harvest c.in-Ok.ensures.order
+
+pub returns-else-check-clause-made : goal.returns-else-check-clause-made
+returns-else-check-clause-made g c =
+    guess_then c.args.lifters c.by_hints.result.sweeps c.args.order c.again.result c.in-Ok.harvest c.by_hints.result.harvest c.in-Ok.ensures.guessed c.again.ensures c.by_hints.ensures.made

@@ -1,25 +1,24 @@
-use Rattle.std.proofs.Common.{◌∙◌, ◌+◌, ◌-◌, ℕ, ap, subst, arith}
+use Rattle.std.proofs.Common.{◌≡◌, ◌∙◌, ◌+◌, ℕ, ap, subst, sym, arith}
 use Rattle.vpg_measure.specs.Orders.{OrderView, order_table}
-use Rattle.vpg_settle.proofs.Repeated.{LeavesTo, settled_early, swept_on}
+use Rattle.vpg_settle.specs.Sweeping.{IsSweptOrder, AreSweeps, Leave}
+use Rattle.vpg_settle.proofs.Often.{made_then, swept_on}
 use Rattle.vpg_settle.proofs.sweeping.by_sweeps.Goals as goal
 
-pub returns-then-check-clause-swept : goal.returns-then-check-clause-swept
-returns-then-check-clause-swept g c =
-    c.loop-done.invariant.left c.swept_once-harvest.result
-    (settled_early c.loop-done.order c.swept_once-harvest.result 1 (c.args.sweeps - c.loop-done.done) c.swept_once-harvest.ensures (c.check.ensures.0 c.if-check.true))
+pub returns-in-Ok-clause-none : goal.returns-in-Ok-clause-none
+returns-in-Ok-clause-none g c = λ none which. absurd (omega (arith, none, c.in-Ok.ensures.some, c.in-Ok.ensures.few))
 
-pub returns-then-check-clause-none : goal.returns-then-check-clause-none
-returns-then-check-clause-none g c = λ none which. absurd (omega (arith, none, c.loop-done-test.true))
+pub returns-in-Err-clause-swept : goal.returns-in-Err-clause-swept
+returns-in-Err-clause-swept g c =
+    subst (λ (n : ℕ). IsSweptOrder c.args.order n c.by_rounds.result) (omega arith)
+    (swept_on c.args.lifters c.args.sweeps 0 c.args.order c.in-Err.order c.by_rounds.result c.in-Err.ensures.left c.by_rounds.ensures.swept)
 
-pub loop-done-preserved : goal.loop-done-preserved
-loop-done-preserved g c = record {
-  left = swept_on c.args.order c.loop-done.order c.again-order.result c.swept_once-harvest.result c.args.sweeps (c.args.sweeps - (c.loop-done.done + 1))
-      (subst (λ (n : ℕ). LeavesTo c.args.order c.loop-done.order c.args.sweeps n) (omega (arith, c.loop-done-test.true)) c.loop-done.invariant.left)
-      c.swept_once-harvest.ensures (λ settled. absurd (cc (c.check.ensures.1 settled, c.if-check.false))) c.again-order.ensures;
-  game = c.again-order.ensures.game ∙ c.swept_once-harvest.ensures.page.game ∙ c.loop-done.invariant.game;
-  same = λ none. absurd (omega (arith, none));
-}
+pub returns-in-Err-clause-made : goal.returns-in-Err-clause-made
+returns-in-Err-clause-made g c =
+    subst (λ (n : ℕ). AreSweeps c.args.lifters n c.args.order c.by_rounds.result) (omega arith)
+    (made_then c.args.lifters c.args.sweeps 0 c.args.order c.in-Err.order c.by_rounds.result c.in-Err.ensures.left
+    (record { page = c.by_rounds.ensures.swept.page; same = c.by_rounds.ensures.tables }))
 
-pub returns-clause-none : goal.returns-clause-none
-returns-clause-none g c = λ none which.
-    c.by_rounds.ensures.tables which ∙ ap (λ (order : OrderView). order_table which order) (c.loop-done.invariant.same (omega (arith, none, c.loop-done.auto.done-end)))
+pub returns-in-Err-clause-none : goal.returns-in-Err-clause-none
+returns-in-Err-clause-none g c = λ none which.
+    let same : c.args.order ≡ c.in-Err.order = subst (λ (n : ℕ). Leave c.args.lifters n c.args.order c.in-Err.order) none c.in-Err.ensures.left in
+    c.by_rounds.ensures.tables which ∙ ap (λ (order : OrderView). order_table which order) (sym same)

@@ -1,14 +1,17 @@
-use Rattle.std.proofs.Common.{◌-◌, ℕ, subst, arith}
+use Rattle.std.proofs.Common.{◌+◌, ◌-◌, ℕ, inl, subst, arith}
 use Rattle.vpg_settle.specs.Sweeping.{IsSweptOrder}
-use Rattle.vpg_settle.proofs.Repeated.{settled_early, swept_then}
+use Rattle.vpg_settle.proofs.Often.{guessed_then, swept_on}
+use Rattle.vpg_settle.proofs.Repeated.{settled_early}
 use Rattle.vpg_settle.proofs.sweeping.swept.Goals as goal
 
-pub returns-then-check-clause-swept : goal.returns-then-check-clause-swept
-returns-then-check-clause-swept g c =
-    settled_early c.args.order c.by_sweeps-first.result 4 c.args.sweeps c.by_sweeps-first.ensures.swept (c.check.ensures.0 c.if-check.true)
+pub returns-in-Ok-clause-swept : goal.returns-in-Ok-clause-swept
+returns-in-Ok-clause-swept g c = settled_early c.args.order c.in-Ok.swept.harvest 4 c.args.sweeps c.in-Ok.ensures.swept c.in-Ok.ensures.settled
 
 pub returns-clause-swept : goal.returns-clause-swept
 returns-clause-swept g c =
-    subst (λ (n : ℕ). IsSweptOrder c.args.order n c.by_guesses.result) (omega (arith, c.if-sweeps-le-FIRST_SWEEPS.false))
-    (swept_then c.args.order c.again.result c.by_sweeps-first.result c.by_guesses.result (c.args.sweeps - 4) c.again.ensures c.by_guesses.ensures 4 c.by_sweeps-first.ensures.swept
-    (λ settled. absurd (cc (c.check.ensures.1 settled, c.if-check.false))))
+    subst (λ (n : ℕ). IsSweptOrder c.args.order n c.by_guesses-more.result.harvest) (omega (arith, c.if-sweeps-le-FIRST_SWEEPS.false))
+    (swept_on c.args.lifters 4 (c.args.sweeps - 4) c.args.order c.in-Err.order c.by_guesses-more.result.harvest c.in-Err.ensures.left c.by_guesses-more.ensures.swept)
+
+pub returns-clause-made : goal.returns-clause-made
+returns-clause-made g c =
+    guessed_then c.args.lifters 4 c.by_guesses-more.result.sweeps c.args.order c.in-Err.order c.by_guesses-more.result.harvest c.in-Err.ensures.left c.by_guesses-more.ensures.made

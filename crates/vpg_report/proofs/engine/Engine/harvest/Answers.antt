@@ -15,7 +15,7 @@ use Rattle.vpg_report.proofs.engine.Engine.harvest.Goals as goal
 pub invariant_of-self-2 : goal.invariant_of-self-2
 invariant_of-self-2 g c =
     let e = c.self.inside in
-    let harvest = c.swept-harvest.result in
+    let harvest = c.swept-harvest.result.harvest in
     let own = own_of_order e.desk.game e.desk.diagram c.in_ok-order.order harvest c.in_ok-order.ensures.game c.in_ok-order.ensures.diagram c.in_ok-order.ensures.order c.swept-harvest.ensures.swept.page in
     let kept = c.push_reserved.ensures.items ∙ ap (λ (hs : List (Option HarvestView)). hs ++ Some harvest ∷ []) c.reserve.ensures.items in
     endures e _ c.self.invariant refl refl refl refl c.self.invariant.tokens
@@ -25,7 +25,7 @@ pub returns : goal.returns
 returns g c =
     let e = c.self.inside in
     let old = engine_in e in
-    let harvest = c.swept-harvest.result in
+    let harvest = c.swept-harvest.result.harvest in
     let kept = c.push_reserved.ensures.items ∙ ap (λ (hs : List (Option HarvestView)). hs ++ Some harvest ∷ []) c.reserve.ensures.items in
     let holds : List (Option Harvest) → Held = λ hs. record { undos = old.held.undos; redos = old.held.redos; harvests = hs } in
     let counted : c.len.result ≡ length old.held.harvests + 1 =

@@ -16,7 +16,7 @@ invariant_of-self-2 g c =
 pub returns : goal.returns
 returns g c =
     let order = c.in_ok-order.order in
-    let harvest = c.swept-harvest.result in
+    let harvest = c.swept-harvest.result.harvest in
     let swept_order = subst (λ (n : ℕ). IsSweptOrder order n harvest) (c.unwrap_or.ensures ∙ rounds_given c.args.sweeps) c.swept-harvest.ensures.swept in
     on_view c.settled-2.result _ (engine_in c.self.inside) _ _ _ _ _ c.self.view_is
     (λ told. settle_answers (engine_in c.self.inside) _ c.args.session c.in_ok-added.added c.args.sweeps order harvest c.settled.result c.args.out.now.items _
