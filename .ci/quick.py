@@ -1,5 +1,6 @@
 #!/usr/bin/env python3
-"""What can be told of the repository in seconds, before the gate: each wrong body fits its text, each link leads somewhere, each file is laid out.
+"""What can be told of the repository in seconds, before the gate: each wrong body fits its text, each link leads somewhere, each name that a document cites
+stands in the code, each file is laid out.
 
     python3 .ci/quick.py        names each fault, one a line, and exits with 1 where there is one
 
@@ -16,6 +17,7 @@ import sys
 
 ROOT = os.path.dirname(os.path.dirname(os.path.abspath(__file__)))
 FOLDERS = ("must-fail", "wrong-bodies")
+CITING = ("README.md", "CONTRIBUTING.md", "docs/PROOFS.md", "docs/DEFINITIONS.md", "docs/ARCHITECTURE.md")
 READ = ("README.md", "docs/*.md", "bench/*.md", "examples/**/README.md", "crates/*/data/**/README.md")
 
 
@@ -80,6 +82,21 @@ def of_links():
                 yield f"{os.path.relpath(path, ROOT)}: the link {link} leads nowhere"
 
 
+def of_names():
+    """Looks up the names of code that documents cite: a word of two letters or more in backticks, with `_` or a second capital in it, or in a path by `::`."""
+    known = set()
+    for path in [*glob.glob(f"{ROOT}/crates/*/*/**/*", recursive=True), *glob.glob(f"{ROOT}/bench/*")]:
+        if path.endswith((".rt", ".antt", ".py")):
+            known.update(re.findall(r"\w+", text_of(path)), re.findall(r"\w+", os.path.relpath(path, ROOT)))
+    for short in CITING:
+        for number, line in enumerate(text_of(f"{ROOT}/{short}").split("\n"), 1):
+            for code in re.findall(r"`([^`]+)`", "" if line.startswith("    ") else line):
+                for word in re.findall(r"[A-Za-z]\w+", "" if "*" in code else code):
+                    is_name = "::" in code or re.search(r"\w_\w|[a-z][A-Z]", word)
+                    if is_name and word not in known:
+                        yield f"{short}:{number}: no code has the name {word}"
+
+
 def of_layout():
     rt = shutil.which("rt")
     if not rt:
@@ -94,7 +111,7 @@ def of_layout():
 
 
 def main():
-    faults = [*of_edits(), *of_links(), *of_layout()]
+    faults = [*of_edits(), *of_links(), *of_names(), *of_layout()]
     for it in faults:
         print(f"quick: {it}")
     print(f"quick: {len(faults)} faults" if faults else "quick: ok")
