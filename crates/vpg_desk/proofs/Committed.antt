@@ -1,5 +1,5 @@
 -- What a desk answers to a commit, and what an accepted one leaves.
-use Rattle.std.proofs.Common.{◌≡◌, ℕ, ◌≤◌, Bool, true, false, List, ◌++◌, length, map, Some, None, refl, sym, ap, ◌∙◌, subst, arith, append-nil}
+use Rattle.std.proofs.Common.{◌≡◌, ℕ, ◌≤◌, Bool, true, false, List, ◌++◌, length, map, Option, Some, None, IfSome, IfErr, Result, Ok, Err, refl, sym, ap, ◌∙◌, subst, arith, append-nil}
 use Rattle.std.specs.Arc.{arc_value}
 use Rattle.std.specs.Bool.{Decides}
 use Rattle.vpg_game.proofs.Graphs.{same_count}
@@ -8,6 +8,7 @@ use Rattle.vpg_diagram.specs.DiagramText.{NamedDiagram}
 use Rattle.vpg_guards.specs.Formula.{Formula}
 use Rattle.vpg_guards.specs.Known.{kleene}
 use Rattle.vpg_measure.proofs.TwoGames.{arena_length}
+use Rattle.vpg_measure.specs.Games.{ArePageGames}
 use Rattle.vpg_measure.specs.Orders.{HarvestView, IsHarvest, harvest_table}
 use Rattle.vpg_measure.specs.TwoGames.{IsTableBelow}
 use Rattle.vpg_partial.specs.TableLaws.{IsKnownTable}
@@ -16,13 +17,15 @@ use Rattle.vpg_trail.specs.Shown.{Track}
 use Rattle.vpg_trail.specs.WellFormed.{LiftsStandAfter}
 use Rattle.vpg_trail.proofs.Lifting.{well_formed_lifts_stand}
 use Rattle.vpg_trail.proofs.PageLemmas.{choices_of-append}
-use Rattle.vpg_desk.specs.Book.{Commit, Added, Refused, OtherGame, Outdated, committed, raises_of, first_missing, outdated_at}
-use Rattle.vpg_desk.specs.Commit.{IsOrderOf, handed_in, raised_by}
+use Rattle.vpg_desk.specs.Book.{Commit, Added, Refused, OtherGame, Outdated, committed, raises_of, first_missing, outdated_at, refuses_commit, Refusal}
+use Rattle.vpg_desk.specs.Commit.{IsOrderOf, handed_in, raised_by, commit_refusal}
+use Rattle.vpg_desk.specs.declared.fault.CommitFault.{CommitFault}
+use Rattle.vpg_desk.specs.declared.fault.CommitFault.TheVariants.{Memory}
 use Rattle.vpg_desk.specs.Cuts.{cut_book, SuffixesBelow}
 use Rattle.vpg_desk.specs.Desk.{family_of}
 use Rattle.vpg_desk.specs.DeskFields.{setting_in, book_in, desk_of, IsDesk}
 use Rattle.vpg_desk.specs.Lawful.{IsLawful, harvested}
-use Rattle.vpg_desk.specs.State.{Replies, IsStep, IsReached}
+use Rattle.vpg_desk.specs.State.{DeskState, Replies, IsStep, IsReached}
 use Rattle.vpg_desk.specs.Trail.{StandsFor, book_of}
 use Rattle.vpg_desk.specs.declared.desk.Desk.TheInside.{Inside}
 use Rattle.vpg_desk.proofs.Lawful.{harvests_are_lawful}
@@ -52,9 +55,26 @@ module _ (d : Inside) (harvest : HarvestView) (b : Bool) (ours : Decides b (IsOr
   pub other_refused : b ≡ false → (x : Bool) × (Decides x (IsOrderOf (desk_of d) harvest.order) × Replies (desk_of d) (Commit (handed_in x harvest)) (Refused OtherGame))
   other_refused e = (false, (subst (λ (x : Bool). Decides x (IsOrderOf (desk_of d) harvest.order)) e ours, (Some OtherGame, (refl, refl))))
 
-  pub outdated_refused : (f : ℕ) → b ≡ true → first_missing (choices_of d.trail.entries) (map literal_of harvest.order.decisions) ≡ Some f →
-      (x : Bool) × (Decides x (IsOrderOf (desk_of d) harvest.order) × Replies (desk_of d) (Commit (handed_in x harvest)) (Refused (Outdated f)))
-  outdated_refused f e m = (true, (subst (λ (x : Bool). Decides x (IsOrderOf (desk_of d) harvest.order)) e ours, (Some (Outdated f), (ap outdated_at (sym m), refl))))
+pub own_outdated : (d : Inside) (harvest : HarvestView) (f : ℕ) → first_missing (choices_of d.trail.entries) (map literal_of harvest.order.decisions) ≡ Some f →
+    Replies (desk_of d) (Commit (handed_in true harvest)) (Refused (Outdated f))
+own_outdated d harvest f m = (Some (Outdated f), (ap outdated_at (sym m), refl))
+
+-- what is told of a harvest of the desk's own holds of one that was compared
+module _ {T : Type 0} (state : DeskState) (harvest : HarvestView) (ours : IsOrderOf state harvest.order) where
+  pub own_told : (r : Result T CommitFault) → IfErr r (λ fault. IfSome (commit_refusal fault) (λ refusal. Replies state (Commit (handed_in true harvest)) (Refused refusal))) →
+      IfErr r (λ fault. IfSome (commit_refusal fault) (λ refusal. (x : Bool) × (Decides x (IsOrderOf state harvest.order) × Replies state (Commit (handed_in x harvest)) (Refused refusal))))
+  own_told (Ok n) h = tt
+  own_told (Err fault) h = by (commit_refusal fault) h
+    where
+      by : (r : Option Refusal) → IfSome r (λ refusal. Replies state (Commit (handed_in true harvest)) (Refused refusal)) →
+          IfSome r (λ refusal. (x : Bool) × (Decides x (IsOrderOf state harvest.order) × Replies state (Commit (handed_in x harvest)) (Refused refusal)))
+      by None h = tt
+      by (Some refusal) h = (true, (((λ _. ours), (λ _. refl)), h))
+
+  pub own_last : (r : Result T CommitFault) → IfErr r (λ fault. fault ≡ Memory → refuses_commit state.book (handed_in true harvest) ≡ None) →
+      IfErr r (λ fault. fault ≡ Memory → IsOrderOf state harvest.order × (refuses_commit state.book (handed_in true harvest) ≡ None))
+  own_last (Ok n) h = tt
+  own_last (Err fault) h = λ m. (ours, h m)
 
 -- ---- what an accepted commit leaves
 
@@ -98,13 +118,7 @@ module _ (d : Inside) (i : IsDesk d) (harvest : HarvestView) (is_harvest : IsHar
     committed_desk = record {
       opened = i.opened;
       reached = subst (IsReached (setting_in d)) (sym stands.same) (reached_step (setting_in d) (book_in d) 0 (Commit (handed_in true harvest)) (Added n) i.reached (accepted n added) (λ _. lawful));
-      hopeful_shape = i.hopeful_shape;
-      dual_shape = i.dual_shape;
-      standing = record {
-        known = subst (λ (l : List Literal). IsKnownTable (arc_value d.diagram).lines l d.standing.known) (sym (ap (λ (t : Track). choices_of t.entries) trail_is ∙ raised_choices harvest d.trail)) i.standing.known;
-        hopeful = i.standing.hopeful;
-        dual = i.standing.dual;
-      };
+      games = subst (λ (l : List Literal). ArePageGames (arc_value d.game) (arc_value d.diagram) l (arc_value d.games)) (sym (ap (λ (t : Track). choices_of t.entries) trail_is ∙ raised_choices harvest d.trail)) i.games;
       vertices = ap (λ (t : Track). t.vertices) trail_is ∙ i.vertices;
       past_fits = stands.past_fits;
       future_fits = stands.future_fits;

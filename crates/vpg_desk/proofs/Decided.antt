@@ -1,24 +1,22 @@
 -- What a desk answers to a decide, and what an accepted one leaves.
 use Rattle.std.proofs.Common.{◌≡◌, ℕ, ◌+◌, ◌<◌, ◌≤◌, Bool, List, [], ◌∷◌, ◌++◌, Some, None, IfSome, refl, sym, ap, ◌∙◌, subst, arith, Vec, Global}
 use Rattle.std.specs.Arc.{arc_value}
+use Rattle.std.specs.declared.sync.Arc.{Arc}
 use Rattle.std.specs.List.{AllByRecursion}
 use Rattle.vpg_diagram.proofs.Lists.{All-unmap, All-append}
 use Rattle.vpg_diagram.specs.FeatureDiagram.{feature_count}
 use Rattle.vpg_diagram.specs.Clauses.{clauses_of, counts_of}
-use Rattle.vpg_game.specs.Game.{graph_of}
-use Rattle.vpg_guards.specs.Known.{kleene}
-use Rattle.vpg_measure.specs.TwoGames.{arena_for}
+use Rattle.vpg_measure.specs.Games.{GamesView, ArePageGames}
 use Rattle.vpg_guards.specs.declared.tri.Tri.{Tri}
 use Rattle.vpg_partial.specs.Known.{NamesConflict}
 use Rattle.vpg_partial.specs.TableLaws.{IsKnownTable, AreChoicesOf}
-use Rattle.vpg_trail.specs.Page.{Hopeful, Dual, Literal, Decision, Entry as Step, Decided, literal_of, decisions_of, choices_of, decision_on}
+use Rattle.vpg_trail.specs.Page.{Literal, Decision, Entry as Step, Decided, literal_of, decisions_of, choices_of, decision_on}
 use Rattle.vpg_trail.specs.Shown.{Track}
 use Rattle.vpg_trail.proofs.PageLemmas.{choices_of-append}
 use Rattle.vpg_desk.specs.Book.{Refused, Changed, Decide, AlreadyDecided, UnknownFeature, Conflict, TooManyChanges, most_changes, with_choice, changed}
 use Rattle.vpg_desk.specs.Cuts.{cuts_of, cut_book, SuffixesBelow}
 use Rattle.vpg_desk.specs.Trail.{StandsFor, book_of}
 use Rattle.vpg_desk.specs.declared.cuts.Cut.{Cut}
-use Rattle.vpg_desk.specs.declared.standing.Standing.{Standing}
 use Rattle.vpg_desk.proofs.Changing.{end_cut, decided_stands}
 use Rattle.vpg_desk.specs.DeskFields.{setting_in, book_in, desk_of, IsDesk}
 use Rattle.vpg_desk.specs.Faults.{decide_refusal, ClosesWith}
@@ -92,21 +90,18 @@ module _ (d : Inside) (i : IsDesk d) where
 
 -- ---- what an accepted decide leaves
 
-module _ (d : Inside) (i : IsDesk d) (session f : ℕ) (value : Bool) (standing : Standing) (later : Vec Cut Global) (trail : Track) (future : Vec Cut Global) (known : List Tri)
+module _ (d : Inside) (i : IsDesk d) (session f : ℕ) (value : Bool) (games : Arc GamesView Global) (later : Vec Cut Global) (trail : Track) (future : Vec Cut Global)
     (cuts : cuts_of later.items ≡ end_cut (d.changes + 1) d.trail.entries ∷ cuts_of d.past.items)
     (below : SuffixesBelow d.trail.vertices d.past.items → SuffixesBelow d.trail.vertices later.items)
     (trail_is : trail ≡ record { vertices = d.trail.vertices; entries = d.trail.entries ++ Decided (record { serial = d.changes + 1; session = session; feature = f; value = value }) ∷ [] })
     (emptied : future.items ≡ [])
     (accepted : Replies (desk_of d) (Decide f value) (Changed (d.changes + 1)))
-    (known_is : standing.known ≡ known)
-    (hopeful_is : standing.hopeful ≡ arena_for (kleene known) Hopeful (graph_of (arc_value d.game)))
-    (dual_is : standing.dual ≡ arena_for (kleene known) Dual (graph_of (arc_value d.game)))
-    (table : IsKnownTable (arc_value d.diagram).lines (choices_of (d.trail.entries ++ Decided (record { serial = d.changes + 1; session = session; feature = f; value = value }) ∷ [])) known) where
+    (games_are : ArePageGames (arc_value d.game) (arc_value d.diagram) (choices_of (d.trail.entries ++ Decided (record { serial = d.changes + 1; session = session; feature = f; value = value }) ∷ [])) (arc_value games)) where
   made : Step
   made = Decided (record { serial = d.changes + 1; session = session; feature = f; value = value })
 
   left : Inside
-  left = record { game = d.game; diagram = d.diagram; hopeful_shape = d.hopeful_shape; dual_shape = d.dual_shape; standing = standing; trail = trail; past = later; future = future; changes = d.changes + 1; tokens = d.tokens + 1 }
+  left = record { game = d.game; diagram = d.diagram; games = games; trail = trail; past = later; future = future; changes = d.changes + 1; tokens = d.tokens + 1 }
 
   stands : StandsFor (cut_book later.items trail.entries future.items (d.changes + 1) (d.tokens + 1)) (changed (book_in d) (d.trail.entries ++ Decided (record { serial = d.changes + 1; session = session; feature = f; value = value }) ∷ []))
   stands = coe 0 1 (k. StandsFor (record { past = cuts_of later.items; entries = (sym trail_is k).entries; future = cuts_of (sym emptied k); changes = d.changes + 1; tokens = d.tokens + 1 }) (changed (book_in d) (d.trail.entries ++ Decided (record { serial = d.changes + 1; session = session; feature = f; value = value }) ∷ [])))
@@ -115,17 +110,11 @@ module _ (d : Inside) (i : IsDesk d) (session f : ℕ) (value : Bool) (standing 
   pub decided_step : IsStep (desk_of d) session (Decide f value) (Changed (d.changes + 1)) (record { game = arc_value d.game; diagram = arc_value d.diagram; book = book_of (cut_book later.items trail.entries future.items (d.changes + 1) (d.tokens + 1)) })
   decided_step = record { step = (accepted, stands.same); game = refl; diagram = refl }
 
-  pub decided_desk : IsDesk (record { game = d.game; diagram = d.diagram; hopeful_shape = d.hopeful_shape; dual_shape = d.dual_shape; standing = standing; trail = trail; past = later; future = future; changes = d.changes + 1; tokens = d.tokens + 1 })
+  pub decided_desk : IsDesk (record { game = d.game; diagram = d.diagram; games = games; trail = trail; past = later; future = future; changes = d.changes + 1; tokens = d.tokens + 1 })
   decided_desk = record {
     opened = i.opened;
     reached = subst (IsReached (setting_in d)) (sym stands.same) (reached_step (setting_in d) (book_in d) session (Decide f value) (Changed (d.changes + 1)) i.reached accepted tt);
-    hopeful_shape = i.hopeful_shape;
-    dual_shape = i.dual_shape;
-    standing = record {
-      known = coe 0 1 (k. IsKnownTable (arc_value d.diagram).lines (choices_of (sym trail_is k).entries) (sym known_is k)) table;
-      hopeful = hopeful_is ∙ ap (λ (t : List Tri). arena_for (kleene t) Hopeful (graph_of (arc_value d.game))) (sym known_is);
-      dual = dual_is ∙ ap (λ (t : List Tri). arena_for (kleene t) Dual (graph_of (arc_value d.game))) (sym known_is);
-    };
+    games = subst (λ (t : Track). ArePageGames (arc_value d.game) (arc_value d.diagram) (choices_of t.entries) (arc_value games)) (sym trail_is) games_are;
     vertices = ap (λ (t : Track). t.vertices) trail_is ∙ i.vertices;
     past_fits = stands.past_fits;
     future_fits = stands.future_fits;

@@ -25,10 +25,3 @@ module _ (d : Inside) (i : IsDesk d) (game : NamedGame) (diagram : NamedDiagram)
   opening_told which table e known t =
       coe 0 1 (k. IsTableBelow (kleene known) which (graph_of (sym game_is k)) (sym (e ∙ ap (table_of which d.trail.entries) i.vertices) k))
       ((tells d i).tables known (coe 0 1 (k. IsKnownTable (diagram_is k).lines (choices_are k) known) t) which)
-
-  pub memory_alone : (fault : OrderFault) → (fault ≡ AtLimit) ↔ IsAtLimit game → ((f : ℕ) → fault ≡ Conflict f → NamesConflict (clauses_of diagram.lines) (counts_of diagram.lines) choices f) →
-      (fault ≡ AtLimit) ⊎ ((f : ℕ) × (fault ≡ Conflict f)) → ⊥
-  memory_alone fault a c (inl e) = i.opened.not_at_limit (subst IsAtLimit game_is (a.0 e))
-  memory_alone fault a c (inr e) =
-      (tells d i).consistent (named_has_conflict (setting_in d) (choices_of d.trail.entries) e.0
-      (coe 0 1 (k. NamesConflict (clauses_of (diagram_is k).lines) (counts_of (diagram_is k).lines) (choices_are k) e.0) (c e.0 e.1)))

@@ -2,19 +2,19 @@
 use Rattle.std.proofs.Common.{◌≡◌, ℕ, ◌+◌, ◌<◌, ◌≤◌, Bool, true, not, cond, List, [], ◌∷◌, ◌++◌, length, take, drop, filter, Option, Some, None, refl, sym, ap, ◌∙◌, subst, arith, Vec, Global}
 use Rattle.std.proofs.lemmas.Bool.{lt-leb}
 use Rattle.std.specs.Arc.{arc_value}
+use Rattle.std.specs.declared.sync.Arc.{Arc}
 use Rattle.vpg_diagram.specs.FeatureDiagram.{feature_count}
+use Rattle.vpg_measure.specs.Games.{GamesView, ArePageGames}
 use Rattle.vpg_trail.specs.Page.{Entry as Step, choices_of, has_decided, assumes, before_decision, after_decision, reset_all, retracted}
 use Rattle.vpg_trail.specs.Shown.{Track}
 use Rattle.vpg_desk.specs.Book.{Refusal, Changed, Retract, UnknownFeature, NotDecided, TooManyChanges, most_changes, changed}
 use Rattle.vpg_desk.specs.Cuts.{cuts_of, cut_book, SuffixesBelow}
 use Rattle.vpg_desk.specs.DeskFields.{setting_in, book_in, desk_of, IsDesk}
 use Rattle.vpg_desk.specs.Setting.{HasConflict}
-use Rattle.vpg_desk.specs.Standing.{IsStanding}
 use Rattle.vpg_desk.specs.State.{Replies, IsStep, IsReached}
 use Rattle.vpg_desk.specs.Trail.{StandsFor, book_of}
 use Rattle.vpg_desk.specs.declared.cuts.Cut.{Cut}
 use Rattle.vpg_desk.specs.declared.desk.Desk.TheInside.{Inside}
-use Rattle.vpg_desk.specs.declared.standing.Standing.{Standing}
 use Rattle.vpg_desk.proofs.Decided.{limits}
 use Rattle.vpg_desk.proofs.Reaching.{reached_step, reached_tells}
 use Rattle.vpg_desk.proofs.Trail.{cut_is_change}
@@ -43,14 +43,14 @@ module _ (d : Inside) (i : IsDesk d) (f : ℕ) (accepted : Replies (desk_of d) (
   pub retracted_consistent : HasConflict (setting_in d) (choices_of (retracted f d.trail.entries)) → ⊥
   retracted_consistent = (reached_tells (setting_in d) (changed (book_in d) (retracted f d.trail.entries)) i.opened.is_setting reached).present.consistent
 
-  module _ (session place : ℕ) (kept : List Step) (standing : Standing) (later : Vec Cut Global) (trail : Track) (future : Vec Cut Global)
+  module _ (session place : ℕ) (kept : List Step) (games : Arc GamesView Global) (later : Vec Cut Global) (trail : Track) (future : Vec Cut Global)
       (within : place ≤ length d.trail.entries)
       (page_is : take place d.trail.entries ++ kept ≡ retracted f d.trail.entries)
       (cuts : cuts_of later.items ≡ record { serial = d.changes + 1; place = place; suffix = drop place d.trail.entries } ∷ cuts_of d.past.items)
       (below : SuffixesBelow d.trail.vertices d.past.items → SuffixesBelow d.trail.vertices later.items)
       (trail_is : trail ≡ record { vertices = d.trail.vertices; entries = take place d.trail.entries ++ kept })
       (emptied : future.items ≡ [])
-      (standing_is : IsStanding (setting_in d) (choices_of (retracted f d.trail.entries)) standing) where
+      (games_are : ArePageGames (arc_value d.game) (arc_value d.diagram) (choices_of (retracted f d.trail.entries)) (arc_value games)) where
     stands : StandsFor (cut_book later.items trail.entries future.items (d.changes + 1) (d.tokens + 1)) (changed (book_in d) (retracted f d.trail.entries))
     stands = coe 0 1 (k. StandsFor (record { past = sym cuts k; entries = (sym trail_is k).entries; future = cuts_of (sym emptied k); changes = d.changes + 1; tokens = d.tokens + 1 }) (changed (book_in d) (page_is k)))
         (cut_is_change (cut_book d.past.items d.trail.entries d.future.items d.changes d.tokens) (book_in d) place kept (record { same = refl; past_fits = i.past_fits; future_fits = i.future_fits }) within)
@@ -58,13 +58,11 @@ module _ (d : Inside) (i : IsDesk d) (f : ℕ) (accepted : Replies (desk_of d) (
     pub retracted_step : IsStep (desk_of d) session (Retract f) (Changed (d.changes + 1)) (record { game = arc_value d.game; diagram = arc_value d.diagram; book = book_of (cut_book later.items trail.entries future.items (d.changes + 1) (d.tokens + 1)) })
     retracted_step = record { step = (accepted, stands.same); game = refl; diagram = refl }
 
-    pub retracted_desk : IsDesk (record { game = d.game; diagram = d.diagram; hopeful_shape = d.hopeful_shape; dual_shape = d.dual_shape; standing = standing; trail = trail; past = later; future = future; changes = d.changes + 1; tokens = d.tokens + 1 })
+    pub retracted_desk : IsDesk (record { game = d.game; diagram = d.diagram; games = games; trail = trail; past = later; future = future; changes = d.changes + 1; tokens = d.tokens + 1 })
     retracted_desk = record {
       opened = i.opened;
       reached = subst (IsReached (setting_in d)) (sym stands.same) reached;
-      hopeful_shape = i.hopeful_shape;
-      dual_shape = i.dual_shape;
-      standing = subst (λ (l : List Step). IsStanding (setting_in d) (choices_of l) standing) (sym (ap (λ (t : Track). t.entries) trail_is ∙ page_is)) standing_is;
+      games = subst (λ (l : List Step). ArePageGames (arc_value d.game) (arc_value d.diagram) (choices_of l) (arc_value games)) (sym (ap (λ (t : Track). t.entries) trail_is ∙ page_is)) games_are;
       vertices = ap (λ (t : Track). t.vertices) trail_is ∙ i.vertices;
       past_fits = stands.past_fits;
       future_fits = stands.future_fits;

@@ -32,9 +32,7 @@ module _ (d : Inside) (i : IsDesk d) (s : ℕ) where
     kept_desk below = record {
       opened = i.opened;
       reached = subst (IsReached (setting_in d)) (sym kept_stands.same) (reached_step (setting_in d) (book_in d) 0 (Keep s) Spent i.reached keep_accepted tt);
-      hopeful_shape = i.hopeful_shape;
-      dual_shape = i.dual_shape;
-      standing = i.standing;
+      games = i.games;
       vertices = i.vertices;
       past_fits = kept_stands.past_fits;
       future_fits = i.future_fits;
@@ -53,9 +51,7 @@ module _ (d : Inside) (i : IsDesk d) (s : ℕ) where
     forgotten_desk below = record {
       opened = i.opened;
       reached = subst (IsReached (setting_in d)) (sym forgotten_stands.same) (reached_step (setting_in d) (book_in d) 0 (Forget s) Spent i.reached forget_accepted tt);
-      hopeful_shape = i.hopeful_shape;
-      dual_shape = i.dual_shape;
-      standing = i.standing;
+      games = i.games;
       vertices = i.vertices;
       past_fits = i.past_fits;
       future_fits = forgotten_stands.future_fits;

@@ -1,7 +1,10 @@
 -- What a desk answers to undo and redo, and what accepted ones leave.
 use Rattle.std.proofs.Common.{◌≡◌, ℕ, ◌<◌, List, [], ◌∷◌, map, reverse, Some, None, IfSome, refl, sym, ap, ◌∙◌, subst, Vec, Global}
+use Rattle.std.specs.Arc.{arc_value}
 use Rattle.std.specs.List.{AllByRecursion}
+use Rattle.std.specs.declared.sync.Arc.{Arc}
 use Rattle.vpg_diagram.proofs.Lists.{All-implies}
+use Rattle.vpg_measure.specs.Games.{GamesView, ArePageGames}
 use Rattle.vpg_trail.specs.Page.{Entry as Step, choices_of}
 use Rattle.vpg_trail.specs.Shown.{Track}
 use Rattle.vpg_trail.specs.WellFormed.{IsWellFormed}
@@ -12,7 +15,6 @@ use Rattle.vpg_desk.specs.DeskFields.{setting_in, book_in, desk_of, IsDesk}
 use Rattle.vpg_desk.specs.Faults.{undo_refusal, redo_refusal}
 use Rattle.vpg_desk.specs.Headline.{Tells}
 use Rattle.vpg_desk.specs.Setting.{HasConflict}
-use Rattle.vpg_desk.specs.Standing.{IsStanding}
 use Rattle.vpg_desk.specs.State.{Replies, IsStep, IsReached}
 use Rattle.vpg_desk.specs.Trail.{Cut as Saved, Trail as CutBook, StandsFor, spliced, swung_back, swung_forth}
 use Rattle.vpg_desk.specs.declared.cuts.Cut.{Cut}
@@ -21,7 +23,6 @@ use Rattle.vpg_desk.specs.declared.fault.RedoFault.{RedoFault}
 use Rattle.vpg_desk.specs.declared.fault.RedoFault.TheVariants.{Overtaken, NotNext, Memory as RedoMemory}
 use Rattle.vpg_desk.specs.declared.fault.UndoFault.{UndoFault}
 use Rattle.vpg_desk.specs.declared.fault.UndoFault.TheVariants.{Sealed, NotNewest, Memory as UndoMemory}
-use Rattle.vpg_desk.specs.declared.standing.Standing.{Standing}
 use Rattle.vpg_desk.proofs.Reaching.{reached_step, reached_tells, reached_well_formed}
 use Rattle.vpg_desk.proofs.Refusals.{not_newest_tells, not_next_tells}
 use Rattle.vpg_desk.proofs.Trail.{serials_agree, swing_back_is_undo, swing_forth_is_redo}
@@ -90,16 +91,14 @@ module _ (d : Inside) (i : IsDesk d) where
   own = record { same = refl; past_fits = i.past_fits; future_fits = i.future_fits }
 
   -- on the nearest page
-  module _ (s : ℕ) (standing : Standing) (past future : Vec Cut Global) (trail : Track) (vertices : trail.vertices ≡ d.trail.vertices)
+  module _ (s : ℕ) (games : Arc GamesView Global) (past future : Vec Cut Global) (trail : Track) (vertices : trail.vertices ≡ d.trail.vertices)
       (past_below : SuffixesBelow d.trail.vertices past.items) (future_below : SuffixesBelow d.trail.vertices future.items) where
-    nearest_desk : (book : Book) → StandsFor (cut_book past.items trail.entries future.items d.changes d.tokens) book → IsReached (setting_in d) book → IsStanding (setting_in d) (choices_of trail.entries) standing →
-        IsDesk (record d { standing = standing; trail = trail; past = past; future = future })
+    nearest_desk : (book : Book) → StandsFor (cut_book past.items trail.entries future.items d.changes d.tokens) book → IsReached (setting_in d) book → ArePageGames (arc_value d.game) (arc_value d.diagram) (choices_of trail.entries) (arc_value games) →
+        IsDesk (record d { games = games; trail = trail; past = past; future = future })
     nearest_desk book stands reached known = record {
       opened = i.opened;
       reached = subst (IsReached (setting_in d)) (sym stands.same) reached;
-      hopeful_shape = i.hopeful_shape;
-      dual_shape = i.dual_shape;
-      standing = known;
+      games = known;
       vertices = vertices ∙ i.vertices;
       past_fits = stands.past_fits;
       future_fits = stands.future_fits;
@@ -108,33 +107,33 @@ module _ (d : Inside) (i : IsDesk d) where
     }
 
     module _ (accepted : refuses_undo s (serials_from_top d.past.items) ≡ None) (swung : IsSwung d.past.items d.trail.entries d.future.items past.items trail.entries future.items)
-        (known : (cut : Saved) (further : List Saved) → cuts_of d.past.items ≡ cut ∷ further → IsStanding (setting_in d) (choices_of (spliced d.trail.entries cut.place cut.suffix)) standing) where
+        (known : (cut : Saved) (further : List Saved) → cuts_of d.past.items ≡ cut ∷ further → ArePageGames (arc_value d.game) (arc_value d.diagram) (choices_of (spliced d.trail.entries cut.place cut.suffix)) (arc_value games)) where
       undone_stands : StandsFor (cut_book past.items trail.entries future.items d.changes d.tokens) (undone (book_in d) (book_in d).past)
       undone_stands = subst (λ (t : CutBook). StandsFor t (undone (book_in d) (book_in d).past)) same (swing_back_is_undo cuts_in (book_in d) own)
         where
           same : swung_back cuts_in (cuts_of d.past.items) ≡ cut_book past.items trail.entries future.items d.changes d.tokens
           same = ap (swung_back cuts_in) swung.left ∙ (λ k. record { past = cuts_of past.items; entries = sym swung.entries_are k; future = sym swung.went k; changes = d.changes; tokens = d.tokens })
 
-      pub undone_step : (session : ℕ) → IsStep (desk_of d) session (Undo s) (Undone s) (desk_of (record d { standing = standing; trail = trail; past = past; future = future }))
+      pub undone_step : (session : ℕ) → IsStep (desk_of d) session (Undo s) (Undone s) (desk_of (record d { games = games; trail = trail; past = past; future = future }))
       undone_step session = record { step = (undo_accepted s accepted, undone_stands.same); game = refl; diagram = refl }
 
-      pub undone_desk : IsDesk (record d { standing = standing; trail = trail; past = past; future = future })
+      pub undone_desk : IsDesk (record d { games = games; trail = trail; past = past; future = future })
       undone_desk =
           nearest_desk (undone (book_in d) (book_in d).past) undone_stands (reached_step (setting_in d) (book_in d) 0 (Undo s) (Undone s) i.reached (undo_accepted s accepted) tt)
-          (subst (λ (l : List Step). IsStanding (setting_in d) (choices_of l) standing) (sym swung.entries_are) (known swung.nearest (cuts_of past.items) swung.left))
+          (subst (λ (l : List Step). ArePageGames (arc_value d.game) (arc_value d.diagram) (choices_of l) (arc_value games)) (sym swung.entries_are) (known swung.nearest (cuts_of past.items) swung.left))
 
     module _ (accepted : refuses_redo s (serials_from_top d.future.items) ≡ None) (swung : IsSwung d.future.items d.trail.entries d.past.items future.items trail.entries past.items)
-        (known : (cut : Saved) (further : List Saved) → cuts_of d.future.items ≡ cut ∷ further → IsStanding (setting_in d) (choices_of (spliced d.trail.entries cut.place cut.suffix)) standing) where
+        (known : (cut : Saved) (further : List Saved) → cuts_of d.future.items ≡ cut ∷ further → ArePageGames (arc_value d.game) (arc_value d.diagram) (choices_of (spliced d.trail.entries cut.place cut.suffix)) (arc_value games)) where
       redone_stands : StandsFor (cut_book past.items trail.entries future.items d.changes d.tokens) (redone (book_in d) (book_in d).future)
       redone_stands = subst (λ (t : CutBook). StandsFor t (redone (book_in d) (book_in d).future)) same (swing_forth_is_redo cuts_in (book_in d) own)
         where
           same : swung_forth cuts_in (cuts_of d.future.items) ≡ cut_book past.items trail.entries future.items d.changes d.tokens
           same = ap (swung_forth cuts_in) swung.left ∙ (λ k. record { past = sym swung.went k; entries = sym swung.entries_are k; future = cuts_of future.items; changes = d.changes; tokens = d.tokens })
 
-      pub redone_step : (session : ℕ) → IsStep (desk_of d) session (Redo s) (Redone s) (desk_of (record d { standing = standing; trail = trail; past = past; future = future }))
+      pub redone_step : (session : ℕ) → IsStep (desk_of d) session (Redo s) (Redone s) (desk_of (record d { games = games; trail = trail; past = past; future = future }))
       redone_step session = record { step = (redo_accepted s accepted, redone_stands.same); game = refl; diagram = refl }
 
-      pub redone_desk : IsDesk (record d { standing = standing; trail = trail; past = past; future = future })
+      pub redone_desk : IsDesk (record d { games = games; trail = trail; past = past; future = future })
       redone_desk =
           nearest_desk (redone (book_in d) (book_in d).future) redone_stands (reached_step (setting_in d) (book_in d) 0 (Redo s) (Redone s) i.reached (redo_accepted s accepted) tt)
-          (subst (λ (l : List Step). IsStanding (setting_in d) (choices_of l) standing) (sym swung.entries_are) (known swung.nearest (cuts_of future.items) swung.left))
+          (subst (λ (l : List Step). ArePageGames (arc_value d.game) (arc_value d.diagram) (choices_of l) (arc_value games)) (sym swung.entries_are) (known swung.nearest (cuts_of future.items) swung.left))

@@ -1,14 +1,12 @@
 -- A desk by its fields.
 use Rattle.std.specs.Arc.{arc_value}
 use Rattle.std.specs.Prelude.{◌≡◌, length}
-use Rattle.vpg_measure.specs.declared.which.Which.TheVariants.{Hopeful, Dual}
-use Rattle.vpg_measure.specs.TwoGames.{levels_for}
+use Rattle.vpg_measure.specs.Games.{ArePageGames}
 use Rattle.vpg_game.specs.Game.{graph_of}
 use Rattle.vpg_trail.specs.Page.{choices_of}
 use Rattle.vpg_desk.specs.Book.{Book}
 use Rattle.vpg_desk.specs.Cuts.{cut_book, cuts_of, SuffixesBelow}
 use Rattle.vpg_desk.specs.Setting.{Setting}
-use Rattle.vpg_desk.specs.Standing.{IsStanding}
 use Rattle.vpg_desk.specs.State.{DeskState, setting_between, IsOpened, IsReached}
 use Rattle.vpg_desk.specs.Trail.{book_of, FitOver}
 use Rattle.vpg_desk.specs.declared.desk.Desk.TheInside.{Inside}
@@ -28,9 +26,7 @@ pub record IsDesk (d : Inside) : Type 0 where
   -- it is one of its histories
   pub reached : IsReached (setting_in d) (book_in d)
   -- what is kept beside the trail
-  pub hopeful_shape : d.hopeful_shape ≡ levels_for Hopeful (graph_of (arc_value d.game))
-  pub dual_shape : d.dual_shape ≡ levels_for Dual (graph_of (arc_value d.game))
-  pub standing : IsStanding (setting_in d) (choices_of d.trail.entries) d.standing
+  pub games : ArePageGames (arc_value d.game) (arc_value d.diagram) (choices_of d.trail.entries) (arc_value d.games)
   -- the trail is over the game's vertices, and each cut fits over the nearer page
   pub vertices : d.trail.vertices ≡ length (graph_of (arc_value d.game))
   pub past_fits : FitOver d.trail.entries (cuts_of d.past.items)

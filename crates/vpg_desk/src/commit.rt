@@ -114,6 +114,21 @@ impl Desk {
         }
     }
 
+    /// As `commit`, of a harvest whose order has this desk's game and diagram: the two are not compared.
+    pub fn commit_own(&mut self, alloc: Global, harvest: Harvest) -> Result<u32, CommitRefused>
+        requires { IsOrderOf self.old harvest.order }
+        ensures accepted { IfOk result (λ added. (session : ℕ) → IsStep self.old session (Commit (handed_in true harvest)) (Added added) self.new) }
+        ensures refused { IfErr result (λ r. IfSome (commit_refusal r.fault) (λ refusal. Replies self.old (Commit (handed_in true harvest)) (Refused refusal))) }
+        ensures last { IfErr result (λ r. r.fault ≡ CommitFault.Memory → refuses_commit self.old.book (handed_in true harvest) ≡ None) }
+        ensures err { OnErr result (self.new ≡ self.old) }
+        ensures back { IfErr result (λ r. r.harvest ≡ harvest) }
+    {
+        match self.take_own(alloc, &harvest) {
+            Ok(added) => Ok(added),
+            Err(fault) => Err(CommitRefused { fault, harvest }),
+        }
+    }
+
     fn take_in(&mut self, alloc: Global, harvest: &Harvest) -> Result<u32, CommitFault>
         ensures accepted { IfOk result (λ added. (session : ℕ) → IsStep self.old session (Commit (handed_in true harvest.now)) (Added added) self.new) }
         ensures same { OnOk result (IsOrderOf self.old harvest.now.order) }
@@ -121,10 +136,20 @@ impl Desk {
         ensures last { IfErr result (λ fault. fault ≡ CommitFault.Memory → IsOrderOf self.old harvest.now.order × (refuses_commit self.old.book (handed_in true harvest.now) ≡ None)) }
         ensures err { OnErr result (self.new ≡ self.old) }
     {
-        let order = harvest.order();
-        if !is_order_of(order, &self.game, &self.diagram) {
+        if !is_order_of(harvest.order(), &self.game, &self.diagram) {
             return Err(CommitFault::OtherGame);
         }
+        self.take_own(alloc, harvest)
+    }
+
+    fn take_own(&mut self, alloc: Global, harvest: &Harvest) -> Result<u32, CommitFault>
+        requires { IsOrderOf self.old harvest.now.order }
+        ensures accepted { IfOk result (λ added. (session : ℕ) → IsStep self.old session (Commit (handed_in true harvest.now)) (Added added) self.new) }
+        ensures refused { IfErr result (λ fault. IfSome (commit_refusal fault) (λ refusal. Replies self.old (Commit (handed_in true harvest.now)) (Refused refusal))) }
+        ensures last { IfErr result (λ fault. fault ≡ CommitFault.Memory → refuses_commit self.old.book (handed_in true harvest.now) ≡ None) }
+        ensures err { OnErr result (self.new ≡ self.old) }
+    {
+        let order = harvest.order();
         if let Some(feature) = first_missing(self.trail.entries(), order.decisions()) {
             return Err(CommitFault::Outdated { feature });
         }

@@ -1,8 +1,10 @@
 //! Deciding a feature.
+ghost use Rattle.std.specs.Arc.{arc_value};
 ghost use Rattle.std.specs.Prelude.{◌≡◌, ◌<◌, ◌++◌, ◌∷◌, [], length, map, None, IfOk, IfErr, OnOk, OnErr, IfSome};
 ghost use Rattle.std.specs.List.{AllByRecursion};
 ghost use Rattle.vpg_diagram.specs.FeatureDiagram.{feature_count};
-ghost use Rattle.vpg_partial.specs.TableLaws.{IsKnownTable};
+ghost use Rattle.vpg_game.specs.Game.{IsAtLimit};
+ghost use Rattle.vpg_measure.specs.Games.{ArePageGames};
 ghost use Rattle.vpg_trail.specs.Page.{Decided, choices_of, decisions_of, decision_on};
 ghost use Rattle.vpg_trail.specs.Shown.{entry_of};
 ghost use Rattle.vpg_desk.specs.Cuts.{cuts_of, SuffixesBelow};
@@ -11,32 +13,38 @@ ghost use Rattle.vpg_desk.specs.Faults.{ClosesWith};
 use crate::cuts::Cut;
 use crate::desk::{Desk, MOST_CHANGES};
 use crate::fault::DecideFault;
-use crate::standing::Standing;
 use crate::undo_token::Undo;
 use std::alloc::{AllocError, Global};
+use std::sync::Arc;
 use vpg_diagram::Diagram;
-use vpg_partial::{Decision, Partial, PartialFault};
+use vpg_game::GuardedGame;
+use vpg_measure::{OrderFault, PageGames};
+use vpg_partial::Decision;
 use vpg_trail::{Entry, Trail, decided, decisions_among};
 
-/// What is known with one decision more.
-fn close_with(
+/// The games with one decision more.
+fn games_with(
     alloc: Global,
+    game: &GuardedGame,
     diagram: &Diagram,
     entries: &[Entry],
     decision: Decision,
-) -> Result<Partial, DecideFault>
-    requires { AllByRecursion (λ d. d.feature < feature_count diagram.now.lines) (decisions_of (map entry_of entries.now) ++ decision ∷ []) }
-    ensures known { IfOk result (IsKnownTable diagram.now.lines (choices_of (map entry_of entries.now ++ Decided decision ∷ []))) }
+) -> Result<Arc<PageGames>, DecideFault>
+    requires features { game.now.features ≡ feature_count diagram.now.lines }
+    requires not_at_limit { ¬ IsAtLimit game.now }
+    requires inside { AllByRecursion (λ d. d.feature < feature_count diagram.now.lines) (decisions_of (map entry_of entries.now) ++ decision ∷ []) }
+    ensures games { IfOk result (λ games. ArePageGames game.now diagram.now (choices_of (map entry_of entries.now ++ Decided decision ∷ [])) (arc_value games)) }
     ensures fault { IfErr result (ClosesWith diagram.now.lines (choices_of (map entry_of entries.now ++ Decided decision ∷ [])) decision.feature) }
 {
     let mut decisions = decisions_among(alloc, entries)?;
     decisions.push(decision)?;
-    match Partial::close(alloc, diagram, &decisions) {
-        Ok(known) => Ok(known),
-        Err(PartialFault::Conflict { .. }) => Err(DecideFault::Conflict {
+    match PageGames::under(alloc, game, diagram, &decisions) {
+        Ok(games) => Ok(games.share(alloc)?),
+        Err(OrderFault::AtLimit) => unreachable!(),
+        Err(OrderFault::Conflict { .. }) => Err(DecideFault::Conflict {
             feature: decision.feature,
         }),
-        Err(PartialFault::Memory) => Err(DecideFault::Memory),
+        Err(OrderFault::Memory) => Err(DecideFault::Memory),
     }
 }
 
@@ -102,14 +110,14 @@ impl Desk {
             feature,
             value,
         };
-        let known = close_with(alloc, &self.diagram, self.trail.entries(), decision)?;
+        let entries = self.trail.entries();
+        let games = games_with(alloc, &self.game, &self.diagram, entries, decision)?;
         if self.changes == MOST_CHANGES {
             return Err(DecideFault::TooManyChanges);
         }
-        let standing = Standing::of(alloc, &self.game, known)?;
         push_decision(alloc, &mut self.past, &mut self.trail, decision)?;
         self.future.clear();
-        self.standing = standing;
+        self.games = games;
         self.changes = serial;
         self.tokens += 1;
         Ok(Undo::of(serial))

@@ -4,10 +4,11 @@ ghost use Rattle.std.specs.Prelude.{◌≡◌, ◌<◌, ◌↔◌, ℕ, [], leng
 ghost use Rattle.vpg_diagram.specs.FeatureDiagram.{feature_count};
 ghost use Rattle.vpg_partial.specs.KnownLaws.{HasConflictOf};
 ghost use Rattle.vpg_game.specs.Game.{graph_of, IsAtLimit};
+ghost use Rattle.vpg_measure.specs.Games.{ArePageGames};
 ghost use Rattle.vpg_measure.specs.Orders.{IsOrder};
 ghost use Rattle.vpg_trail.specs.Page.{Which as Side, Hopeful, Dual, choices_of, decisions_of, table_of};
 ghost use Rattle.vpg_desk.specs.Book.{opened, Order as AsksOrder, Ordered, Settled, IsSettled, Verdict as AsksVerdict, VerdictIs, Page as AsksPage, PageIs};
-ghost use Rattle.vpg_desk.specs.Desk.{family_of, IsLeastUnder};
+ghost use Rattle.vpg_desk.specs.Desk.{family_of, IsLeastUnder, IsProgressUnder};
 ghost use Rattle.vpg_desk.specs.Headline.{NeverWins, Tells};
 ghost use Rattle.vpg_desk.specs.Lawful.{PageIsBelow};
 ghost use Rattle.vpg_desk.specs.Setting.{IsSetting};
@@ -15,14 +16,13 @@ ghost use Rattle.vpg_desk.specs.State.{IsOpened, IsReached, Replies, setting_of}
 
 use crate::cuts::Cut;
 use crate::fault::{OpenFault, OpenRefused};
-use crate::opening::{Opening, prepare};
-use crate::standing::Standing;
+use crate::opening::first_page;
 use std::alloc::{AllocError, Global};
 use std::marker::Model;
 use std::sync::Arc;
 use vpg_diagram::Diagram;
 use vpg_game::{GuardedGame, Player};
-use vpg_measure::{Order, OrderFault, Shape, Verdict, is_progress};
+use vpg_measure::{Order, PageGames, Verdict, Which, is_progress};
 use vpg_trail::{Decisions, Entries, Page, Trail, decisions_among};
 
 /// The most changes that a desk makes.
@@ -33,9 +33,8 @@ pub const MOST_CHANGES: u64 = 1_048_576;
 pub struct Desk {
     pub(crate) game: Arc<GuardedGame>,
     pub(crate) diagram: Arc<Diagram>,
-    pub(crate) hopeful_shape: Shape,
-    pub(crate) dual_shape: Shape,
-    pub(crate) standing: Standing,
+    // those of the present decisions
+    pub(crate) games: Arc<PageGames>,
     pub(crate) trail: Trail,
     // the newest past page and the nearest future page are last
     pub(crate) past: Vec<Cut>,
@@ -78,27 +77,17 @@ impl Desk {
         ensures game_back { IfErr result (λ refused. arc_value refused.game ≡ arc_value game) }
         ensures diagram_back { IfErr result (λ refused. arc_value refused.diagram ≡ arc_value diagram) }
     {
-        match prepare(alloc, &game, &diagram) {
-            Ok(made) => {
-                let Opening {
-                    hopeful_shape,
-                    dual_shape,
-                    standing,
-                    trail,
-                } = made;
-                Ok(Desk {
-                    game,
-                    diagram,
-                    hopeful_shape,
-                    dual_shape,
-                    standing,
-                    trail,
-                    past: Vec::new(alloc),
-                    future: Vec::new(alloc),
-                    changes: 0,
-                    tokens: 0,
-                })
-            }
+        match first_page(alloc, &game, &diagram) {
+            Ok((games, trail)) => Ok(Desk {
+                game,
+                diagram,
+                games,
+                trail,
+                past: Vec::new(alloc),
+                future: Vec::new(alloc),
+                changes: 0,
+                tokens: 0,
+            }),
             Err(fault) => Err(OpenRefused {
                 fault,
                 game,
@@ -107,16 +96,47 @@ impl Desk {
         }
     }
 
+    /// The game.
+    pub fn game(&self) -> &Arc<GuardedGame>
+        ensures game { arc_value result.now ≡ self.now.game }
+        ensures opened { IsOpened self.now.game self.now.diagram }
+    {
+        &self.game
+    }
+
+    /// The diagram.
+    pub fn diagram(&self) -> &Arc<Diagram>
+        ensures diagram { arc_value result.now ≡ self.now.diagram }
+        ensures opened { IsOpened self.now.game self.now.diagram }
+    {
+        &self.diagram
+    }
+
+    /// What the present decisions make of the game: what is known, and the shapes and the kept edges of both games.
+    pub fn games(&self) -> &Arc<PageGames>
+        ensures { ArePageGames self.now.game self.now.diagram (choices_of self.now.book.present) (arc_value result.now) }
+    {
+        &self.games
+    }
+
     /// Whether both tables of the present page are progress tables. They are then the least ones.
     pub fn settled(&self) -> bool
         ensures reply { Replies self.now Settled (IsSettled result) }
         ensures least { IsTrue result → (which : Side) → IsLeastUnder (setting_of self.now) (choices_of self.now.book.present) which (table_of which self.now.book.present (length (graph_of self.now.game))) }
     {
-        is_progress(
-            &self.hopeful_shape,
-            &self.standing.hopeful,
-            self.trail.hopeful(),
-        ) && is_progress(&self.dual_shape, &self.standing.dual, self.trail.dual())
+        self.is_settled(Which::Hopeful) && self.is_settled(Which::Dual)
+    }
+
+    fn is_settled(&self, which: Which) -> bool
+        ensures settled { IsTrue result ↔ IsProgressUnder (setting_of self.now) (choices_of self.now.book.present) which (table_of which self.now.book.present (length (graph_of self.now.game))) }
+        ensures tells { Tells (setting_of self.now) self.now.book.present }
+    {
+        let shape = self.games.shape(which);
+        let arena = self.games.arena(which);
+        match which {
+            Which::Hopeful => is_progress(shape, arena, self.trail.hopeful()),
+            Which::Dual => is_progress(shape, arena, self.trail.dual()),
+        }
     }
 
     /// What the present tables say of a vertex.
@@ -127,8 +147,8 @@ impl Desk {
         ensures sure { IsTrue result.sure → NeverWins (setting_of self.now) self.now.book.present Player.Odd v }
     {
         Verdict {
-            hopeless: self.trail.hopeful().get(v) == self.hopeful_shape.top(),
-            sure: self.trail.dual().get(v) == self.dual_shape.top(),
+            hopeless: self.trail.hopeful().get(v) == self.games.shape(Which::Hopeful).top(),
+            sure: self.trail.dual().get(v) == self.games.shape(Which::Dual).top(),
         }
     }
 
@@ -147,14 +167,8 @@ impl Desk {
         let dual = self.trail.dual().copy(alloc)?;
         let game = self.game.clone()?;
         let diagram = self.diagram.clone()?;
-        match Order::of(alloc, game, diagram, decisions, hopeful, dual) {
-            Ok(order) => Ok(order),
-            // A desk's game has a dual, and its decisions have no conflict.
-            Err(refused) => match refused.fault {
-                OrderFault::AtLimit | OrderFault::Conflict { .. } => unreachable!(),
-                OrderFault::Memory => Err(AllocError),
-            },
-        }
+        let games = self.games.clone()?;
+        Order::over(alloc, game, diagram, decisions, games, hopeful, dual)
     }
 
     /// The present page.

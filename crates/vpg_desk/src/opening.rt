@@ -1,61 +1,53 @@
 //! What is made before a desk is opened.
-ghost use Rattle.std.specs.Prelude.{◌≡◌, ◌↔◌, ℕ, [], Err, IfOk, IfErr};
+ghost use Rattle.std.specs.Arc.{arc_value};
+ghost use Rattle.std.specs.Prelude.{◌≡◌, ◌↔◌, ℕ, [], length, Err, IfOk, IfErr, OnOk};
 ghost use Rattle.vpg_diagram.specs.FeatureDiagram.{feature_count};
-ghost use Rattle.vpg_game.specs.Game.{IsAtLimit};
+ghost use Rattle.vpg_game.specs.Game.{IsAtLimit, graph_of};
+ghost use Rattle.vpg_measure.specs.Games.{ArePageGames};
 ghost use Rattle.vpg_partial.specs.KnownLaws.{HasConflictOf};
-ghost use Rattle.vpg_partial.specs.TableLaws.{IsKnownTable};
-ghost use Rattle.vpg_desk.specs.Faults.{OpensWith};
-ghost use Rattle.vpg_desk.specs.Opening.{IsOpening};
+ghost use Rattle.vpg_desk.specs.State.{IsOpened};
 
 use crate::fault::OpenFault;
-use crate::standing::Standing;
-use std::alloc::{AllocError, Global};
+use std::alloc::Global;
+use std::sync::Arc;
 use vpg_diagram::Diagram;
 use vpg_game::GuardedGame;
-use vpg_measure::Shape;
-use vpg_partial::{Partial, PartialFault};
+use vpg_measure::{OrderFault, PageGames};
 use vpg_trail::Trail;
 
-#[derive(Drop)]
-pub(crate) struct Opening {
-    pub(crate) hopeful_shape: Shape,
-    pub(crate) dual_shape: Shape,
-    pub(crate) standing: Standing,
-    pub(crate) trail: Trail,
-}
-
-/// What is known without a decision.
-fn close_none(alloc: Global, diagram: &Diagram) -> Result<Partial, OpenFault>
-    ensures known { IfOk result (IsKnownTable diagram.now.lines []) }
-    ensures fault { IfErr result (OpensWith diagram.now.lines) }
-{
-    match Partial::close(alloc, diagram, &[]) {
-        Ok(known) => Ok(known),
-        Err(PartialFault::Conflict { feature }) => Err(OpenFault::Conflict { feature }),
-        Err(PartialFault::Memory) => Err(OpenFault::Memory),
-    }
-}
-
-pub(crate) fn prepare(
+/// The games without a decision.
+fn first_games(
     alloc: Global,
     game: &GuardedGame,
     diagram: &Diagram,
-) -> Result<Opening, OpenFault>
+) -> Result<Arc<PageGames>, OpenFault>
     requires { game.now.features ≡ feature_count diagram.now.lines }
-    ensures opening { IfOk result (IsOpening game.now diagram.now) }
+    ensures games { IfOk result (λ games. ArePageGames game.now diagram.now [] (arc_value games)) }
     ensures at_limit { (result ≡ Err OpenFault.AtLimit) ↔ IsAtLimit game.now }
     ensures conflict { (f : ℕ) → result ≡ Err (OpenFault.Conflict f) → HasConflictOf diagram.now.lines [] × (f ≡ 0) }
 {
-    if game.is_at_limit() {
-        return Err(OpenFault::AtLimit);
+    match PageGames::under(alloc, game, diagram, &[]) {
+        Ok(games) => Ok(games.share(alloc)?),
+        Err(OrderFault::AtLimit) => Err(OpenFault::AtLimit),
+        Err(OrderFault::Conflict { feature }) => Err(OpenFault::Conflict { feature }),
+        Err(OrderFault::Memory) => Err(OpenFault::Memory),
     }
-    let _features = diagram.features();
-    let vertices = game.vertices() as u32;
-    let known = close_none(alloc, diagram)?;
-    Ok(Opening {
-        hopeful_shape: Shape::of(alloc, game)?,
-        dual_shape: Shape::of_dual(alloc, game)?,
-        standing: Standing::of(alloc, game, known)?,
-        trail: Trail::open(alloc, vertices)?,
-    })
+}
+
+/// The games and the trail of a page without entries.
+pub(crate) fn first_page(
+    alloc: Global,
+    game: &GuardedGame,
+    diagram: &Diagram,
+) -> Result<(Arc<PageGames>, Trail), OpenFault>
+    requires { game.now.features ≡ feature_count diagram.now.lines }
+    ensures opened { OnOk result (IsOpened game.now diagram.now) }
+    ensures games { IfOk result (λ made. ArePageGames game.now diagram.now [] (arc_value made.0)) }
+    ensures trail { IfOk result (λ made. made.1 ≡ record { vertices = length (graph_of game.now); entries = [] }) }
+    ensures at_limit { (result ≡ Err OpenFault.AtLimit) ↔ IsAtLimit game.now }
+    ensures conflict { (f : ℕ) → result ≡ Err (OpenFault.Conflict f) → HasConflictOf diagram.now.lines [] × (f ≡ 0) }
+{
+    let games = first_games(alloc, game, diagram)?;
+    let trail = Trail::open(alloc, game.vertices() as u32)?;
+    Ok((games, trail))
 }

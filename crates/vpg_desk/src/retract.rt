@@ -7,7 +7,7 @@ ghost use Rattle.vpg_desk.specs.Cuts.{cuts_of, SuffixesBelow};
 use crate::cuts::Cut;
 use crate::desk::{Desk, MOST_CHANGES};
 use crate::fault::RetractFault;
-use crate::standing::Standing;
+use crate::games::games_of_page;
 use crate::undo_token::Undo;
 use std::alloc::{AllocError, Global};
 use vpg_trail::{Entry, Trail, kept_after, place_of};
@@ -71,17 +71,12 @@ impl Desk {
             return Err(RetractFault::TooManyChanges);
         }
         let kept = kept_after(alloc, entries, place, feature, self.trail.vertices())?;
-        let standing = Standing::of_page(
-            alloc,
-            &self.game,
-            &self.diagram,
-            &entries[..place],
-            &kept,
-        )?;
+        let before = &entries[..place];
+        let games = games_of_page(alloc, &self.game, &self.diagram, before, &kept)?;
         let serial = self.changes + 1;
         cut_out(&mut self.past, &mut self.trail, serial, place, kept)?;
         self.future.clear();
-        self.standing = standing;
+        self.games = games;
         self.changes = serial;
         self.tokens += 1;
         Ok(Undo::of(serial))

@@ -1,23 +1,27 @@
 //! Going over to the nearest past or future page.
+ghost use Rattle.std.specs.Arc.{arc_value};
 ghost use Rattle.std.specs.Prelude.{◌≡◌, ◌==◌, ◌∷◌, ◌<◌, ◌≤◌, List, length, None, MatchOption, IfOk, OnOk, OnErr};
 ghost use Rattle.std.specs.List.{AllByRecursion, list_any};
 ghost use Rattle.vpg_diagram.specs.FeatureDiagram.{feature_count};
+ghost use Rattle.vpg_game.specs.Game.{IsAtLimit};
+ghost use Rattle.vpg_measure.specs.Games.{ArePageGames};
 ghost use Rattle.vpg_trail.specs.Page.{choices_of};
 ghost use Rattle.vpg_trail.specs.WellFormed.{IsWellFormed};
 ghost use Rattle.vpg_desk.specs.Book.{refuses_redo, refuses_undo};
 ghost use Rattle.vpg_desk.specs.Cuts.{IsSwung, SuffixesBelow, cuts_of, pages_of, serials_from_top};
 ghost use Rattle.vpg_desk.specs.Faults.{redo_refusal, undo_refusal};
 ghost use Rattle.vpg_desk.specs.Setting.{HasConflict};
-ghost use Rattle.vpg_desk.specs.Standing.{IsStanding};
 ghost use Rattle.vpg_desk.specs.State.{setting_between};
 ghost use Rattle.vpg_desk.specs.Trail.{FitOver, spliced, Cut as Saved};
 
 use crate::cuts::Cut;
 use crate::fault::{RedoFault, UndoFault};
-use crate::standing::Standing;
+use crate::games::games_of_page;
 use std::alloc::{AllocError, Global};
+use std::sync::Arc;
 use vpg_diagram::Diagram;
 use vpg_game::GuardedGame;
+use vpg_measure::PageGames;
 use vpg_trail::Trail;
 
 fn has_serial(cuts: &[Cut], serial: u64) -> bool
@@ -62,23 +66,24 @@ pub(crate) fn redo_fault(future: &[Cut], serial: u64) -> Option<RedoFault>
     Some(RedoFault::Overtaken)
 }
 
-/// What the decisions of the nearest page make known.
-pub(crate) fn standing_over(
+/// What the decisions of the nearest page make of the game.
+pub(crate) fn games_over(
     alloc: Global,
     game: &GuardedGame,
     diagram: &Diagram,
     trail: &Trail,
     cuts: &[Cut],
-) -> Result<Standing, AllocError>
+) -> Result<Arc<PageGames>, AllocError>
     requires some { 0 < length cuts.now }
     requires fits { FitOver trail.now.entries (cuts_of cuts.now) }
     requires features { game.now.features ≡ feature_count diagram.now.lines }
+    requires not_at_limit { ¬ IsAtLimit game.now }
     requires consistent { AllByRecursion (λ k. ¬ (HasConflict (setting_between game.now diagram.now) (choices_of k.page))) (pages_of trail.now.entries cuts.now) }
-    ensures { IfOk result (λ standing. (cut : Saved) (further : List Saved) → cuts_of cuts.now ≡ cut ∷ further → IsStanding (setting_between game.now diagram.now) (choices_of (spliced trail.now.entries cut.place cut.suffix)) standing) }
+    ensures { IfOk result (λ games. (cut : Saved) (further : List Saved) → cuts_of cuts.now ≡ cut ∷ further → ArePageGames game.now diagram.now (choices_of (spliced trail.now.entries cut.place cut.suffix)) (arc_value games)) }
 {
     let cut = cuts.last().unwrap();
     let before = &trail.entries()[..cut.place];
-    Standing::of_page(alloc, game, diagram, before, &cut.suffix)
+    games_of_page(alloc, game, diagram, before, &cut.suffix)
 }
 
 /// Takes the nearest page of the one side in place of the present one, which becomes the nearest of the other side.

@@ -4,7 +4,7 @@ ghost use Rattle.std.specs.Prelude.{◌≡◌, ◌<◌, ℕ, IfOk, IfErr, OnOk, 
 use crate::desk::Desk;
 use crate::fault::{RedoFault, RedoRefused, UndoFault, UndoRefused};
 use crate::redo_token::Redo;
-use crate::swing::{redo_fault, standing_over, swing, undo_fault};
+use crate::swing::{games_over, redo_fault, swing, undo_fault};
 use crate::undo_token::Undo;
 use std::alloc::Global;
 
@@ -63,9 +63,9 @@ impl Desk {
         if let Some(fault) = undo_fault(&self.past, serial) {
             return Err(fault);
         }
-        let standing = standing_over(alloc, &self.game, &self.diagram, &self.trail, &self.past)?;
+        let games = games_over(alloc, &self.game, &self.diagram, &self.trail, &self.past)?;
         swing(&mut self.past, &mut self.trail, &mut self.future)?;
-        self.standing = standing;
+        self.games = games;
         Ok(())
     }
 
@@ -80,9 +80,9 @@ impl Desk {
         if let Some(fault) = redo_fault(&self.future, serial) {
             return Err(fault);
         }
-        let standing = standing_over(alloc, &self.game, &self.diagram, &self.trail, &self.future)?;
+        let games = games_over(alloc, &self.game, &self.diagram, &self.trail, &self.future)?;
         swing(&mut self.future, &mut self.trail, &mut self.past)?;
-        self.standing = standing;
+        self.games = games;
         Ok(())
     }
 }

@@ -17,6 +17,7 @@ pub mod NumberGuards
 pub mod NumberTables
 pub mod NumberVerdicts
 pub mod Numbers
+pub mod OrderGames
 pub mod OrderLemmas
 pub mod Plays
 pub mod Priorities

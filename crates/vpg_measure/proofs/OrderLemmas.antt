@@ -1,61 +1,63 @@
 -- Orders and harvests.
-use Rattle.std.proofs.Common.{◌≡◌, ℕ, ◌<◌, ◌≤◌, Bool, List, length, map, get_or, refl, sym, ap, ◌∙◌, subst, arith}
+use Rattle.std.proofs.Common.{◌≡◌, ℕ, ◌<◌, ◌≤◌, Bool, List, length, map, replicate, get_or, refl, sym, ap, ◌∙◌, subst, arith}
 use Rattle.std.specs.Prelude.{sum, MatchBool}
 use Rattle.std.proofs.lemmas.List.Elements.{All-from_get_or}
 use Rattle.vpg_guards.specs.Known.{kleene}
 use Rattle.vpg_diagram.specs.DiagramText.{NamedDiagram}
 use Rattle.vpg_diagram.specs.FeatureDiagram.{feature_count}
 use Rattle.vpg_game.specs.Game.{NamedGame, graph_of}
+use Rattle.vpg_diagram.specs.declared.clause.Literal.{Literal}
 use Rattle.vpg_partial.specs.declared.decision.Decision.{Decision}
 use Rattle.vpg_partial.specs.Known.{literal_of}
 use Rattle.vpg_partial.specs.TableLaws.{AreChoicesOf}
-use Rattle.vpg_measure.specs.declared.ground.Prepared.{Prepared}
+use Rattle.vpg_game.specs.declared.levels.Level.{Level}
 use Rattle.vpg_measure.specs.declared.which.Which.{Which}
 use Rattle.vpg_measure.specs.declared.which.Which.TheVariants.{Hopeful, Dual}
 use Rattle.vpg_guards.specs.declared.tri.Tri.{Tri}
 use Rattle.vpg_guards.specs.Formula.{Formula}
 use Rattle.vpg_game.proofs.Graphs.{same_count}
-use Rattle.vpg_measure.specs.declared.ground.Ground.{Ground}
-use Rattle.vpg_measure.specs.Lifts.{IsTableOf, IsBelowTable, IsProgressTable, raised, after_rounds}
+use Rattle.vpg_hope.specs.Games.{Game}
+use Rattle.vpg_measure.specs.Lifts.{IsBelowTable, IsProgressTable, raised, after_rounds}
 use Rattle.vpg_measure.specs.Orders.{OrderView, HarvestView, harvest_of, order_table, order_room, harvest_table, order_levels, order_arena, with_room, IsOpeningTable, IsOrder, IsSameOrder, IsHarvest, IsRaised, IsSettledHarvest, other_table}
-use Rattle.vpg_measure.specs.OrderKept.{IsGround, IsPrepared}
+use Rattle.vpg_measure.specs.Games.{GamesView, ArePageGames, games_levels, games_arena}
 use Rattle.vpg_measure.specs.TwoGames.{IsTableBelow, IsProgressOf, levels_for, arena_for, top_for}
-use Rattle.vpg_measure.proofs.Below.{raise_is_below}
+use Rattle.vpg_measure.proofs.Below.{raise_is_below, zeros_are_below}
 use Rattle.vpg_measure.proofs.Rounds.{below_self, below_trans, raised_above, raised_table, after_table, after_above, after_stays}
 use Rattle.vpg_measure.proofs.TwoGames.{arena_length, tops, tops_progress, top_bounds}
 
--- the order of what is handed in and what stands ready
-abbrev pub order_with : NamedGame → NamedDiagram → List Decision → Prepared → List ℕ → List ℕ → OrderView
-order_with game diagram decisions prepared hopeful dual = record {
+-- the order of what is handed in, over games that are made and room that is taken
+abbrev pub order_with : NamedGame → NamedDiagram → List Decision → GamesView → (hopeful dual hopeful_room dual_room : List ℕ) → OrderView
+order_with game diagram decisions games hopeful dual hopeful_room dual_room = record {
   game = game;
   diagram = diagram;
   decisions = decisions;
-  known = prepared.known;
+  known = games.known;
   hopeful = hopeful;
   dual = dual;
-  hopeful_room = prepared.hopeful_room;
-  dual_room = prepared.dual_room;
+  hopeful_room = hopeful_room;
+  dual_room = dual_room;
 }
 
-module _ (game : NamedGame) (diagram : NamedDiagram) (decisions : List Decision) (prepared : Prepared) (hopeful dual : List ℕ) where
+module _ (game : NamedGame) (diagram : NamedDiagram) (decisions : List Decision) (games : GamesView) (hopeful dual hopeful_room dual_room : List ℕ) where
   pub order_made : game.features ≡ feature_count diagram.lines → AreChoicesOf diagram.lines (map literal_of decisions) →
-      IsOpeningTable game diagram decisions Hopeful hopeful → IsOpeningTable game diagram decisions Dual dual → IsPrepared game diagram decisions prepared →
-      IsOrder (order_with game diagram decisions prepared hopeful dual)
-  order_made features named first second ready = record {
-    game = ready.is_game;
-    not_at_limit = ready.not_at_limit;
-    diagram = ready.is_diagram;
+      IsOpeningTable game diagram decisions Hopeful hopeful → IsOpeningTable game diagram decisions Dual dual → ArePageGames game diagram (map literal_of decisions) games →
+      length hopeful_room ≡ length game.vertices → length dual_room ≡ length game.vertices →
+      IsOrder (order_with game diagram decisions games hopeful dual hopeful_room dual_room)
+  order_made features named first second are e f = record {
+    game = are.is_game;
+    not_at_limit = are.not_at_limit;
+    diagram = are.is_diagram;
     features = features;
     named = named;
-    known = ready.known;
+    known = are.known;
     below = at;
-    hopeful_room = ready.hopeful_room;
-    dual_room = ready.dual_room;
+    hopeful_room = e;
+    dual_room = f;
   }
     where
-      at : (which : Which) → IsTableBelow (kleene prepared.known) which (graph_of game) (order_table which (order_with game diagram decisions prepared hopeful dual))
-      at Hopeful = first prepared.known ready.known
-      at Dual = second prepared.known ready.known
+      at : (which : Which) → IsTableBelow (kleene games.known) which (graph_of game) (order_table which (order_with game diagram decisions games hopeful dual hopeful_room dual_room))
+      at Hopeful = first games.known are.known
+      at Dual = second games.known are.known
 
 -- ---- the vertices of an order
 
@@ -64,6 +66,15 @@ arena_count known which game = arena_length Formula (kleene known) which (graph_
 
 pub table_count : (order : OrderView) → IsOrder order → (which : Which) → length (order_table which order) ≡ length order.game.vertices
 table_count order is which = (is.below which).is_table.len ∙ arena_count order.known which order.game
+
+-- tables of zeros may stand in every order
+pub zeros_open : (game : NamedGame) (diagram : NamedDiagram) (decisions : List Decision) (which : Which) (n : ℕ) → n ≡ length game.vertices →
+    IsOpeningTable game diagram decisions which (replicate n 0)
+zeros_open game diagram decisions which n e known is =
+    let arena = arena_for (kleene known) which (graph_of game) in
+    let zeros = zeros_are_below (levels_for which (graph_of game)) arena in
+    let count : length arena ≡ n = arena_count known which game ∙ sym e in
+    subst (λ (m : ℕ). IsTableBelow (kleene known) which (graph_of game) (replicate m 0)) count (record { is_table = zeros.0; below = zeros.1 })
 
 -- ---- an order's room
 
@@ -122,22 +133,31 @@ pub harvest_room : (order : OrderView) (which : Which) → harvest_table which (
 harvest_room order Hopeful = refl
 harvest_room order Dual = refl
 
--- ---- the ground of a table
+-- ---- the games of a page
 
-module _ (known : List Tri) (which : Which) (game : NamedGame) (ground : Ground) (is : IsGround known which game ground) where
-  pub ground_count : (table : List ℕ) → IsTableOf ground.shape ground.arena table → length table ≡ length game.vertices
-  ground_count table t = t.len ∙ ap (λ arena. length arena) is.arena ∙ arena_count known which game
+module _ (game : NamedGame) (diagram : NamedDiagram) (choices : List Literal) (games read : GamesView) (are : ArePageGames game diagram choices games) (same : read ≡ games) (which : Which) where
+  pub levels_read : (shape : List Level) → shape ≡ games_levels which read → shape ≡ levels_for which (graph_of game)
+  levels_read shape e = e ∙ ap (λ (g : GamesView). games_levels which g) same ∙ are.levels which
 
-  pub ground_table : (table : List ℕ) → IsTableOf (levels_for which (graph_of game)) (arena_for (kleene known) which (graph_of game)) table → IsTableOf ground.shape ground.arena table
-  ground_table table t = rw (is.shape, is.arena) t
+  pub arena_read : (arena : Game) → arena ≡ games_arena which read → arena ≡ arena_for (kleene games.known) which (graph_of game)
+  arena_read arena e = e ∙ ap (λ (g : GamesView). games_arena which g) same ∙ are.arena which
 
-  pub ground_raised : (table : List ℕ) (v : ℕ) →
-      raised ground.shape ground.arena table v ≡ raised (levels_for which (graph_of game)) (arena_for (kleene known) which (graph_of game)) table v
-  ground_raised table v = rw (is.shape, is.arena) refl
+-- a table over kept edges of the order has one value for each vertex
+pub room_count : (order : OrderView) (which : Which) (arena : Game) (table : List ℕ) → arena ≡ order_arena which order → length table ≡ length arena →
+    length table ≡ length order.game.vertices
+room_count order which arena table e t = t ∙ ap (λ (g : Game). length g) e ∙ arena_count order.known which order.game
 
-  pub ground_settled : (table : List ℕ) (k : ℕ) →
-      after_rounds ground.shape ground.arena k table ≡ after_rounds (levels_for which (graph_of game)) (arena_for (kleene known) which (graph_of game)) k table
-  ground_settled table k = rw (is.shape, is.arena) refl
+-- the order with a table in its room that was computed over the order's own levels and kept edges
+pub room_changed : (op : List Level → Game → List ℕ → List ℕ) (order now : OrderView) (which w : Which) (shape : List Level) (arena : Game) (table : List ℕ) →
+    shape ≡ order_levels which order → arena ≡ order_arena which order → which ≡ w → table ≡ op shape arena (order_room w order) → order ≡ now →
+    with_room w table order ≡ with_room which (op (order_levels which now) (order_arena which now) (order_room which now)) now
+room_changed op order now which w shape arena table e f is changed same =
+    ap (λ (t : List ℕ). with_room w t order)
+    (changed
+    ∙ ap (λ (l : List Level). op l arena (order_room w order)) e
+    ∙ ap (λ (g : Game). op (order_levels which order) g (order_room w order)) f)
+    ∙ ap (λ (u : Which). with_room u (op (order_levels which order) (order_arena which order) (order_room u order)) order) (sym is)
+    ∙ ap (λ (o : OrderView). with_room which (op (order_levels which o) (order_arena which o) (order_room which o)) o) same
 
 -- ---- the tables of a harvest
 

@@ -1,6 +1,8 @@
 pub mod BoundLaws
 pub mod Bounds
 pub mod Faults
+pub mod Games
+pub mod GamesFields
 pub mod Least
 pub mod Lifts
 pub mod MeasureLaws
@@ -8,7 +10,7 @@ pub mod Measures
 pub mod NumberLaws
 pub mod Numbers
 pub mod OrderFields
-pub mod OrderKept
+pub mod OrderLaws
 pub mod Orders
 pub mod TableLaws
 pub mod Tables

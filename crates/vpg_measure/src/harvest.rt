@@ -33,6 +33,16 @@ impl Model for Harvest {
 }
 
 impl Harvest {
+    /// The order as it stands.
+    pub fn of_order(order: Order) -> Harvest
+        ensures order { IsSameOrder result.order order }
+        ensures tables { (which : Which) → harvest_table which result ≡ order_table which order }
+    {
+        let mut filled = order;
+        filled.fill_room();
+        Harvest { order: filled }
+    }
+
     /// The order with one vertex of one table lifted once, where that is greater.
     pub fn one(order: Order, which: Which, v: u32) -> Harvest
         requires { v < length order.game.vertices }

@@ -7,20 +7,23 @@
 //! after another. `raise_to_bounds` raises a table at once to values that a certificate supports: whatever was guessed, the table
 //! stays below every progress table.
 //!
-//! An `Order` holds all that lifters need of a page: both shapes and arenas, both tables, and room for two raised ones. So a
+//! `PageGames` is what the decisions of a page make of its game: what is known, and for each table its shape and its kept edges.
+//! It is made once and shared by the page, its orders and its harvests.
+//!
+//! An `Order` holds all that lifters need of a page: its games, both tables, and room for two raised ones. So a
 //! `Harvest`, the order with raised tables, is made without memory. The layers above rest on what every harvest keeps: each of
 //! its tables is below every progress table of the order's two games.
 //!
 //! Definitions: `specs/Measures` and `specs/Tables` (measures as tuples, what fits, progress measures), `specs/Numbers` (the
 //! number of a measure), `specs/Lifts` (the same on tables of numbers, lifts, rounds, choices), `specs/Least` (below every
 //! progress table), `specs/Bounds` (bounds and what certifies them), `specs/TwoGames` (the two hopeful games of a guarded game),
-//! `specs/Orders` (orders and harvests). What holds of them stands in `laws`.
+//! `specs/Games` (what decisions make of a game), `specs/Orders` (orders and harvests). What holds of them stands in `laws`.
 #![tactic(auto)]
 
 pub mod bounds;
 mod fault;
 pub mod folding;
-mod ground;
+pub mod games;
 pub mod harvest;
 pub mod laws;
 pub mod lifts;
@@ -32,6 +35,7 @@ pub mod which;
 
 pub use bounds::{Certificate, raise_to_bounds};
 pub use fault::OrderFault;
+pub use games::PageGames;
 pub use harvest::Harvest;
 pub use lifts::{Outcome, StrategyFault, is_progress, lift, settle_alone, strategy};
 pub use order::{Order, Refused};

@@ -212,7 +212,7 @@ pub fn strategy(
 ) -> Result<Vec<Option<u32>>, StrategyFault>
     requires { IsTableOf shape.now arena.now table.now }
     ensures settled { OnOk result (IsProgressTable shape.now arena.now table.now) }
-    ensures not_settled { result ≡ Err StrategyFault.NotSettled → ¬ IsProgressTable shape.now arena.now table.now }
+    ensures not_settled { (result ≡ Err StrategyFault.NotSettled) ↔ (¬ IsProgressTable shape.now arena.now table.now) }
     ensures choices { IfOk result (λ choices. AreChoices shape.now arena.now table.now choices.items) }
 
     // They win for Even from every vertex below top, by reachable cycles: `Wins` stands in the crate of hopeful games.

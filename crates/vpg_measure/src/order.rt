@@ -1,42 +1,41 @@
 //! Orders: what lifters take from a page.
 
 ghost use Rattle.std.specs.Arc.{arc_value};
-ghost use Rattle.std.specs.Prelude.{◌≡◌, ◌↔◌, ◌<◌, ℕ, length, map, sum, IfOk, IfErr, OnOk, MatchBool};
+ghost use Rattle.std.specs.Prelude.{◌≡◌, ◌↔◌, ◌<◌, ℕ, length, map, sum, IfOk, IfErr, Err, MatchBool};
 ghost use Rattle.vpg_diagram.specs.Clauses.{clauses_of, counts_of};
 ghost use Rattle.vpg_diagram.specs.FeatureDiagram.{feature_count};
 ghost use Rattle.vpg_game.specs.Game.{IsAtLimit, graph_of};
 ghost use Rattle.vpg_partial.specs.Known.{literal_of, NamesConflict};
 ghost use Rattle.vpg_partial.specs.TableLaws.{AreChoicesOf};
 ghost use Rattle.vpg_guards.specs.Known.{kleene};
+ghost use Rattle.vpg_measure.specs.Games.{ArePageGames};
 ghost use Rattle.vpg_measure.specs.Lifts.{IsTableOf, raised, after_rounds};
 ghost use Rattle.vpg_measure.specs.Orders.{IsOrder, IsOpeningTable, order_table, order_room, with_room, order_levels, order_arena};
 ghost use Rattle.vpg_measure.specs.TwoGames.{IsTableBelow};
 
 use crate::fault::OrderFault;
-use crate::ground::{Ground, Prepared, prepare};
+use crate::games::PageGames;
 use crate::lifts::{raise, settle_alone};
 use crate::shape::Shape;
 use crate::table::Table;
 use crate::which::Which;
-use std::alloc::Global;
+use std::alloc::{AllocError, Global};
 use std::marker::Model;
 use std::mem;
 use std::sync::Arc;
 use vpg_diagram::Diagram;
 use vpg_game::GuardedGame;
 use vpg_hope::Arena;
-use vpg_partial::{Decision, Partial};
+use vpg_partial::Decision;
 
-/// The game, the diagram, the decisions and both tables of a page, with all that lifters need: the shapes and the kept edges of
-/// both games, and room for two raised tables.
+/// The game, the diagram, the decisions and both tables of a page, with all that lifters need: the page's games, and room for two
+/// raised tables.
 #[derive(Drop)]
 pub struct Order {
     game: Arc<GuardedGame>,
     diagram: Arc<Diagram>,
     decisions: Vec<Decision>,
-    known: Partial,
-    hopeful_ground: Ground,
-    dual_ground: Ground,
+    games: Arc<PageGames>,
     hopeful: Table,
     dual: Table,
     hopeful_room: Table,
@@ -68,6 +67,29 @@ pub struct Refused {
     pub decisions: Vec<Decision>,
     pub hopeful: Table,
     pub dual: Table,
+}
+
+// What decisions make of a game, to be shared, and room for its two tables.
+fn games_and_room(
+    alloc: Global,
+    game: &GuardedGame,
+    diagram: &Diagram,
+    decisions: &[Decision],
+) -> Result<(Arc<PageGames>, Table, Table), OrderFault>
+    requires features { game.now.features ≡ feature_count diagram.now.lines }
+    requires named { AreChoicesOf diagram.now.lines (map literal_of decisions.now) }
+    ensures games { IfOk result (λ made. ArePageGames game.now diagram.now (map literal_of decisions.now) (arc_value made.0)) }
+    ensures hopeful { IfOk result (λ made. length made.1 ≡ length game.now.vertices) }
+    ensures dual { IfOk result (λ made. length made.2 ≡ length game.now.vertices) }
+    ensures at_limit { (result ≡ Err OrderFault.AtLimit) ↔ IsAtLimit game.now }
+    ensures conflict { (f : ℕ) → result ≡ Err (OrderFault.Conflict f) →
+        NamesConflict (clauses_of diagram.now.lines) (counts_of diagram.now.lines) (map literal_of decisions.now) f }
+{
+    let games = PageGames::under(alloc, game, diagram, decisions)?.share(alloc)?;
+    let vertices = game.vertices() as u32;
+    let hopeful = Table::zero(alloc, vertices)?;
+    let dual = Table::zero(alloc, vertices)?;
+    Ok((games, hopeful, dual))
 }
 
 impl Order {
@@ -108,28 +130,17 @@ impl Order {
         ensures hopeful_back { IfErr result (λ refused. refused.hopeful ≡ hopeful) }
         ensures dual_back { IfErr result (λ refused. refused.dual ≡ dual) }
     {
-        match prepare(alloc, &game, &diagram, &decisions) {
-            Ok(prepared) => {
-                let Prepared {
-                    known,
-                    hopeful: hopeful_ground,
-                    dual: dual_ground,
-                    hopeful_room,
-                    dual_room,
-                } = prepared;
-                Ok(Order {
-                    game,
-                    diagram,
-                    decisions,
-                    known,
-                    hopeful_ground,
-                    dual_ground,
-                    hopeful,
-                    dual,
-                    hopeful_room,
-                    dual_room,
-                })
-            }
+        match games_and_room(alloc, &game, &diagram, &decisions) {
+            Ok((games, hopeful_room, dual_room)) => Ok(Order {
+                game,
+                diagram,
+                decisions,
+                games,
+                hopeful,
+                dual,
+                hopeful_room,
+                dual_room,
+            }),
             Err(fault) => Err(Refused {
                 fault,
                 game,
@@ -139,6 +150,44 @@ impl Order {
                 dual,
             }),
         }
+    }
+
+    /// The order of a page whose games are made already: they are those of these decisions. No edge is looked at. Each table has
+    /// one value for each vertex, below every progress table of its game.
+    pub fn over(
+        alloc: Global,
+        game: Arc<GuardedGame>,
+        diagram: Arc<Diagram>,
+        decisions: Vec<Decision>,
+        games: Arc<PageGames>,
+        hopeful: Table,
+        dual: Table,
+    ) -> Result<Order, AllocError>
+        requires features { (arc_value game).features ≡ feature_count (arc_value diagram).lines }
+        requires named { AreChoicesOf (arc_value diagram).lines (map literal_of decisions.items) }
+        requires games { ArePageGames (arc_value game) (arc_value diagram) (map literal_of decisions.items) (arc_value games) }
+        requires hopeful { IsOpeningTable (arc_value game) (arc_value diagram) decisions.items Which.Hopeful hopeful }
+        requires dual { IsOpeningTable (arc_value game) (arc_value diagram) decisions.items Which.Dual dual }
+        ensures game { IfOk result (λ order. order.game ≡ arc_value game) }
+        ensures diagram { IfOk result (λ order. order.diagram ≡ arc_value diagram) }
+        ensures decisions { IfOk result (λ order. order.decisions ≡ decisions.items) }
+        ensures hopeful { IfOk result (λ order. order.hopeful ≡ hopeful) }
+        ensures dual { IfOk result (λ order. order.dual ≡ dual) }
+        ensures order { IfOk result IsOrder }
+    {
+        let vertices = game.vertices() as u32;
+        let hopeful_room = Table::zero(alloc, vertices)?;
+        let dual_room = Table::zero(alloc, vertices)?;
+        Ok(Order {
+            game,
+            diagram,
+            decisions,
+            games,
+            hopeful,
+            dual,
+            hopeful_room,
+            dual_room,
+        })
     }
 
     /// The game.
@@ -163,6 +212,13 @@ impl Order {
         ensures order { IsOrder self.now }
     {
         &self.decisions
+    }
+
+    /// What the decisions make of the game.
+    pub fn games(&self) -> &Arc<PageGames>
+        ensures { ArePageGames self.now.game self.now.diagram (map literal_of self.now.decisions) (arc_value result.now) }
+    {
+        &self.games
     }
 
     /// The table of the hopeful game.
@@ -194,20 +250,14 @@ impl Order {
     pub fn shape(&self, which: Which) -> &Shape
         ensures { result.now ≡ order_levels which self.now }
     {
-        match which {
-            Which::Hopeful => &self.hopeful_ground.shape,
-            Which::Dual => &self.dual_ground.shape,
-        }
+        self.games.shape(which)
     }
 
     /// The kept edges of either game.
     pub fn arena(&self, which: Which) -> &Arena
         ensures { result.now ≡ order_arena which self.now }
     {
-        match which {
-            Which::Hopeful => &self.hopeful_ground.arena,
-            Which::Dual => &self.dual_ground.arena,
-        }
+        self.games.arena(which)
     }
 }
 
@@ -239,15 +289,11 @@ impl Order {
         ensures raised { self.new ≡ with_room which (raised (order_levels which self.old) (order_arena which self.old) (order_room which self.old) v) self.old }
         ensures rose { MatchBool result (sum (order_room which self.old) < sum (order_room which self.new)) (order_room which self.new ≡ order_room which self.old) }
     {
+        let shape = self.games.shape(which);
+        let arena = self.games.arena(which);
         match which {
-            Which::Hopeful => {
-                let ground = &self.hopeful_ground;
-                raise(&ground.shape, &ground.arena, &mut self.hopeful_room, v)
-            }
-            Which::Dual => {
-                let ground = &self.dual_ground;
-                raise(&ground.shape, &ground.arena, &mut self.dual_room, v)
-            }
+            Which::Hopeful => raise(shape, arena, &mut self.hopeful_room, v),
+            Which::Dual => raise(shape, arena, &mut self.dual_room, v),
         }
     }
 
@@ -256,16 +302,12 @@ impl Order {
         requires { IsTableOf (order_levels which self.old) (order_arena which self.old) (order_room which self.old) }
         ensures { self.new ≡ with_room which (after_rounds (order_levels which self.old) (order_arena which self.old) rounds (order_room which self.old)) self.old }
     {
+        let shape = self.games.shape(which);
+        let arena = self.games.arena(which);
         match which {
-            Which::Hopeful => {
-                let ground = &self.hopeful_ground;
-                settle_alone(&ground.shape, &ground.arena, &mut self.hopeful_room, rounds);
-            }
-            Which::Dual => {
-                let ground = &self.dual_ground;
-                settle_alone(&ground.shape, &ground.arena, &mut self.dual_room, rounds);
-            }
-        }
+            Which::Hopeful => settle_alone(shape, arena, &mut self.hopeful_room, rounds),
+            Which::Dual => settle_alone(shape, arena, &mut self.dual_room, rounds),
+        };
     }
 
     /// Puts other tables into the room.

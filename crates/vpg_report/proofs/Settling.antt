@@ -1,7 +1,7 @@
 -- A harvest that sweeps made, as the book sees it.
 use Rattle.std.proofs.Common.{◌≡◌, ℕ, ◌+◌, ◌<◌, List, [], ◌++◌, ◌∷◌, Option, Some, None, length, refl, sym, ap, ◌∙◌, inl, inr, arith, subst, Bool, true, false, eq-eqb}
 use Rattle.std.specs.Prelude.{codes, unwrap_or, if◌then◌else◌, ◌⊎◌, ◌||◌, ◌&&◌, ◌==◌, map, IfSome}
-use Rattle.std.specs.Bool.{Decides, beq}
+use Rattle.std.specs.Bool.{beq}
 use Rattle.std.proofs.lemmas.Bool.{or_right}
 use Rattle.vpg_guards.specs.Known.{kleene}
 use Rattle.vpg_game.specs.Game.{NamedGame, graph_of}
@@ -27,7 +27,7 @@ use Rattle.vpg_script.specs.Script as script
 use Rattle.vpg_report.specs.Held.{with_harvest}
 use Rattle.vpg_report.specs.Engine.{EngineState, AnswersTo}
 use Rattle.vpg_report.proofs.Asked.{settles, keeps}
-use Rattle.vpg_desk.specs.Commit.{commit_refusal, IsOrderOf, handed_in}
+use Rattle.vpg_desk.specs.Commit.{commit_refusal, handed_in}
 use Rattle.vpg_desk.specs.declared.fault.CommitFault.{CommitFault}
 use Rattle.vpg_desk.specs.declared.fault.CommitFault.TheVariants.{OtherGame, Outdated, Memory}
 use Rattle.vpg_trail.specs.Page.{Literal, Decision, same_literal, stands, decisions_of, choices_of}
@@ -146,11 +146,11 @@ never_refused desk harvest b r decisions is (Some other, (refuses, told)) =
         ∙ ap (λ (ds : List Decision). outdated_at (first_missing (choices_of desk.book.present) (map literal_of ds))) decisions
         ∙ ap outdated_at (none_missing (choices_of desk.book.present))
 
-pub memory_alone : (desk : DeskState) (harvest : HarvestView) (fault : CommitFault) → harvest.order.decisions ≡ decisions_of desk.book.present → IsOrderOf desk harvest.order →
-    IfSome (commit_refusal fault) (λ refusal. (b : Bool) × (Decides b (IsOrderOf desk harvest.order) × Replies desk (Commit (handed_in b harvest)) (Refused refusal))) → fault ≡ Memory
-memory_alone desk harvest Memory decisions ours refused = refl
-memory_alone desk harvest OtherGame decisions ours (b, (tells, replies)) = absurd (never_refused desk harvest b _ decisions (tells.1 ours) replies)
-memory_alone desk harvest (Outdated f) decisions ours (b, (tells, replies)) = absurd (never_refused desk harvest b _ decisions (tells.1 ours) replies)
+pub memory_alone : (desk : DeskState) (harvest : HarvestView) (fault : CommitFault) → harvest.order.decisions ≡ decisions_of desk.book.present →
+    IfSome (commit_refusal fault) (λ refusal. Replies desk (Commit (handed_in true harvest)) (Refused refusal)) → fault ≡ Memory
+memory_alone desk harvest Memory decisions refused = refl
+memory_alone desk harvest OtherGame decisions refused = absurd (never_refused desk harvest true _ decisions refl refused)
+memory_alone desk harvest (Outdated f) decisions refused = absurd (never_refused desk harvest true _ decisions refl refused)
 
 pub no_other : (fault : CommitFault) → fault ≡ Memory → (fault ≡ OtherGame) ⊎ ((f : ℕ) × (fault ≡ Outdated f)) → ⊥
 no_other fault is (inl other) = absurd (cc (is, other))

@@ -79,7 +79,7 @@ fn commit_present(desk: &mut Desk, alloc: Global, harvest: Harvest) -> Result<u3
     ensures accepted { IfOk result (λ added. (session : ℕ) → IsStep desk.old session (Commits (handed_in true harvest)) (Added added) desk.new) }
     ensures err { OnErr result (desk.new ≡ desk.old) }
 {
-    match desk.commit(alloc, harvest) {
+    match desk.commit_own(alloc, harvest) {
         Ok(added) => Ok(added),
         Err(refused) => match refused.fault {
             CommitFault::Memory => Err(AllocError),

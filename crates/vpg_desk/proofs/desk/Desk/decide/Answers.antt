@@ -4,11 +4,8 @@ use Rattle.std.specs.Arc.{arc_value}
 use Rattle.std.specs.List.{AllByRecursion}
 use Rattle.vpg_diagram.specs.DiagramText.{NamedDiagram}
 use Rattle.vpg_diagram.specs.FeatureDiagram.{feature_count}
-use Rattle.vpg_game.specs.Game.{NamedGame, graph_of}
-use Rattle.vpg_guards.specs.Known.{kleene}
-use Rattle.vpg_measure.specs.TwoGames.{arena_for}
-use Rattle.vpg_partial.specs.TableLaws.{IsKnownTable}
-use Rattle.vpg_trail.specs.Page.{Hopeful, Dual, Decided, decisions_of, choices_of, decision_on}
+use Rattle.vpg_measure.specs.Games.{ArePageGames}
+use Rattle.vpg_trail.specs.Page.{Decided, decisions_of, choices_of, decision_on}
 use Rattle.vpg_trail.specs.Shown.{entry_of}
 use Rattle.vpg_desk.specs.Book.{Decide, Changed, Refused, UnknownFeature, AlreadyDecided, TooManyChanges}
 use Rattle.vpg_desk.specs.DeskFields.{desk_of}
@@ -17,7 +14,7 @@ use Rattle.vpg_desk.specs.State.{DeskState, Replies, IsStep}
 use Rattle.vpg_desk.specs.declared.fault.DecideFault.TheVariants.{Memory}
 use Rattle.vpg_desk.proofs.Decided.{decide_unknown, decide_already, decide_too_many, decide_accepted, closes_refuses, decisions_inside, limits, decided_step, decided_desk}
 use Rattle.vpg_desk.proofs.desk.Desk.decide.Goals as goal
-use Rattle.vpg_desk.proofs.desk.Desk.decide.Goals.{After-features, After-close_with, After-clear}
+use Rattle.vpg_desk.proofs.desk.Desk.decide.Goals.{After-features, After-games_with, After-clear}
 
 count : (c : After-features) → c.features.result ≡ feature_count (arc_value c.self.inside.diagram).lines
 count c = c.features.ensures.count ∙ ap (λ (x : NamedDiagram). feature_count x.lines) c.deref.ensures
@@ -36,77 +33,68 @@ returns-in-Some-clause-refused c =
 pub overflow_add-serial : goal.overflow_add-serial
 overflow_add-serial c = omega (arith, (limits c.self.inside c.self.invariant).1)
 
-pub close_with-requires : goal.close_with-requires
-close_with-requires c =
-    subst (λ (x : NamedDiagram). AllByRecursion (λ y. y.feature < feature_count x.lines) (decisions_of (map entry_of c.entries-2.result.now) ++ record { serial = c.self.inside.changes + 1; session = c.args.session; feature = c.args.feature; value = c.args.value } ∷ [])) (sym c.deref-2.ensures)
+pub games_with-requires-clause-inside : goal.games_with-requires-clause-inside
+games_with-requires-clause-inside c =
+    subst (λ (x : NamedDiagram). AllByRecursion (λ y. y.feature < feature_count x.lines) (decisions_of (map entry_of c.entries-entries.result.now) ++ record { serial = c.self.inside.changes + 1; session = c.args.session; feature = c.args.feature; value = c.args.value } ∷ [])) (sym c.deref-3.ensures)
     (decisions_inside c.self.inside c.self.invariant (record { serial = c.self.inside.changes + 1; session = c.args.session; feature = c.args.feature; value = c.args.value })
-    (subst (λ (n : ℕ). c.args.feature < n) (count (goal.at.close_with-requires c).After-features) c.if-feature-features.false) (map entry_of c.entries-2.result.now) c.entries-2.ensures.entries)
+    (subst (λ (n : ℕ). c.args.feature < n) (count (goal.at.games_with-requires-clause-inside c).After-features) c.if-feature-features.false) (map entry_of c.entries-entries.result.now) c.entries-entries.ensures.entries)
 
-pub returns-in_err-known-clause-refused : goal.returns-in_err-known-clause-refused
-returns-in_err-known-clause-refused c = let p = err_from_is_err_and c.from_residual.result c.from_residual.ensures.1 in
+pub returns-in_err-games-clause-refused : goal.returns-in_err-games-clause-refused
+returns-in_err-games-clause-refused c = let p = err_from_is_err_and c.from_residual.result c.from_residual.ensures.1 in
     rw (p.1, p.2)
-    (subst (λ (s : DeskState). IfSome (decide_refusal c.in_err-known.field-0.0) (λ refusal. Replies s (Decide c.args.feature c.args.value) (Refused refusal))) c.self.view_is
-    (closes_refuses c.self.inside c.self.invariant c.args.feature c.args.value (subst (λ (n : ℕ). c.args.feature < n) (count (goal.at.returns-in_err-known-clause-refused c).After-features) c.if-feature-features.false)
-    (sym (c.in_default.ensures ∙ ap (decision_on c.args.feature) c.entries.ensures.entries)) (record { serial = c.self.inside.changes + 1; session = c.args.session; feature = c.args.feature; value = c.args.value }) refl refl c.in_err-known.field-0.0
-    (coe 0 1 (k. ClosesWith (c.deref-2.ensures k).lines (choices_of (c.entries-2.ensures.entries k ++ Decided (record { serial = c.self.inside.changes + 1; session = c.args.session; feature = c.args.feature; value = c.args.value }) ∷ [])) c.args.feature c.in_err-known.field-0.0) c.in_err-known.ensures.fault)))
+    (subst (λ (s : DeskState). IfSome (decide_refusal c.in_err-games.field-0.0) (λ refusal. Replies s (Decide c.args.feature c.args.value) (Refused refusal))) c.self.view_is
+    (closes_refuses c.self.inside c.self.invariant c.args.feature c.args.value (subst (λ (n : ℕ). c.args.feature < n) (count (goal.at.returns-in_err-games-clause-refused c).After-features) c.if-feature-features.false)
+    (sym (c.in_default.ensures ∙ ap (decision_on c.args.feature) c.entries.ensures.entries)) (record { serial = c.self.inside.changes + 1; session = c.args.session; feature = c.args.feature; value = c.args.value }) refl refl c.in_err-games.field-0.0
+    (coe 0 1 (k. ClosesWith (c.deref-3.ensures k).lines (choices_of (c.entries-entries.ensures.entries k ++ Decided (record { serial = c.self.inside.changes + 1; session = c.args.session; feature = c.args.feature; value = c.args.value }) ∷ [])) c.args.feature c.in_err-games.field-0.0) c.in_err-games.ensures.fault)))
 
 pub returns-then-self-eq-MOST_CHANGES-clause-refused : goal.returns-then-self-eq-MOST_CHANGES-clause-refused
 returns-then-self-eq-MOST_CHANGES-clause-refused c =
     subst (λ (s : DeskState). Replies s (Decide c.args.feature c.args.value) (Refused TooManyChanges)) c.self.view_is
     (decide_too_many c.self.inside c.self.invariant c.args.feature c.args.value (subst (λ (n : ℕ). c.args.feature < n) (count (goal.at.returns-then-self-eq-MOST_CHANGES-clause-refused c).After-features) c.if-feature-features.false)
-    (sym (c.in_default.ensures ∙ ap (decision_on c.args.feature) c.entries.ensures.entries)) (record { serial = c.self.inside.changes + 1; session = c.args.session; feature = c.args.feature; value = c.args.value }) refl refl c.in_ok-known.known
-    (coe 0 1 (k. IsKnownTable (c.deref-2.ensures k).lines (choices_of (c.entries-2.ensures.entries k ++ Decided (record { serial = c.self.inside.changes + 1; session = c.args.session; feature = c.args.feature; value = c.args.value }) ∷ [])) c.in_ok-known.known) c.in_ok-known.ensures.known)
+    (sym (c.in_default.ensures ∙ ap (decision_on c.args.feature) c.entries.ensures.entries)) (record { serial = c.self.inside.changes + 1; session = c.args.session; feature = c.args.feature; value = c.args.value }) refl refl (arc_value c.in_ok-games.games).known
+    (coe 0 1 (k. ArePageGames (c.deref-2.ensures k) (c.deref-3.ensures k) (choices_of (c.entries-entries.ensures.entries k ++ Decided (record { serial = c.self.inside.changes + 1; session = c.args.session; feature = c.args.feature; value = c.args.value }) ∷ [])) (arc_value c.in_ok-games.games)) c.in_ok-games.ensures.games).known
     c.if-self-eq-MOST_CHANGES.true)
 
 pub overflow_add-self : goal.overflow_add-self
 overflow_add-self c = omega (arith, (limits c.self.inside c.self.invariant).0, (limits c.self.inside c.self.invariant).1)
 
-known_table : (c : After-clear) → IsKnownTable (arc_value c.self.inside.diagram).lines (choices_of (c.self.inside.trail.entries ++ Decided (record { serial = c.self.inside.changes + 1; session = c.args.session; feature = c.args.feature; value = c.args.value }) ∷ [])) c.in_ok-known.known
-known_table c = coe 0 1 (k. IsKnownTable (c.deref-2.ensures k).lines (choices_of (c.entries-2.ensures.entries k ++ Decided (record { serial = c.self.inside.changes + 1; session = c.args.session; feature = c.args.feature; value = c.args.value }) ∷ [])) c.in_ok-known.known) c.in_ok-known.ensures.known
+games_are : (c : After-clear) → ArePageGames (arc_value c.self.inside.game) (arc_value c.self.inside.diagram) (choices_of (c.self.inside.trail.entries ++ Decided (record { serial = c.self.inside.changes + 1; session = c.args.session; feature = c.args.feature; value = c.args.value }) ∷ [])) (arc_value c.in_ok-games.games)
+games_are c = coe 0 1 (k. ArePageGames (c.deref-2.ensures k) (c.deref-3.ensures k) (choices_of (c.entries-entries.ensures.entries k ++ Decided (record { serial = c.self.inside.changes + 1; session = c.args.session; feature = c.args.feature; value = c.args.value }) ∷ [])) (arc_value c.in_ok-games.games)) c.in_ok-games.ensures.games
 
 accepted : (c : After-clear) → Replies (desk_of c.self.inside) (Decide c.args.feature c.args.value) (Changed (c.self.inside.changes + 1))
 accepted c =
     decide_accepted c.self.inside c.self.invariant c.args.feature c.args.value
     (subst (λ (n : ℕ). c.args.feature < n) (c.features.ensures.count ∙ ap (λ (x : NamedDiagram). feature_count x.lines) c.deref.ensures) c.if-feature-features.false)
-    (sym (c.in_default.ensures ∙ ap (decision_on c.args.feature) c.entries.ensures.entries)) (record { serial = c.self.inside.changes + 1; session = c.args.session; feature = c.args.feature; value = c.args.value }) refl refl c.in_ok-known.known (known_table c) c.if-self-eq-MOST_CHANGES.false
+    (sym (c.in_default.ensures ∙ ap (decision_on c.args.feature) c.entries.ensures.entries)) (record { serial = c.self.inside.changes + 1; session = c.args.session; feature = c.args.feature; value = c.args.value }) refl refl (arc_value c.in_ok-games.games).known (games_are c).known c.if-self-eq-MOST_CHANGES.false
 
 pub invariant_of-self-2 : goal.invariant_of-self-2
 invariant_of-self-2 c =
     let at = (goal.at.invariant_of-self-2 c).After-clear in
-    decided_desk c.self.inside c.self.invariant c.args.session c.args.feature c.args.value c.in_ok-standing.standing c.push_decision.new.past c.push_decision.new.trail c.clear.new.self c.in_ok-known.known
-    c.in_ok-push_decision.ensures.past c.in_ok-push_decision.ensures.below c.in_ok-push_decision.ensures.trail c.clear.ensures.items (accepted at) c.in_ok-standing.ensures.known
-    (c.in_ok-standing.ensures.hopeful ∙ ap (λ (g : NamedGame). arena_for (kleene c.in_ok-known.known) Hopeful (graph_of g)) c.deref-3.ensures)
-    (c.in_ok-standing.ensures.dual ∙ ap (λ (g : NamedGame). arena_for (kleene c.in_ok-known.known) Dual (graph_of g)) c.deref-3.ensures)
-    (known_table at)
+    decided_desk c.self.inside c.self.invariant c.args.session c.args.feature c.args.value c.in_ok-games.games c.push_decision.new.past c.push_decision.new.trail c.clear.new.self
+    c.in_ok-push_decision.ensures.past c.in_ok-push_decision.ensures.below c.in_ok-push_decision.ensures.trail c.clear.ensures.items (accepted at) (games_are at)
 
 pub returns-clause-accepted : goal.returns-clause-accepted
 returns-clause-accepted c =
     let at = (goal.at.returns-clause-accepted c).After-clear in
-    subst (λ (n : ℕ). IsStep c.args.self.now c.args.session (Decide c.args.feature c.args.value) (Changed n) (desk_of (record { game = c.self.inside.game; diagram = c.self.inside.diagram; hopeful_shape = c.self.inside.hopeful_shape; dual_shape = c.self.inside.dual_shape; standing = c.in_ok-standing.standing; trail = c.push_decision.new.trail; past = c.push_decision.new.past; future = c.clear.new.self; changes = c.self.inside.changes + 1; tokens = c.self.inside.tokens + 1 }))) (sym c.of-2.ensures)
-    (subst (λ (s : DeskState). IsStep s c.args.session (Decide c.args.feature c.args.value) (Changed (c.self.inside.changes + 1)) (desk_of (record { game = c.self.inside.game; diagram = c.self.inside.diagram; hopeful_shape = c.self.inside.hopeful_shape; dual_shape = c.self.inside.dual_shape; standing = c.in_ok-standing.standing; trail = c.push_decision.new.trail; past = c.push_decision.new.past; future = c.clear.new.self; changes = c.self.inside.changes + 1; tokens = c.self.inside.tokens + 1 }))) c.self.view_is
-    (decided_step c.self.inside c.self.invariant c.args.session c.args.feature c.args.value c.in_ok-standing.standing c.push_decision.new.past c.push_decision.new.trail c.clear.new.self c.in_ok-known.known
-    c.in_ok-push_decision.ensures.past c.in_ok-push_decision.ensures.below c.in_ok-push_decision.ensures.trail c.clear.ensures.items (accepted at) c.in_ok-standing.ensures.known
-    (c.in_ok-standing.ensures.hopeful ∙ ap (λ (g : NamedGame). arena_for (kleene c.in_ok-known.known) Hopeful (graph_of g)) c.deref-3.ensures)
-    (c.in_ok-standing.ensures.dual ∙ ap (λ (g : NamedGame). arena_for (kleene c.in_ok-known.known) Dual (graph_of g)) c.deref-3.ensures)
-    (known_table at)))
+    subst (λ (n : ℕ). IsStep c.args.self.now c.args.session (Decide c.args.feature c.args.value) (Changed n) (desk_of (record { game = c.self.inside.game; diagram = c.self.inside.diagram; games = c.in_ok-games.games; trail = c.push_decision.new.trail; past = c.push_decision.new.past; future = c.clear.new.self; changes = c.self.inside.changes + 1; tokens = c.self.inside.tokens + 1 }))) (sym c.of.ensures)
+    (subst (λ (s : DeskState). IsStep s c.args.session (Decide c.args.feature c.args.value) (Changed (c.self.inside.changes + 1)) (desk_of (record { game = c.self.inside.game; diagram = c.self.inside.diagram; games = c.in_ok-games.games; trail = c.push_decision.new.trail; past = c.push_decision.new.past; future = c.clear.new.self; changes = c.self.inside.changes + 1; tokens = c.self.inside.tokens + 1 }))) c.self.view_is
+    (decided_step c.self.inside c.self.invariant c.args.session c.args.feature c.args.value c.in_ok-games.games c.push_decision.new.past c.push_decision.new.trail c.clear.new.self
+    c.in_ok-push_decision.ensures.past c.in_ok-push_decision.ensures.below c.in_ok-push_decision.ensures.trail c.clear.ensures.items (accepted at) (games_are at)))
 
 -- want of memory comes only of a known feature that isn't decided
 unrefused : {T E X : Type 0} (fault : E) (r : Result T E) → X → IfErr r (λ f. f ≡ fault → X)
 unrefused fault (Ok t) x = tt
 unrefused fault (Err f) x = λ _. x
 
-fresh : (c : After-close_with) → (c.args.feature < feature_count c.args.self.now.diagram.lines) × (decision_on c.args.feature c.args.self.now.book.present ≡ None)
+fresh : (c : After-games_with) → (c.args.feature < feature_count c.args.self.now.diagram.lines) × (decision_on c.args.feature c.args.self.now.book.present ≡ None)
 fresh c =
     subst (λ (s : DeskState). (c.args.feature < feature_count s.diagram.lines) × (decision_on c.args.feature s.book.present ≡ None)) c.self.view_is (
       subst (λ (n : ℕ). c.args.feature < n) (c.features.ensures.count ∙ ap (λ (x : NamedDiagram). feature_count x.lines) c.deref.ensures) c.if-feature-features.false,
       sym (c.in_default.ensures ∙ ap (decision_on c.args.feature) c.entries.ensures.entries),
     )
 
-pub returns-in_err-known-clause-last : goal.returns-in_err-known-clause-last
-returns-in_err-known-clause-last c = unrefused Memory c.from_residual.result (fresh (goal.at.returns-in_err-known-clause-last c).After-close_with)
-
-pub returns-in_err-standing-clause-last : goal.returns-in_err-standing-clause-last
-returns-in_err-standing-clause-last c = unrefused Memory c.from_residual-in_err-standing.result (fresh (goal.at.returns-in_err-standing-clause-last c).After-close_with)
+pub returns-in_err-games-clause-last : goal.returns-in_err-games-clause-last
+returns-in_err-games-clause-last c = unrefused Memory c.from_residual.result (fresh (goal.at.returns-in_err-games-clause-last c).After-games_with)
 
 pub returns-in_err-push_decision-clause-last : goal.returns-in_err-push_decision-clause-last
-returns-in_err-push_decision-clause-last c = unrefused Memory c.from_residual-in_err-push_decision.result (fresh (goal.at.returns-in_err-push_decision-clause-last c).After-close_with)
+returns-in_err-push_decision-clause-last c = unrefused Memory c.from_residual-in_err-push_decision.result (fresh (goal.at.returns-in_err-push_decision-clause-last c).After-games_with)

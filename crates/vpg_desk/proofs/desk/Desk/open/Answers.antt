@@ -9,4 +9,4 @@ pub returns-in-Err-clause-conflict : goal.returns-in-Err-clause-conflict
 returns-in-Err-clause-conflict c f e = conflict_told _ _ c.in-Err.fault f c.deref-2.ensures (c.in-Err.ensures.conflict f) e
 
 pub returns-in-Ok-clause-fits : goal.returns-in-Ok-clause-fits
-returns-in-Ok-clause-fits c = coe 0 1 (k. IsOpened (c.deref.ensures k) (c.deref-2.ensures k)) c.in-Ok.ensures.opening.opened
+returns-in-Ok-clause-fits c = coe 0 1 (k. IsOpened (c.deref.ensures k) (c.deref-2.ensures k)) c.in-Ok.ensures.opened

@@ -1,14 +1,15 @@
 use Rattle.std.proofs.Common.{◌≡◌, IfErr, Result, Ok, Err, ◌∙◌, ◌+◌, ◌<◌, ◌++◌, ℕ, List, [], length, map, take, drop, sym, ap, subst, arith}
+use Rattle.std.specs.Arc.{arc_value}
 use Rattle.std.proofs.lemmas.List.{take-map, length-map}
 use Rattle.vpg_diagram.specs.DiagramText.{NamedDiagram}
 use Rattle.vpg_diagram.specs.FeatureDiagram.{feature_count}
+use Rattle.vpg_measure.specs.Games.{ArePageGames}
 use Rattle.vpg_trail.specs.Page.{Entry as Step, choices_of, has_decided, before_decision, after_decision, retracted}
 use Rattle.vpg_trail.specs.Shown.{entry_of}
 use Rattle.vpg_trail.specs.WellFormed.{LiftsStandAfter}
 use Rattle.vpg_desk.specs.Book.{Retract, Changed}
 use Rattle.vpg_desk.specs.DeskFields.{desk_of}
 use Rattle.vpg_desk.specs.Setting.{HasConflict}
-use Rattle.vpg_desk.specs.Standing.{IsStanding}
 use Rattle.vpg_desk.specs.State.{DeskState, Replies, IsStep, setting_between}
 use Rattle.vpg_desk.specs.declared.fault.RetractFault.TheVariants.{Memory}
 use Rattle.vpg_desk.proofs.Decided.{limits}
@@ -37,10 +38,10 @@ left : (c : After-deref-4) → take c.in-Some.place c.self.inside.trail.entries 
 left c =
     ap (λ (l : List Step). l ++ map entry_of c.in_ok-kept.kept.items) (ap (take c.in-Some.place) (sym c.entries-entries.ensures.entries) ∙ take-map entry_of c.in-Some.place c.entries-entries.result.now) ∙ page c
 
-pub of_page-requires-clause-consistent : goal.of_page-requires-clause-consistent
-of_page-requires-clause-consistent c =
+pub games_of_page-requires-clause-consistent : goal.games_of_page-requires-clause-consistent
+games_of_page-requires-clause-consistent c =
     coe 0 1 (k. HasConflict (setting_between (sym c.deref-2.ensures k) (sym c.deref-3.ensures k)) (choices_of (sym (shown c) k)) → ⊥)
-    (retracted_consistent c.self.inside c.self.invariant c.args.feature (accepted (goal.at.of_page-requires-clause-consistent c).After-vertices))
+    (retracted_consistent c.self.inside c.self.invariant c.args.feature (accepted (goal.at.games_of_page-requires-clause-consistent c).After-vertices))
 
 pub cut_out-requires-clause-lifts : goal.cut_out-requires-clause-lifts
 cut_out-requires-clause-lifts c =
@@ -56,18 +57,18 @@ overflow_add-self c = omega (arith, (limits c.self.inside c.self.invariant).0, (
 pub invariant_of-self-2 : goal.invariant_of-self-2
 invariant_of-self-2 c =
     let at = (goal.at.invariant_of-self-2 c).After-deref-4 in
-    retracted_desk c.self.inside c.self.invariant c.args.feature (accepted (goal.at.invariant_of-self-2 c).After-vertices) c.args.session c.in-Some.place (map entry_of c.in_ok-kept.kept.items) c.in_ok-standing.standing c.cut_out.new.past c.cut_out.new.trail c.clear.new.self
+    retracted_desk c.self.inside c.self.invariant c.args.feature (accepted (goal.at.invariant_of-self-2 c).After-vertices) c.args.session c.in-Some.place (map entry_of c.in_ok-kept.kept.items) c.in_ok-games.games c.cut_out.new.past c.cut_out.new.trail c.clear.new.self
     (omega (arith, c.in-Some.ensures.place, length-map c.entries-entries.result.now entry_of, ap length c.entries-entries.ensures.entries)) (left at) c.in_ok-cut_out.ensures.past c.in_ok-cut_out.ensures.below c.in_ok-cut_out.ensures.trail c.clear.ensures.items
-    (coe 0 1 (k. IsStanding (setting_between (c.deref-2.ensures k) (c.deref-3.ensures k)) (choices_of (shown at k)) c.in_ok-standing.standing) c.in_ok-standing.ensures)
+    (coe 0 1 (k. ArePageGames (c.deref-2.ensures k) (c.deref-3.ensures k) (choices_of (shown at k)) (arc_value c.in_ok-games.games)) c.in_ok-games.ensures)
 
 pub returns-clause-accepted : goal.returns-clause-accepted
 returns-clause-accepted c =
     let at = (goal.at.returns-clause-accepted c).After-deref-4 in
-    subst (λ (n : ℕ). IsStep c.args.self.now c.args.session (Retract c.args.feature) (Changed n) (desk_of (record { game = c.self.inside.game; diagram = c.self.inside.diagram; hopeful_shape = c.self.inside.hopeful_shape; dual_shape = c.self.inside.dual_shape; standing = c.in_ok-standing.standing; trail = c.cut_out.new.trail; past = c.cut_out.new.past; future = c.clear.new.self; changes = c.self.inside.changes + 1; tokens = c.self.inside.tokens + 1 }))) (sym c.of.ensures)
-    (subst (λ (s : DeskState). IsStep s c.args.session (Retract c.args.feature) (Changed (c.self.inside.changes + 1)) (desk_of (record { game = c.self.inside.game; diagram = c.self.inside.diagram; hopeful_shape = c.self.inside.hopeful_shape; dual_shape = c.self.inside.dual_shape; standing = c.in_ok-standing.standing; trail = c.cut_out.new.trail; past = c.cut_out.new.past; future = c.clear.new.self; changes = c.self.inside.changes + 1; tokens = c.self.inside.tokens + 1 }))) c.self.view_is
-    (retracted_step c.self.inside c.self.invariant c.args.feature (accepted (goal.at.returns-clause-accepted c).After-vertices) c.args.session c.in-Some.place (map entry_of c.in_ok-kept.kept.items) c.in_ok-standing.standing c.cut_out.new.past c.cut_out.new.trail c.clear.new.self
+    subst (λ (n : ℕ). IsStep c.args.self.now c.args.session (Retract c.args.feature) (Changed n) (desk_of (record { game = c.self.inside.game; diagram = c.self.inside.diagram; games = c.in_ok-games.games; trail = c.cut_out.new.trail; past = c.cut_out.new.past; future = c.clear.new.self; changes = c.self.inside.changes + 1; tokens = c.self.inside.tokens + 1 }))) (sym c.of.ensures)
+    (subst (λ (s : DeskState). IsStep s c.args.session (Retract c.args.feature) (Changed (c.self.inside.changes + 1)) (desk_of (record { game = c.self.inside.game; diagram = c.self.inside.diagram; games = c.in_ok-games.games; trail = c.cut_out.new.trail; past = c.cut_out.new.past; future = c.clear.new.self; changes = c.self.inside.changes + 1; tokens = c.self.inside.tokens + 1 }))) c.self.view_is
+    (retracted_step c.self.inside c.self.invariant c.args.feature (accepted (goal.at.returns-clause-accepted c).After-vertices) c.args.session c.in-Some.place (map entry_of c.in_ok-kept.kept.items) c.in_ok-games.games c.cut_out.new.past c.cut_out.new.trail c.clear.new.self
     (omega (arith, c.in-Some.ensures.place, length-map c.entries-entries.result.now entry_of, ap length c.entries-entries.ensures.entries)) (left at) c.in_ok-cut_out.ensures.past c.in_ok-cut_out.ensures.below c.in_ok-cut_out.ensures.trail c.clear.ensures.items
-    (coe 0 1 (k. IsStanding (setting_between (c.deref-2.ensures k) (c.deref-3.ensures k)) (choices_of (shown at k)) c.in_ok-standing.standing) c.in_ok-standing.ensures)))
+    (coe 0 1 (k. ArePageGames (c.deref-2.ensures k) (c.deref-3.ensures k) (choices_of (shown at k)) (arc_value c.in_ok-games.games)) c.in_ok-games.ensures)))
 
 -- want of memory comes where nothing else refuses
 unrefused : {T E X : Type 0} (fault : E) (r : Result T E) → X → IfErr r (λ f. f ≡ fault → X)
@@ -80,8 +81,8 @@ would c = subst (λ (s : DeskState). Replies s (Retract c.args.feature) (Changed
 pub returns-in_err-kept-clause-last : goal.returns-in_err-kept-clause-last
 returns-in_err-kept-clause-last c = unrefused Memory c.from_residual.result (would (goal.at.returns-in_err-kept-clause-last c).After-vertices)
 
-pub returns-in_err-standing-clause-last : goal.returns-in_err-standing-clause-last
-returns-in_err-standing-clause-last c = unrefused Memory c.from_residual-in_err-standing.result (would (goal.at.returns-in_err-standing-clause-last c).After-vertices)
+pub returns-in_err-games-clause-last : goal.returns-in_err-games-clause-last
+returns-in_err-games-clause-last c = unrefused Memory c.from_residual-in_err-games.result (would (goal.at.returns-in_err-games-clause-last c).After-vertices)
 
 pub returns-in_err-cut_out-clause-last : goal.returns-in_err-cut_out-clause-last
 returns-in_err-cut_out-clause-last c = unrefused Memory c.from_residual-in_err-cut_out.result (would (goal.at.returns-in_err-cut_out-clause-last c).After-vertices)

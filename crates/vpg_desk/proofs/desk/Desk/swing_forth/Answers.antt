@@ -1,12 +1,13 @@
 use Rattle.std.proofs.Common.{◌≡◌, ◌∙◌, ◌∷◌, IfSome, IfErr, List, None, Result, Ok, Err, ap, sym, subst}
+use Rattle.std.specs.Arc.{arc_value}
 use Rattle.std.specs.List.{AllByRecursion}
+use Rattle.vpg_measure.specs.Games.{ArePageGames}
 use Rattle.vpg_trail.specs.Page.{choices_of}
 use Rattle.vpg_desk.specs.Book.{Redo, Redone, Refused, refuses_redo}
 use Rattle.vpg_desk.specs.Cuts.{cuts_of, pages_of, serials_from_top}
-use Rattle.vpg_desk.specs.DeskFields.{setting_in, desk_of}
+use Rattle.vpg_desk.specs.DeskFields.{desk_of}
 use Rattle.vpg_desk.specs.Faults.{redo_refusal}
 use Rattle.vpg_desk.specs.Setting.{HasConflict}
-use Rattle.vpg_desk.specs.Standing.{IsStanding}
 use Rattle.vpg_desk.specs.State.{DeskState, IsStep, Replies, setting_between}
 use Rattle.vpg_desk.specs.Trail.{Cut as Saved, spliced}
 use Rattle.vpg_desk.specs.declared.cuts.Cut.{Cut}
@@ -20,8 +21,8 @@ returns-in-Some-clause-refused c =
     subst (λ (s : DeskState). IfSome (redo_refusal c.in-Some.fault) (λ refusal. Replies s (Redo c.args.serial) (Refused refusal))) c.self.view_is
     (redo_refused c.self.inside c.self.invariant c.args.serial c.in-Some.fault (ap (λ (l : List Cut). refuses_redo c.args.serial (serials_from_top l)) (sym c.deref.ensures.value) ∙ c.in-Some.ensures))
 
-pub standing_over-requires-clause-consistent : goal.standing_over-requires-clause-consistent
-standing_over-requires-clause-consistent c =
+pub games_over-requires-clause-consistent : goal.games_over-requires-clause-consistent
+games_over-requires-clause-consistent c =
     coe 0 1 (k. AllByRecursion (λ x. ¬ (HasConflict (setting_between (sym c.deref-2.ensures k) (sym c.deref-3.ensures k)) (choices_of x.page))) (pages_of c.self.inside.trail.entries (sym c.deref-4.ensures.value k))) (future_consistent c.self.inside c.self.invariant)
 
 pub swing-requires-clause-well_formed : goal.swing-requires-clause-well_formed
@@ -30,21 +31,21 @@ swing-requires-clause-well_formed c = future_well_formed c.self.inside c.self.in
 accepted : (c : After-swing) → refuses_redo c.args.serial (serials_from_top c.self.inside.future.items) ≡ None
 accepted c = ap (λ (l : List Cut). refuses_redo c.args.serial (serials_from_top l)) (sym c.deref.ensures.value) ∙ c.in_default.ensures
 
-known : (c : After-swing) (cut : Saved) (further : List Saved) → cuts_of c.self.inside.future.items ≡ cut ∷ further → IsStanding (setting_in c.self.inside) (choices_of (spliced c.self.inside.trail.entries cut.place cut.suffix)) c.in_ok-standing.standing
+known : (c : After-swing) (cut : Saved) (further : List Saved) → cuts_of c.self.inside.future.items ≡ cut ∷ further → ArePageGames (arc_value c.self.inside.game) (arc_value c.self.inside.diagram) (choices_of (spliced c.self.inside.trail.entries cut.place cut.suffix)) (arc_value c.in_ok-games.games)
 known c cut further e =
-    coe 0 1 (k. IsStanding (setting_between (c.deref-2.ensures k) (c.deref-3.ensures k)) (choices_of (spliced c.self.inside.trail.entries cut.place cut.suffix)) c.in_ok-standing.standing)
-    (c.in_ok-standing.ensures cut further (ap cuts_of c.deref-4.ensures.value ∙ e))
+    coe 0 1 (k. ArePageGames (c.deref-2.ensures k) (c.deref-3.ensures k) (choices_of (spliced c.self.inside.trail.entries cut.place cut.suffix)) (arc_value c.in_ok-games.games))
+    (c.in_ok-games.ensures cut further (ap cuts_of c.deref-4.ensures.value ∙ e))
 
 pub invariant_of-self-2 : goal.invariant_of-self-2
 invariant_of-self-2 c =
     let at = (goal.at.invariant_of-self-2 c).After-swing in
-    redone_desk c.self.inside c.self.invariant c.args.serial c.in_ok-standing.standing c.swing.new.to c.swing.new.from c.swing.new.trail c.swing.ensures.vertices (c.swing.ensures.to_below c.self.invariant.past_below) c.swing.ensures.from_below (accepted at) c.in_ok-swing.ensures.swung (known at)
+    redone_desk c.self.inside c.self.invariant c.args.serial c.in_ok-games.games c.swing.new.to c.swing.new.from c.swing.new.trail c.swing.ensures.vertices (c.swing.ensures.to_below c.self.invariant.past_below) c.swing.ensures.from_below (accepted at) c.in_ok-swing.ensures.swung (known at)
 
 pub returns-clause-accepted : goal.returns-clause-accepted
 returns-clause-accepted c session =
     let at = (goal.at.returns-clause-accepted c).After-swing in
-    subst (λ (s : DeskState). IsStep s session (Redo c.args.serial) (Redone c.args.serial) (desk_of (record c.self.inside { standing = c.in_ok-standing.standing; trail = c.swing.new.trail; past = c.swing.new.to; future = c.swing.new.from }))) c.self.view_is
-    (redone_step c.self.inside c.self.invariant c.args.serial c.in_ok-standing.standing c.swing.new.to c.swing.new.from c.swing.new.trail c.swing.ensures.vertices (c.swing.ensures.to_below c.self.invariant.past_below) c.swing.ensures.from_below (accepted at) c.in_ok-swing.ensures.swung (known at) session)
+    subst (λ (s : DeskState). IsStep s session (Redo c.args.serial) (Redone c.args.serial) (desk_of (record c.self.inside { games = c.in_ok-games.games; trail = c.swing.new.trail; past = c.swing.new.to; future = c.swing.new.from }))) c.self.view_is
+    (redone_step c.self.inside c.self.invariant c.args.serial c.in_ok-games.games c.swing.new.to c.swing.new.from c.swing.new.trail c.swing.ensures.vertices (c.swing.ensures.to_below c.self.invariant.past_below) c.swing.ensures.from_below (accepted at) c.in_ok-swing.ensures.swung (known at) session)
 
 pub returns-in-Some-clause-last : goal.returns-in-Some-clause-last
 returns-in-Some-clause-last c m =
@@ -56,8 +57,8 @@ unrefused : {T E X : Type 0} (fault : E) (r : Result T E) → X → IfErr r (λ 
 unrefused fault (Ok t) x = tt
 unrefused fault (Err f) x = λ _. x
 
-pub returns-in_err-standing-clause-last : goal.returns-in_err-standing-clause-last
-returns-in_err-standing-clause-last c =
+pub returns-in_err-games-clause-last : goal.returns-in_err-games-clause-last
+returns-in_err-games-clause-last c =
     unrefused Memory c.from_residual.result
     (subst (λ (s : DeskState). Replies s (Redo c.args.serial) (Redone c.args.serial)) c.self.view_is
     (redo_accepted c.self.inside c.self.invariant c.args.serial (ap (λ (l : List Cut). refuses_redo c.args.serial (serials_from_top l)) (sym c.deref.ensures.value) ∙ c.in_default.ensures)))

@@ -1,88 +1,24 @@
-use Rattle.std.proofs.Common.{◌≡◌, ◌∙◌, ◌++◌, ◌≤◌, Bool, List, None, Result, Ok, Err, IfErr, true, length, map, sym, ap, subst, arith}
-use Rattle.std.proofs.lemmas.List.{length-map}
+use Rattle.std.proofs.Common.{◌≡◌, Bool, true, subst}
 use Rattle.std.specs.Bool.{Decides}
-use Rattle.vpg_trail.specs.Page.{Entry as Step, literal_of, choices_of}
-use Rattle.vpg_trail.specs.Shown.{entry_of}
-use Rattle.vpg_trail.specs.WellFormed.{LiftsStandAfter}
-use Rattle.vpg_measure.specs.Orders.{OrderView}
-use Rattle.vpg_desk.specs.Book.{Commit, Added, Refused, OtherGame, Outdated, first_missing, outdated_at, refuses_commit}
-use Rattle.vpg_desk.specs.Commit.{IsOrderOf, handed_in, raised_by}
+use Rattle.vpg_desk.specs.Book.{Commit, Refused, OtherGame}
+use Rattle.vpg_desk.specs.Commit.{IsOrderOf, handed_in}
 use Rattle.vpg_desk.specs.DeskFields.{desk_of}
-use Rattle.vpg_desk.specs.State.{DeskState, IsStep, Replies}
-use Rattle.vpg_desk.specs.declared.fault.CommitFault.TheVariants.{Memory}
-use Rattle.vpg_desk.proofs.Committed.{other_refused, outdated_refused, few, lifts_stand, committed_step, committed_desk}
+use Rattle.vpg_desk.specs.State.{DeskState, Replies}
+use Rattle.vpg_desk.proofs.Committed.{other_refused, own_told}
 use Rattle.vpg_desk.proofs.desk.Desk.take_in.Goals as goal
-use Rattle.vpg_desk.proofs.desk.Desk.take_in.Goals.{After-is_order_of, After-first_missing, After-raise, After-len-added}
+use Rattle.vpg_desk.proofs.desk.Desk.take_in.Goals.{After-is_order_of}
 
 told : (c : After-is_order_of) → Decides c.is_order_of.result (IsOrderOf (desk_of c.self.inside) c.args.harvest.now.order)
-told c = coe 0 1 (k. Decides c.is_order_of.result (((c.order-order.ensures.order k).game ≡ c.deref.ensures k) × ((c.order-order.ensures.order k).diagram ≡ c.deref-2.ensures k))) c.is_order_of.ensures
+told c = coe 0 1 (k. Decides c.is_order_of.result (((c.order.ensures.order k).game ≡ c.deref.ensures k) × ((c.order.ensures.order k).diagram ≡ c.deref-2.ensures k))) c.is_order_of.ensures
 
 pub returns-then-not-is_order_of-clause-refused : goal.returns-then-not-is_order_of-clause-refused
 returns-then-not-is_order_of-clause-refused c =
     subst (λ (s : DeskState). (x : Bool) × (Decides x (IsOrderOf s c.args.harvest.now.order) × Replies s (Commit (handed_in x c.args.harvest.now)) (Refused OtherGame))) c.self.view_is
     (other_refused c.self.inside c.args.harvest.now c.is_order_of.result (told (goal.at.returns-then-not-is_order_of-clause-refused c).After-is_order_of) c.if-not-is_order_of.true)
 
-missing : (c : After-first_missing) → c.first_missing.result ≡ first_missing (choices_of c.self.inside.trail.entries) (map literal_of c.args.harvest.now.order.decisions)
-missing c =
-    c.first_missing.ensures ∙ ap (λ (page : List Step). first_missing (choices_of page) (map literal_of c.decisions.result.now)) c.entries.ensures.entries
-    ∙ ap (λ l. first_missing (choices_of c.self.inside.trail.entries) (map literal_of l)) (c.decisions.ensures.decisions ∙ ap (λ (o : OrderView). o.decisions) c.order-order.ensures.order)
+ours : (c : After-is_order_of) → c.is_order_of.result ≡ true → IsOrderOf c.args.self.now c.args.harvest.now.order
+ours c same = subst (λ (s : DeskState). IsOrderOf s c.args.harvest.now.order) c.self.view_is ((told c).0 same)
 
-pub returns-in-Some-clause-refused : goal.returns-in-Some-clause-refused
-returns-in-Some-clause-refused c =
-    subst (λ (s : DeskState). (x : Bool) × (Decides x (IsOrderOf s c.args.harvest.now.order) × Replies s (Commit (handed_in x c.args.harvest.now)) (Refused (Outdated c.in-Some.feature)))) c.self.view_is
-    (outdated_refused c.self.inside c.args.harvest.now c.is_order_of.result (told (goal.at.returns-in-Some-clause-refused c).After-is_order_of) c.in-Some.feature c.if-not-is_order_of.false
-    (sym (missing (goal.at.returns-in-Some-clause-refused c).After-first_missing) ∙ c.in-Some.is))
-
-ours : (c : After-len-added) → IsOrderOf (desk_of c.self.inside) c.args.harvest.now.order
-ours c = coe 0 1 (k. ((c.order-order.ensures.order k).game ≡ c.deref.ensures k) × ((c.order-order.ensures.order k).diagram ≡ c.deref-2.ensures k)) (c.is_order_of.ensures.0 c.if-not-is_order_of.false)
-
-none : (c : After-len-added) → first_missing (choices_of c.self.inside.trail.entries) (map literal_of c.args.harvest.now.order.decisions) ≡ None
-none c =
-    sym (c.in_default.ensures ∙ ap (λ (page : List Step). first_missing (choices_of page) (map literal_of c.decisions.result.now)) c.entries.ensures.entries
-    ∙ ap (λ l. first_missing (choices_of c.self.inside.trail.entries) (map literal_of l)) (c.decisions.ensures.decisions ∙ ap (λ (o : OrderView). o.decisions) c.order-order.ensures.order))
-
-added : (c : After-len-added) → c.len-added.result ≡ length (raised_by c.args.harvest.now c.self.inside.trail)
-added c = omega (arith, c.len-added.ensures, c.in_ok-raised.raised.ok.0, length-map c.in_ok-raised.raised.items entry_of, ap length c.in_ok-raised.ensures.lifts)
-
-pub overflow_cast-added : goal.overflow_cast-added
-overflow_cast-added c =
-    let at = (goal.at.overflow_cast-added c).After-len-added in
-    let bound : length (raised_by c.args.harvest.now c.self.inside.trail) ≤ 131072 = few c.self.inside c.self.invariant c.args.harvest.now c.order-order.ensures.harvest (ours at) (none at) in
-    omega (arith, added at, bound)
-
-pub extend-requires-clause-lifts : goal.extend-requires-clause-lifts
-extend-requires-clause-lifts c =
-    let at = (goal.at.extend-requires-clause-lifts c).After-len-added in
-    subst (LiftsStandAfter c.self.inside.trail.entries) (sym c.in_ok-raised.ensures.lifts) (lifts_stand c.self.inside c.self.invariant c.args.harvest.now c.order-order.ensures.harvest (ours at) (none at))
-
-pub invariant_of-self-2 : goal.invariant_of-self-2
-invariant_of-self-2 c =
-    let at = (goal.at.invariant_of-self-2 c).After-len-added in
-    committed_desk c.self.inside c.self.invariant c.args.harvest.now c.order-order.ensures.harvest (ours at) (none at) c.extend.new.self
-    (c.in_ok-extend.ensures.extended ∙ ap (λ (l : List Step). record { vertices = c.self.inside.trail.vertices; entries = c.self.inside.trail.entries ++ l }) c.in_ok-raised.ensures.lifts) c.len-added.result (added at)
-
-pub returns-clause-accepted : goal.returns-clause-accepted
-returns-clause-accepted c session =
-    let at = (goal.at.returns-clause-accepted c).After-len-added in
-    subst (λ (s : DeskState). IsStep s session (Commit (handed_in true c.args.harvest.now)) (Added c.len-added.result) (desk_of (record c.self.inside { trail = c.extend.new.self }))) c.self.view_is
-    (committed_step c.self.inside c.self.invariant c.args.harvest.now c.order-order.ensures.harvest (ours at) (none at) c.extend.new.self
-    (c.in_ok-extend.ensures.extended ∙ ap (λ (l : List Step). record { vertices = c.self.inside.trail.vertices; entries = c.self.inside.trail.entries ++ l }) c.in_ok-raised.ensures.lifts) c.len-added.result (added at) session)
-
--- want of memory comes only where nothing else refuses
-unrefused : {T E X : Type 0} (fault : E) (r : Result T E) → X → IfErr r (λ f. f ≡ fault → X)
-unrefused fault (Ok t) x = tt
-unrefused fault (Err f) x = λ _. x
-
-taken : (c : After-raise) → IsOrderOf c.args.self.now c.args.harvest.now.order × (refuses_commit c.args.self.now.book (handed_in true c.args.harvest.now) ≡ None)
-taken c =
-    subst (λ (s : DeskState). IsOrderOf s c.args.harvest.now.order × (refuses_commit s.book (handed_in true c.args.harvest.now) ≡ None)) c.self.view_is (
-      coe 0 1 (k. ((c.order-order.ensures.order k).game ≡ c.deref.ensures k) × ((c.order-order.ensures.order k).diagram ≡ c.deref-2.ensures k)) (c.is_order_of.ensures.0 c.if-not-is_order_of.false),
-      ap outdated_at (sym (c.in_default.ensures ∙ ap (λ (page : List Step). first_missing (choices_of page) (map literal_of c.decisions.result.now)) c.entries.ensures.entries
-          ∙ ap (λ l. first_missing (choices_of c.self.inside.trail.entries) (map literal_of l)) (c.decisions.ensures.decisions ∙ ap (λ (o : OrderView). o.decisions) c.order-order.ensures.order))),
-    )
-
-pub returns-in_err-raised-clause-last : goal.returns-in_err-raised-clause-last
-returns-in_err-raised-clause-last c = unrefused Memory c.from_residual.result (taken (goal.at.returns-in_err-raised-clause-last c).After-raise)
-
-pub returns-in_err-extend-clause-last : goal.returns-in_err-extend-clause-last
-returns-in_err-extend-clause-last c = unrefused Memory c.from_residual-in_err-extend.result (taken (goal.at.returns-in_err-extend-clause-last c).After-raise)
+pub returns-clause-refused : goal.returns-clause-refused
+returns-clause-refused c =
+    own_told c.args.self.now c.args.harvest.now (ours (goal.at.returns-clause-refused c).After-is_order_of c.if-not-is_order_of.false) c.take_own.result c.take_own.ensures.refused

@@ -1,4 +1,4 @@
-use Rattle.std.proofs.Common.{◌≡◌, ◌∙◌, ◌==◌, refl, subst}
+use Rattle.std.proofs.Common.{◌≡◌, ◌∙◌, ◌==◌, subst}
 use Rattle.std.specs.Arc.{arc_value}
 use Rattle.vpg_game.specs.Game.{graph_of}
 use Rattle.vpg_game.specs.declared.player.Player.{Player}
@@ -8,24 +8,24 @@ use Rattle.vpg_desk.specs.Book.{Verdict, VerdictIs, IsReply}
 use Rattle.vpg_desk.specs.Desk.{family_of}
 use Rattle.vpg_desk.specs.Headline.{NeverWins}
 use Rattle.vpg_desk.specs.State.{DeskState, setting_of}
-use Rattle.vpg_desk.proofs.Answering.{verdict_replies, hopeless_told, sure_told, hopeful_told, dual_told, vertex_viewed}
+use Rattle.vpg_desk.proofs.Answering.{verdict_replies, hopeless_told, sure_told, table_told, value_fits, vertex_viewed}
 use Rattle.vpg_desk.proofs.desk.Desk.verdict.Goals as goal
 use Rattle.vpg_desk.proofs.desk.Desk.verdict.Goals.{After-hopeful, After-dual, After-top-2}
 
 pub get-requires : goal.get-requires
-get-requires c = (hopeful_told c.self.inside c.self.invariant c.hopeful.result.now c.hopeful.ensures c.args.v _ (vertex_viewed c.self.inside c.args.self.now c.args.v c.self.view_is c.requires) refl).0
+get-requires c = (value_fits c.self.inside c.self.invariant Hopeful c.hopeful.result.now c.hopeful.ensures c.args.v (vertex_viewed c.self.inside c.args.self.now c.args.v c.self.view_is c.requires))
 
 pub get-requires-2 : goal.get-requires-2
-get-requires-2 c = (dual_told c.self.inside c.self.invariant c.dual.result.now c.dual.ensures c.args.v _ (vertex_viewed c.self.inside c.args.self.now c.args.v c.self.view_is c.requires) refl).0
+get-requires-2 c = (value_fits c.self.inside c.self.invariant Dual c.dual.result.now c.dual.ensures c.args.v (vertex_viewed c.self.inside c.args.self.now c.args.v c.self.view_is c.requires))
 
 first : (c : After-top-2) → (c.get.result ≡ value_at Hopeful c.args.v c.self.inside.trail.entries) × (c.top.result ≡ top_for Hopeful (graph_of (arc_value c.self.inside.game)))
 first c =
-    let t = hopeful_told c.self.inside c.self.invariant c.hopeful.result.now c.hopeful.ensures c.args.v c.top.result (vertex_viewed c.self.inside c.args.self.now c.args.v c.self.view_is c.requires) c.top.ensures.top in
+    let t = table_told c.self.inside c.self.invariant Hopeful c.deref.result.now c.deref.ensures c.shape.result.now c.shape.ensures c.hopeful.result.now c.hopeful.ensures c.args.v c.top.result (vertex_viewed c.self.inside c.args.self.now c.args.v c.self.view_is c.requires) c.top.ensures.top in
     (c.get.ensures ∙ t.1.0, t.1.1)
 
 second : (c : After-top-2) → (c.get-2.result ≡ value_at Dual c.args.v c.self.inside.trail.entries) × (c.top-2.result ≡ top_for Dual (graph_of (arc_value c.self.inside.game)))
 second c =
-    let t = dual_told c.self.inside c.self.invariant c.dual.result.now c.dual.ensures c.args.v c.top-2.result (vertex_viewed c.self.inside c.args.self.now c.args.v c.self.view_is c.requires) c.top-2.ensures.top in
+    let t = table_told c.self.inside c.self.invariant Dual c.deref-2.result.now c.deref-2.ensures c.shape-2.result.now c.shape-2.ensures c.dual.result.now c.dual.ensures c.args.v c.top-2.result (vertex_viewed c.self.inside c.args.self.now c.args.v c.self.view_is c.requires) c.top-2.ensures.top in
     (c.get-2.ensures ∙ t.1.0, t.1.1)
 
 pub returns-clause-reply : goal.returns-clause-reply

@@ -13,6 +13,5 @@ invariant_of-self c =
     rw (c.swap.ensures.x_after, c.swap.ensures.y_after, c.swap-2.ensures.x_after, c.swap-2.ensures.y_after) (record {
       order = room_exchanged (order_of c.self.inside) c.self.invariant.order
           (subst (λ (o : OrderView). (which : Which) → IsTableBelow (kleene o.known) which (graph_of o.game) (order_room which o)) (sym c.self.view_is) c.requires);
-      hopeful_ground = c.self.invariant.hopeful_ground;
-      dual_ground = c.self.invariant.dual_ground;
+      games = c.self.invariant.games;
     })

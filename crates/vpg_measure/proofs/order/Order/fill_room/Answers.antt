@@ -14,6 +14,5 @@ pub invariant_of-self : goal.invariant_of-self
 invariant_of-self c =
     rw (c.assign.ensures, c.assign-2.ensures) (record {
       order = room_filled (order_of c.self.inside) c.self.invariant.order;
-      hopeful_ground = c.self.invariant.hopeful_ground;
-      dual_ground = c.self.invariant.dual_ground;
+      games = c.self.invariant.games;
     })

@@ -12,6 +12,5 @@ invariant_of-self c =
       order = room_put order c.args.hopeful c.args.dual c.self.invariant.order
           (c.requires.hopeful ∙ sym (ap (λ (o : OrderView). length o.hopeful) c.self.view_is) ∙ table_count order c.self.invariant.order Hopeful)
           (c.requires.dual ∙ sym (ap (λ (o : OrderView). length o.dual) c.self.view_is) ∙ table_count order c.self.invariant.order Dual);
-      hopeful_ground = c.self.invariant.hopeful_ground;
-      dual_ground = c.self.invariant.dual_ground;
+      games = c.self.invariant.games;
     }

@@ -1,46 +1,37 @@
-use Rattle.std.proofs.Common.{◌∙◌, ℕ, List, sym, ap}
-use Rattle.vpg_measure.specs.declared.which.Which.{Which}
+use Rattle.std.proofs.Common.{ℕ, List}
+use Rattle.vpg_game.specs.declared.levels.Level.{Level}
+use Rattle.vpg_hope.specs.Games.{Game}
 use Rattle.vpg_measure.specs.declared.which.Which.TheVariants.{Hopeful, Dual}
-use Rattle.vpg_measure.specs.Lifts.{IsTableOf, after_rounds}
+use Rattle.vpg_measure.specs.Lifts.{after_rounds}
 use Rattle.vpg_measure.specs.OrderFields.{order_of}
-use Rattle.vpg_measure.specs.Orders.{OrderView, order_levels, order_arena, order_room, with_room}
-use Rattle.vpg_measure.proofs.OrderLemmas.{room_put, ground_count, ground_settled}
+use Rattle.vpg_measure.proofs.OrderGames.{own_levels, own_arena}
+use Rattle.vpg_measure.proofs.OrderLemmas.{room_put, room_count, room_changed}
 use Rattle.vpg_measure.proofs.order.Order.settle_room.Goals as goal
-
--- what is asked of the table, in the words of the order's fields
-abbrev asked : Which → OrderView → Type 0
-asked which order = IsTableOf (order_levels which order) (order_arena which order) (order_room which order)
-
--- the order that is left
-abbrev left : ℕ → Which → OrderView → OrderView
-left n which order = with_room which (after_rounds (order_levels which order) (order_arena which order) n (order_room which order)) order
 
 pub invariant_of-self : goal.invariant_of-self
 invariant_of-self c = record {
   order = room_put (order_of c.self.inside) c.settle_alone.new.table c.self.inside.dual_room c.self.invariant.order
-      (ground_count c.self.inside.known Hopeful (order_of c.self.inside).game c.self.inside.hopeful_ground c.self.invariant.hopeful_ground c.settle_alone.new.table c.settle_alone.ensures.table) c.self.invariant.order.dual_room;
-  hopeful_ground = c.self.invariant.hopeful_ground;
-  dual_ground = c.self.invariant.dual_ground;
+      (room_count (order_of c.self.inside) c.args.which c.arena-arena.result.now c.settle_alone.new.table (own_arena c.self.inside c.self.invariant c.deref-2.result.now c.deref-2.ensures c.args.which c.arena-arena.result.now c.arena-arena.ensures) c.settle_alone.ensures.table.len)
+      c.self.invariant.order.dual_room;
+  games = c.self.invariant.games;
 }
 
 pub returns-in-Hopeful : goal.returns-in-Hopeful
 returns-in-Hopeful c =
-    ap (λ (room : List ℕ). with_room Hopeful room (order_of c.self.inside))
-    (c.settle_alone.ensures.after ∙ ground_settled c.self.inside.known Hopeful (order_of c.self.inside).game c.self.inside.hopeful_ground c.self.invariant.hopeful_ground c.self.inside.hopeful_room c.args.rounds)
-    ∙ ap (λ (o : OrderView). left c.args.rounds Hopeful o) c.self.view_is
-    ∙ ap (λ (w : Which). left c.args.rounds w c.args.self.now) (sym c.in-Hopeful.is)
+    room_changed (λ (l : List Level) (g : Game) (t : List ℕ). after_rounds l g c.args.rounds t) (order_of c.self.inside) c.args.self.now c.args.which Hopeful
+    c.shape-shape.result.now c.arena-arena.result.now c.settle_alone.new.table (own_levels c.self.inside c.self.invariant c.deref.result.now c.deref.ensures c.args.which c.shape-shape.result.now c.shape-shape.ensures)
+    (own_arena c.self.inside c.self.invariant c.deref-2.result.now c.deref-2.ensures c.args.which c.arena-arena.result.now c.arena-arena.ensures) c.in-Hopeful.is c.settle_alone.ensures.after c.self.view_is
 
 pub invariant_of-self-in-Dual : goal.invariant_of-self-in-Dual
 invariant_of-self-in-Dual c = record {
   order = room_put (order_of c.self.inside) c.self.inside.hopeful_room c.settle_alone-in-Dual.new.table c.self.invariant.order
-      c.self.invariant.order.hopeful_room (ground_count c.self.inside.known Dual (order_of c.self.inside).game c.self.inside.dual_ground c.self.invariant.dual_ground c.settle_alone-in-Dual.new.table c.settle_alone-in-Dual.ensures.table);
-  hopeful_ground = c.self.invariant.hopeful_ground;
-  dual_ground = c.self.invariant.dual_ground;
+      c.self.invariant.order.hopeful_room
+      (room_count (order_of c.self.inside) c.args.which c.arena-arena.result.now c.settle_alone-in-Dual.new.table (own_arena c.self.inside c.self.invariant c.deref-2.result.now c.deref-2.ensures c.args.which c.arena-arena.result.now c.arena-arena.ensures) c.settle_alone-in-Dual.ensures.table.len);
+  games = c.self.invariant.games;
 }
 
 pub returns-in-Dual : goal.returns-in-Dual
 returns-in-Dual c =
-    ap (λ (room : List ℕ). with_room Dual room (order_of c.self.inside))
-    (c.settle_alone-in-Dual.ensures.after ∙ ground_settled c.self.inside.known Dual (order_of c.self.inside).game c.self.inside.dual_ground c.self.invariant.dual_ground c.self.inside.dual_room c.args.rounds)
-    ∙ ap (λ (o : OrderView). left c.args.rounds Dual o) c.self.view_is
-    ∙ ap (λ (w : Which). left c.args.rounds w c.args.self.now) (sym c.in-Dual.is)
+    room_changed (λ (l : List Level) (g : Game) (t : List ℕ). after_rounds l g c.args.rounds t) (order_of c.self.inside) c.args.self.now c.args.which Dual
+    c.shape-shape.result.now c.arena-arena.result.now c.settle_alone-in-Dual.new.table (own_levels c.self.inside c.self.invariant c.deref.result.now c.deref.ensures c.args.which c.shape-shape.result.now c.shape-shape.ensures)
+    (own_arena c.self.inside c.self.invariant c.deref-2.result.now c.deref-2.ensures c.args.which c.arena-arena.result.now c.arena-arena.ensures) c.in-Dual.is c.settle_alone-in-Dual.ensures.after c.self.view_is

@@ -5,7 +5,7 @@ use Rattle.vpg_texts.proofs.showing.plans.choices.Goals as goal
 pub returns-in-Err-NotSettled-clause-unsettled : goal.returns-in-Err-NotSettled-clause-unsettled
 returns-in-Err-NotSettled-clause-unsettled c =
     unsettled c.args.game.now c.args.known.now Hopeful c.in_ok-shape.shape c.in_ok-arena.arena c.args.hopeful.now c.args.dual.now
-    c.in_ok-shape.ensures c.in_ok-arena.ensures (c.strategy.ensures.not_settled (cc))
+    c.in_ok-shape.ensures c.in_ok-arena.ensures (c.strategy.ensures.not_settled.0 (cc))
 
 pub returns-then-not-is_progress-clause-unsettled :
     goal.returns-then-not-is_progress-clause-unsettled

@@ -1,0 +1,107 @@
+#!/usr/bin/env python3
+"""What a line of a script costs on a large family: decisions, lifts and settling, one line at a time.
+
+    decisions.py VPGDESK [VERTICES [FEATURES [GAME DIAGRAM VERTEX FEATURE..]]]
+
+The family has VERTICES vertices (65,536 if left out) of sixteen edges each and FEATURES optional features (200), of which each is named by about one
+edge in a thousand. For each kind of line: the processor time of a script of 100 such lines, less that of the same script without them, over 100; the
+least of three runs; and the peak memory. With GAME, DIAGRAM, a VERTEX and FEATUREs these are measured in its place: each FEATURE may be decided in by itself,
+out by itself, and together with the others.
+"""
+import os
+import random
+import subprocess
+import sys
+import tempfile
+
+LINES = 100
+RUNS = 3
+
+
+def write_family(folder, vertices, features):
+    rng = random.Random(11)
+    names = [f"f{i}" for i in range(features)]
+    with open(f"{folder}/diagram", "w") as out:
+        out.write("root r\n" + "".join(f"optional r {name}\n" for name in names))
+    guarded = min(features / 1000, 0.9)
+    with open(f"{folder}/game", "w") as out:
+        out.write(f"parity {vertices - 1};\n")
+        for v in range(vertices):
+            edges = []
+            for w in rng.sample(range(vertices), min(16, vertices)):
+                guard = ""
+                if rng.random() < guarded:
+                    guard = f"[{rng.choice(['', '!'])}{rng.choice(names)}]"
+                edges.append(f"{w}{guard}")
+            out.write(f"{v} {min(int(rng.expovariate(0.6)), 6)} {rng.randrange(2)} {','.join(edges)};\n")
+    return f"{folder}/game", f"{folder}/diagram", "0", names
+
+
+def spent(program, game, diagram, lines):
+    """Processor seconds and megabytes of a run."""
+    with tempfile.NamedTemporaryFile("w") as script, open(os.devnull, "wb") as sink:
+        script.write("\n".join(lines) + "\n")
+        script.flush()
+        child = subprocess.Popen([program, "run", game, diagram, script.name], stdout=sink)
+        _, status, usage = os.wait4(child.pid, 0)
+        child.returncode = os.waitstatus_to_exitcode(status)
+        if child.returncode:
+            sys.exit(f"the program ended with {child.returncode}")
+    return usage.ru_utime + usage.ru_stime, usage.ru_maxrss / 1024
+
+
+def least(program, game, diagram, lines):
+    runs = [spent(program, game, diagram, lines) for _ in range(RUNS)]
+    return min(seconds for seconds, _ in runs), max(memory for _, memory in runs)
+
+
+def cycled(features, line):
+    return [line.format(features[i % len(features)]) for i in range(LINES)]
+
+
+def paired(features, first, second):
+    """Pairs of lines on one feature after another, so that each can be carried out."""
+    return [line.format(features[i % len(features)]) for i in range(LINES // 2) for line in (first, second)]
+
+
+def cases(vertex, features):
+    """The name, the lines before, and the lines that are measured."""
+    yield "lift", [], [f"lift hopeful {vertex}"] * LINES
+    yield "select and retract", [], paired(features, "select {}", "retract {}")
+    yield "exclude and undo", [], [line for i in range(LINES // 2) for line in (f"exclude {features[i % len(features)]}", "undo")]
+    if len(features) >= LINES:
+        selected = cycled(features, "select {}")
+        yield "select", [], selected
+        yield "exclude", [], cycled(features, "exclude {}")
+        yield "retract", selected, cycled(features, "retract {}")
+        yield "undo", selected, ["undo"] * LINES
+        yield "redo", selected + ["undo"] * LINES, ["redo"] * LINES
+    yield "undo and redo", [f"select {features[0]}"], ["undo", "redo"] * (LINES // 2)
+    yield "settle, settled", ["settle"], ["settle"] * LINES
+    yield "lift, settled", ["settle"], [f"lift hopeful {vertex}"] * LINES
+    yield "show", [], ["show"] * LINES
+    yield "products", [], ["products"] * LINES
+
+
+def main():
+    if len(sys.argv) < 2:
+        sys.exit(__doc__)
+    program = sys.argv[1]
+    with tempfile.TemporaryDirectory() as folder:
+        if len(sys.argv) > 6:
+            game, diagram, vertex, features = sys.argv[4], sys.argv[5], sys.argv[6], sys.argv[7:]
+        else:
+            vertices = int(sys.argv[2]) if len(sys.argv) > 2 else 65536
+            game, diagram, vertex, features = write_family(folder, vertices, int(sys.argv[3]) if len(sys.argv) > 3 else 200)
+        reading, memory = least(program, game, diagram, [])
+        print(f"{'reading':20} {reading * 1000:10.1f} ms {memory:8.0f} MB", flush=True)
+        known = {(): reading}
+        for name, before, lines in cases(vertex, features):
+            if tuple(before) not in known:
+                known[tuple(before)] = least(program, game, diagram, before)[0]
+            seconds, memory = least(program, game, diagram, before + lines)
+            print(f"{name:20} {(seconds - known[tuple(before)]) * 1000 / len(lines):10.3f} ms {memory:8.0f} MB", flush=True)
+
+
+if __name__ == "__main__":
+    main()

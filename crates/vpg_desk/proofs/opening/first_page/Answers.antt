@@ -1,0 +1,5 @@
+use Rattle.vpg_desk.proofs.Opened.{opening_stands}
+use Rattle.vpg_desk.proofs.opening.first_page.Goals as goal
+
+pub returns-clause-opened : goal.returns-clause-opened
+returns-clause-opened c = opening_stands c.args.game.now c.args.diagram.now _ c.requires c.in_ok-games.ensures.games

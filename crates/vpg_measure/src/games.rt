@@ -1,0 +1,138 @@
+//! What decisions make of a game: what is known of each feature, and the shape and the kept edges of both games.
+
+ghost use Rattle.std.specs.Arc.{arc_value};
+ghost use Rattle.std.specs.Prelude.{◌≡◌, ◌↔◌, ℕ, length, map, IfOk, Err};
+ghost use Rattle.vpg_diagram.specs.Clauses.{clauses_of, counts_of};
+ghost use Rattle.vpg_diagram.specs.FeatureDiagram.{feature_count};
+ghost use Rattle.vpg_game.specs.Game.{IsAtLimit};
+ghost use Rattle.vpg_partial.specs.Known.{literal_of, NamesConflict};
+ghost use Rattle.vpg_partial.specs.TableLaws.{AreChoicesOf};
+ghost use Rattle.vpg_measure.specs.Games.{ArePageGames, games_levels, games_arena};
+ghost use Rattle.vpg_measure.specs.GamesFields.{IsSideGame};
+
+use crate::fault::OrderFault;
+use crate::shape::Shape;
+use crate::which::Which;
+use std::alloc::{AllocError, Global};
+use std::marker::Model;
+use std::sync::Arc;
+use vpg_diagram::Diagram;
+use vpg_game::GuardedGame;
+use vpg_hope::Arena;
+use vpg_partial::{Decision, Partial};
+
+/// The shape and the kept edges of one of the two games.
+#[derive(Drop)]
+struct SideGame {
+    shape: Shape,
+    arena: Arena,
+}
+
+impl SideGame {
+    fn of(
+        alloc: Global,
+        which: Which,
+        game: &GuardedGame,
+        known: &Partial,
+    ) -> Result<SideGame, AllocError>
+        requires { length known.now ≡ game.now.features }
+        ensures { IfOk result (IsSideGame known.now which game.now) }
+    {
+        match which {
+            Which::Hopeful => Ok(SideGame {
+                shape: Shape::of(alloc, game)?,
+                arena: Arena::hopeful(alloc, game, known)?,
+            }),
+            Which::Dual => Ok(SideGame {
+                shape: Shape::of_dual(alloc, game)?,
+                arena: Arena::hopeful_of_dual(alloc, game, known)?,
+            }),
+        }
+    }
+}
+
+/// What the decisions of a page make of its game: what is known of each feature, and for each of the two tables the shape of its
+/// measures and the edges that its game keeps.
+#[derive(Drop)]
+pub struct PageGames {
+    known: Partial,
+    hopeful: SideGame,
+    dual: SideGame,
+}
+
+impl Model for PageGames {
+    ghost use Rattle.vpg_measure.specs.Games.{GamesView};
+    ghost use Rattle.vpg_measure.specs.GamesFields.{games_of};
+
+    ghost Value = { GamesView };
+
+    ghost view = { games_of };
+}
+
+impl PageGames {
+    /// What decisions on features of the diagram make of the game.
+    ///
+    /// Errors, in this order: `AtLimit` where a priority of the game is 65,536, so that it has no dual; `Conflict` where the
+    /// decisions have one; `Memory`.
+    pub fn under(
+        alloc: Global,
+        game: &GuardedGame,
+        diagram: &Diagram,
+        decisions: &[Decision],
+    ) -> Result<PageGames, OrderFault>
+        requires features { game.now.features ≡ feature_count diagram.now.lines }
+        requires named { AreChoicesOf diagram.now.lines (map literal_of decisions.now) }
+        ensures games { IfOk result (ArePageGames game.now diagram.now (map literal_of decisions.now)) }
+        ensures at_limit { (result ≡ Err OrderFault.AtLimit) ↔ IsAtLimit game.now }
+        ensures conflict { (f : ℕ) → result ≡ Err (OrderFault.Conflict f) →
+            NamesConflict (clauses_of diagram.now.lines) (counts_of diagram.now.lines) (map literal_of decisions.now) f }
+    {
+        if game.is_at_limit() {
+            return Err(OrderFault::AtLimit);
+        }
+        // What every game and every diagram keeps, for the proof.
+        let _features = (game.vertices(), diagram.features());
+        let known = Partial::close(alloc, diagram, decisions)?;
+        let hopeful = SideGame::of(alloc, Which::Hopeful, game, &known)?;
+        let dual = SideGame::of(alloc, Which::Dual, game, &known)?;
+        Ok(PageGames {
+            known,
+            hopeful,
+            dual,
+        })
+    }
+
+    /// The games, to be shared.
+    pub fn share(self, alloc: Global) -> Result<Arc<PageGames>, AllocError>
+        ensures { IfOk result (λ shared. arc_value shared ≡ self) }
+    {
+        Ok(Arc::new(alloc, self)?)
+    }
+
+    /// What is known of each feature.
+    pub fn known(&self) -> &Partial
+        ensures { result.now ≡ self.now.known }
+    {
+        &self.known
+    }
+
+    /// The shape of the measures of either game.
+    pub fn shape(&self, which: Which) -> &Shape
+        ensures { result.now ≡ games_levels which self.now }
+    {
+        match which {
+            Which::Hopeful => &self.hopeful.shape,
+            Which::Dual => &self.dual.shape,
+        }
+    }
+
+    /// The kept edges of either game.
+    pub fn arena(&self, which: Which) -> &Arena
+        ensures { result.now ≡ games_arena which self.now }
+    {
+        match which {
+            Which::Hopeful => &self.hopeful.arena,
+            Which::Dual => &self.dual.arena,
+        }
+    }
+}
