@@ -6,15 +6,17 @@ ghost use Rattle.vpg_diagram.specs.Clauses.{clauses_of, counts_of, IsClauseBelow
 ghost use Rattle.vpg_diagram.specs.DiagramText.{IsNamedDiagram};
 ghost use Rattle.vpg_diagram.specs.FeatureDiagram.{feature_count, IsDiagram, IsProduct};
 ghost use Rattle.vpg_diagram.specs.LineView.{lines_of};
+ghost use Rattle.vpg_diagram.specs.Rules.{IsIndex};
 
 use crate::clause::{Clause, Count};
 use crate::fault::DiagramFault;
+use crate::index::index_of;
 use crate::line::Line;
 use crate::reading::read_text;
 use crate::{building, product};
 use std::alloc::{AllocError, Global};
 use std::marker::Model;
-use vpg_guards::Names;
+use vpg_guards::{Index, Names};
 
 /// A feature diagram: the names of its features, in order, and the lines below its root line.
 #[derive(Drop)]
@@ -23,6 +25,7 @@ pub struct Diagram {
     lines: Vec<Line>,
     clauses: Vec<Clause>,
     counts: Vec<Count>,
+    index: Index,
 }
 
 impl Model for Diagram {
@@ -35,7 +38,7 @@ impl Model for Diagram {
 
     ghost view = { λ d. record { names = d.names; lines = lines_of d.lines.items } };
 
-    ghost invariant = { λ d. IsKept (record { names = d.names; lines = lines_of d.lines.items }) d.clauses.items d.counts.items };
+    ghost invariant = { λ d. IsKept (record { names = d.names; lines = lines_of d.lines.items }) d.clauses.items d.counts.items d.index };
 }
 
 impl Diagram {
@@ -49,11 +52,13 @@ impl Diagram {
     {
         let clauses = building::clauses_of(alloc, &lines)?;
         let counts = building::counts_of(alloc, &lines)?;
+        let index = index_of(alloc, names.len(), &clauses, &counts)?;
         Ok(Diagram {
             names,
             lines,
             clauses,
             counts,
+            index,
         })
     }
 
@@ -117,6 +122,14 @@ impl Diagram {
         ensures below { AllByRecursion (IsCountBelow (feature_count self.now.lines)) result.now }
     {
         &self.counts
+    }
+
+    /// For each feature the numbers of the clauses and counts that speak of it. The clauses have the first numbers, in order, and
+    /// then come the counts.
+    pub fn index(&self) -> &Index
+        ensures { IsIndex (clauses_of self.now.lines) (counts_of self.now.lines) result.now }
+    {
+        &self.index
     }
 
     /// Whether two diagrams are the same: with the same names and the same lines, each in the same order.

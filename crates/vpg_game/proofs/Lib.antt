@@ -12,3 +12,4 @@ pub mod DualGames
 pub mod Graphs
 pub mod Written
 pub mod Named
+pub mod NamingSteps

@@ -4,6 +4,7 @@ ghost use Rattle.vpg_game.specs.Game.{vertex_ids, priorities_of, dual_vertex, du
 
 use crate::fault::DualFault;
 use crate::game::GuardedGame;
+use crate::naming::naming_of;
 use crate::vertex::Vertex;
 use indexmap::IndexSet;
 use std::alloc::{AllocError, Global};
@@ -24,12 +25,16 @@ impl GuardedGame {
         let Ok(ids) = identifiers(alloc, &self.vertices) else {
             return Err(DualFault::Memory);
         };
+        let Ok(naming) = naming_of(alloc, self.features, &vertices) else {
+            return Err(DualFault::Memory);
+        };
         let (top, dual_top) = self.tops;
         Ok(GuardedGame {
             ids,
             vertices,
             features: self.features,
             tops: (dual_top, top),
+            naming,
         })
     }
 }

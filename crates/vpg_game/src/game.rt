@@ -1,6 +1,7 @@
 //! Guarded games.
 ghost use Rattle.std.specs.Prelude.{◌≡◌, ◌<◌, ◌↔◌, Contains, IsTrue, ℕ, length, IfOk, IfErr, IfSome, MatchResult, slice_get, slice_index_or, Some};
 ghost use Rattle.vpg_game.specs.Game.{NamedGame, top_in, dual_top_in, priorities_of, vertex_ids, no_vertex, graph_of, vertex_in, IsGame, IsAtLimit, SpellsGame};
+ghost use Rattle.vpg_game.specs.Naming.{features_named};
 ghost use Rattle.vpg_game.specs.Refused.{IsRefused};
 
 use crate::fault::GameFault;
@@ -11,7 +12,7 @@ use crate::vertex::{Edge, Vertex};
 use indexmap::IndexSet;
 use std::alloc::Global;
 use std::marker::Model;
-use vpg_guards::Names;
+use vpg_guards::{Index, Names};
 
 /// The highest priority that a game has. One that is read has lower ones; its dual may have it.
 pub const HIGHEST_PRIORITY: u32 = 65_536;
@@ -23,12 +24,15 @@ pub struct GuardedGame {
     pub(crate) vertices: Vec<Vertex>,
     pub(crate) features: usize,
     pub(crate) tops: (u64, u64),
+    // for each feature the vertices that have an edge whose guard names it
+    pub(crate) naming: Index,
 }
 
 impl Model for GuardedGame {
     ghost use Rattle.std.specs.Prelude.{◌≡◌};
     ghost use Rattle.vpg_game.specs.Game.{NamedGame, IsGame, vertex_ids, priorities_of, top_in, dual_top_in};
     ghost use Rattle.vpg_game.specs.Coding.{game_code};
+    ghost use Rattle.vpg_game.specs.Naming.{IsNaming};
 
     ghost Value = { NamedGame };
 
@@ -36,7 +40,7 @@ impl Model for GuardedGame {
 
     ghost view = { λ g. record { vertices = g.vertices.items; features = g.features } };
 
-    ghost invariant = { λ g. IsGame (record { vertices = g.vertices.items; features = g.features }) × (g.ids.keys ≡ vertex_ids g.vertices.items) × (g.tops.0 ≡ top_in (priorities_of g.vertices.items)) × (g.tops.1 ≡ dual_top_in (priorities_of g.vertices.items)) };
+    ghost invariant = { λ g. IsGame (record { vertices = g.vertices.items; features = g.features }) × (g.ids.keys ≡ vertex_ids g.vertices.items) × (g.tops.0 ≡ top_in (priorities_of g.vertices.items)) × (g.tops.1 ≡ dual_top_in (priorities_of g.vertices.items)) × IsNaming g.features g.vertices.items g.naming };
 }
 
 impl GuardedGame {
@@ -122,6 +126,15 @@ impl GuardedGame {
         ensures dual { result.1 ≡ dual_top_in (priorities_of self.now.vertices) }
     {
         self.tops
+    }
+
+    /// The vertices that have an edge whose guard names the feature, in file order. A guard has the same value under any two
+    /// valuations that agree on the features that it names (`vpg_guards::laws`), so these are the vertices that a change of
+    /// what is known of the feature concerns.
+    pub fn naming(&self, feature: u16) -> &[usize]
+        ensures { (v : ℕ) → Contains result.now v ↔ Contains (features_named (vertex_in (graph_of self.now) v).edges) feature }
+    {
+        self.naming.numbers(feature)
     }
 }
 

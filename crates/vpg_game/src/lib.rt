@@ -18,6 +18,7 @@ mod game;
 pub mod laws;
 mod levels;
 mod making;
+mod naming;
 mod player;
 mod reading;
 mod vertex;

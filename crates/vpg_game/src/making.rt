@@ -9,6 +9,7 @@ use crate::entry::{Entry, Successor};
 use crate::fault::GameFault;
 use crate::game::GuardedGame;
 use crate::levels::top_within_limit;
+use crate::naming::naming_of;
 use crate::vertex::{Edge, Vertex};
 use indexmap::IndexSet;
 use std::alloc::{AllocError, Global};
@@ -174,10 +175,14 @@ pub(crate) fn make(
     let Some(dual_top) = dual_top else {
         return Err(GameFault::TooWide);
     };
+    let Ok(naming) = naming_of(alloc, features, &vertices) else {
+        return Err(GameFault::Memory);
+    };
     Ok(GuardedGame {
         ids,
         vertices,
         features,
         tops: (top, dual_top),
+        naming,
     })
 }

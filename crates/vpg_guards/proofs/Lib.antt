@@ -1,5 +1,6 @@
 pub mod Views
 pub mod Kleene
+pub mod Named
 pub mod Full
 pub mod Held
 pub mod Blanks
@@ -12,3 +13,4 @@ pub mod Written
 pub mod Readable
 pub mod Form
 pub mod LawProofs
+pub mod Noted

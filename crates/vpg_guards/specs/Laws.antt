@@ -1,8 +1,8 @@
 -- Statements of the laws.
-use Rattle.std.specs.Prelude.{◌≡◌, ℕ, ◌⊎◌, ◌↔◌, List, length, Bool, ◌&&◌, ◌||◌, if◌then◌else◌}
+use Rattle.std.specs.Prelude.{◌≡◌, ℕ, ◌⊎◌, ◌↔◌, List, length, Contains, slice_index_or, Bool, ◌&&◌, ◌||◌, if◌then◌else◌}
 use Rattle.vpg_guards.specs.declared.tri.Tri.{Tri}
-use Rattle.vpg_guards.specs.declared.tri.Tri.TheVariants.{No, Yes}
-use Rattle.vpg_guards.specs.Formula.{Formula, Parts, all, any, no_parts, part, truth, IsBelow}
+use Rattle.vpg_guards.specs.declared.tri.Tri.TheVariants.{No, Unknown, Yes}
+use Rattle.vpg_guards.specs.Formula.{Formula, Parts, all, any, no_parts, part, truth, named, IsBelow}
 use Rattle.vpg_guards.specs.Known.{kleene, tri_and, tri_or, Agrees, IsCompletion, IsFinerValue, IsFiner, AreAllKnown}
 use Rattle.vpg_guards.specs.Names.{AreNames}
 use Rattle.vpg_guards.specs.Grammar.{Spells, both, either}
@@ -20,6 +20,11 @@ FinerValuesRefine = (known more : List Tri) (g : Formula) → IsFiner known more
 abbrev pub FullValuesDecide : Type 0
 FullValuesDecide = (n : ℕ) (known : List Tri) (set : List Bool) (g : Formula) → AreAllKnown n known → IsCompletion known set → IsBelow n g →
     kleene known g ≡ (if truth set g then Yes else No)
+
+-- the value rests on the features that the guard names, and on no other
+abbrev pub ValuesRestOnNamedFeatures : Type 0
+ValuesRestOnNamedFeatures = (known other : List Tri) (g : Formula) →
+    ((f : ℕ) → Contains (named g) f → slice_index_or known f Unknown ≡ slice_index_or other f Unknown) → kleene known g ≡ kleene other g
 
 -- a text spells one guard at most
 abbrev pub TextsSpellOneGuard : Type 0

@@ -1,5 +1,5 @@
 //! Laws of the definitions. Each function does nothing: its contract is the law.
-ghost use Rattle.vpg_guards.specs.Laws.{KnownValuesHold, FinerValuesRefine, FullValuesDecide, TextsSpellOneGuard, WritingsSpellTheGuard, SpelledGuardsAreReadable, DisjunctionsAreReadable, JoinedGuardsMeanBoth, PartsDecideTheValue};
+ghost use Rattle.vpg_guards.specs.Laws.{KnownValuesHold, FinerValuesRefine, FullValuesDecide, ValuesRestOnNamedFeatures, TextsSpellOneGuard, WritingsSpellTheGuard, SpelledGuardsAreReadable, DisjunctionsAreReadable, JoinedGuardsMeanBoth, PartsDecideTheValue};
 
 /// A value that is known holds in each set that agrees with what is known.
 pub fn known_values_hold()
@@ -14,6 +14,11 @@ pub fn finer_values_refine()
 /// Where every feature is known, so is the truth of each guard.
 pub fn full_values_decide()
     ensures { FullValuesDecide }
+{}
+
+/// The value of a guard rests on what is known of the features that it names, and on no other.
+pub fn values_rest_on_named_features()
+    ensures { ValuesRestOnNamedFeatures }
 {}
 
 /// A text spells one guard at most.

@@ -10,3 +10,4 @@ pub mod Reach
 pub mod Trails
 pub mod Rows
 pub mod Selected
+pub mod ChangeSteps

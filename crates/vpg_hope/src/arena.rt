@@ -1,12 +1,14 @@
 //! Plain games kept for look-ups: what measures are lifted over.
-ghost use Rattle.std.specs.Prelude.{◌≡◌, ℕ, ◌<◌, length, map, IfOk, All};
+ghost use Rattle.std.specs.Prelude.{◌≡◌, ℕ, ◌<◌, ◌++◌, length, map, IfOk, OnOk, All, false};
 ghost use Rattle.vpg_guards.specs.Known.{kleene};
-ghost use Rattle.vpg_game.specs.Game.{graph_of};
+ghost use Rattle.vpg_game.specs.Game.{IsGame, graph_of, vertex_in};
 ghost use Rattle.vpg_game.specs.Guarded.{dual};
 ghost use Rattle.vpg_hope.specs.Arena.{vertex_at};
+ghost use Rattle.vpg_hope.specs.Games.{successors_of};
 ghost use Rattle.vpg_hope.specs.Hope.{hopeful_game};
-ghost use Rattle.vpg_hope.specs.Selection.{features_under, vertex_under};
+ghost use Rattle.vpg_hope.specs.Selection.{features_under, vertex_under, kept_under, IsHeldUnmarked};
 
+use crate::changes::concerned;
 use crate::selection::Selection;
 use std::alloc::{AllocError, Global};
 use std::marker::Model;
@@ -64,6 +66,101 @@ impl Arena {
         ensures { IfOk result (λ arena. arena ≡ hopeful_game (kleene known.now) (dual (graph_of game.now))) }
     {
         Arena::selected(alloc, game, Selection::HopefulOfDual(known.values()))
+    }
+
+    /// The hopeful game under what is known now, from this one, which is that under what was known before. Guards are looked
+    /// at only at the vertices that a feature names of which something else is known now; all else is copied. More may be
+    /// known than before, or less.
+    pub fn updated(
+        &self,
+        alloc: Global,
+        game: &GuardedGame,
+        before: &Partial,
+        known: &Partial,
+    ) -> Result<Arena, AllocError>
+        requires before { length before.now ≡ game.now.features }
+        requires known { length known.now ≡ game.now.features }
+        requires held { self.now ≡ hopeful_game (kleene before.now) (graph_of game.now) }
+        ensures { IfOk result (λ arena. arena ≡ hopeful_game (kleene known.now) (graph_of game.now)) }
+    {
+        let marks = concerned(alloc, game, before.values(), known.values())?;
+        self.reselected(alloc, game, Selection::Hopeful(known.values()), &marks)
+    }
+
+    /// The same of the dual: its hopeful game under what is known now, from that under what was known before.
+    pub fn updated_of_dual(
+        &self,
+        alloc: Global,
+        game: &GuardedGame,
+        before: &Partial,
+        known: &Partial,
+    ) -> Result<Arena, AllocError>
+        requires before { length before.now ≡ game.now.features }
+        requires known { length known.now ≡ game.now.features }
+        requires held { self.now ≡ hopeful_game (kleene before.now) (dual (graph_of game.now)) }
+        ensures { IfOk result (λ arena. arena ≡ hopeful_game (kleene known.now) (dual (graph_of game.now))) }
+    {
+        let marks = concerned(alloc, game, before.values(), known.values())?;
+        self.reselected(
+            alloc,
+            game,
+            Selection::HopefulOfDual(known.values()),
+            &marks,
+        )
+    }
+
+    /// What is selected of a game, where only marked vertices are looked at: the others keep what they have here.
+    fn reselected(
+        &self,
+        alloc: Global,
+        game: &GuardedGame,
+        selection: Selection<'_>,
+        marks: &[bool],
+    ) -> Result<Arena, AllocError>
+        requires features { features_under selection ≡ game.now.features }
+        requires count { length self.now ≡ length (graph_of game.now) }
+        requires marks { length marks.now ≡ length (graph_of game.now) }
+        requires held { IsHeldUnmarked selection marks.now (graph_of game.now) self.now }
+        ensures { IfOk result (λ arena. arena ≡ map (vertex_under selection.entry) (graph_of game.now)) }
+    {
+        let count = game.vertices();
+        let mut rows = Vec::with_capacity(alloc, count)?;
+        let mut successors = Vec::new(alloc);
+        for v in 0..count as u32 {
+            let start = successors.len() as u32;
+            self.push_held(&mut successors, game, selection, v, marks[v as usize])?;
+            rows.push(Row {
+                owner: selection.owner(game.owner(v)),
+                priority: selection.priority(game.priority(v)),
+                start,
+                end: successors.len() as u32,
+            })?;
+        }
+        Ok(Arena { rows, successors })
+    }
+
+    /// Adds the kept successors of a vertex. Without a mark they are those that it has here.
+    fn push_held(
+        &self,
+        successors: &mut Vec<u32>,
+        game: &GuardedGame,
+        selection: Selection<'_>,
+        v: u32,
+        is_marked: bool,
+    ) -> Result<(), AllocError>
+        requires game { IsGame game.now }
+        requires vertex { v < length game.now.vertices }
+        requires features { features_under selection ≡ game.now.features }
+        requires count { length self.now ≡ length (graph_of game.now) }
+        requires held { is_marked ≡ false → successors_of self.now v ≡ kept_under selection (vertex_in (graph_of game.now) v).owner (vertex_in (graph_of game.now) v).edges }
+        ensures { OnOk result (successors.new.items ≡ successors.old.items ++ kept_under selection.entry (vertex_in (graph_of game.now) v).owner (vertex_in (graph_of game.now) v).edges) }
+    {
+        if is_marked {
+            selection.push_kept(successors, game.owner(v), game.edges(v))?;
+            return Ok(());
+        }
+        successors.extend_from_slice(self.kept(v))?;
+        Ok(())
     }
 
     /// What is selected of a game, in one pass over its edges.

@@ -16,6 +16,7 @@
 #![tactic(auto)]
 
 pub mod arena;
+mod changes;
 pub mod laws;
 mod plain;
 mod projection;

@@ -5,6 +5,7 @@ use Rattle.vpg_diagram.specs.declared.clause.Literal.{Literal}
 use Rattle.vpg_diagram.specs.Tally.{Tally}
 use Rattle.vpg_guards.specs.declared.tri.Tri.{Tri}
 use Rattle.vpg_diagram.proofs.Lists.{Contains-here, Contains-there, Contains-cons, Contains-nil, All-at}
+use Rattle.vpg_diagram.proofs.IndexLemmas.{only_clause, only_count}
 use Rattle.vpg_partial.specs.Known.{IsClosedAtClause, IsClosedAtCount}
 use Rattle.vpg_partial.specs.KnownTable.{literals_in}
 use Rattle.vpg_partial.specs.Propagation.{IsMissingAtClause, IsMissingAtCount}
@@ -19,15 +20,6 @@ Contains-map f (y ∷ ys) x h = go (Contains-cons y ys x h) (Contains-map f ys x
     go (inr c) k = Contains-there (f y) (map f ys) (f x) (k c)
 
 module _ (clauses : List (List Literal)) (counts : List Tally) (number : ℕ) where
-  -- a number has one rule
-  pub only_clause : (clause : List Literal) → slice_get clauses number ≡ Some clause → (rule : Rule) → HasNumber clauses counts number rule → AtClause clause ≡ rule
-  only_clause clause e (AtClause other) h = let w : Some clause ≡ Some other = sym e ∙ h in let v : clause ≡ other = cc in ap AtClause v
-  only_clause clause e (AtCount other) h = let l : number < length clauses = slice_get_within clauses number clause e in absurd (omega (arith, l, h.0))
-
-  pub only_count : (count : Tally) → length clauses ≤ number → slice_get counts (number - length clauses) ≡ Some count → (rule : Rule) → HasNumber clauses counts number rule → AtCount count ≡ rule
-  only_count count b e (AtClause other) h = let l : number < length clauses = slice_get_within clauses number other h in absurd (omega (arith, l, b))
-  only_count count b e (AtCount other) h = let w : Some count ≡ Some other = sym e ∙ h.1 in let v : count ≡ other = cc in ap AtCount v
-
   pub no_rule : length clauses ≤ number → length counts ≤ number - length clauses → (rule : Rule) → HasNumber clauses counts number rule → ⊥
   no_rule a b (AtClause clause) h = let l : number < length clauses = slice_get_within clauses number clause h in omega (arith, l, a)
   no_rule a b (AtCount count) h = let l : number - length clauses < length counts = slice_get_within counts (number - length clauses) count h.1 in omega (arith, l, b)

@@ -1,34 +1,16 @@
--- The rules of a diagram, the features that they speak of, and the rules that a worklist still has to see to.
+-- The rules of a diagram, and those that a worklist still has to see to.
 use Rattle.std.specs.Prelude.{ℕ, ◌+◌, ◌-◌, ◌<◌, ◌≤◌, ◌≡◌, ◌⊎◌, Bool, false, List, ◌∷◌, [], length, map, Some, slice_get, slice_index_or, Contains, IsTrue}
 use Rattle.vpg_diagram.specs.declared.clause.Literal.{Literal}
 use Rattle.vpg_diagram.specs.Tally.{Tally}
+pub use Rattle.vpg_diagram.specs.Rules.{Rule, AtClause, AtCount, HasNumber, features_of, IsIndex}
 use Rattle.vpg_guards.specs.declared.tri.Tri.{Tri}
 use Rattle.vpg_partial.specs.Known.{IsClosed, IsClosedAtClause, IsClosedAtCount}
 use Rattle.vpg_partial.specs.KnownTable.{literals_in}
 use Rattle.vpg_partial.specs.Propagation.{Includes, Grows, unknown_count}
 
--- the unit rule at a clause, the counting rule at a count
-pub data Rule : Type 0 where
-  AtClause : List Literal → Rule
-  AtCount : Tally → Rule
-
--- the clauses come first
-abbrev pub HasNumber : List (List Literal) → List Tally → ℕ → Rule → Type 0
-HasNumber clauses counts number (AtClause clause) = slice_get clauses number ≡ Some clause
-HasNumber clauses counts number (AtCount count) = (length clauses ≤ number) × (slice_get counts (number - length clauses) ≡ Some count)
-
-abbrev pub features_of : Rule → List ℕ
-features_of (AtClause clause) = map (λ l. l.feature) clause
-features_of (AtCount count) = count.parent ∷ count.members
-
 abbrev pub IsClosedAt : (Literal → Bool) → Rule → Type 0
 IsClosedAt set (AtClause clause) = IsClosedAtClause set clause
 IsClosedAt set (AtCount count) = IsClosedAtCount set count
-
--- for each feature, the numbers of the rules that speak of it, and perhaps others
-abbrev pub IsIndex : List (List Literal) → List Tally → List (List ℕ) → Type 0
-IsIndex clauses counts index =
-    (number : ℕ) (rule : Rule) (f : ℕ) → HasNumber clauses counts number rule → Contains (features_of rule) f → Contains (slice_index_or index f []) number
 
 -- a literal that the table lacks, and that each closed set has which has the table's literals
 pub record IsMissing (clauses : List (List Literal)) (counts : List Tally) (known : List Tri) (l : Literal) : Type 0 where
@@ -55,9 +37,3 @@ pub record Advances (clauses : List (List Literal)) (counts : List Tally) (known
   pub grows : Grows (IsClosed clauses counts) known more
   pub stays : (rule : Rule) → IsDone known waiting rule → IsDone more later rule
   pub work : unknown_count more + length later ≤ unknown_count known + length waiting
-
--- what the index has stays, and each of these features has the number
-pub record NotesAll (old : List (List ℕ)) (number : ℕ) (features : List ℕ) (new : List (List ℕ)) : Type 0 where
-  pub same_length : length new ≡ length old
-  pub kept : (f k : ℕ) → Contains (slice_index_or old f []) k → Contains (slice_index_or new f []) k
-  pub noted : (f : ℕ) → Contains features f → Contains (slice_index_or new f []) number

@@ -1,6 +1,6 @@
 //! What is known of each feature.
 
-ghost use Rattle.std.specs.Prelude.{◌≡◌, ◌↔◌, ◌<◌, Bool, List, length, map, true, IsTrue, IsSome, IfOk, IfErr, IfSome, slice_index_or};
+ghost use Rattle.std.specs.Prelude.{◌≡◌, ◌↔◌, ◌<◌, Bool, List, length, map, true, IsTrue, IsSome, IfOk, IfErr, IfSome, OnErr, slice_index_or};
 ghost use Rattle.vpg_guards.specs.Known.{AreAllKnown, IsCompletion};
 ghost use Rattle.vpg_guards.specs.declared.tri.Tri.TheVariants.{Unknown};
 ghost use Rattle.vpg_diagram.specs.FeatureDiagram.{Line, IsDiagram, feature_count};
@@ -14,7 +14,6 @@ ghost use Rattle.vpg_partial.specs.CloseFaults.{IsCloseFault, LeavesNoProduct};
 
 use crate::decision::Decision;
 use crate::fault::PartialFault;
-use crate::index::Index;
 use crate::propagation::decide_all;
 use std::alloc::{AllocError, Global};
 use std::marker::Model;
@@ -73,17 +72,10 @@ impl Partial {
         let features = diagram.features();
         let clauses = diagram.clauses();
         let counts = diagram.counts();
-        let index = Index::of(alloc, features, clauses, counts)?;
+        let index = diagram.index();
         let mut values = vec![in alloc; Tri::Unknown; features]?;
         let mut waiting = Vec::new(alloc);
-        decide_all(
-            clauses,
-            counts,
-            &index,
-            decisions,
-            &mut values,
-            &mut waiting,
-        )?;
+        decide_all(clauses, counts, index, decisions, &mut values, &mut waiting)?;
         Ok(Partial { values })
     }
 
@@ -116,6 +108,9 @@ impl Partial {
         ensures full { IfOk result (λ found. IsSome found ↔ AreAllKnown (length self.now) self.now) }
         ensures product { (lines : List Line) (choices : List Literal) → IsDiagram lines → AreChoicesOf lines choices → IsKnownTable lines choices self.now →
             IfOk result (λ found. IfSome found (λ features. IsOnlyRemaining lines choices features.items)) }
+
+        // Want of memory is answered only where there is a product to be made.
+        ensures last { OnErr result (AreAllKnown (length self.now) self.now) }
     {
         if !self.is_full() {
             return Ok(None);

@@ -14,10 +14,9 @@ ghost use Rattle.vpg_partial.specs.Stops.{IsFaultOf, fault_named};
 
 use crate::decision::Decision;
 use crate::fault::PartialFault;
-use crate::index::Index;
 use crate::rules::{is_known, missing_at};
 use vpg_diagram::{Clause, Count, Literal};
-use vpg_guards::Tri;
+use vpg_guards::{Index, Tri};
 
 /// Why propagation stopped.
 #[derive(Clone, Copy, Debug, PartialEq, Eq)]

@@ -11,6 +11,9 @@ pub decide_all-requires-clause-decisions : goal.decide_all-requires-clause-decis
 decide_all-requires-clause-decisions c =
     decisions_below c.args.diagram.now.lines c.args.decisions.now (length c.deref_mut.result.now) (omega (arith, c.deref_mut.ensures.len, c.in_ok-values.ensures.len, c.features-features.ensures.count)) c.requires
 
+pub decide_all-requires-clause-index : goal.decide_all-requires-clause-index
+decide_all-requires-clause-index c = rw (c.clauses-clauses.ensures.clauses, c.counts-counts.ensures.counts) c.index-index.ensures
+
 pub returns-in_err-decide_all-clause-conflict : goal.returns-in_err-decide_all-clause-conflict
 returns-in_err-decide_all-clause-conflict c =
     let lines = c.args.diagram.now.lines in

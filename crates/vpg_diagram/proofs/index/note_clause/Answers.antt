@@ -1,0 +1,15 @@
+use Rattle.std.proofs.Common.{ℕ, false, List, [], ◌∷◌, map, sym, subst, arith}
+use Rattle.std.proofs.lemmas.List.{get_or-map, length-map}
+use Rattle.vpg_diagram.specs.declared.clause.Literal.{Literal}
+use Rattle.vpg_guards.specs.Index.{NotesAlso}
+use Rattle.vpg_guards.proofs.Noted.{noted_step}
+use Rattle.vpg_diagram.proofs.index.note_clause.Goals as goal
+
+pub loop-literal-preserved : goal.loop-literal-preserved
+loop-literal-preserved c =
+    let literals : List Literal = c.literals-literal-items.result.now in
+    let feature : Literal → ℕ = λ x. x.feature in
+    noted_step c.args.index.now c.loop-literal.index c.note.new.self c.args.number [] (map feature literals) c.loop-literal.literal-index 0
+    (omega (arith, c.loop-literal-test.true, length-map literals feature)) c.loop-literal.invariant
+    (subst (λ (f : ℕ). NotesAlso c.loop-literal.index c.args.number (f ∷ []) c.note.new.self)
+    (sym (get_or-map feature literals c.loop-literal.literal-index (record { feature = 0; value = false }) 0 c.loop-literal-test.true)) c.in_ok-note.ensures)
