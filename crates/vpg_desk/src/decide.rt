@@ -4,7 +4,7 @@ ghost use Rattle.std.specs.Prelude.{◌≡◌, ◌<◌, ◌++◌, ◌∷◌, [],
 ghost use Rattle.std.specs.List.{AllByRecursion};
 ghost use Rattle.vpg_diagram.specs.FeatureDiagram.{feature_count};
 ghost use Rattle.vpg_game.specs.Game.{IsAtLimit};
-ghost use Rattle.vpg_measure.specs.Games.{ArePageGames};
+ghost use Rattle.vpg_measure.specs.Games.{AreGamesOf, ArePageGames};
 ghost use Rattle.vpg_trail.specs.Page.{Decided, choices_of, decisions_of, decision_on};
 ghost use Rattle.vpg_trail.specs.Shown.{entry_of};
 ghost use Rattle.vpg_desk.specs.Cuts.{cuts_of, SuffixesBelow};
@@ -22,15 +22,17 @@ use vpg_measure::{OrderFault, PageGames};
 use vpg_partial::Decision;
 use vpg_trail::{Entry, Trail, decided, decisions_among};
 
-/// The games with one decision more.
+/// The games with one decision more, from those at present.
 fn games_with(
     alloc: Global,
     game: &GuardedGame,
     diagram: &Diagram,
     entries: &[Entry],
     decision: Decision,
+    present: &PageGames,
 ) -> Result<Arc<PageGames>, DecideFault>
     requires features { game.now.features ≡ feature_count diagram.now.lines }
+    requires held { AreGamesOf game.now diagram.now present.now }
     requires not_at_limit { ¬ IsAtLimit game.now }
     requires inside { AllByRecursion (λ d. d.feature < feature_count diagram.now.lines) (decisions_of (map entry_of entries.now) ++ decision ∷ []) }
     ensures games { IfOk result (λ games. ArePageGames game.now diagram.now (choices_of (map entry_of entries.now ++ Decided decision ∷ [])) (arc_value games)) }
@@ -38,7 +40,7 @@ fn games_with(
 {
     let mut decisions = decisions_among(alloc, entries)?;
     decisions.push(decision)?;
-    match PageGames::under(alloc, game, diagram, &decisions) {
+    match present.updated(alloc, game, diagram, &decisions) {
         Ok(games) => Ok(games.share(alloc)?),
         Err(OrderFault::AtLimit) => unreachable!(),
         Err(OrderFault::Conflict { .. }) => Err(DecideFault::Conflict {
@@ -111,7 +113,14 @@ impl Desk {
             value,
         };
         let entries = self.trail.entries();
-        let games = games_with(alloc, &self.game, &self.diagram, entries, decision)?;
+        let games = games_with(
+            alloc,
+            &self.game,
+            &self.diagram,
+            entries,
+            decision,
+            &self.games,
+        )?;
         if self.changes == MOST_CHANGES {
             return Err(DecideFault::TooManyChanges);
         }

@@ -72,7 +72,7 @@ impl Desk {
         }
         let kept = kept_after(alloc, entries, place, feature, self.trail.vertices())?;
         let before = &entries[..place];
-        let games = games_of_page(alloc, &self.game, &self.diagram, before, &kept)?;
+        let games = games_of_page(alloc, &self.game, &self.diagram, before, &kept, &self.games)?;
         let serial = self.changes + 1;
         cut_out(&mut self.past, &mut self.trail, serial, place, kept)?;
         self.future.clear();

@@ -4,7 +4,7 @@ ghost use Rattle.std.specs.Prelude.{◌≡◌, ◌==◌, ◌∷◌, ◌<◌, ◌
 ghost use Rattle.std.specs.List.{AllByRecursion, list_any};
 ghost use Rattle.vpg_diagram.specs.FeatureDiagram.{feature_count};
 ghost use Rattle.vpg_game.specs.Game.{IsAtLimit};
-ghost use Rattle.vpg_measure.specs.Games.{ArePageGames};
+ghost use Rattle.vpg_measure.specs.Games.{AreGamesOf, ArePageGames};
 ghost use Rattle.vpg_trail.specs.Page.{choices_of};
 ghost use Rattle.vpg_trail.specs.WellFormed.{IsWellFormed};
 ghost use Rattle.vpg_desk.specs.Book.{refuses_redo, refuses_undo};
@@ -66,24 +66,26 @@ pub(crate) fn redo_fault(future: &[Cut], serial: u64) -> Option<RedoFault>
     Some(RedoFault::Overtaken)
 }
 
-/// What the decisions of the nearest page make of the game.
+/// What the decisions of the nearest page make of the game, from what those of the present page make of it.
 pub(crate) fn games_over(
     alloc: Global,
     game: &GuardedGame,
     diagram: &Diagram,
     trail: &Trail,
     cuts: &[Cut],
+    present: &PageGames,
 ) -> Result<Arc<PageGames>, AllocError>
     requires some { 0 < length cuts.now }
     requires fits { FitOver trail.now.entries (cuts_of cuts.now) }
     requires features { game.now.features ≡ feature_count diagram.now.lines }
+    requires held { AreGamesOf game.now diagram.now present.now }
     requires not_at_limit { ¬ IsAtLimit game.now }
     requires consistent { AllByRecursion (λ k. ¬ (HasConflict (setting_between game.now diagram.now) (choices_of k.page))) (pages_of trail.now.entries cuts.now) }
     ensures { IfOk result (λ games. (cut : Saved) (further : List Saved) → cuts_of cuts.now ≡ cut ∷ further → ArePageGames game.now diagram.now (choices_of (spliced trail.now.entries cut.place cut.suffix)) (arc_value games)) }
 {
     let cut = cuts.last().unwrap();
     let before = &trail.entries()[..cut.place];
-    games_of_page(alloc, game, diagram, before, &cut.suffix)
+    games_of_page(alloc, game, diagram, before, &cut.suffix, present)
 }
 
 /// Takes the nearest page of the one side in place of the present one, which becomes the nearest of the other side.

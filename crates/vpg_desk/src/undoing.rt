@@ -63,7 +63,14 @@ impl Desk {
         if let Some(fault) = undo_fault(&self.past, serial) {
             return Err(fault);
         }
-        let games = games_over(alloc, &self.game, &self.diagram, &self.trail, &self.past)?;
+        let games = games_over(
+            alloc,
+            &self.game,
+            &self.diagram,
+            &self.trail,
+            &self.past,
+            &self.games,
+        )?;
         swing(&mut self.past, &mut self.trail, &mut self.future)?;
         self.games = games;
         Ok(())
@@ -80,7 +87,14 @@ impl Desk {
         if let Some(fault) = redo_fault(&self.future, serial) {
             return Err(fault);
         }
-        let games = games_over(alloc, &self.game, &self.diagram, &self.trail, &self.future)?;
+        let games = games_over(
+            alloc,
+            &self.game,
+            &self.diagram,
+            &self.trail,
+            &self.future,
+            &self.games,
+        )?;
         swing(&mut self.future, &mut self.trail, &mut self.past)?;
         self.games = games;
         Ok(())

@@ -124,8 +124,9 @@ impl Arena {
         ensures { IfOk result (λ arena. arena ≡ map (vertex_under selection.entry) (graph_of game.now)) }
     {
         let count = game.vertices();
+        let room = self.successors.len();
         let mut rows = Vec::with_capacity(alloc, count)?;
-        let mut successors = Vec::new(alloc);
+        let mut successors = Vec::with_capacity(alloc, room)?;
         for v in 0..count as u32 {
             let start = successors.len() as u32;
             self.push_held(&mut successors, game, selection, v, marks[v as usize])?;

@@ -36,3 +36,7 @@ pub record ArePageGames (game : NamedGame) (diagram : NamedDiagram) (choices : L
   pub known : IsKnownTable diagram.lines choices games.known
   pub levels : (which : Which) → games_levels which games ≡ levels_for which (graph_of game)
   pub arena : (which : Which) → games_arena which games ≡ arena_for (kleene games.known) which (graph_of game)
+
+-- they are what some choices of features make of the game
+abbrev pub AreGamesOf : NamedGame → NamedDiagram → GamesView → Type 0
+AreGamesOf game diagram games = (choices : List Literal) × ArePageGames game diagram choices games

@@ -6,8 +6,8 @@ ghost use Rattle.vpg_diagram.specs.Clauses.{clauses_of, counts_of};
 ghost use Rattle.vpg_diagram.specs.FeatureDiagram.{feature_count};
 ghost use Rattle.vpg_game.specs.Game.{IsAtLimit};
 ghost use Rattle.vpg_partial.specs.Known.{literal_of, NamesConflict};
-ghost use Rattle.vpg_partial.specs.TableLaws.{AreChoicesOf};
-ghost use Rattle.vpg_measure.specs.Games.{ArePageGames, games_levels, games_arena};
+ghost use Rattle.vpg_partial.specs.TableLaws.{AreChoicesOf, IsKnownTable};
+ghost use Rattle.vpg_measure.specs.Games.{AreGamesOf, ArePageGames, games_levels, games_arena};
 ghost use Rattle.vpg_measure.specs.GamesFields.{IsSideGame};
 
 use crate::fault::OrderFault;
@@ -49,6 +49,47 @@ impl SideGame {
             }),
         }
     }
+
+    /// The same under what is known now, from this one, which is that under what was known before.
+    fn updated(
+        &self,
+        alloc: Global,
+        which: Which,
+        game: &GuardedGame,
+        before: &Partial,
+        known: &Partial,
+    ) -> Result<SideGame, AllocError>
+        requires before { length before.now ≡ game.now.features }
+        requires known { length known.now ≡ game.now.features }
+        requires held { IsSideGame before.now which game.now self.now }
+        ensures { IfOk result (IsSideGame known.now which game.now) }
+    {
+        let shape = self.shape.copy(alloc)?;
+        let arena = match which {
+            Which::Hopeful => self.arena.updated(alloc, game, before, known)?,
+            Which::Dual => self.arena.updated_of_dual(alloc, game, before, known)?,
+        };
+        Ok(SideGame { shape, arena })
+    }
+}
+
+/// What decisions on features of the diagram make known, where the game has a dual.
+fn known_under(
+    alloc: Global,
+    game: &GuardedGame,
+    diagram: &Diagram,
+    decisions: &[Decision],
+) -> Result<Partial, OrderFault>
+    requires { AreChoicesOf diagram.now.lines (map literal_of decisions.now) }
+    ensures known { IfOk result (IsKnownTable diagram.now.lines (map literal_of decisions.now)) }
+    ensures at_limit { (result ≡ Err OrderFault.AtLimit) ↔ IsAtLimit game.now }
+    ensures conflict { (f : ℕ) → result ≡ Err (OrderFault.Conflict f) →
+        NamesConflict (clauses_of diagram.now.lines) (counts_of diagram.now.lines) (map literal_of decisions.now) f }
+{
+    if game.is_at_limit() {
+        return Err(OrderFault::AtLimit);
+    }
+    Ok(Partial::close(alloc, diagram, decisions)?)
 }
 
 /// What the decisions of a page make of its game: what is known of each feature, and for each of the two tables the shape of its
@@ -87,14 +128,46 @@ impl PageGames {
         ensures conflict { (f : ℕ) → result ≡ Err (OrderFault.Conflict f) →
             NamesConflict (clauses_of diagram.now.lines) (counts_of diagram.now.lines) (map literal_of decisions.now) f }
     {
-        if game.is_at_limit() {
-            return Err(OrderFault::AtLimit);
-        }
+        let known = known_under(alloc, game, diagram, decisions)?;
         // What every game and every diagram keeps, for the proof.
         let _features = (game.vertices(), diagram.features());
-        let known = Partial::close(alloc, diagram, decisions)?;
         let hopeful = SideGame::of(alloc, Which::Hopeful, game, &known)?;
         let dual = SideGame::of(alloc, Which::Dual, game, &known)?;
+        Ok(PageGames {
+            known,
+            hopeful,
+            dual,
+        })
+    }
+
+    /// What other decisions on features of the diagram make of the same game, from what these make of it: guards are looked at
+    /// only at the vertices that a feature names of which something else is known then.
+    ///
+    /// Errors as those of `under`.
+    pub fn updated(
+        &self,
+        alloc: Global,
+        game: &GuardedGame,
+        diagram: &Diagram,
+        decisions: &[Decision],
+    ) -> Result<PageGames, OrderFault>
+        requires features { game.now.features ≡ feature_count diagram.now.lines }
+        requires named { AreChoicesOf diagram.now.lines (map literal_of decisions.now) }
+        requires held { AreGamesOf game.now diagram.now self.now }
+        ensures games { IfOk result (ArePageGames game.now diagram.now (map literal_of decisions.now)) }
+        ensures at_limit { (result ≡ Err OrderFault.AtLimit) ↔ IsAtLimit game.now }
+        ensures conflict { (f : ℕ) → result ≡ Err (OrderFault.Conflict f) →
+            NamesConflict (clauses_of diagram.now.lines) (counts_of diagram.now.lines) (map literal_of decisions.now) f }
+    {
+        let known = known_under(alloc, game, diagram, decisions)?;
+        // What every game and every diagram keeps, for the proof.
+        let _features = (game.vertices(), diagram.features());
+        let hopeful = self
+            .hopeful
+            .updated(alloc, Which::Hopeful, game, &self.known, &known)?;
+        let dual = self
+            .dual
+            .updated(alloc, Which::Dual, game, &self.known, &known)?;
         Ok(PageGames {
             known,
             hopeful,

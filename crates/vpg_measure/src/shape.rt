@@ -73,6 +73,17 @@ impl Shape {
         Shape::over(alloc, &priorities)
     }
 
+    /// A shape of its own, of the same measures.
+    pub(crate) fn copy(&self, alloc: Global) -> Result<Shape, AllocError>
+        ensures { IfOk result (λ shape. shape ≡ self.now) }
+    {
+        Ok(Shape {
+            levels: Vec::from_slice(alloc, self.levels.as_slice())?,
+            weights: Vec::from_slice(alloc, self.weights.as_slice())?,
+            top: self.top,
+        })
+    }
+
     /// The shape over the priorities of some vertices.
     pub(crate) fn over(alloc: Global, priorities: &[u32]) -> Result<Shape, AllocError>
         requires { top_of (levels_of priorities.now) ≤ TOP_LIMIT }

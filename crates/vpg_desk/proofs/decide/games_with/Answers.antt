@@ -19,8 +19,8 @@ told c =
 choices : (c : After-deref) → map literal_of c.deref.result.now ≡ choices_of (map entry_of c.args.entries.now ++ Decided c.args.decision ∷ [])
 choices c = ap (map literal_of) (told c ∙ sym (decisions_of-append (map entry_of c.args.entries.now) (Decided c.args.decision ∷ [])))
 
-pub under-requires-clause-named : goal.under-requires-clause-named
-under-requires-clause-named c =
+pub updated-requires-clause-named : goal.updated-requires-clause-named
+updated-requires-clause-named c =
     All-map (λ (l : Literal). l.feature < feature_count c.args.diagram.now.lines) literal_of c.deref.result.now
     (subst (AllByRecursion (λ (x : Decision). x.feature < feature_count c.args.diagram.now.lines)) (sym (told c)) c.requires.inside)
 

@@ -18,9 +18,9 @@ choices c =
     ap (map literal_of)
     (c.deref.ensures.value ∙ appended ∙ (λ k. c.in_ok-decisions.ensures k ++ c.in_ok-later.ensures k) ∙ sym (decisions_of-append (map entry_of c.args.before.now) (map entry_of c.args.suffix.now)))
 
-pub under-requires-clause-named : goal.under-requires-clause-named
-under-requires-clause-named c =
-    subst (AreChoicesOf c.args.diagram.now.lines) (sym (choices (goal.at.under-requires-clause-named c).After-deref))
+pub updated-requires-clause-named : goal.updated-requires-clause-named
+updated-requires-clause-named c =
+    subst (AreChoicesOf c.args.diagram.now.lines) (sym (choices (goal.at.updated-requires-clause-named c).After-deref))
     (choices_inside (setting_between c.args.game.now c.args.diagram.now) (choices_of (map entry_of c.args.before.now ++ map entry_of c.args.suffix.now)) c.requires.consistent)
 
 pub returns-in-Ok : goal.returns-in-Ok

@@ -12,6 +12,7 @@ use Rattle.vpg_desk.specs.DeskFields.{desk_of}
 use Rattle.vpg_desk.specs.Faults.{decide_refusal, ClosesWith}
 use Rattle.vpg_desk.specs.State.{DeskState, Replies, IsStep}
 use Rattle.vpg_desk.specs.declared.fault.DecideFault.TheVariants.{Memory}
+use Rattle.vpg_desk.proofs.Shared.{held_at}
 use Rattle.vpg_desk.proofs.Decided.{decide_unknown, decide_already, decide_too_many, decide_accepted, closes_refuses, decisions_inside, limits, decided_step, decided_desk}
 use Rattle.vpg_desk.proofs.desk.Desk.decide.Goals as goal
 use Rattle.vpg_desk.proofs.desk.Desk.decide.Goals.{After-features, After-games_with, After-clear}
@@ -98,3 +99,7 @@ returns-in_err-games-clause-last c = unrefused Memory c.from_residual.result (fr
 
 pub returns-in_err-push_decision-clause-last : goal.returns-in_err-push_decision-clause-last
 returns-in_err-push_decision-clause-last c = unrefused Memory c.from_residual-in_err-push_decision.result (fresh (goal.at.returns-in_err-push_decision-clause-last c).After-games_with)
+
+pub games_with-requires-clause-held : goal.games_with-requires-clause-held
+games_with-requires-clause-held c =
+    held_at c.self.inside c.self.invariant c.deref-2.result.now c.deref-3.result.now c.deref-4.result.now c.deref-2.ensures c.deref-3.ensures c.deref-4.ensures

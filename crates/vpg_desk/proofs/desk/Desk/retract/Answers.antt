@@ -12,6 +12,7 @@ use Rattle.vpg_desk.specs.DeskFields.{desk_of}
 use Rattle.vpg_desk.specs.Setting.{HasConflict}
 use Rattle.vpg_desk.specs.State.{DeskState, Replies, IsStep, setting_between}
 use Rattle.vpg_desk.specs.declared.fault.RetractFault.TheVariants.{Memory}
+use Rattle.vpg_desk.proofs.Shared.{held_at}
 use Rattle.vpg_desk.proofs.Decided.{limits}
 use Rattle.vpg_desk.proofs.Retracted.{retracted_parts, retract_accepted, retracted_consistent, retracted_step, retracted_desk}
 use Rattle.vpg_desk.proofs.desk.Desk.retract.Goals as goal
@@ -40,7 +41,7 @@ left c =
 
 pub games_of_page-requires-clause-consistent : goal.games_of_page-requires-clause-consistent
 games_of_page-requires-clause-consistent c =
-    coe 0 1 (k. HasConflict (setting_between (sym c.deref-2.ensures k) (sym c.deref-3.ensures k)) (choices_of (sym (shown c) k)) → ⊥)
+    coe 0 1 (k. HasConflict (setting_between (sym c.deref-2.ensures k) (sym c.deref-3.ensures k)) (choices_of (sym (shown (goal.at.games_of_page-requires-clause-consistent c).After-deref-4) k)) → ⊥)
     (retracted_consistent c.self.inside c.self.invariant c.args.feature (accepted (goal.at.games_of_page-requires-clause-consistent c).After-vertices))
 
 pub cut_out-requires-clause-lifts : goal.cut_out-requires-clause-lifts
@@ -86,3 +87,7 @@ returns-in_err-games-clause-last c = unrefused Memory c.from_residual-in_err-gam
 
 pub returns-in_err-cut_out-clause-last : goal.returns-in_err-cut_out-clause-last
 returns-in_err-cut_out-clause-last c = unrefused Memory c.from_residual-in_err-cut_out.result (would (goal.at.returns-in_err-cut_out-clause-last c).After-vertices)
+
+pub games_of_page-requires-clause-held : goal.games_of_page-requires-clause-held
+games_of_page-requires-clause-held c =
+    held_at c.self.inside c.self.invariant c.deref-2.result.now c.deref-3.result.now c.deref-5.result.now c.deref-2.ensures c.deref-3.ensures c.deref-5.ensures

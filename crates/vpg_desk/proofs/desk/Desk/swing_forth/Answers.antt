@@ -12,6 +12,7 @@ use Rattle.vpg_desk.specs.State.{DeskState, IsStep, Replies, setting_between}
 use Rattle.vpg_desk.specs.Trail.{Cut as Saved, spliced}
 use Rattle.vpg_desk.specs.declared.cuts.Cut.{Cut}
 use Rattle.vpg_desk.specs.declared.fault.RedoFault.TheVariants.{Memory}
+use Rattle.vpg_desk.proofs.Shared.{held_at}
 use Rattle.vpg_desk.proofs.Swung.{redo_refused, redo_accepted, nearest_below, future_consistent, future_well_formed, redone_step, redone_desk}
 use Rattle.vpg_desk.proofs.desk.Desk.swing_forth.Goals as goal
 use Rattle.vpg_desk.proofs.desk.Desk.swing_forth.Goals.{After-swing}
@@ -71,3 +72,7 @@ returns-in_err-swing-clause-last c =
 pub returns-in-Some-clause-nearer : goal.returns-in-Some-clause-nearer
 returns-in-Some-clause-nearer c n e =
     nearest_below c.self.inside c.self.invariant c.args.serial n (ap (λ (l : List Cut). refuses_redo c.args.serial (serials_from_top l)) (sym c.deref.ensures.value) ∙ c.in-Some.ensures ∙ ap redo_refusal e)
+
+pub games_over-requires-clause-held : goal.games_over-requires-clause-held
+games_over-requires-clause-held c =
+    held_at c.self.inside c.self.invariant c.deref-2.result.now c.deref-3.result.now c.deref-5.result.now c.deref-2.ensures c.deref-3.ensures c.deref-5.ensures
