@@ -2,16 +2,14 @@
 ghost use Rattle.std.specs.Prelude.{IfOk, IfSome};
 ghost use Rattle.vpg_measure.specs.Lifts.{IsTableOf};
 
-use crate::budget::Budget;
 use crate::ground::{GuessGround, value_in};
-use crate::per_vertex::PerVertex;
-use crate::regions::Regions;
 use crate::subgame::{Solved, Subgame};
 use crate::values::Evaluation;
 use std::alloc::{AllocError, Global};
 use vpg_game::Player;
 use vpg_hope::Arena;
 use vpg_measure::{Certificate, Shape, Table};
+use vpg_regions::{Budget, PerVertex, Regions};
 
 // Values that a table is to be raised to, and the vertices where they exceed it.
 #[derive(Drop)]

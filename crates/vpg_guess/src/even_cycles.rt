@@ -1,12 +1,10 @@
 //! Cycles of an even priority on which the values above it stay equal. Going round them, they fall.
-use crate::budget::Budget;
-use crate::graph::Graph;
 use crate::ground::value_in;
-use crate::per_vertex::PerVertex;
 use crate::scale::Scale;
 use crate::subgame::{Solved, Subgame};
 use std::alloc::{AllocError, Global};
 use vpg_game::Player;
+use vpg_regions::{Budget, Graph, PerVertex};
 
 /// The values of a strategy, and the table that they lie above.
 #[derive(Drop)]

@@ -1,11 +1,13 @@
 //! What guesses of one table are made over.
-use crate::graph::Graph;
-use crate::per_vertex::PerVertex;
 use crate::scale::Scale;
 use std::alloc::{AllocError, Global};
 use vpg_game::Player;
 use vpg_hope::Arena;
 use vpg_measure::Shape;
+use vpg_regions::{Graph, PerVertex};
+
+/// A part with less than one in so many of the vertices is small.
+const SMALL_PART: usize = 4;
 
 /// A graph, and how measures grow along its edges for either player.
 #[derive(Drop)]
@@ -42,6 +44,18 @@ impl GuessGround {
     /// So many looks at each vertex.
     pub(crate) fn looks(&self, each: u64) -> u64 {
         u64::from(self.graph.vertices()).saturating_mul(each)
+    }
+
+    /// The looks of a turn behind a guess of so many values.
+    pub(crate) fn next_looks(&self, guessed: usize) -> u64 {
+        (guessed as u64)
+            .saturating_mul(4)
+            .saturating_add(self.looks(1) / 2)
+    }
+
+    /// Whether so many vertices are a small part of all.
+    pub(crate) fn is_small_part(&self, count: usize) -> bool {
+        count < self.graph.vertices() as usize / SMALL_PART
     }
 
     /// Whether a table has these values, or greater ones.

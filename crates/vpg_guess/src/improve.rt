@@ -1,22 +1,15 @@
 //! The least values of Even's region, by strategy improvement: each strategy is valued exactly, and then changed where that is better.
 //! Only what leads to a changed choice is valued again, and only what moves to a changed value is looked at again.
-use crate::budget::Budget;
 use crate::even_cycles::Level;
-use crate::graph::Graph;
 use crate::ground::{GuessGround, value_in};
-use crate::per_vertex::PerVertex;
-use crate::regions::Regions;
 use crate::scale::Scale;
 use crate::values::Evaluation;
 use std::alloc::{AllocError, Global};
 use vpg_game::Player;
+use vpg_regions::{Budget, Graph, PerVertex, Regions};
 
-/// What is taken to be the least progress table, and choices of Even that have these values.
-#[derive(Drop)]
-pub(crate) struct Guess {
-    pub(crate) values: PerVertex<u64>,
-    pub(crate) choice: PerVertex<Option<u32>>,
-}
+/// How often moves round even cycles are taken at most. They may raise a value, too, and then come again and again.
+const MOST_TURNS: u32 = 64;
 
 #[derive(Drop)]
 struct Improvement<'a> {
@@ -60,6 +53,15 @@ impl<'a> Improvement<'a> {
         })
     }
 
+    // The top where Odd is taken to win.
+    fn lose(&mut self, regions: &Regions, vertices: &[u32]) {
+        for v in vertices {
+            if regions.winner(*v) == Some(Player::Odd) {
+                self.values.set(*v, self.scale.top);
+            }
+        }
+    }
+
     // Values the choices, and changes them until nothing is better.
     fn run(
         &mut self,
@@ -69,10 +71,12 @@ impl<'a> Improvement<'a> {
     ) -> Result<(), AllocError> {
         self.value(alloc, region, budget)?;
         let mut look = self.open_all(alloc, region)?;
+        let mut turns = 0u32;
         for _ in 0..u64::MAX {
             let mut changed = self.switch(alloc, &look, budget)?;
-            if changed.is_empty() {
+            if changed.is_empty() && turns < MOST_TURNS {
                 changed = self.switch_even_cycles(alloc, region, budget)?;
+                turns = turns.saturating_add(1);
             }
             if changed.is_empty() || budget.is_spent() {
                 break;
@@ -266,34 +270,37 @@ impl<'a> Improvement<'a> {
     }
 }
 
-// The vertices below the top that Even is taken to win.
+// Those of some vertices that are below the top and that Even is taken to win.
 fn even_region(
     alloc: Global,
     ground: &GuessGround,
     regions: &Regions,
     table: &[u64],
+    vertices: &[u32],
 ) -> Result<Vec<u32>, AllocError> {
     let mut region = Vec::new(alloc);
-    for v in 0..ground.graph.vertices() {
-        if regions.winner(v) == Some(Player::Even) && value_in(table, v) < ground.even.top {
-            region.push(v)?;
+    for v in vertices {
+        if regions.winner(*v) == Some(Player::Even) && value_in(table, *v) < ground.even.top {
+            region.push(*v)?;
         }
     }
     Ok(region)
 }
 
-/// Guesses the least progress table above a table, from the choices in Even's region on. Where the budget is spent, the values are
-/// those of some choices.
+/// Guesses the least progress table above a table that has its values but at some vertices: the top where Odd is taken to win, and
+/// elsewhere from Even's choices on. Where the budget is spent, the values are those of some choices.
 pub(crate) fn guess_table(
     alloc: Global,
     ground: &GuessGround,
     regions: &Regions,
     table: &[u64],
+    vertices: &[u32],
     budget: &mut Budget,
-) -> Result<Guess, AllocError> {
-    let region = even_region(alloc, ground, regions, table)?;
+) -> Result<PerVertex<u64>, AllocError> {
+    let region = even_region(alloc, ground, regions, table, vertices)?;
     let mut improvement = Improvement::new(alloc, ground, regions, table)?;
+    improvement.lose(regions, vertices);
     improvement.run(alloc, &region, budget)?;
-    let Improvement { values, choice, .. } = improvement;
-    Ok(Guess { values, choice })
+    let Improvement { values, .. } = improvement;
+    Ok(values)
 }

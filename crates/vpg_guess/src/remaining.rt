@@ -2,34 +2,40 @@
 ghost use Rattle.vpg_guess.specs.Kept.{IsRaisedFrom};
 ghost use Rattle.vpg_measure.specs.Lifts.{IsTableOf};
 
-use crate::budget::Budget;
 use crate::ground::{GuessGround, value_in};
-use crate::per_vertex::PerVertex;
 use std::alloc::{AllocError, Global};
 use std::collections::VecDeque;
 use vpg_hope::Arena;
 use vpg_measure::lifts::raise;
 use vpg_measure::{Shape, Table};
+use vpg_regions::{Budget, PerVertex};
 
-// Vertices that are to be looked at.
+/// How often a vertex rises in one turn before it is taken to climb.
+const CLIMBS: u32 = 4;
+
+/// The vertices that are to be looked at: those whose lift may exceed their value. And how often each rose in this turn, and which
+/// were found to move in some turn.
 #[derive(Drop)]
-struct Waiting {
+pub(crate) struct Waiting {
     waits: PerVertex<bool>,
     queue: VecDeque<u32>,
+    raises: PerVertex<u32>,
+    moves: PerVertex<bool>,
+    // how often a vertex rises in a turn before it is taken to climb
+    climbs: u32,
 }
 
 impl Waiting {
-    // All vertices below the top.
-    fn all(alloc: Global, ground: &GuessGround, table: &[u64]) -> Result<Waiting, AllocError> {
+    /// Nothing waits.
+    pub(crate) fn none(alloc: Global, ground: &GuessGround) -> Result<Waiting, AllocError> {
         let vertices = ground.graph.vertices();
-        let mut waiting = Waiting {
+        Ok(Waiting {
             waits: PerVertex::of(alloc, vertices, false)?,
             queue: VecDeque::new(alloc),
-        };
-        for v in 0..vertices {
-            waiting.add(ground, table, v)?;
-        }
-        Ok(waiting)
+            raises: PerVertex::of(alloc, vertices, 0)?,
+            moves: PerVertex::of(alloc, vertices, false)?,
+            climbs: CLIMBS,
+        })
     }
 
     // A vertex at the top is never looked at.
@@ -49,12 +55,51 @@ impl Waiting {
         next
     }
 
-    // Those that move to v are to be looked at again.
+    // Those that move to v, which rose, are to be looked at again.
     fn wake(&mut self, ground: &GuessGround, table: &[u64], v: u32) -> Result<(), AllocError> {
+        self.raises.set(v, self.raises.get(v).saturating_add(1));
         for u in ground.graph.predecessors(v) {
             self.add(ground, table, *u)?;
         }
         Ok(())
+    }
+
+    /// Those that move to what rose since the table was so are to be looked at again.
+    pub(crate) fn wake_risen(
+        &mut self,
+        ground: &GuessGround,
+        before: &[u64],
+        table: &[u64],
+    ) -> Result<(), AllocError> {
+        for v in 0..ground.graph.vertices() {
+            if value_in(before, v) < value_in(table, v) {
+                self.wake(ground, table, v)?;
+            }
+        }
+        Ok(())
+    }
+
+    // A turn begins: nothing rose yet.
+    fn begin_turn(&mut self) {
+        for v in 0..self.raises.count() {
+            self.raises.set(v, 0);
+        }
+    }
+
+    /// Those that wait or climbed when some turn ended; none where nothing waits.
+    pub(crate) fn moving(&mut self, alloc: Global) -> Result<Vec<u32>, AllocError> {
+        let mut moving = Vec::new(alloc);
+        if self.queue.is_empty() {
+            return Ok(moving);
+        }
+        for v in 0..self.waits.count() {
+            if self.moves.get(v) || self.waits.get(v) || self.climbs <= self.raises.get(v) {
+                self.moves.set(v, true);
+                moving.push(v)?;
+            }
+        }
+        self.climbs = 1;
+        Ok(moving)
     }
 }
 
@@ -99,21 +144,19 @@ fn lift_waiting(
     Ok(())
 }
 
-/// Lifts until no vertex is left whose lift may exceed its value, or so many were looked at, or the budget is spent; says whether
-/// none is left.
+/// Lifts until nothing waits, or so many were looked at, or the budget is spent.
 pub(crate) fn lift_remaining(
-    alloc: Global,
     shape: &Shape,
     arena: &Arena,
     ground: &GuessGround,
+    waiting: &mut Waiting,
     table: &mut Table,
     looks: u64,
     budget: &mut Budget,
-) -> Result<bool, AllocError>
+) -> Result<(), AllocError>
     requires { IsTableOf shape.now arena.now table.old }
     ensures { IsRaisedFrom shape.now arena.now table.old table.new }
 {
-    let mut waiting = Waiting::all(alloc, ground, table.values())?;
-    lift_waiting(shape, arena, ground, &mut waiting, table, looks, budget)?;
-    Ok(waiting.queue.is_empty())
+    waiting.begin_turn();
+    lift_waiting(shape, arena, ground, waiting, table, looks, budget)
 }

@@ -1,10 +1,9 @@
 //! How numbers of measures grow along the edges of a graph.
-use crate::graph::Graph;
-use crate::per_vertex::PerVertex;
 use std::alloc::{AllocError, Global};
 use vpg_game::Player;
 use vpg_hope::Arena;
 use vpg_measure::Shape;
+use vpg_regions::{Graph, PerVertex};
 
 /// The measures by which one player wins: those of the game for Even, those of its dual for Odd.
 #[derive(Drop)]

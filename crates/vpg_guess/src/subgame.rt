@@ -1,10 +1,7 @@
 //! Games over some of a graph's vertices.
-use crate::budget::Budget;
-use crate::graph::{Draft, Graph};
-use crate::per_vertex::PerVertex;
-use crate::regions::{Regions, solve_regions};
 use std::alloc::{AllocError, Global};
 use vpg_game::Player;
+use vpg_regions::{Budget, Draft, Graph, PerVertex, Regions, solve_regions};
 
 /// Some vertices of a graph under numbers of their own, and behind them a dead end of Even, where Odd wins.
 #[derive(Drop)]

@@ -137,7 +137,7 @@ fn forget(solution: &mut Solution<'_>, stack: &[Frame]) {
 
 /// Gives each vertex of the present game, which is of some of these, its winner, or those that are known when the budget is spent;
 /// says whether all are.
-pub(crate) fn solve_by_recursion(
+pub fn solve_by_recursion(
     alloc: Global,
     solution: &mut Solution<'_>,
     vertices: &[u32],

@@ -2,38 +2,38 @@
 
 /// How many edges and vertices may still be looked at.
 #[derive(Drop)]
-pub(crate) struct Budget {
+pub struct Budget {
     left: u64,
 }
 
 impl Budget {
-    pub(crate) fn new(left: u64) -> Budget {
+    pub fn new(left: u64) -> Budget {
         Budget { left }
     }
 
-    pub(crate) fn is_spent(&self) -> bool {
+    pub fn is_spent(&self) -> bool {
         self.left == 0
     }
 
     /// Spends what looking at so many edges and vertices costs.
-    pub(crate) fn spend(&mut self, looked: usize) {
+    pub fn spend(&mut self, looked: usize) {
         self.left = self.left.saturating_sub(looked as u64);
     }
 
     /// At most so much of it, as a budget of its own.
-    pub(crate) fn take(&mut self, most: u64) -> Budget {
+    pub fn take(&mut self, most: u64) -> Budget {
         let part = most.min(self.left);
         self.left = self.left.saturating_sub(part);
         Budget { left: part }
     }
 
     /// Half of it, as a budget of its own.
-    pub(crate) fn take_half(&mut self) -> Budget {
+    pub fn take_half(&mut self) -> Budget {
         self.take(self.left / 2)
     }
 
     /// Gives back what is left of a part that was taken.
-    pub(crate) fn give_back(&mut self, part: Budget) {
+    pub fn give_back(&mut self, part: Budget) {
         self.left = self.left.saturating_add(part.left);
     }
 }

@@ -18,19 +18,19 @@ const FIRST_WEIGHTS: u64 = 1 << 20;
 
 /// Who is taken to win at each vertex, and the winner's choices.
 #[derive(Drop)]
-pub(crate) struct Regions {
+pub struct Regions {
     winner: PerVertex<Option<Player>>,
-    pub(crate) choice: PerVertex<Option<u32>>,
+    pub choice: PerVertex<Option<u32>>,
 }
 
 impl Regions {
     /// The winner, where the budget sufficed.
-    pub(crate) fn winner(&self, v: u32) -> Option<Player> {
+    pub fn winner(&self, v: u32) -> Option<Player> {
         self.winner.get(v)
     }
 
     /// The winner's choice at a vertex of its own.
-    pub(crate) fn choice(&self, v: u32) -> Option<u32> {
+    pub fn choice(&self, v: u32) -> Option<u32> {
         self.choice.get(v)
     }
 }
@@ -144,7 +144,7 @@ fn components_of(
 }
 
 /// Who wins where; what is open on a spent budget has no winner. Odd is known to win at the lost vertices.
-pub(crate) fn solve_regions(
+pub fn solve_regions(
     alloc: Global,
     graph: &Graph,
     lost: Vec<u32>,
@@ -159,6 +159,25 @@ pub(crate) fn solve_regions(
     if !recur(alloc, &mut solution, &all, most, budget)? {
         solve_apart(alloc, &mut solution, &all, budget)?;
     }
+    let (winner, choice) = solution.finish();
+    Ok(Regions { winner, choice })
+}
+
+/// Who wins at some vertices, where all others are taken to be lost where they stand at the top, and won by Even elsewhere.
+pub fn solve_part(
+    alloc: Global,
+    graph: &Graph,
+    lost: &[u32],
+    members: &[u32],
+    budget: &mut Budget,
+) -> Result<Regions, AllocError> {
+    let mut solution = Solution::new(alloc, graph)?;
+    let all = solution.all_living(alloc)?;
+    solution.give(Player::Even, &all);
+    solution.give(Player::Odd, lost);
+    solution.leave(&all);
+    solution.forget(members);
+    solve_component(alloc, &mut solution, members, budget)?;
     let (winner, choice) = solution.finish();
     Ok(Regions { winner, choice })
 }

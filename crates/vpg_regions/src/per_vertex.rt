@@ -3,7 +3,7 @@ use std::alloc::{AllocError, Global};
 
 /// One value for each vertex. Past the last vertex it reads as the value that it began with, and a write is lost.
 #[derive(Drop)]
-pub(crate) struct PerVertex<T> {
+pub struct PerVertex<T> {
     values: Vec<T>,
     rest: T,
     count: u32,
@@ -11,7 +11,7 @@ pub(crate) struct PerVertex<T> {
 
 impl<T: Copy> PerVertex<T> {
     /// This value at each of so many vertices.
-    pub(crate) fn of(alloc: Global, vertices: u32, rest: T) -> Result<PerVertex<T>, AllocError> {
+    pub fn of(alloc: Global, vertices: u32, rest: T) -> Result<PerVertex<T>, AllocError> {
         let mut values = Vec::with_capacity(alloc, vertices as usize)?;
         for _ in 0..vertices {
             values.push(rest)?;
@@ -24,11 +24,11 @@ impl<T: Copy> PerVertex<T> {
     }
 
     /// How many vertices there are.
-    pub(crate) fn count(&self) -> u32 {
+    pub fn count(&self) -> u32 {
         self.count
     }
 
-    pub(crate) fn copy(&self, alloc: Global) -> Result<PerVertex<T>, AllocError> {
+    pub fn copy(&self, alloc: Global) -> Result<PerVertex<T>, AllocError> {
         Ok(PerVertex {
             values: Vec::from_slice(alloc, self.values.as_slice())?,
             rest: self.rest,
@@ -36,14 +36,14 @@ impl<T: Copy> PerVertex<T> {
         })
     }
 
-    pub(crate) fn get(&self, v: u32) -> T {
+    pub fn get(&self, v: u32) -> T {
         match self.values.get(v as usize) {
             Some(value) => *value,
             None => self.rest,
         }
     }
 
-    pub(crate) fn set(&mut self, v: u32, value: T) {
+    pub fn set(&mut self, v: u32, value: T) {
         if (v as usize) < self.values.len() {
             self.values[v as usize] = value;
         }

@@ -204,7 +204,7 @@ impl PathWeights {
 
 /// Gives each vertex of the present game, which is of some of these, its winner, or those that are known when the budget is spent;
 /// says whether all are.
-pub(crate) fn solve_by_weights(
+pub fn solve_by_weights(
     alloc: Global,
     solution: &mut Solution<'_>,
     vertices: &[u32],

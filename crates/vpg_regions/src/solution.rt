@@ -7,10 +7,10 @@ use vpg_game::Player;
 
 /// The vertices that are still played on, and who wins at the others.
 #[derive(Drop)]
-pub(crate) struct Solution<'a> {
-    pub(crate) graph: &'a Graph,
+pub struct Solution<'a> {
+    pub graph: &'a Graph,
     /// The winner's choices, and others where nobody is taken to win.
-    pub(crate) choice: PerVertex<Option<u32>>,
+    pub choice: PerVertex<Option<u32>>,
     winner: PerVertex<Option<Player>>,
     // the vertices of the present game
     alive: PerVertex<bool>,
@@ -23,7 +23,7 @@ pub(crate) struct Solution<'a> {
 }
 
 impl<'a> Solution<'a> {
-    pub(crate) fn new(alloc: Global, graph: &'a Graph) -> Result<Solution<'a>, AllocError> {
+    pub fn new(alloc: Global, graph: &'a Graph) -> Result<Solution<'a>, AllocError> {
         let vertices = graph.vertices();
         Ok(Solution {
             graph,
@@ -37,12 +37,12 @@ impl<'a> Solution<'a> {
         })
     }
 
-    pub(crate) fn is_alive(&self, v: u32) -> bool {
+    pub fn is_alive(&self, v: u32) -> bool {
         self.alive.get(v)
     }
 
     /// The first move that stays in the present game.
-    pub(crate) fn first_alive(&self, v: u32) -> Option<u32> {
+    pub fn first_alive(&self, v: u32) -> Option<u32> {
         for w in self.graph.successors(v) {
             if self.alive.get(*w) {
                 return Some(*w);
@@ -82,7 +82,7 @@ impl<'a> Solution<'a> {
     }
 
     /// What a player can force into the seed; it leaves the present game.
-    pub(crate) fn attract(
+    pub fn attract(
         &mut self,
         player: Player,
         seed: Vec<u32>,
@@ -139,7 +139,7 @@ impl<'a> Solution<'a> {
     }
 
     /// Gives a player the seed and what it can force there, which leave the present game.
-    pub(crate) fn win(
+    pub fn win(
         &mut self,
         player: Player,
         seed: Vec<u32>,
@@ -151,14 +151,14 @@ impl<'a> Solution<'a> {
     }
 
     /// Gives a player some vertices.
-    pub(crate) fn give(&mut self, player: Player, vertices: &[u32]) {
+    pub fn give(&mut self, player: Player, vertices: &[u32]) {
         for v in vertices {
             self.winner.set(*v, Some(player));
         }
     }
 
     /// Who stands without a move loses, and so does who can be forced there.
-    pub(crate) fn win_dead_ends(
+    pub fn win_dead_ends(
         &mut self,
         alloc: Global,
         player: Player,
@@ -174,14 +174,14 @@ impl<'a> Solution<'a> {
         Ok(())
     }
 
-    pub(crate) fn revive(&mut self, vertices: &[u32]) {
+    pub fn revive(&mut self, vertices: &[u32]) {
         for v in vertices {
             self.alive.set(*v, true);
         }
     }
 
     /// Those of some vertices that are in the present game.
-    pub(crate) fn living(&self, alloc: Global, vertices: &[u32]) -> Result<Vec<u32>, AllocError> {
+    pub fn living(&self, alloc: Global, vertices: &[u32]) -> Result<Vec<u32>, AllocError> {
         let mut living = Vec::new(alloc);
         for v in vertices {
             if self.alive.get(*v) {
@@ -192,7 +192,7 @@ impl<'a> Solution<'a> {
     }
 
     /// The vertices of the present game.
-    pub(crate) fn all_living(&self, alloc: Global) -> Result<Vec<u32>, AllocError> {
+    pub fn all_living(&self, alloc: Global) -> Result<Vec<u32>, AllocError> {
         let mut living = Vec::new(alloc);
         for v in 0..self.graph.vertices() {
             if self.alive.get(v) {
@@ -203,7 +203,7 @@ impl<'a> Solution<'a> {
     }
 
     /// Those of some vertices in the present game that a player was given.
-    pub(crate) fn won_by(
+    pub fn won_by(
         &self,
         alloc: Global,
         player: Player,
@@ -219,7 +219,7 @@ impl<'a> Solution<'a> {
     }
 
     /// Any move within the present game, where there is no choice.
-    pub(crate) fn choose_any(&mut self, vertices: &[u32]) {
+    pub fn choose_any(&mut self, vertices: &[u32]) {
         for v in vertices {
             if self.choice.get(*v).is_none() {
                 let first = self.first_alive(*v);
@@ -229,21 +229,21 @@ impl<'a> Solution<'a> {
     }
 
     /// Takes some vertices back from whom they were given.
-    pub(crate) fn forget(&mut self, vertices: &[u32]) {
+    pub fn forget(&mut self, vertices: &[u32]) {
         for v in vertices {
             self.winner.set(*v, None);
         }
     }
 
     /// Goes on with those of some vertices that nobody was given.
-    pub(crate) fn reopen(&mut self, vertices: &[u32]) {
+    pub fn reopen(&mut self, vertices: &[u32]) {
         for v in vertices {
             self.alive.set(*v, self.winner.get(*v).is_none());
         }
     }
 
     /// Leaves some vertices.
-    pub(crate) fn leave(&mut self, vertices: &[u32]) {
+    pub fn leave(&mut self, vertices: &[u32]) {
         for v in vertices {
             self.alive.set(*v, false);
         }
@@ -301,7 +301,7 @@ impl<'a> Solution<'a> {
 
     /// Gives both players what they can force out of the present game, which is of these vertices, to where they win. No move from
     /// there may lead to a vertex that nobody was given.
-    pub(crate) fn win_exits(
+    pub fn win_exits(
         &mut self,
         alloc: Global,
         vertices: &[u32],
@@ -318,7 +318,7 @@ impl<'a> Solution<'a> {
     }
 
     /// Who was given what, and the choices.
-    pub(crate) fn finish(self) -> (PerVertex<Option<Player>>, PerVertex<Option<u32>>) {
+    pub fn finish(self) -> (PerVertex<Option<Player>>, PerVertex<Option<u32>>) {
         let Solution { winner, choice, .. } = self;
         (winner, choice)
     }

@@ -76,7 +76,7 @@ impl Lists {
 
 /// A game that is being written down, vertex by vertex.
 #[derive(Drop)]
-pub(crate) struct Draft {
+pub struct Draft {
     count: u32,
     owners: Vec<Player>,
     priorities: Vec<u32>,
@@ -84,7 +84,7 @@ pub(crate) struct Draft {
 }
 
 impl Draft {
-    pub(crate) fn new(alloc: Global) -> Draft {
+    pub fn new(alloc: Global) -> Draft {
         Draft {
             count: 0,
             owners: Vec::new(alloc),
@@ -97,13 +97,13 @@ impl Draft {
     }
 
     /// An edge of the vertex that comes next.
-    pub(crate) fn edge(&mut self, to: u32) -> Result<(), AllocError> {
+    pub fn edge(&mut self, to: u32) -> Result<(), AllocError> {
         self.successors.items.push(to)?;
         Ok(())
     }
 
     /// A vertex with the edges since the last one.
-    pub(crate) fn vertex(&mut self, owner: Player, priority: u32) -> Result<(), AllocError> {
+    pub fn vertex(&mut self, owner: Player, priority: u32) -> Result<(), AllocError> {
         self.owners.push(owner)?;
         self.priorities.push(priority)?;
         self.successors.ends.push(self.successors.items.len())?;
@@ -112,7 +112,7 @@ impl Draft {
     }
 
     /// The game, with as few priorities as have the same winners.
-    pub(crate) fn finish(self, alloc: Global) -> Result<Graph, AllocError> {
+    pub fn finish(self, alloc: Global) -> Result<Graph, AllocError> {
         let Draft {
             count,
             owners,
@@ -137,7 +137,7 @@ impl Draft {
 
 /// A parity game with the edges of each vertex both ways.
 #[derive(Drop)]
-pub(crate) struct Graph {
+pub struct Graph {
     count: u32,
     owners: Vec<Player>,
     priorities: Vec<u32>,
@@ -173,7 +173,7 @@ fn merged(alloc: Global, occurs: &PerVertex<bool>) -> Result<PerVertex<u32>, All
 
 impl Graph {
     /// The game of an arena.
-    pub(crate) fn of(alloc: Global, arena: &Arena) -> Result<Graph, AllocError> {
+    pub fn of(alloc: Global, arena: &Arena) -> Result<Graph, AllocError> {
         let mut draft = Draft::new(alloc);
         for v in 0..arena.vertices() {
             draft.successors.items.extend_from_slice(arena.kept(v))?;
@@ -182,39 +182,39 @@ impl Graph {
         draft.finish(alloc)
     }
 
-    pub(crate) fn vertices(&self) -> u32 {
+    pub fn vertices(&self) -> u32 {
         self.count
     }
 
     /// How many edges and vertices there are.
-    pub(crate) fn size(&self) -> u64 {
+    pub fn size(&self) -> u64 {
         u64::from(self.count).saturating_add(self.successors.items.len() as u64)
     }
 
-    pub(crate) fn owner(&self, v: u32) -> Player {
+    pub fn owner(&self, v: u32) -> Player {
         match self.owners.get(v as usize) {
             Some(owner) => *owner,
             None => Player::Even,
         }
     }
 
-    pub(crate) fn priority(&self, v: u32) -> u32 {
+    pub fn priority(&self, v: u32) -> u32 {
         match self.priorities.get(v as usize) {
             Some(priority) => *priority,
             None => 0,
         }
     }
 
-    pub(crate) fn successors(&self, v: u32) -> &[u32] {
+    pub fn successors(&self, v: u32) -> &[u32] {
         self.successors.of(v)
     }
 
-    pub(crate) fn predecessors(&self, v: u32) -> &[u32] {
+    pub fn predecessors(&self, v: u32) -> &[u32] {
         self.predecessors.of(v)
     }
 
     /// The greatest priority of some vertices.
-    pub(crate) fn greatest_priority(&self, vertices: &[u32]) -> u32 {
+    pub fn greatest_priority(&self, vertices: &[u32]) -> u32 {
         let mut greatest = 0;
         for v in vertices {
             greatest = greatest.max(self.priority(*v));

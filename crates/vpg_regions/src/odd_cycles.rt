@@ -159,7 +159,7 @@ impl OddCycles {
 }
 
 /// Gives Odd those vertices of the present game where it wins by its own moves alone, and those from where it can force play there.
-pub(crate) fn win_odd_cycles(
+pub fn win_odd_cycles(
     alloc: Global,
     solution: &mut Solution<'_>,
     living: &[u32],
