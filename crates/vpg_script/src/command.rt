@@ -3,13 +3,13 @@ ghost use Rattle.std.specs.Prelude.{◌≡◌, ◌≤◌, ◌^◌, ◌<◌, true
 ghost use Rattle.std.specs.List.{list_all};
 ghost use Rattle.std.specs.Char.{is_ascii_digit, digit_value};
 ghost use Rattle.std.specs.Str.Parse.{digits_value};
-ghost use Rattle.std.specs.Prelude.{bytes_eq, not, is_none};
-ghost use Rattle.vpg_guards.specs.Names.{starts_as_name, is_name_byte, constant_of};
+ghost use Rattle.std.specs.Prelude.{bytes_eq};
 ghost use Rattle.vpg_script.specs.Script.{is_blank, is_nonempty, words, is_feature_name, number_of, verb_of, bare_command, command_with, table_named, command_with_two, command_of, label_of, is_comment};
 ghost use Rattle.vpg_script.specs.View.{command_shown, texts};
 
 use std::alloc::{AllocError, Global};
 use thiserror::Error;
+use vpg_guards::is_feature_name;
 use vpg_measure::Which;
 
 /// The most bytes of a line before its end.
@@ -115,44 +115,17 @@ fn same(a: &[u8], b: &[u8]) -> bool
     a == b
 }
 
-fn is_name_byte(byte: u8) -> bool
-    ensures { result ≡ is_name_byte byte }
-{
-    byte.is_ascii_alphanumeric() || byte == b'_'
-}
-
-fn has_name_bytes(word: &[u8]) -> bool
-    ensures { result ≡ list_all is_name_byte word.now }
-{
-    word.iter().all(|b| is_name_byte(*b))
-}
-
 fn has_digits(word: &[u8]) -> bool
     ensures { result ≡ list_all is_ascii_digit word.now }
 {
     word.iter().all(|b| b.is_ascii_digit())
 }
 
-fn starts_as_name(word: &[u8]) -> bool
-    ensures { result ≡ starts_as_name word.now }
-{
-    match word {
-        [] => false,
-        [first, ..] => first.is_ascii_alphabetic() || *first == b'_',
-    }
-}
-
-fn is_constant(word: &[u8]) -> bool
-    ensures { not result ≡ is_none (constant_of word.now) }
-{
-    same(word, b"true") || same(word, b"false")
-}
-
 /// Whether a word is a feature's name.
-fn is_feature_name(word: &[u8]) -> bool
+fn is_name(word: &[u8]) -> bool
     ensures { result ≡ is_feature_name word.now }
 {
-    starts_as_name(word) && has_name_bytes(word) && word.len() <= 64 && !is_constant(word)
+    is_feature_name(word)
 }
 
 fn digit(b: u8) -> u64
@@ -257,9 +230,9 @@ fn command_with(verb: Verb, word: &[u8]) -> Option<Command>
     ensures { option_map command_shown result ≡ command_with verb word.now }
 {
     match verb {
-        Verb::Select if is_feature_name(word) => Some(Command::Select(word)),
-        Verb::Exclude if is_feature_name(word) => Some(Command::Exclude(word)),
-        Verb::Retract if is_feature_name(word) => Some(Command::Retract(word)),
+        Verb::Select if is_name(word) => Some(Command::Select(word)),
+        Verb::Exclude if is_name(word) => Some(Command::Exclude(word)),
+        Verb::Retract if is_name(word) => Some(Command::Retract(word)),
         Verb::Undo => Some(Command::Undo(Some(number(word, LARGEST_SERIAL)?))),
         Verb::Redo => Some(Command::Redo(Some(number(word, LARGEST_SERIAL)?))),
         Verb::Keep => Some(Command::Keep(number(word, LARGEST_SERIAL)?)),
