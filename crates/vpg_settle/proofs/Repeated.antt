@@ -1,6 +1,6 @@
 -- Sweeps of an order, one after another.
 use Rattle.std.proofs.Common.{◌≡◌, ℕ, ◌+◌, ◌<◌, ◌≤◌, List, ◌⊎◌, inl, inr, sym, ap, ◌∙◌, subst, arith}
-use Rattle.std.specs.Prelude.{sum}
+use Rattle.std.specs.Prelude.{Option, Some, None, IfSome, sum}
 use Rattle.vpg_guards.specs.Known.{kleene}
 use Rattle.vpg_game.specs.Game.{graph_of}
 use Rattle.vpg_measure.specs.declared.which.Which.{Which}
@@ -9,7 +9,7 @@ use Rattle.vpg_measure.specs.Lifts.{IsProgressTable, IsBelowTable, after_rounds}
 use Rattle.vpg_measure.specs.Orders.{OrderView, HarvestView, IsOrder, IsHarvest, IsSameOrder, IsOrderAgain, IsSettledHarvest, order_table, harvest_table, order_levels, order_arena}
 use Rattle.vpg_measure.specs.TwoGames.{levels_for, arena_for}
 use Rattle.vpg_measure.proofs.Rounds.{after_above, below_trans}
-use Rattle.vpg_settle.specs.Sweeping.{IsOfPage, IsSweptOrder}
+use Rattle.vpg_settle.specs.Sweeping.{IsOfPage, IsSweptOrder, IsSweptTo, Reaches}
 use Rattle.vpg_settle.proofs.Sweeps.{sums_rise, rounds_settle_or_move}
 
 same_page : (one other : OrderView) → IsSameOrder one other → IsOfPage one other
@@ -117,3 +117,50 @@ board_sweeps order harvest lawful same above moved = record {
   above = above;
   moved = λ unsettled. omega (arith, moved unsettled);
 }
+
+-- ---- up to a goal
+
+-- it moved by no less than it did
+pub swept_less : (order : OrderView) (harvest : HarvestView) (sweeps : ℕ) → IsSweptOrder order sweeps harvest → IsSweptOrder order 0 harvest
+swept_less order harvest sweeps swept =
+    record { lawful = swept.lawful; page = swept.page; above = swept.above; moved = λ unsettled. omega (arith, swept.moved unsettled) }
+
+-- all its sweeps were made
+pub swept_all : (order : OrderView) (harvest : HarvestView) (sweeps : ℕ) (goal : Option ℕ) → IsSweptOrder order sweeps harvest → IsSweptTo order sweeps goal harvest
+swept_all order harvest sweeps goal swept = record { kept = swept_less order harvest sweeps swept; enough = λ unsettled. inr (swept.moved unsettled) }
+
+-- what reached a goal that stands so far above the order's tables exceeds them by as many
+enough_moved : (goal : Option ℕ) (harvest : HarvestView) (from sweeps before : ℕ) → IfSome goal (λ g. from + sweeps ≤ g) → from ≤ before →
+    Reaches goal harvest ⊎ (before + sweeps ≤ sum harvest.hopeful + sum harvest.dual) → from + sweeps ≤ sum harvest.hopeful + sum harvest.dual
+enough_moved None harvest from sweeps before far less (inl reached) = absurd reached
+enough_moved (Some g) harvest from sweeps before far less (inl reached) = omega (arith, far, reached)
+enough_moved goal harvest from sweeps before far less (inr moved) = omega (arith, less, moved)
+
+pub swept_to : (order : OrderView) (harvest : HarvestView) (sweeps : ℕ) (goal : Option ℕ) → IfSome goal (λ g. sum order.hopeful + sum order.dual + sweeps ≤ g) →
+    IsSweptTo order sweeps goal harvest → IsSweptOrder order sweeps harvest
+swept_to order harvest sweeps goal far swept = record {
+  lawful = swept.kept.lawful;
+  page = swept.kept.page;
+  above = swept.kept.above;
+  moved = λ unsettled. enough_moved goal harvest (sum order.hopeful + sum order.dual) sweeps (sum order.hopeful + sum order.dual) far (omega arith) (swept.enough unsettled);
+}
+
+-- the same behind a raise
+pub raised_to : (order again : OrderView) (first second : HarvestView) (sweeps : ℕ) (goal : Option ℕ) → IfSome goal (λ g. sum order.hopeful + sum order.dual + sweeps ≤ g) →
+    IsOrderAgain again first → IsSweptTo again sweeps goal second → IsHarvest first → IsSameOrder first.order order → IsSweptOrder order sweeps second
+raised_to order again first second sweeps goal far is_again swept lawful same =
+    let base : IsSweptOrder order 0 second = raised_then order again first second 0 is_again swept.kept lawful same in
+    record {
+      lawful = base.lawful;
+      page = base.page;
+      above = base.above;
+      moved = λ unsettled. enough_moved goal second (sum order.hopeful + sum order.dual) sweeps (sum again.hopeful + sum again.dual) far
+          (omega (
+            arith,
+            ap sum is_again.hopeful,
+            ap sum is_again.dual,
+            sums_rise order.hopeful first.hopeful (tables_stay order first lawful same Hopeful),
+            sums_rise order.dual first.dual (tables_stay order first lawful same Dual),
+          ))
+          (swept.enough unsettled);
+    }

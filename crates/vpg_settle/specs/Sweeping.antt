@@ -1,5 +1,5 @@
 -- What sweeps make of an order. This project's own.
-use Rattle.std.specs.Prelude.{◌≡◌, ℕ, zero, suc, ◌+◌, ◌≤◌, ◌⊎◌, sum}
+use Rattle.std.specs.Prelude.{◌≡◌, ℕ, zero, suc, ◌+◌, ◌≤◌, ◌⊎◌, Option, Some, None, sum}
 use Rattle.vpg_measure.specs.declared.which.Which.{Which}
 use Rattle.vpg_measure.specs.Lifts.{IsBelowTable}
 use Rattle.vpg_measure.specs.Orders.{OrderView, HarvestView, IsHarvest, IsOrderAgain, IsSettledHarvest, order_table, harvest_table}
@@ -17,6 +17,16 @@ pub record IsSweptOrder (order : OrderView) (sweeps : ℕ) (harvest : HarvestVie
   pub page : IsOfPage harvest.order order
   pub above : (which : Which) → IsBelowTable (order_table which order) (harvest_table which harvest)
   pub moved : ¬ IsSettledHarvest harvest → sum order.hopeful + sum order.dual + sweeps ≤ sum harvest.hopeful + sum harvest.dual
+
+-- both tables together have the sum that was asked for
+abbrev pub Reaches : Option ℕ → HarvestView → Type 0
+Reaches None harvest = ⊥
+Reaches (Some goal) harvest = goal ≤ sum harvest.hopeful + sum harvest.dual
+
+-- The same, but that a harvest which reaches the goal may exceed them by less.
+pub record IsSweptTo (order : OrderView) (sweeps : ℕ) (goal : Option ℕ) (harvest : HarvestView) : Type 0 where
+  pub kept : IsSweptOrder order 0 harvest
+  pub enough : ¬ IsSettledHarvest harvest → Reaches goal harvest ⊎ (sum order.hopeful + sum order.dual + sweeps ≤ sum harvest.hopeful + sum harvest.dual)
 
 -- ---- how often an order was swept, and by how many lifters
 

@@ -1,22 +1,32 @@
 //! Sweeps: what the lines `settle` and `harvest` make of an order.
-ghost use Rattle.std.specs.Prelude.{◌≡◌, ◌<◌, ◌≤◌, IfOk, IfErr};
+ghost use Rattle.std.specs.Prelude.{◌≡◌, ◌+◌, ◌<◌, ◌≤◌, sum, IfOk, IfErr, IfSome, IsTrue, Some};
 ghost use Rattle.vpg_measure.specs.Lifts.{after_rounds};
 ghost use Rattle.vpg_measure.specs.Orders.{IsSameOrder, IsHarvest, IsSettledHarvest, order_table, harvest_table, order_levels, order_arena};
 ghost use Rattle.vpg_board.specs.Places.{vertices};
-ghost use Rattle.vpg_settle.specs.Sweeping.{IsSweptOrder, IsSweptBy, IsGuessed, AreSweeps, Leave, Settles};
+ghost use Rattle.vpg_settle.specs.Sweeping.{IsSweptOrder, IsSweptTo, IsSweptBy, IsGuessed, AreSweeps, Leave, Settles};
 
 use std::alloc::Global;
 use std::sync::Wait;
 use std::thread::Threads;
 use vpg_board::{Gate, Predecessors, sweep_along};
 use vpg_guess::harvest_by_bounds;
-use vpg_measure::{Harvest, Order, Which};
+use vpg_measure::{Harvest, Order, Table, Which};
 
-/// The sweeps that come before any guess: a small change is settled by them, and a line with so small a number asks for no more.
-pub const FIRST_SWEEPS: u64 = 4;
+/// A line with so small a number asks for sweeps alone.
+pub const FEW_SWEEPS: u64 = 4;
 
-/// How many edges and vertices each step of a guess may look at.
-pub const BUDGET: u64 = 1 << 28;
+/// The sweeps that come before a guess: a small change is settled by them.
+pub const FIRST_SWEEPS: u64 = 1;
+
+/// How many edges and vertices a guess at both tables may look at, in all its parts together: about two seconds at most.
+pub const BUDGET: u64 = 1 << 27;
+
+/// From so many sweeps on, the sweeps behind a guess end where the tables exceed those that the line began with, in sum, by the
+/// line's number: nobody waits for a million sweeps.
+pub const MANY_SWEEPS: u64 = 1_000_000;
+
+/// How many sweeps there are behind a guess before that is asked.
+pub const LAST_SWEEPS: u64 = 16;
 
 /// The order after this many rounds of one lifter at most. It takes no memory.
 fn by_rounds(order: Order, rounds: u64) -> Harvest
@@ -131,22 +141,105 @@ fn by_sweeps<G: Gate + Sync, T: Threads + Wait + Sync>(
     }
 }
 
-/// The same, where lifters hint at what to lift next.
+/// The sum of a table's values, where it can be counted.
+fn sum_of(table: &Table) -> Option<u128>
+    ensures { IfSome result (λ total. total ≡ sum table.now) }
+{
+    let mut total = 0u128;
+    for value in table.values() {
+        total = total.checked_add(u128::from(*value))?;
+    }
+    Some(total)
+}
+
+/// The sum that tables have to reach before a line's sweeps may end early. None where there are few of them: they are all made.
+fn goal_of(order: &Order, sweeps: u64) -> Option<u128>
+    ensures { IfSome result (λ goal. sum order.now.hopeful + sum order.now.dual + sweeps ≤ goal) }
+{
+    if sweeps < MANY_SWEEPS {
+        return None;
+    }
+    let hopeful = sum_of(order.hopeful())?;
+    let dual = sum_of(order.dual())?;
+    hopeful.checked_add(dual)?.checked_add(u128::from(sweeps))
+}
+
+/// Whether both tables of a harvest together have this sum, as far as that can be counted.
+fn is_reached(harvest: &Harvest, goal: u128) -> bool
+    ensures { IsTrue result → goal ≤ sum harvest.now.hopeful + sum harvest.now.dual }
+{
+    match (
+        sum_of(harvest.table(Which::Hopeful)),
+        sum_of(harvest.table(Which::Dual)),
+    ) {
+        (Some(hopeful), Some(dual)) => goal.saturating_sub(hopeful) <= dual,
+        _ => false,
+    }
+}
+
+/// Whether a harvest is settled, or reached the goal behind enough sweeps.
+fn is_enough(harvest: &Harvest, done: u64, goal: u128) -> bool
+    ensures settled { IsSettledHarvest harvest.now → IsTrue result }
+    ensures enough { IsTrue result → (¬ IsSettledHarvest harvest.now) → goal ≤ sum harvest.now.hopeful + sum harvest.now.dual }
+{
+    if harvest.check() {
+        return true;
+    }
+    LAST_SWEEPS <= done && is_reached(harvest, goal)
+}
+
+/// The order after this many sweeps at most: they end where one settles it, or where its tables reach the goal behind some sweeps.
+fn by_sweeps_to<G: Gate + Sync, T: Threads + Wait + Sync>(
+    rt: &T,
+    alloc: Global,
+    order: Order,
+    sweeps: u64,
+    goal: u128,
+    lifters: u32,
+    gate: &G,
+    predecessors: &Predecessors,
+) -> SweptHarvest
+    requires lifters { (1 ≤ lifters) × (lifters ≤ 64) }
+    requires predecessors { predecessors.now ≡ vertices order }
+    ensures swept { IsSweptTo order sweeps (Some goal) result.harvest }
+    ensures few { result.sweeps ≤ sweeps }
+    ensures made { AreSweeps lifters result.sweeps order result.harvest }
+{
+    let mut order = order;
+    for done in 0..sweeps {
+        let harvest = sweep(rt, alloc, order, lifters, gate, predecessors);
+        if is_enough(&harvest, done, goal) {
+            let sweeps = done + 1;
+            return SweptHarvest { harvest, sweeps };
+        }
+        order = harvest.again();
+    }
+    SweptHarvest {
+        harvest: by_rounds(order, 0),
+        sweeps,
+    }
+}
+
+/// The same where there is a goal, and else all sweeps. Lifters hint at what to lift next.
 fn by_hints<G: Gate + Sync, T: Threads + Wait + Sync>(
     rt: &T,
     alloc: Global,
     order: Order,
     sweeps: u64,
+    goal: Option<u128>,
     lifters: u32,
     gate: &G,
 ) -> SweptHarvest
     requires lifters { (1 ≤ lifters) × (lifters ≤ 64) }
-    ensures swept { IsSweptOrder order sweeps result.harvest }
+    ensures swept { IsSweptTo order sweeps goal result.harvest }
     ensures few { result.sweeps ≤ sweeps }
     ensures made { AreSweeps lifters result.sweeps order result.harvest }
 {
     let predecessors = Predecessors::of_or_none(alloc, &order);
-    by_sweeps(rt, alloc, order, sweeps, lifters, gate, &predecessors)
+    match goal {
+        Some(goal) => by_sweeps_to(rt, alloc, order, sweeps, goal, lifters, gate, &predecessors),
+        None => by_sweeps(rt, alloc, order, sweeps, lifters, gate, &predecessors),
+    }
 }
 
 /// The order raised by guesses. On want of memory it comes back. Here alone a raise is known to be one of guesses.
@@ -173,20 +266,24 @@ fn by_guesses<G: Gate + Sync, T: Threads + Wait + Sync>(
     ensures few { result.sweeps ≤ sweeps }
     ensures made { Settles lifters result.sweeps order result.harvest }
 {
+    let goal = goal_of(&order, sweeps);
     match guess(alloc, order) {
         Ok(harvest) => {
             if harvest.check() {
                 return SweptHarvest { harvest, sweeps: 0 };
             }
-            by_hints(rt, alloc, harvest.again(), sweeps, lifters, gate)
+            by_hints(rt, alloc, harvest.again(), sweeps, goal, lifters, gate)
         }
-        Err(order) => by_hints(rt, alloc, order, sweeps, lifters, gate),
+        Err(order) => by_hints(rt, alloc, order, sweeps, goal, lifters, gate),
     }
 }
 
-/// The order swept this many times at most, by this many lifters at once; where the first few sweeps don't settle it, its tables
-/// are raised by guesses before the others. The first few go without hints: one lifter's then raise what as many rounds raise. It
-/// never fails: where a board, a hint or a guess finds no memory, the sweeps go on without. The lifters call the gate.
+/// The order swept this many times at most, by this many lifters at once; where the first sweep doesn't settle it, its tables are
+/// raised by guesses before the others. The first goes without hints: one lifter's then raises what a round raises. It never
+/// fails: where a board, a hint or a guess finds no memory, the sweeps go on without. The lifters call the gate.
+///
+/// A guess has one budget for both tables; when it is spent, what is known until then is certified and raised. Sweeps follow, up
+/// to the number. From `MANY_SWEEPS` on they end, settled or not, where the tables exceed the order's in sum by the number.
 pub fn swept<G: Gate + Sync, T: Threads + Wait + Sync>(
     rt: &T,
     alloc: Global,
@@ -206,7 +303,7 @@ pub fn swept<G: Gate + Sync, T: Threads + Wait + Sync>(
     ensures none { sweeps ≡ 0 → (which : Which) → harvest_table which result.harvest ≡ order_table which order }
 {
     let plain = Predecessors::none(alloc, &order);
-    if sweeps <= FIRST_SWEEPS {
+    if sweeps <= FEW_SWEEPS {
         return by_sweeps(rt, alloc, order, sweeps, lifters, gate, &plain);
     }
     match sweep_often(rt, alloc, order, FIRST_SWEEPS, lifters, gate, &plain) {

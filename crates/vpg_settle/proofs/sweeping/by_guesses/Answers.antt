@@ -1,6 +1,8 @@
 use Rattle.std.proofs.Common.{inl, inr, refl, subst, sym}
+use Rattle.vpg_measure.specs.Orders.{OrderView}
+use Rattle.vpg_settle.specs.Sweeping.{IsSweptTo}
 use Rattle.vpg_settle.proofs.Often.{guess_then}
-use Rattle.vpg_settle.proofs.Repeated.{settled_sweeps, raised_then}
+use Rattle.vpg_settle.proofs.Repeated.{settled_sweeps, raised_to, swept_to}
 use Rattle.vpg_settle.proofs.sweeping.by_guesses.Goals as goal
 
 pub returns-then-check-clause-swept : goal.returns-then-check-clause-swept
@@ -12,8 +14,16 @@ returns-then-check-clause-made g c = inr (c.in-Ok.harvest, (c.in-Ok.ensures.gues
 
 pub returns-else-check-clause-swept : goal.returns-else-check-clause-swept
 returns-else-check-clause-swept g c =
-    raised_then c.args.order c.again.result c.in-Ok.harvest c.by_hints.result.harvest c.args.sweeps c.again.ensures c.by_hints.ensures.swept c.in-Ok.ensures.harvest c.in-Ok.ensures.order
+    raised_to c.args.order c.again.result c.in-Ok.harvest c.by_hints.result.harvest c.args.sweeps c.goal_of-goal.result c.goal_of-goal.ensures c.again.ensures c.by_hints.ensures.swept
+    c.in-Ok.ensures.harvest c.in-Ok.ensures.order
 
 pub returns-else-check-clause-made : goal.returns-else-check-clause-made
 returns-else-check-clause-made g c =
     guess_then c.args.lifters c.by_hints.result.sweeps c.args.order c.again.result c.in-Ok.harvest c.by_hints.result.harvest c.in-Ok.ensures.guessed c.again.ensures c.by_hints.ensures.made
+
+pub returns-in-Err-clause-swept : goal.returns-in-Err-clause-swept
+returns-in-Err-clause-swept g c =
+    let harvest = c.by_hints-in-Err.result.harvest in
+    let swept : IsSweptTo c.args.order c.args.sweeps c.goal_of-goal.result harvest =
+    subst (λ (order : OrderView). IsSweptTo order c.args.sweeps c.goal_of-goal.result harvest) c.in-Err.ensures.back c.by_hints-in-Err.ensures.swept in
+    swept_to c.args.order harvest c.args.sweeps c.goal_of-goal.result c.goal_of-goal.ensures swept

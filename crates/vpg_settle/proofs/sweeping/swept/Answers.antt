@@ -5,13 +5,13 @@ use Rattle.vpg_settle.proofs.Repeated.{settled_early}
 use Rattle.vpg_settle.proofs.sweeping.swept.Goals as goal
 
 pub returns-in-Ok-clause-swept : goal.returns-in-Ok-clause-swept
-returns-in-Ok-clause-swept g c = settled_early c.args.order c.in-Ok.swept.harvest 4 c.args.sweeps c.in-Ok.ensures.swept c.in-Ok.ensures.settled
+returns-in-Ok-clause-swept g c = settled_early c.args.order c.in-Ok.swept.harvest 1 c.args.sweeps c.in-Ok.ensures.swept c.in-Ok.ensures.settled
 
 pub returns-clause-swept : goal.returns-clause-swept
 returns-clause-swept g c =
-    subst (λ (n : ℕ). IsSweptOrder c.args.order n c.by_guesses-more.result.harvest) (omega (arith, c.if-sweeps-le-FIRST_SWEEPS.false))
-    (swept_on c.args.lifters 4 (c.args.sweeps - 4) c.args.order c.in-Err.order c.by_guesses-more.result.harvest c.in-Err.ensures.left c.by_guesses-more.ensures.swept)
+    subst (λ (n : ℕ). IsSweptOrder c.args.order n c.by_guesses-more.result.harvest) (omega (arith, c.if-sweeps-le-FEW_SWEEPS.false))
+    (swept_on c.args.lifters 1 (c.args.sweeps - 1) c.args.order c.in-Err.order c.by_guesses-more.result.harvest c.in-Err.ensures.left c.by_guesses-more.ensures.swept)
 
 pub returns-clause-made : goal.returns-clause-made
 returns-clause-made g c =
-    guessed_then c.args.lifters 4 c.by_guesses-more.result.sweeps c.args.order c.in-Err.order c.by_guesses-more.result.harvest c.in-Err.ensures.left c.by_guesses-more.ensures.made
+    guessed_then c.args.lifters 1 c.by_guesses-more.result.sweeps c.args.order c.in-Err.order c.by_guesses-more.result.harvest c.in-Err.ensures.left c.by_guesses-more.ensures.made
