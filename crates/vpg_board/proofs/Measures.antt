@@ -7,7 +7,7 @@ use Rattle.vpg_measure.specs.Orders.{OrderView}
 use Rattle.vpg_board.specs.declared.lifter.Lifter.{Lifter}
 use Rattle.vpg_board.specs.Places.{places, values, lift_at, AreProgress, Below}
 use Rattle.vpg_board.specs.Lifters.{greater, opener, spent, sees, claims, splits, newcomer, both}
-use Rattle.vpg_board.specs.Run.{BoardState, Move, load, raise, claim, split, join, lifter, IsHere, opened, after, May}
+use Rattle.vpg_board.specs.Run.{BoardState, Move, load, raise, claim, split, join, lifter, IsHere, opened, after, IsStep}
 use Rattle.vpg_board.specs.Rule.{HasSeen, MeasuresKept}
 use Rattle.vpg_board.proofs.Totals.{get_at}
 use Rattle.vpg_board.proofs.Tables.{below_self, below_trans, below_write, write_below, below_greater, greater_below, length-greater}
@@ -70,7 +70,7 @@ module _ (order : OrderView) where
       one zero v e some_stand = subst (HasSeen order (values order)) (some-injective (opener order) v e) (record { order_is = refl; wide = wide; over = below_self (values order); under = below_self (values order) })
       one (suc i) v e some_stand = absurd (some-ne-none v (sym e))
 
-  pub measures_after : ((t u : List ℕ) (p : ℕ) → p < places order → length t ≡ places order → Below t u → AreProgress order u → lift_at order t p ≤ get_or u p 0) → (b : BoardState) (m : Move) → Kept b → May order b m → Kept (after order b m)
+  pub measures_after : ((t u : List ℕ) (p : ℕ) → p < places order → length t ≡ places order → Below t u → AreProgress order u → lift_at order t p ≤ get_or u p 0) → (b : BoardState) (m : Move) → Kept b → IsStep order b m → Kept (after order b m)
   measures_after stays b (load i p) k may = let h = here b i k may.0 in record {
     wide = k.wide;
     over = k.over;
@@ -90,13 +90,13 @@ module _ (order : OrderView) where
         seen = all_set order (set b.measures p n) b.lifters i (sees v p n) (λ j u e s. seen_higher order b.measures (set b.measures p n) u up (k.seen j u e s))
             (λ _. seen_there order (set b.measures p n) v p n (seen_higher order b.measures (set b.measures p n) v up h) low (omega arith));
       }
-  measures_after stays b (claim i) k may = let h = here b i k may.0 in record {
+  measures_after stays b (claim i) k may = let h = here b i k may in record {
     wide = k.wide;
     over = k.over;
     under = k.under;
     seen = all_set order b.measures b.lifters i (claims (places order) (lifter b i) b.claimed) k.seen (λ _. record { order_is = h.order_is; wide = h.wide; over = h.over; under = h.under });
   }
-  measures_after stays b (split i) k may = let h = here b i k may.0 in record {
+  measures_after stays b (split i) k may = let h = here b i k may in record {
     wide = k.wide;
     over = k.over;
     under = k.under;

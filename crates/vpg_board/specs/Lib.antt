@@ -2,6 +2,7 @@ pub mod Places
 pub mod Lifters
 pub mod Run
 pub mod Rule
+pub mod Taken
 pub mod Seats
 pub mod BoardFields
 pub mod Steps

@@ -41,23 +41,37 @@ module _ (order : OrderView) where
   after b (split i) = record b { lifters = slice_set b.lifters i (splits (lifter b i)) ++ newcomer (lifter b i) ∷ [] }
   after b (join i j) = record b { lifters = slice_set (slice_set b.lifters i (both (lifter b i) (lifter b j))) j spent }
 
-  -- a lifter claims until it found none left; the opening one, or the one that took it in, splits, 63 times; none takes in itself
+  -- a step is of lifters that are there, at a place of the board; none takes in itself
+  abbrev pub IsStep : BoardState → Move → Type 0
+  IsStep b (load i p) = IsHere b i × (p < places order)
+  IsStep b (raise i p) = IsHere b i × (p < places order)
+  IsStep b (claim i) = IsHere b i
+  IsStep b (split i) = IsHere b i
+  IsStep b (join i j) = IsHere b i × IsHere b j × (j ≢ i)
+
+  -- a seat claims until it found none left; the opening one, or the one that took it in, splits, 63 times
   abbrev pub May : BoardState → Move → Type 0
-  May b (load i p) = IsHere b i × (p < places order)
-  May b (raise i p) = IsHere b i × (p < places order)
-  May b (claim i) = IsHere b i × ((lifter b i).empty ≡ 0)
-  May b (split i) = IsHere b i × ((lifter b i).opening ≡ true) × ((lifter b i).splits < 63)
-  May b (join i j) = IsHere b i × IsHere b j × (j ≢ i)
+  May b (load i p) = IsStep b (load i p)
+  May b (raise i p) = IsStep b (raise i p)
+  May b (claim i) = IsStep b (claim i) × ((lifter b i).empty ≡ 0)
+  May b (split i) = IsStep b (split i) × ((lifter b i).opening ≡ true) × ((lifter b i).splits < 63)
+  May b (join i j) = IsStep b (join i j)
 
   -- the board after these steps, the last one first
   abbrev pub ran : List Move → BoardState
   ran [] = opened order
   ran (m ∷ ms) = after (ran ms) m
 
+  -- any steps of any lifters
   abbrev pub IsRun : List Move → Type 0
   IsRun [] = Unit {0}
-  IsRun (m ∷ ms) = IsRun ms × May (ran ms) m
+  IsRun (m ∷ ms) = IsRun ms × IsStep (ran ms) m
 
-  -- some run leads to this board
+  -- steps that seats may take
+  abbrev pub IsBoardRun : List Move → Type 0
+  IsBoardRun [] = Unit {0}
+  IsBoardRun (m ∷ ms) = IsBoardRun ms × May (ran ms) m
+
+  -- such steps lead to this board
   abbrev pub Reached : BoardState → Type 0
-  Reached b = (ms : List Move) × IsRun ms × (ran ms ≡ b)
+  Reached b = (ms : List Move) × IsBoardRun ms × (ran ms ≡ b)
