@@ -196,7 +196,7 @@ module _ (order : OrderView) where
           keeps,
           tt,
           holds',
-          (refl, let h = (seat s holds id v.0 at stands).under (i - 1) in omega arith, safe t holds' id w at' stands, taken (λ j. load j (i - 1)) s t id v.0 w of_order l at at'),
+          (refl, let h = (seat s holds id v.0 at stands).under (i - 1) in omega arith, safe t holds' id w at' stands, taken (λ j. load j (i - 1)) s t id v.0 w of_order l at at', on_board t id w of_order holds' at'),
         )
 
     pub raises : (slots id : ℕ) (v : M) (i k : ℕ) → 0 < i → i - 1 < places order → 0 < v.0.stands → k ≡ lift_at order v.0.seen (i - 1) → Allows Holds slots id v i (λ n. max n k) (Raises (step slots i k 0 none) v)
@@ -214,7 +214,7 @@ module _ (order : OrderView) where
           keeps,
           tt,
           holds',
-          (refl, let h = (seat s holds id v.0 at stands).under (i - 1) in omega arith, safe t holds' id w at' stands, taken (λ j. raise j (i - 1)) s t id v.0 w of_order l at at'),
+          (refl, let h = (seat s holds id v.0 at stands).under (i - 1) in omega arith, safe t holds' id w at' stands, taken (λ j. raise j (i - 1)) s t id v.0 w of_order l at at', on_board t id w of_order holds' at'),
         )
 
     pub claiming : (slots id : ℕ) (v : M) → 0 < v.0.stands → v.0.empty ≡ 0 → Allows Holds slots id v 0 (λ n. (n + 1) % 2 ^ 64) (Claims (step slots 0 1 0 none) v)
@@ -238,6 +238,7 @@ module _ (order : OrderView) where
             All-from_get_or (λ n. n < found) v.0.claims 0 (λ k h. let low = below_word order holds.0 id v.0 ruled was (get_or v.0.claims k 0) (times_there v.0.claims k h) in omega arith),
             claimed t holds' id w at' stands,
             taken claim s t id v.0 w of_order l at at',
+            on_board t id w of_order holds' at',
           ),
         )
 

@@ -4,6 +4,7 @@ pub mod Halves
 pub mod Measures
 pub mod Claiming
 pub mod Known
+pub mod Taking
 pub mod Atomic
 pub mod Ending
 pub mod Distinct

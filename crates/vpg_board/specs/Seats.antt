@@ -6,6 +6,7 @@ use Rattle.vpg_board.specs.declared.lifter.Lifter.{Lifter}
 use Rattle.vpg_board.specs.Places.{places, values, AreProgress, Below}
 use Rattle.vpg_board.specs.Lifters.{opener}
 use Rattle.vpg_board.specs.Rule.{times}
+use Rattle.vpg_board.specs.Taken.{IsOnBoard}
 
 -- which board it is, and the order that it is of
 pub record BoardView : Type 0 where
@@ -62,6 +63,7 @@ pub record IsSeat (table : TableId) (v : Lifter) (opening : Bool) (count : ℕ) 
   pub stands : 0 < v.stands
   pub safe : IsSafe v
   pub claims : AreSeatClaims v
+  pub run : IsOnBoard v
   pub splits : v.splits ≡ count
   pub opens : v.opening ≡ opening
   pub open_claims : done ≡ false → v.empty ≡ 0

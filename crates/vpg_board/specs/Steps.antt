@@ -51,15 +51,15 @@ module _ (s : State (Unit {0}) Lifter) (id : ℕ) (v : Lifter) where
 
 -- the word at a place was found, no less than what was seen there
 abbrev pub Loads : Step (Unit {0}) → Me (Unit {0}) Lifter → ℕ → Me (Unit {0}) Lifter → Type 0
-Loads s v found w = (w ≡ (sees v.0 (s.word - 1) found, v.1)) × (slice_index v.0.seen (s.word - 1) ≤ found) × IsSafe w.0 × Takes (λ i. load i (s.word - 1)) v.0 w.0
+Loads s v found w = (w ≡ (sees v.0 (s.word - 1) found, v.1)) × (slice_index v.0.seen (s.word - 1) ≤ found) × IsSafe w.0 × Takes (λ i. load i (s.word - 1)) v.0 w.0 × IsOnBoard w.0
 
 -- the same, and the word became no less than the operand
 abbrev pub Raises : Step (Unit {0}) → Me (Unit {0}) Lifter → ℕ → Me (Unit {0}) Lifter → Type 0
-Raises s v found w = (w ≡ (sees v.0 (s.word - 1) (max found s.first), v.1)) × (slice_index v.0.seen (s.word - 1) ≤ found) × IsSafe w.0 × Takes (λ i. raise i (s.word - 1)) v.0 w.0
+Raises s v found w = (w ≡ (sees v.0 (s.word - 1) (max found s.first), v.1)) × (slice_index v.0.seen (s.word - 1) ≤ found) × IsSafe w.0 × Takes (λ i. raise i (s.word - 1)) v.0 w.0 × IsOnBoard w.0
 
 -- a claim, which comes behind all that the seat had
 abbrev pub Claims : Step (Unit {0}) → Me (Unit {0}) Lifter → ℕ → Me (Unit {0}) Lifter → Type 0
-Claims s v found w = (w ≡ (claims (places v.0.order) v.0 found, v.1)) × All (λ m. m < found) v.0.claims × AreSeatClaims w.0 × Takes claim v.0 w.0
+Claims s v found w = (w ≡ (claims (places v.0.order) v.0 found, v.1)) × All (λ m. m < found) v.0.claims × AreSeatClaims w.0 × Takes claim v.0 w.0 × IsOnBoard w.0
 
 -- a look that tells what holds of the seat
 abbrev pub Looks : Step (Unit {0}) → Me (Unit {0}) Lifter → ℕ → Me (Unit {0}) Lifter → Type 0

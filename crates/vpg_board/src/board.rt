@@ -1,12 +1,14 @@
 //! Boards: an order's tables as words that all seats share.
 
-ghost use Rattle.std.specs.Prelude.{◌≡◌, ◌⊎◌, ℕ, ◌+◌, ◌<◌, ◌≤◌, true, false, [], ◌∷◌, ◌++◌, length, slice_index, take, drop, All, IsTrue, None, OnOk, IfOk, IfErr, IfSome, IfNone, MatchOption, MatchResult};
+ghost use Rattle.std.specs.Prelude.{◌≡◌, ◌⊎◌, ℕ, ◌+◌, ◌<◌, ◌≤◌, Bool, true, false, [], ◌∷◌, ◌++◌, length, map, slice_index, take, drop, All, IsTrue, None, OnOk, IfOk, IfErr, IfSome, IfNone, MatchOption, MatchResult};
 ghost use Rattle.std.specs.Mem.Slots.{slots_items, slots_len, IsFull};
 ghost use Rattle.vpg_hope.specs.Arena.{vertex_at};
 ghost use Rattle.vpg_measure.specs.Lifts.{lift_of, IsBelowTable};
 ghost use Rattle.vpg_measure.specs.Orders.{IsOrder, IsSameOrder, IsHarvest, IsRaised, order_levels, order_arena, harvest_table};
 ghost use Rattle.vpg_board.specs.Places.{vertices, places, place_of, values, table_in, lift_in};
 ghost use Rattle.vpg_board.specs.Lifters.{splits, newcomer, both};
+ghost use Rattle.vpg_board.specs.Run.{claim, split};
+ghost use Rattle.vpg_board.specs.Taken.{IsOnBoard, Takes, TakesAll, load_of, lift_steps};
 ghost use Rattle.vpg_board.specs.Seats.{opening_seat, SeesMore, IsSafe, AreOnce, HasAllAtEnd};
 
 use crate::lifter::Lifter;
@@ -96,6 +98,7 @@ impl Board {
         ensures is_order { IfOk result (λ opened. IsOrder opened.0.order) }
         ensures seat { IfOk result (λ opened. opened.1 ≡ opening_seat opened.0) }
         ensures safe { IfOk result (λ opened. IsSafe opened.1.lifter) }
+        ensures run { IfOk result (λ opened. IsOnBoard opened.1.lifter) }
         ensures back { IfErr result (λ returned. returned ≡ order) }
     {
         let Ok(words) = words_of(alloc, &order) else {
@@ -132,6 +135,8 @@ impl Board {
         ensures board { seat.new.board ≡ seat.old.board }
         ensures split { IfOk result (λ _. seat.new.lifter ≡ splits seat.old.lifter) }
         ensures other { IfOk result (λ other. (other.board ≡ seat.old.board) × (other.lifter ≡ newcomer seat.old.lifter)) }
+        ensures step { IfOk result (λ _. Takes split seat.old.lifter seat.new.lifter) }
+        ensures run { IfOk result (λ other. IsOnBoard other.lifter) }
         ensures allowed { OnOk result ((seat.old.lifter.opening ≡ true) × (seat.old.lifter.splits < 63)) }
         ensures same { IfErr result (λ _. seat.new ≡ seat.old) }
         ensures refused { IfErr result (λ _. (seat.old.lifter.opening ≡ false) ⊎ (seat.old.lifter.splits ≡ 63)) }
@@ -161,6 +166,9 @@ impl Board {
         ensures none { IfNone result ((seat.new.lifter ≡ record seat.old.lifter { empty = seat.new.lifter.empty }) × (0 < seat.new.lifter.empty)) }
         ensures still_none { 0 < seat.old.lifter.empty → (result ≡ None) × (seat.new ≡ seat.old) }
 
+        // It is the step `claim` on a board that some run reached.
+        ensures step { seat.old.lifter.empty ≡ 0 → Takes claim seat.old.lifter seat.new.lifter }
+
         // Once none was left and this seat stands for all, its claims are all vertices of both tables, each once.
         ensures all { HasAllAtEnd seat.new.lifter }
     {
@@ -183,6 +191,11 @@ impl Board {
         ensures board { seat.new.board ≡ seat.old.board }
         ensures seen { SeesMore seat.old.lifter seat.new.lifter }
         ensures safe { IsSafe seat.new.lifter }
+
+        // It loads the word and those of the kept successors, and raises the word once or not at all, each time on a board that
+        // some run reached.
+        ensures steps { (raises : Bool) × TakesAll (lift_steps self.now.order which v raises) seat.old.lifter seat.new.lifter }
+
         ensures lifted { lift_in self.now.order which seat.old.lifter.seen v ≤ slice_index (table_in self.now.order which seat.new.lifter.seen) v }
         ensures raised { IsTrue result → slice_index (table_in self.now.order which seat.old.lifter.seen) v < slice_index (table_in self.now.order which seat.new.lifter.seen) v }
     {
@@ -196,6 +209,7 @@ impl Board {
         ensures board { seat.new.board ≡ seat.old.board }
         ensures both { seat.new.lifter ≡ both seat.old.lifter other.lifter }
         ensures safe { IsSafe seat.new.lifter }
+        ensures run { IsOnBoard seat.new.lifter }
         ensures once { AreOnce seat.new.lifter.claims }
         ensures all { HasAllAtEnd seat.new.lifter }
     {
@@ -274,11 +288,14 @@ impl Board {
         requires order { seat.old.me.0.order ≡ self.now.order }
         requires stands { 0 < seat.old.me.0.stands }
         requires safe { IsSafe seat.old.me.0 }
+        requires run { IsOnBoard seat.old.me.0 }
         requires vertex { v < vertices self.now.order }
         ensures table { seat.new.table_id ≡ seat.old.table_id }
         ensures slots { seat.new.me.1 ≡ seat.old.me.1 }
         ensures seen { SeesMore seat.old.me.0 seat.new.me.0 }
         ensures safe { IsSafe seat.new.me.0 }
+        ensures steps { TakesAll (map (load_of self.now.order which) (vertex_at (order_arena which self.now.order) v).successors) seat.old.me.0 seat.new.me.0 }
+        ensures run { IsOnBoard seat.new.me.0 }
         ensures lift { result ≡ lift_in self.now.order which seat.new.me.0.seen v }
     {
         let shape = self.order.shape(which);
@@ -305,6 +322,8 @@ impl Board {
         ensures slots { seat.new.me.1 ≡ seat.old.me.1 }
         ensures seen { SeesMore seat.old.me.0 seat.new.me.0 }
         ensures safe { IsSafe seat.new.me.0 }
+        ensures steps { (raises : Bool) × TakesAll (lift_steps self.now.order which v raises) seat.old.me.0 seat.new.me.0 }
+        ensures run { IsOnBoard seat.new.me.0 }
         ensures lifted { lift_in self.now.order which seat.old.me.0.seen v ≤ slice_index (table_in self.now.order which seat.new.me.0.seen) v }
         ensures raised { IsTrue result → slice_index (table_in self.now.order which seat.old.me.0.seen) v < slice_index (table_in self.now.order which seat.new.me.0.seen) v }
     {

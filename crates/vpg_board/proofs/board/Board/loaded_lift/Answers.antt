@@ -9,6 +9,7 @@ use Rattle.vpg_board.specs.declared.lifter.Lifter.{Lifter}
 use Rattle.vpg_board.specs.Places.{vertices, places, place_of, lift_in}
 use Rattle.vpg_board.proofs.Atomic.{loads}
 use Rattle.vpg_board.proofs.Halves.{place_less}
+use Rattle.vpg_board.proofs.Taking.{loads_next, loads_all}
 use Rattle.vpg_board.proofs.Loads.{after_load, best_within, lift_from}
 use Rattle.vpg_board.proofs.board.Board.loaded_lift.Goals as goal
 
@@ -54,6 +55,8 @@ loop-successor-preserved c =
       slots = ap (λ m. m.1) load.2.0 ∙ i.slots;
       sees = after.0;
       safe = load.2.2;
+      run = load.2.4;
+      steps = loads_next order c.args.which x.successors at c.word_of-word.result c.args.seat.now.me.0 c.loop-successor.seat.me.0 c.load-value.new.seat.me.0 inside word i.steps load.2.3;
       best = after.1 c.loop-successor.best c.better-best.result i.best
           (subst (λ o. (limit : ℕ) (values : List ℕ) → c.loop-successor.best ≡ best_for o limit values → c.better-best.result ≡ best_for o limit (values ++ c.load-value.result ∷ [])) owner c.better-best.ensures);
     }
@@ -74,3 +77,11 @@ returns-clause-lift c =
     let lifts = lift_from order c.self.invariant.order c.args.which c.args.v c.shape-shape.result.now c.arena-arena.result.now c.kept-kept.result.now c.shape-shape.ensures c.arena-arena.ensures c.kept-kept.ensures.kept c.args.seat.now.me.0 c.loop-successor.seat.me.0
     c.loop-successor.best c.lift_to.result c.loop-successor.successor-index (c.requires.order ∙ sym same) i.sees i.safe c.loop-successor-test.false i.best c.lift_to.ensures.lift in
     subst (λ x. c.lift_to.result ≡ lift_in x c.args.which c.loop-successor.seat.me.0.seen c.args.v) same lifts
+
+pub returns-clause-steps : goal.returns-clause-steps
+returns-clause-steps c =
+    let order = c.self.inside.order in
+    let same : order ≡ c.args.self.now.order = ap (λ b. b.order) c.self.view_is in
+    let kept : c.kept-kept.result.now ≡ (vertex_at (order_arena c.args.which order) c.args.v).successors = c.kept-kept.ensures.kept ∙ ap (λ a. (vertex_at a c.args.v).successors) c.arena-arena.ensures in
+    let all : length (vertex_at (order_arena c.args.which order) c.args.v).successors ≤ c.loop-successor.successor-index = subst (λ (l : List ℕ). length l ≤ c.loop-successor.successor-index) kept (omega (arith, c.loop-successor-test.false)) in
+    loads_all order c.args.self.now.order c.args.which c.args.v c.loop-successor.successor-index c.args.seat.now.me.0 c.loop-successor.seat.me.0 same all c.loop-successor.invariant.steps

@@ -3,11 +3,13 @@ use Rattle.atomic_table.specs.Table.{opening}
 use Rattle.vpg_board.specs.Lifters.{opener}
 use Rattle.vpg_board.specs.Places.{values}
 use Rattle.vpg_board.specs.Steps.{IsBoard}
+use Rattle.vpg_board.specs.Taken.{IsOnBoard}
 use Rattle.vpg_board.specs.Seats.{IsSeat, IsSafe}
 use Rattle.vpg_board.specs.declared.lifter.Lifter.{Lifter}
 use Rattle.vpg_board.proofs.Atomic.{begins}
 use Rattle.vpg_board.proofs.Known.{claims_of_opener, safe_of_opener}
 use Rattle.vpg_board.proofs.Halves.{values_wide}
+use Rattle.vpg_board.proofs.Taking.{opener_on_board}
 use Rattle.vpg_board.proofs.board.Board.open.Goals as goal
 
 pub of_words-requires : goal.of_words-requires
@@ -29,6 +31,7 @@ invariant_of-seat c =
       stands = omega arith;
       safe = safe_of_opener c.args.order c.game.ensures.order;
       claims = claims_of_opener c.args.order;
+      run = opener_on_board c.args.order;
       splits = refl;
       opens = refl;
       open_claims = λ _. refl;
@@ -54,3 +57,6 @@ pub returns-clause-safe : goal.returns-clause-safe
 returns-clause-safe c =
     let e = c.in-Ok-of_words.ensures in
     subst IsSafe (sym (ap (λ m. m.0) e.4)) (safe_of_opener c.args.order c.game.ensures.order)
+
+pub returns-clause-run : goal.returns-clause-run
+returns-clause-run c = subst IsOnBoard (sym (ap (λ m. m.0) c.in-Ok-of_words.ensures.4)) (opener_on_board c.args.order)

@@ -1,13 +1,16 @@
-use Rattle.std.proofs.Common.{◌≡◌, ℕ, ◌+◌, ◌-◌, ◌<◌, ◌≤◌, List, sym, ap, ◌∙◌, subst, arith}
+use Rattle.std.proofs.Common.{◌≡◌, ℕ, ◌+◌, ◌-◌, ◌<◌, ◌≤◌, true, false, List, sym, ap, ◌∙◌, subst, arith}
 use Rattle.std.proofs.lemmas.Bool.{ltb-true}
 use Rattle.std.specs.Prelude.{slice_index}
 use Rattle.vpg_measure.specs.Orders.{IsOrder}
 use Rattle.vpg_board.specs.declared.lifter.Lifter.{Lifter}
 use Rattle.vpg_board.specs.Places.{vertices, places, place_of, table_in, lift_in, lift_at}
+use Rattle.vpg_board.specs.Run.{raise}
+use Rattle.vpg_board.specs.Taken.{Takes, TakesAll, raise_of, lift_steps}
 use Rattle.vpg_board.specs.Seats.{SeesMore}
 use Rattle.vpg_board.proofs.Atomic.{loads, raises}
 use Rattle.vpg_board.proofs.Halves.{place_less, lift_place}
 use Rattle.vpg_board.proofs.Loads.{sees_looked, after_look, after_raise}
+use Rattle.vpg_board.proofs.Taking.{load_there, takes_next}
 use Rattle.vpg_board.proofs.board.Board.raise.Goals as goal
 use Rattle.vpg_board.proofs.board.Board.raise.Goals.{After-loaded_lift-lifted, After-fetch_max-found}
 
@@ -36,6 +39,9 @@ loaded_lift-lifted-requires-clause-stands c = subst (λ (v : Lifter). 0 < v.stan
 
 pub loaded_lift-lifted-requires-clause-safe : goal.loaded_lift-lifted-requires-clause-safe
 loaded_lift-lifted-requires-clause-safe c = c.load-before.ensures.2.2
+
+pub loaded_lift-lifted-requires-clause-run : goal.loaded_lift-lifted-requires-clause-run
+loaded_lift-lifted-requires-clause-run c = c.load-before.ensures.2.4
 
 pub fetch_max-found-requires : goal.fetch_max-found-requires
 fetch_max-found-requires c =
@@ -83,6 +89,13 @@ returns-then-lifted-before-clause-lifted c =
     (c.requires.order ∙ sym same) wide (ap (λ m. m.0) load.2.0) load.2.1 lift.seen lift.safe lifts in
     subst (λ x. lift_in x c.args.which c.args.seat.now.me.0.seen c.args.v ≤ slice_index (table_in x c.args.which seen) c.args.v) same (after c.if-lifted-before.true)
 
+-- it has loaded the word and the successors
+loaded : (c : After-loaded_lift-lifted) → TakesAll (lift_steps c.args.self.now.order c.args.which c.args.v false) c.args.seat.now.me.0 c.loaded_lift-lifted.new.seat.me.0
+loaded c = (c.load-before.new.seat.me.0, load_there c.args.self.now.order c.args.which c.args.v c.word_of-word.result c.args.seat.now.me.0 c.load-before.new.seat.me.0 c.word_of-word.ensures c.load-before.ensures.2.3, c.loaded_lift-lifted.ensures.steps)
+
+pub returns-then-lifted-before-clause-steps : goal.returns-then-lifted-before-clause-steps
+returns-then-lifted-before-clause-steps c = (false, loaded (goal.at.returns-then-lifted-before-clause-steps c).After-loaded_lift-lifted)
+
 -- what the seat has seen once it has raised the word
 raised : (c : After-fetch_max-found) → (SeesMore c.args.seat.now.me.0 c.fetch_max-found.new.seat.me.0
     × (lift_in c.args.self.now.order c.args.which c.args.seat.now.me.0.seen c.args.v ≤ slice_index (table_in c.args.self.now.order c.args.which c.fetch_max-found.new.seat.me.0.seen) c.args.v)
@@ -117,3 +130,13 @@ returns-clause-lifted c = (raised (goal.at.returns-clause-lifted c).After-fetch_
 
 pub returns-clause-raised : goal.returns-clause-raised
 returns-clause-raised c = λ rose. (raised (goal.at.returns-clause-raised c).After-fetch_max-found).2 (ltb-true _ _ rose)
+
+pub returns-clause-steps : goal.returns-clause-steps
+returns-clause-steps c =
+    let place : c.word_of-word.result - 1 ≡ place_of c.args.self.now.order c.args.which c.args.v = omega (arith, c.word_of-word.ensures) in
+    let step : Takes (raise_of c.args.self.now.order c.args.which c.args.v) c.loaded_lift-lifted.new.seat.me.0 c.fetch_max-found.new.seat.me.0 =
+    subst (λ p. Takes (λ j. raise j p) c.loaded_lift-lifted.new.seat.me.0 c.fetch_max-found.new.seat.me.0) place c.fetch_max-found.ensures.2.3 in (
+      true,
+      takes_next (lift_steps c.args.self.now.order c.args.which c.args.v false) (raise_of c.args.self.now.order c.args.which c.args.v) c.args.seat.now.me.0 c.loaded_lift-lifted.new.seat.me.0 c.fetch_max-found.new.seat.me.0
+          (loaded (goal.at.returns-clause-steps c).After-loaded_lift-lifted) step,
+    )

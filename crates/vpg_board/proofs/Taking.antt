@@ -1,0 +1,119 @@
+-- Steps that lifters took, one after another.
+use Rattle.std.proofs.Common.{◌≡◌, ℕ, ◌+◌, ◌-◌, ◌<◌, ◌≤◌, Bool, true, false, true≢false, List, [], ◌∷◌, ◌++◌, length, map, take, set, get_or, refl, sym, ap, ◌∙◌, subst, arith}
+use Rattle.std.proofs.lemmas.List.{take_more, take_all}
+use mathlib.Core.Option.{some}
+use lib.ListN.{get_elem?}
+use Rattle.atomic_table.specs.Seated.{TableId}
+use Rattle.atomic_table.proofs.Lists.{set_here, at_longer, at_last}
+use Rattle.vpg_hope.specs.Arena.{vertex_at}
+use Rattle.vpg_measure.specs.declared.which.Which.{Which}
+use Rattle.vpg_measure.specs.Orders.{OrderView, order_arena}
+use Rattle.vpg_board.specs.declared.lifter.Lifter.{Lifter}
+use Rattle.vpg_board.specs.Places.{place_of}
+use Rattle.vpg_board.specs.Lifters.{opener, spent, splits, newcomer}
+use Rattle.vpg_board.specs.Run.{BoardState, Move, load, split, lifter, opened, after, May, Reached}
+use Rattle.vpg_board.specs.Taken.{IsOnBoard, Takes, TakesAll, load_of}
+use Rattle.vpg_board.specs.Seats.{IsSafe, IsSeat}
+use Rattle.vpg_board.proofs.Totals.{at_get, at_below}
+use Rattle.vpg_board.proofs.Known.{claims_of_splits, claims_of_newcomer}
+
+pub takes_next : (ms : List (ℕ → Move)) (m : ℕ → Move) (u v w : Lifter) → TakesAll ms u v → Takes m v w → TakesAll (ms ++ m ∷ []) u w
+takes_next [] m u v w same step = (w, subst (λ (x : Lifter). Takes m x w) (sym same) step, refl)
+takes_next (n ∷ ms) m u v w all step = (all.0, all.1, takes_next ms m all.0 v w all.2 step)
+
+map_last : {A : Type 0} (f : ℕ → A) (xs : List ℕ) (y : ℕ) → map f (xs ++ y ∷ []) ≡ map f xs ++ f y ∷ []
+map_last f [] y = refl
+map_last f (x ∷ xs) y = ap (λ l. f x ∷ l) (map_last f xs y)
+
+-- a word of a vertex was loaded
+pub load_there : (order : OrderView) (which : Which) (x word : ℕ) (v w : Lifter) → word ≡ place_of order which x + 1 → Takes (λ j. load j (word - 1)) v w → Takes (load_of order which x) v w
+load_there order which x word v w is step = let e : word - 1 ≡ place_of order which x = omega arith in subst (λ p. Takes (λ j. load j p) v w) e step
+
+-- one more of a list was loaded
+pub loads_next : (order : OrderView) (which : Which) (xs : List ℕ) (i word : ℕ) (u v w : Lifter) → i < length xs → word ≡ place_of order which (get_or xs i 0) + 1
+    → TakesAll (map (load_of order which) (take i xs)) u v → Takes (λ j. load j (word - 1)) v w → TakesAll (map (load_of order which) (take (i + 1) xs)) u w
+loads_next order which xs i word u v w inside is all step =
+    subst (λ ms. TakesAll ms u w) (sym (ap (λ l. map (load_of order which) l) (take_more xs i 0 inside) ∙ map_last (load_of order which) (take i xs) (get_or xs i 0)))
+    (takes_next (map (load_of order which) (take i xs)) (load_of order which (get_or xs i 0)) u v w all (load_there order which (get_or xs i 0) word v w is step))
+
+-- all were loaded
+pub loads_all : (order now : OrderView) (which : Which) (x i : ℕ) (u w : Lifter) → order ≡ now → length (vertex_at (order_arena which order) x).successors ≤ i
+    → TakesAll (map (load_of order which) (take i (vertex_at (order_arena which order) x).successors)) u w → TakesAll (map (load_of now which) (vertex_at (order_arena which now) x).successors) u w
+loads_all order now which x i u w same all steps =
+    subst (λ o. TakesAll (map (load_of o which) (vertex_at (order_arena which o) x).successors) u w) same
+    (subst (λ l. TakesAll (map (load_of order which) l) u w) (take_all i (vertex_at (order_arena which order) x).successors all) steps)
+
+pub opener_on_board : (order : OrderView) → IsOnBoard (opener order)
+opener_on_board order = record { board = opened order; id = 0; reached = ([], tt, refl); there = refl }
+
+-- a lifter of a board may take a step where it knows enough
+on_after : (b : BoardState) (v : Lifter) (m : Move) → Reached v.order b → May v.order b m → Reached v.order (after v.order b m)
+on_after b v m r may = (m ∷ r.0, (r.1, subst (λ x. May v.order x m) (sym r.2) may), ap (λ x. after v.order x m) r.2)
+
+module _ (v : Lifter) (on : IsOnBoard v) (stands : 0 < v.stands) (opens : v.opening ≡ true) (few : v.splits < 63) where
+  is : lifter on.board on.id ≡ v
+  is = at_get on.board.lifters on.id v spent on.there
+
+  less : on.id < length on.board.lifters
+  less = omega (arith, at_below on.board.lifters on.id v on.there)
+
+  may : May v.order on.board (split on.id)
+  may = ((less, subst (λ (x : Lifter). 0 < x.stands) (sym is) stands), ap (λ (x : Lifter). x.opening) is ∙ opens, subst (λ (x : Lifter). x.splits < 63) (sym is) few)
+
+  pub takes_split : Takes split v (splits v)
+  takes_split = record {
+    board = on.board;
+    id = on.id;
+    reached = on.reached;
+    before = on.there;
+    may = may;
+    behind = subst (λ (x : Lifter). get_elem? (after v.order on.board (split on.id)).lifters on.id ≡ some (splits x)) is
+        (at_longer (set on.board.lifters on.id (splits (lifter on.board on.id))) (newcomer (lifter on.board on.id) ∷ []) on.id (splits (lifter on.board on.id)) (set_here on.board.lifters on.id (splits (lifter on.board on.id)) less));
+  }
+
+  pub on_board_splits : IsOnBoard (splits v)
+  unfolding takes_split
+  on_board_splits = record { board = after v.order on.board (split on.id); id = on.id; reached = on_after on.board v (split on.id) on.reached may; there = takes_split.behind }
+
+  pub on_board_newcomer : IsOnBoard (newcomer v)
+  on_board_newcomer = record {
+    board = after v.order on.board (split on.id);
+    id = length (set on.board.lifters on.id (splits (lifter on.board on.id)));
+    reached = on_after on.board v (split on.id) on.reached may;
+    there = subst (λ (x : Lifter). get_elem? (after v.order on.board (split on.id)).lifters (length (set on.board.lifters on.id (splits (lifter on.board on.id)))) ≡ some (newcomer x)) is
+        (at_last (set on.board.lifters on.id (splits (lifter on.board on.id))) (newcomer (lifter on.board on.id)) (length (set on.board.lifters on.id (splits (lifter on.board on.id)))) refl);
+  }
+
+-- ---- the seats of a split
+
+newcomer_safe : (v : Lifter) → IsSafe v → IsSafe (newcomer v)
+newcomer_safe v safe = record { wide = safe.wide; over = safe.over; under = safe.under }
+
+splits_safe : (v : Lifter) → IsSafe v → IsSafe (splits v)
+splits_safe v safe = record { wide = safe.wide; over = safe.over; under = safe.under }
+
+pub seat_splits : (table : TableId) (v : Lifter) (opening : Bool) (count : ℕ) (done : Bool) → IsSeat table v opening count done → v.opening ≡ true → v.splits < 63 → IsSeat table (splits v) opening (count + 1) done
+seat_splits table v opening count done i opens few = record {
+  words = i.words;
+  stands = i.stands;
+  safe = splits_safe v i.safe;
+  claims = claims_of_splits v opens few i.claims;
+  run = on_board_splits v i.run i.stands opens few;
+  splits = ap (λ n. n + 1) i.splits;
+  opens = i.opens;
+  open_claims = i.open_claims;
+  no_more = i.no_more;
+}
+
+pub seat_newcomer : (table : TableId) (v : Lifter) (opening : Bool) (count : ℕ) (done : Bool) → IsSeat table v opening count done → v.opening ≡ true → v.splits < 63 → IsSeat table (newcomer v) false 0 false
+seat_newcomer table v opening count done i opens few = record {
+  words = i.words;
+  stands = omega arith;
+  safe = newcomer_safe v i.safe;
+  claims = claims_of_newcomer v;
+  run = on_board_newcomer v i.run i.stands opens few;
+  splits = refl;
+  opens = refl;
+  open_claims = λ _. refl;
+  no_more = λ f. absurd (true≢false (sym f));
+}
