@@ -2,6 +2,7 @@
 """Tries wrong bodies on a copy of the repository, and writes what became of each into bench/wrong_bodies.tsv.
 
     python3 bench/wrong_bodies.py [CRATE..] [--only WORD] [--gate | --outside] [--together NUMBER] [--room FOLDER] [--table FILE]
+    python3 bench/wrong_bodies.py --rule [CRATE..] [--outside]
 
 A wrong body is a file of crates/CRATE/must-fail (tried by the gate) or crates/CRATE/wrong-bodies (outside it); with no CRATE all crates are tried, lowest
 first. --only takes those whose name holds the word. Wrong bodies of different functions are tried in one check, up to eight (--together), since each function
@@ -20,6 +21,10 @@ What the table says of a wrong body:
     compiler   refused by the compiler, as the edit's first line says
     bad        it does not fit, or does not compile
     untried    no run has tried it to its end since the table is kept; the column `goal` says what is known of it
+
+A wrong body of the gate has to be refused by a clause, a whole contract or a type's invariant, with all names that proof files use: in the columns, `refused`,
+not by `name`, and `goal` is none of a loop, a call or a step. --rule tries nothing: it reads the table and names each wrong body of the gate (or of those
+outside it) with what refused it, those that break the rule last, and exits with 1 where there are any.
 """
 import argparse
 import datetime
@@ -368,14 +373,47 @@ def main():
     asked.add_argument("--only", default="", metavar="WORD")
     asked.add_argument("--gate", action="store_true")
     asked.add_argument("--outside", action="store_true")
+    asked.add_argument("--rule", action="store_true")
     asked.add_argument("--together", type=int, default=8, metavar="NUMBER")
     asked.add_argument("--room", metavar="FOLDER")
     asked.add_argument("--table", default=f"{ROOT}/bench/wrong_bodies.tsv", metavar="FILE")
     asked = asked.parse_args()
+    if asked.rule:
+        return ruled(asked)
     with tempfile.TemporaryDirectory(prefix="wrong-bodies-") as made:
         room = os.path.abspath(asked.room) if asked.room else made
         os.makedirs(room, exist_ok=True)
         return tried_all(asked, room)
+
+
+def broken(row):
+    """Says how the row breaks the rule of the gate's wrong bodies, or returns None."""
+    if row["verdict"] != "refused":
+        return row["verdict"]
+    if row["seen"] == "name":
+        return "a proof file names what is gone"
+    if not row["goal"].startswith(("clause", "returns", "invariant")):
+        return f"no clause: {row['goal']}"
+    return None
+
+
+def ruled(asked):
+    """Tells of each wrong body what refused it, and whether that was on the present text."""
+    part = "outside" if asked.outside else "gate"
+    crates = {it.name: it for it in RT.rtlib.crates_below(ROOT)}
+    rows, told = rows_of(asked.table), []
+    for crate in sorted(crates.values(), key=lambda it: len(it.below())):
+        folder = f"{crate.folder}/{FOLDERS[part]}"
+        for name in sorted(os.listdir(folder) if os.path.isdir(folder) and (not asked.crates or crate.name in asked.crates) else []):
+            row = rows.get((crate.name, name[: -len(".edit")]), {"verdict": "untried", "text": ""})
+            why = broken(row)
+            what = why or f"{row['function']}: {row['goal']}"
+            told.append((why is not None, crate.name, name[: -len(".edit")], what, text_of(crate, f"{folder}/{name}") == row["text"]))
+    for is_broken, crate, edit, what, is_present in sorted(told, key=lambda it: it[0]):
+        print(f"{'BREAKS THE RULE ' if is_broken else ''}{crate} {edit}: {what}{'' if is_present else ' (on an earlier text)'}")
+    count = sum(it[0] for it in told)
+    print(f"{len(told)} wrong bodies, {count} of them break the rule")
+    return 1 if count else 0
 
 
 def tried_all(asked, room):
