@@ -9,6 +9,7 @@ use std::test::Fail;
 use vpg_diagram::Diagram;
 use vpg_game::GuardedGame;
 use vpg_hope::Arena;
+use vpg_measure::laws::orders::zeros_are_opening;
 use vpg_measure::{Order, Refused, Shape, Table};
 use vpg_partial::Decision;
 
@@ -58,6 +59,7 @@ pub(crate) fn order_of(
         return Ok(None);
     }
     let vertices = game.vertices() as u32;
+    zeros_are_opening();
     let hopeful = Table::zero(alloc, vertices)?;
     let dual = Table::zero(alloc, vertices)?;
     let game = Arc::new(alloc, game)?;
