@@ -6,6 +6,7 @@
     hard.py nested LEVELS FILE          # cycles within cycles: each level may stay on its odd priority or go on to the next
     hard.py climb LEVELS WIDTH FILE     # cycles of WIDTH vertices on each odd priority, which Even leaves for the next level at a price
     hard.py union GAME GAME.. FILE      # games side by side, as written by this script or families.py
+    hard.py joined EDGES GAME GAME FILE # two games with so many edges from Odd's vertices of the first to the second, and from Even's of the second back
 
 It tells the numbers of vertices and the logarithms of both tops, which may be 62 at most. At that limit: ladder 36, nested 61, improvement 9.
 """
@@ -88,10 +89,25 @@ def union(files):
     return rows
 
 
+def joined(edges, one, other):
+    """No winner changes where Odd wins all of the first game and Even all of the second."""
+    rows, first, rng = union([one, other]), len(union([one])), random.Random(1)
+    from_one = [v for v in range(first) if rows[v][1] == 1]
+    from_other = [v for v in range(first, len(rows)) if rows[v][1] == 0]
+    for v in rng.sample(from_one, min(edges, len(from_one))):
+        rows[v][2].append(str(first + rng.randrange(len(rows) - first)))
+    for v in rng.sample(from_other, min(edges, len(from_other))):
+        rows[v][2].append(str(rng.randrange(first)))
+    return rows
+
+
 def main():
     kind, *words, file = sys.argv[1:] or sys.exit(__doc__)
     makers = {"ladder": ladder, "improvement": improvement, "nested": nested, "climb": climb}
-    rows = union(words) if kind == "union" else makers[kind](*map(int, words))
+    if kind in ("union", "joined"):
+        rows = union(words) if kind == "union" else joined(int(words[0]), words[1], words[2])
+    else:
+        rows = makers[kind](*map(int, words))
     tops = []
     for parity in (1, 0):
         counts = {}

@@ -6,6 +6,7 @@
 ZIELONKA is `zielonka.rs`, compiled; several VPG_BENCH are compared, as one of before a change and one of after it. One line for each game: milliseconds of the recursion on both
 games (`more` where two seconds a game were not enough), and for each program the milliseconds of processor time in which both tables are raised from zero, the least of RUNS, less
 those of a run that raises nothing; `open` where they are not settled then, `more` where 20 seconds were not enough. No sweeps come before or after.
+The last game was found by hill climbing: once it kept the guesses at values busy until their budget was spent.
 """
 import os
 import resource
@@ -32,6 +33,7 @@ HARD = [
 ]
 # the last is a family of this many vertices, or a game above
 UNIONS = [("ladder of 20", "random", 65536), ("ladder of 20", "pump", 65536), ("ladder of 28", "pump", 20000), ("ladder of 20", "climb, 2 of 4,000", 0), ("ladder of 20", "climb, 3 of 300", 0)]
+JOINED = [("ladder of 20", "random", 40), ("ladder of 20", "pump", 20), ("ladder of 12 rungs", "climb", 10), ("ladder of 12 rungs", "climb, 2 of 4,000", 4), ("ladder of 20", "climb, 3 of 300", 40)]
 
 
 def seconds(program, *words):
@@ -80,6 +82,11 @@ def main():
         for one, other, count in UNIONS:
             beside = family(other, count) if count else f"{folder}/{other}"
             line(f"{one} and {other}", hard(f"{one} and {other}", ["union", f"{folder}/{one}", beside]), zielonka, runs, programs)
+        for one, other, edges in JOINED:
+            beside = f"{folder}/{other}/game" if other in FAMILIES.split() else f"{folder}/{other}"
+            words = ["joined", str(edges), f"{folder}/{one}", beside]
+            line(f"{one} joined with {other}", hard(f"{one} joined with {other}", words), zielonka, runs, programs)
+        line("climbed", f"{HERE}/climbed.game", zielonka, runs, programs)
 
 
 if __name__ == "__main__":
