@@ -17,8 +17,8 @@ use Rattle.vpg_hope.specs.Strategies.{Strategy, Wins}
 use Rattle.vpg_hope.proofs.Guards.{full_same, restrict_closed}
 use Rattle.vpg_hope.proofs.Guards.{same_count as hope_count}
 use Rattle.vpg_partial.specs.KnownLaws.{IsRemaining}
-use Rattle.vpg_partial.specs.TableLaws.{AreChoicesOf, IsKnownTable}
-use Rattle.vpg_partial.proofs.Tables.{remaining_products_complete, full_tables_have_one_product}
+use Rattle.vpg_partial.specs.TableLaws.{IsKnownTable}
+use Rattle.vpg_partial.proofs.Tables.{remaining_products_complete}
 use Rattle.vpg_measure.specs.declared.which.Which.{Which}
 use Rattle.vpg_measure.specs.declared.which.Which.TheVariants.{Hopeful, Dual}
 use Rattle.vpg_measure.specs.Measures.{Top}
@@ -27,8 +27,10 @@ use Rattle.vpg_measure.specs.TwoGames.{levels_for, arena_for}
 use Rattle.vpg_measure.specs.Views.{measures_of}
 use Rattle.vpg_measure.proofs.NumberTables.{number_not_top, progress_to}
 use Rattle.vpg_measure.proofs.Verdicts.{progress_wins, unsure_wins}
-use Rattle.vpg_why.specs.Products.{loser, IsExample}
-use Rattle.vpg_why.specs.Suffices.{IsLowUnder}
+use Rattle.vpg_why.specs.declared.question.Aim.{Aim}
+use Rattle.vpg_why.specs.declared.question.Aim.TheVariants as aims
+use Rattle.vpg_why.specs.Products.{loser, Meets}
+use Rattle.vpg_why.specs.Suffices.{IsAim, IsLowUnder, MayMeet}
 
 all_guards : (P Q : Formula → Type 0) (game : GuardedGame Formula) → ((g : Formula) → P g → Q g) → AllGuards P game → AllGuards Q game
 all_guards P Q game f h = λ i d l j e k. f _ (h i d l j e k)
@@ -56,17 +58,14 @@ module _ (game : NamedGame) (known : List Tri) (set : List Bool) (full : IsFullO
       progress : IsProgressMeasure (levels_for Dual (graph_of game)) (arena_for (kleene known) Dual (graph_of game)) (measures_of (levels_for Dual (graph_of game)) low.table)
       progress = progress_to (levels_for Dual (graph_of game)) (arena_for (kleene known) Dual (graph_of game)) low.table low.progress.is_table low.progress.settled
 
-pub example_of : (game : NamedGame) (diagram : NamedDiagram) (which : Which) (vertex : ℕ) (choices : List Literal) (known : List Tri) → IsGame game → IsNamedDiagram diagram → game.features ≡ feature_count diagram.lines →
-    AreChoicesOf diagram.lines choices → IsKnownTable diagram.lines choices known → AreAllKnown (feature_count diagram.lines) known → vertex < length game.vertices → IsLowUnder game which vertex known → IsExample game diagram which vertex choices
-example_of game diagram which vertex choices known is is_diagram features named t all inside low = of (full_tables_have_one_product diagram.lines choices known is_diagram.diagram named t all)
+-- where everything is known and the verdict doesn't bar the aim, the one product that is left meets it
+pub met_where_full : (game : NamedGame) (diagram : NamedDiagram) (aim : Aim) (choices : List Literal) (known : List Tri) (set : List Bool) → IsGame game → IsNamedDiagram diagram → game.features ≡ feature_count diagram.lines →
+    IsKnownTable diagram.lines choices known → AreAllKnown (feature_count diagram.lines) known → IsRemaining diagram.lines choices set → IsAim game aim → MayMeet game aim known → Meets game aim set
+met_where_full game diagram aims.Any choices known set is is_diagram features t all remaining inside may = tt
+met_where_full game diagram (aims.Won which vertex) choices known set is is_diagram features t all remaining inside low =
+    wins_in game known set full (games_have_graphs game is).closed vertex (subst (λ n. vertex < n) (sym (same_count game)) inside) which low
   where
-    of : (set : List Bool) × IsRemaining diagram.lines choices set × ((other : List Bool) → IsRemaining diagram.lines choices other → other ≡ set) → IsExample game diagram which vertex choices
-    of p = record { set = p.0; product = record { remaining = p.1; only = p.2 }; strategy = w.0; wins = w.1 }
-      where
-        full : IsFullOf (kleene known) (truth p.0) (graph_of game)
-        full = all_guards (IsBelow (feature_count diagram.lines)) (λ g. kleene known g ≡ cond (truth p.0 g) Yes No) (graph_of game)
-            (λ g below. full_values_decide (feature_count diagram.lines) known p.0 g all (remaining_products_complete diagram.lines choices known p.0 is_diagram.diagram t p.1) below)
-            (subst (λ (n : ℕ). AllGuards (IsBelow n) (graph_of game)) features (games_have_graphs game is).named)
-
-        w : (strategy : Strategy) × Wins (product_game (truth p.0) (graph_of game)) (loser which) strategy vertex
-        w = wins_in game known p.0 full (games_have_graphs game is).closed vertex (subst (λ n. vertex < n) (sym (same_count game)) inside) which low
+    full : IsFullOf (kleene known) (truth set) (graph_of game)
+    full = all_guards (IsBelow (feature_count diagram.lines)) (λ g. kleene known g ≡ cond (truth set g) Yes No) (graph_of game)
+        (λ g below. full_values_decide (feature_count diagram.lines) known set g all (remaining_products_complete diagram.lines choices known set is_diagram.diagram t remaining) below)
+        (subst (λ (n : ℕ). AllGuards (IsBelow n) (graph_of game)) features (games_have_graphs game is).named)

@@ -1,7 +1,6 @@
 -- Which product comes first, and what a case distinction on one feature after another says of it.
 use Rattle.std.proofs.Common.{◌≡◌, ◌≢◌, ℕ, ◌<◌, ◌⊎◌, inl, inr, Bool, true, false, List, [], ◌∷◌, ◌++◌, slice_index_or, refl, sym, ◌∙◌, subst}
 use Rattle.std.proofs.lemmas.Bool.{cases_order}
-use Rattle.std.proofs.lemmas.List.Elements.{Contains-append_left}
 use Rattle.vpg_guards.specs.declared.tri.Tri.{Tri}
 use Rattle.vpg_guards.specs.declared.tri.Tri.TheVariants.{No, Unknown, Yes}
 use Rattle.vpg_guards.specs.Known.{Agrees}
@@ -11,14 +10,15 @@ use Rattle.vpg_diagram.specs.declared.clause.Literal.{Literal}
 use Rattle.vpg_diagram.proofs.Lists.{All-append, All-front, All-back}
 use Rattle.vpg_game.specs.Game.{NamedGame}
 use Rattle.vpg_partial.specs.KnownLaws.{IsRemaining}
-use Rattle.vpg_partial.specs.TableLaws.{IsKnownTable}
+use Rattle.vpg_partial.specs.TableLaws.{IsKnownTable, IsOnlyRemaining}
 use Rattle.vpg_partial.proofs.Tables.{remaining_products_complete}
-use Rattle.vpg_measure.specs.declared.which.Which.{Which}
-use Rattle.vpg_why.specs.Products.{AgreeBelow, IsLostUnder, IsExample, IsFirst}
+use Rattle.vpg_why.specs.declared.question.Aim.{Aim}
+use Rattle.vpg_why.specs.declared.searching.Found.{Found}
+use Rattle.vpg_why.specs.declared.searching.Found.TheVariants as founds
+use Rattle.vpg_why.specs.Products.{AgreeBelow, NoneMeets, Meets, IsFirst}
 use Rattle.vpg_why.specs.Suffices.{choice}
-use Rattle.vpg_why.specs.Found.{IsFoundProduct}
-use Rattle.vpg_why.proofs.Monotone.{fewer_remains}
-use Rattle.vpg_why.proofs.Splits.{decided as has_or_lacks}
+use Rattle.vpg_why.specs.Found.{IsFoundProduct, IsFound}
+use Rattle.vpg_why.proofs.Splits.{lost_either_way, decided as has_or_lacks}
 
 same_where_known : (t : Tri) (a b : Bool) → t ≢ Unknown → Agrees t a → Agrees t b → a ≡ b
 same_where_known No a b known h k = h ∙ sym k
@@ -38,11 +38,11 @@ in_and_out b h k = clash (sym h ∙ k)
     clash : true ≡ false → ⊥
     clash e = cc
 
-module _ (game : NamedGame) (diagram : NamedDiagram) (which : Which) (vertex : ℕ) (choices : List Literal) where
+module _ (game : NamedGame) (diagram : NamedDiagram) (aim : Aim) (choices : List Literal) where
   -- the one product that is left is the first
-  pub only_is_first : (e : IsExample game diagram which vertex choices) → IsFirst game diagram which vertex choices e.set
-  only_is_first e other remains before strategy wins =
-      in_and_out (slice_index_or e.set before.feature false) (subst (λ (s : List Bool). slice_index_or s before.feature false ≡ true) (e.product.only other remains) before.has) before.lacks
+  pub only_is_first : (set : List Bool) → IsOnlyRemaining diagram.lines choices set → IsFirst game diagram aim choices set
+  only_is_first set is other remains before meets =
+      in_and_out (slice_index_or set before.feature false) (subst (λ (s : List Bool). slice_index_or s before.feature false ≡ true) (is.only other remains) before.has) before.lacks
 
   module _ (f : ℕ) where
     with_it : (set : List Bool) → IsRemaining diagram.lines choices set → slice_index_or set f false ≡ true → IsRemaining diagram.lines (choices ++ choice f true ∷ []) set
@@ -51,42 +51,56 @@ module _ (game : NamedGame) (diagram : NamedDiagram) (which : Which) (vertex : �
     without : (set : List Bool) → IsRemaining diagram.lines choices set → slice_index_or set f false ≡ false → IsRemaining diagram.lines (choices ++ choice f false ∷ []) set
     without set remains e = record { product = remains.product; agrees = All-append (λ d. IsTrueIn set d) choices (choice f false ∷ []) remains.agrees (e, tt) }
 
+    fewer : (value : Bool) (set : List Bool) → IsRemaining diagram.lines (choices ++ choice f value ∷ []) set → IsRemaining diagram.lines choices set
+    fewer value set left = record { product = left.product; agrees = All-front (λ d. IsTrueIn set d) choices (choice f value ∷ []) left.agrees }
+
     -- the first of those with the feature is the first of all
-    pub first_with : AgreeBelow diagram choices f → (set : List Bool) → IsRemaining diagram.lines (choices ++ choice f true ∷ []) set → IsFirst game diagram which vertex (choices ++ choice f true ∷ []) set → IsFirst game diagram which vertex choices set
-    first_with below set left first other remains before strategy wins = of (cases_order before.feature f)
+    first_with : AgreeBelow diagram choices f → (set : List Bool) → IsRemaining diagram.lines (choices ++ choice f true ∷ []) set → IsFirst game diagram aim (choices ++ choice f true ∷ []) set → IsFirst game diagram aim choices set
+    first_with below set left first other remains before meets = of (cases_order before.feature f)
       where
         here : slice_index_or set f false ≡ true
         here = (All-back (λ d. IsTrueIn set d) choices (choice f true ∷ []) left.agrees).0
 
-        fewer : IsRemaining diagram.lines choices set
-        fewer = record { product = left.product; agrees = All-front (λ d. IsTrueIn set d) choices (choice f true ∷ []) left.agrees }
-
         of : (before.feature ≡ f) ⊎ ((before.feature < f) ⊎ (f < before.feature)) → ⊥
         of (inl e) = in_and_out (slice_index_or set f false) here (subst (λ n. slice_index_or set n false ≡ false) e before.lacks)
-        of (inr (inl less)) = in_and_out (slice_index_or set before.feature false) (sym (below other set remains fewer before.feature less) ∙ before.has) before.lacks
-        of (inr (inr more)) = first other (with_it other remains (before.same f more ∙ here)) before strategy wins
+        of (inr (inl less)) = in_and_out (slice_index_or set before.feature false) (sym (below other set remains (fewer true set left) before.feature less) ∙ before.has) before.lacks
+        of (inr (inr more)) = first other (with_it other remains (before.same f more ∙ here)) before meets
 
-    -- where none has it, the first of those without it is the first of all
-    pub first_without : (set : List Bool) → IsLostUnder game diagram which vertex (choices ++ choice f true ∷ []) → IsFirst game diagram which vertex (choices ++ choice f false ∷ []) set → IsFirst game diagram which vertex choices set
-    first_without set lost first other remains before strategy wins = of (has_or_lacks other f)
+    -- where none with it meets the aim, the first of those without it is the first of all
+    first_without : (set : List Bool) → NoneMeets game diagram aim (choices ++ choice f true ∷ []) → IsFirst game diagram aim (choices ++ choice f false ∷ []) set → IsFirst game diagram aim choices set
+    first_without set lost first other remains before meets = of (has_or_lacks other f)
       where
         of : IsTrueIn other (choice f true) ⊎ IsTrueIn other (choice f false) → ⊥
-        of (inl e) = lost other (with_it other remains e) strategy wins
-        of (inr e) = first other (without other remains e) before strategy wins
+        of (inl e) = lost other (with_it other remains e) meets
+        of (inr e) = first other (without other remains e) before meets
 
-    pub found_with : (decided : List Literal) (first : Bool) → AgreeBelow diagram choices f → IsFoundProduct game diagram which vertex (choices ++ choice f true ∷ []) decided first → IsFoundProduct game diagram which vertex choices decided first
-    found_with decided first below p = record {
-      among = λ c h. p.among c (Contains-append_left choices (choice f true ∷ []) c h);
-      example = p.example;
-      is_first = λ t. first_with below p.example.set (fewer_remains diagram.lines (choices ++ choice f true ∷ []) decided p.example.set p.among p.example.product.remaining) (p.is_first t);
+    pub found_with : (set : List Bool) (first : Bool) → AgreeBelow diagram choices f → IsFoundProduct game diagram aim (choices ++ choice f true ∷ []) set first → IsFoundProduct game diagram aim choices set first
+    found_with set first below p = record {
+      remaining = fewer true set p.remaining;
+      meets = p.meets;
+      is_first = λ t. first_with below set p.remaining (p.is_first t);
     }
 
-    pub found_without : (decided : List Literal) (first : Bool) → IsLostUnder game diagram which vertex (choices ++ choice f true ∷ []) → IsFoundProduct game diagram which vertex (choices ++ choice f false ∷ []) decided first → IsFoundProduct game diagram which vertex choices decided first
-    found_without decided first lost p = record {
-      among = λ c h. p.among c (Contains-append_left choices (choice f false ∷ []) c h);
-      example = p.example;
-      is_first = λ t. first_without p.example.set lost (p.is_first t);
+    pub found_without : (set : List Bool) (first : Bool) → NoneMeets game diagram aim (choices ++ choice f true ∷ []) → IsFoundProduct game diagram aim (choices ++ choice f false ∷ []) set first → IsFoundProduct game diagram aim choices set first
+    found_without set first lost p = record {
+      remaining = fewer false set p.remaining;
+      meets = p.meets;
+      is_first = λ t. first_without set lost (p.is_first t);
     }
 
-  pub found_here : IsExample game diagram which vertex choices → IsFoundProduct game diagram which vertex choices choices true
-  found_here e = record { among = λ c h. h; example = e; is_first = λ t. only_is_first e }
+    -- without the feature, whatever there is with it
+    pub found_later : (set : List Bool) (first : Bool) → IsFoundProduct game diagram aim (choices ++ choice f false ∷ []) set first → IsFoundProduct game diagram aim choices set false
+    found_later set first p = record {
+      remaining = fewer false set p.remaining;
+      meets = p.meets;
+      is_first = λ t. absurd (in_and_out false t refl);
+    }
+
+    -- where none with it meets the aim, what was found without it was found among all
+    pub found_without_it : (found : Found) → NoneMeets game diagram aim (choices ++ choice f true ∷ []) → IsFound game diagram aim (choices ++ choice f false ∷ []) found → IsFound game diagram aim choices found
+    found_without_it (founds.Product example) lost p = found_without example.features.items example.first lost p
+    found_without_it founds.Nothing lost p = lost_either_way game diagram aim choices f lost p
+    found_without_it founds.Unsettled lost p = tt
+
+  pub found_here : (set : List Bool) → IsOnlyRemaining diagram.lines choices set → Meets game aim set → IsFoundProduct game diagram aim choices set true
+  found_here set is meets = record { remaining = is.remaining; meets = meets; is_first = λ t. only_is_first set is }

@@ -9,7 +9,7 @@ use Rattle.vpg_diagram.proofs.Lists.{Contains-there, All-append}
 use Rattle.vpg_partial.specs.Known.{literal_of}
 use Rattle.vpg_partial.specs.TableLaws.{AreAmong}
 use Rattle.vpg_partial.specs.declared.decision.Decision.{Decision}
-use Rattle.vpg_why.specs.Explained.{choices, AreNeededInTurn, done, skipped, taken, Explains}
+use Rattle.vpg_why.specs.Explained.{choices, AreNeededInTurn, done, skipped, taken}
 
 module _ (Suffices : List Literal → Type 0) where
   -- one more decision in the middle
@@ -83,23 +83,3 @@ module _ (Suffices : List Literal → Type 0) where
   -- nothing is listed yet
   pub none_yet : (ds : List Decision) → AreNeededInTurn Suffices (take (length ds) ds) (drop (length ds) ds) []
   none_yet ds = subst (λ (rs : List Decision). AreNeededInTurn Suffices (take (length ds) ds) rs []) (sym (drop-length ds)) done
-
-  -- more decisions behind, of which none is listed
-  longer : (more : List Decision) {before rest listed : List Decision} → AreNeededInTurn Suffices before rest listed → AreNeededInTurn Suffices before (rest ++ more) listed
-  longer [] (done {before}) = done
-  longer (d ∷ more) (done {before}) = skipped (longer more done)
-  longer more (skipped a) = skipped (longer more a)
-  longer more (taken short a) = taken short (longer more a)
-
-  pub behind : (ds listed : List Decision) (front : ℕ) → AreNeededInTurn Suffices [] (take front ds) listed → AreNeededInTurn Suffices [] ds listed
-  behind ds listed front h = subst (λ (rs : List Decision). AreNeededInTurn Suffices [] rs listed) (take-append-drop front ds) (longer (drop front ds) h)
-
-  -- an explanation from a front is one from all
-  pub explains_longer : (ds listed : List Decision) (front : ℕ) (exact : Bool) → Explains Suffices (take front ds) listed exact → Explains Suffices ds listed exact
-  explains_longer ds listed front exact e = record {
-    among = λ c h. subst (λ (cs : List Decision). Contains (choices cs) c) (take-append-drop front ds)
-        (subst (λ (cs : List Literal). Contains cs c) (sym (map-append literal_of (take front ds) (drop front ds))) (Contains-append_left (choices (take front ds)) (choices (drop front ds)) c (e.among c h)));
-    enough = e.enough;
-    needed = e.needed;
-    in_turn = λ t. behind ds listed front (e.in_turn t);
-  }

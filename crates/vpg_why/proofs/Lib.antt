@@ -1,7 +1,7 @@
 pub mod Monotone
 pub mod Asked
 pub mod First
-pub mod Forced
+pub mod OpenFeatures
 pub mod Fronts
 pub mod Halving
 pub mod InTurn
@@ -10,6 +10,7 @@ pub mod Listing
 pub mod Next
 pub mod Losing
 pub mod Ordered
+pub mod Rooms
 pub mod Examples
 pub mod Splits
 pub mod Tops

@@ -8,6 +8,7 @@ use Rattle.vpg_game.specs.Game.{NamedGame}
 use Rattle.vpg_partial.specs.Known.{literal_of}
 use Rattle.vpg_partial.specs.TableLaws.{AreAmong, AreChoicesOf}
 use Rattle.vpg_partial.specs.declared.decision.Decision.{Decision}
+use Rattle.vpg_why.specs.declared.question.Limits.{Limits}
 use Rattle.vpg_why.specs.declared.question.Question.{Question}
 use Rattle.vpg_why.specs.Suffices.{Suffice, IsSettled}
 use Rattle.vpg_why.specs.Explained.{choices, front_with, IsLast, AreNeededInTurn, Explains}
@@ -40,7 +41,7 @@ both_true : (a b : Bool) → IsTrue a → IsTrue b → IsTrue (a && b)
 both_true true b h k = k
 both_true false b h k = h
 
-module _ (game : NamedGame) (diagram : NamedDiagram) (question : Question) (decisions : List Decision) (is_diagram : IsNamedDiagram diagram) (named : AreChoicesOf diagram.lines (choices decisions)) where
+module _ (game : NamedGame) (diagram : NamedDiagram) (limits : Limits) (question : Question) (decisions : List Decision) (is_diagram : IsNamedDiagram diagram) (named : AreChoicesOf diagram.lines (choices decisions)) where
   moved : (most : ℕ) (kept : List Decision) → Suffice game diagram question (choices (front_with most decisions kept)) → Suffice game diagram question (take most (choices decisions) ++ choices kept)
   moved most kept h = subst (λ (cs : List Literal). Suffice game diagram question cs) (choices_with most decisions kept) h
 
@@ -51,15 +52,15 @@ module _ (game : NamedGame) (diagram : NamedDiagram) (question : Question) (deci
   first_listing kept e h = subst (λ (n : ℕ). IsListing (Suffice game diagram question) (choices decisions) (choices kept) n true) (length-map decisions literal_of)
       (subst (λ (ds : List Decision). IsListing (Suffice game diagram question) (choices decisions) (choices ds) (length (choices decisions)) true) (sym e) (begun (Suffice game diagram question) (choices decisions) h))
 
-  pub first_listed : (kept : List Decision) → kept ≡ [] → Suffice game diagram question (choices decisions) → IsListed (Suffice game diagram question) (IsSettled question) decisions kept (length decisions) true
+  pub first_listed : (kept : List Decision) → kept ≡ [] → Suffice game diagram question (choices decisions) → IsListed (Suffice game diagram question) (IsSettled game diagram limits question) decisions kept (length decisions) true
   first_listed kept e h = record {
     listing = first_listing kept e h;
     in_turn = λ t. subst (λ (ds : List Decision). AreNeededInTurn (Suffice game diagram question) (take (length decisions) decisions) (drop (length decisions) decisions) ds) (sym e) (none_yet (Suffice game diagram question) decisions);
     settled = λ s. refl;
   }
 
-  module _ (kept new : List Decision) (most place : ℕ) (exact also : Bool) (x : Decision) (is : IsListed (Suffice game diagram question) (IsSettled question) decisions kept most exact)
-      (last : IsLast (Suffice game diagram question) decisions kept most place also) (so : IsSettled question → IsTrue also) (e : new ≡ get_or decisions place x ∷ kept) where
+  module _ (kept new : List Decision) (most place : ℕ) (exact also : Bool) (x : Decision) (is : IsListed (Suffice game diagram question) (IsSettled game diagram limits question) decisions kept most exact)
+      (last : IsLast (Suffice game diagram question) decisions kept most place also) (so : IsSettled game diagram limits question → IsTrue also) (e : new ≡ get_or decisions place x ∷ kept) where
     inside : place < length decisions
     inside = let w = is.listing.within in omega (arith, w, last.within, length-map decisions literal_of)
 
@@ -71,7 +72,7 @@ module _ (game : NamedGame) (diagram : NamedDiagram) (question : Question) (deci
     next_listing = subst (λ (ds : List Decision). IsListing (Suffice game diagram question) (choices decisions) (choices ds) place (exact && also)) (sym e)
         (taken (Suffice game diagram question) (choices decisions) (choices kept) most place exact also is.listing last.within (literal_of (get_or decisions place x)) (choice_at decisions place x (literal_of (get_or decisions place x)) inside) (moved (place + 1) kept last.enough) (λ t h. last.short t (back place kept h)) more)
 
-    pub next_listed : IsListed (Suffice game diagram question) (IsSettled question) decisions new place (exact && also)
+    pub next_listed : IsListed (Suffice game diagram question) (IsSettled game diagram limits question) decisions new place (exact && also)
     next_listed = record {
       listing = next_listing;
       in_turn = λ t. subst (λ (ds : List Decision). AreNeededInTurn (Suffice game diagram question) (take place decisions) (drop place decisions) ds) (sym e)
@@ -79,15 +80,15 @@ module _ (game : NamedGame) (diagram : NamedDiagram) (question : Question) (deci
       settled = λ s. both_true exact also (is.settled s) (so s);
     }
 
-  pub last_listed : (kept : List Decision) (most : ℕ) (exact : Bool) → IsListed (Suffice game diagram question) (IsSettled question) decisions kept most exact → Suffice game diagram question (choices (front_with 0 decisions kept)) →
-      IsListed (Suffice game diagram question) (IsSettled question) decisions kept 0 exact
+  pub last_listed : (kept : List Decision) (most : ℕ) (exact : Bool) → IsListed (Suffice game diagram question) (IsSettled game diagram limits question) decisions kept most exact → Suffice game diagram question (choices (front_with 0 decisions kept)) →
+      IsListed (Suffice game diagram question) (IsSettled game diagram limits question) decisions kept 0 exact
   last_listed kept most exact is h = record {
     listing = ended (Suffice game diagram question) (choices decisions) (choices kept) most exact is.listing (moved 0 kept h);
     in_turn = λ t. shorter (Suffice game diagram question) decisions kept 0 most (omega arith) (is.in_turn t);
     settled = is.settled;
   }
 
-  pub explained : (kept : List Decision) (most : ℕ) (exact : Bool) → most ≡ 0 → IsListed (Suffice game diagram question) (IsSettled question) decisions kept most exact → Explains (Suffice game diagram question) decisions kept exact
+  pub explained : (kept : List Decision) (most : ℕ) (exact : Bool) → most ≡ 0 → IsListed (Suffice game diagram question) (IsSettled game diagram limits question) decisions kept most exact → Explains (Suffice game diagram question) decisions kept exact
   explained kept most exact e is = record {
     among = at_end.listing.among;
     enough = at_end.listing.enough;
@@ -95,8 +96,8 @@ module _ (game : NamedGame) (diagram : NamedDiagram) (question : Question) (deci
     in_turn = at_end.in_turn;
   }
     where
-      at_end : IsListed (Suffice game diagram question) (IsSettled question) decisions kept 0 exact
-      at_end = subst (λ (n : ℕ). IsListed (Suffice game diagram question) (IsSettled question) decisions kept n exact) e is
+      at_end : IsListed (Suffice game diagram question) (IsSettled game diagram limits question) decisions kept 0 exact
+      at_end = subst (λ (n : ℕ). IsListed (Suffice game diagram question) (IsSettled game diagram limits question) decisions kept n exact) e is
 
 pub explanations_are_one : ExplanationsAreOne
 explanations_are_one game diagram question decisions one other is named a b =

@@ -1,44 +1,98 @@
 -- What a search for a product says.
-use Rattle.std.specs.Prelude.{ℕ, ◌<◌, ⊤, Bool, List, IsTrue}
+use Rattle.std.specs.Prelude.{ℕ, ◌≡◌, ◌<◌, ◌≤◌, ◌+◌, ⊤, Bool, List, slice_index_or, IsTrue}
+use Rattle.vpg_guards.specs.declared.tri.Tri.{Tri}
+use Rattle.vpg_guards.specs.declared.tri.Tri.TheVariants.{Unknown}
 use Rattle.vpg_diagram.specs.DiagramText.{NamedDiagram}
 use Rattle.vpg_diagram.specs.FeatureDiagram.{feature_count}
 use Rattle.vpg_diagram.specs.declared.clause.Literal.{Literal}
 use Rattle.vpg_game.specs.Game.{NamedGame}
-use Rattle.vpg_measure.specs.declared.which.Which.{Which}
-use Rattle.vpg_partial.specs.TableLaws.{AreAmong}
-use Rattle.vpg_why.specs.declared.telling.WhyLost.{WhyLost}
-use Rattle.vpg_why.specs.declared.telling.WhyLost.TheVariants as whys
-use Rattle.vpg_why.specs.declared.question.Question.TheVariants as asks
-use Rattle.vpg_why.specs.Explained.{Explains}
-use Rattle.vpg_why.specs.Suffices.{Suffice}
+use Rattle.vpg_partial.specs.KnownLaws.{IsRemaining}
+use Rattle.vpg_partial.specs.TableLaws.{IsKnownTable, IsOnlyRemaining}
 use Rattle.vpg_partial.specs.declared.decision.Decision.{Decision}
-use Rattle.vpg_why.specs.declared.searching.Outlook.{Outlook}
-use Rattle.vpg_why.specs.declared.searching.Outlook.TheVariants as outlooks
+use Rattle.vpg_why.specs.declared.forcing.Demand.{Demand}
+use Rattle.vpg_why.specs.declared.forcing.Demand.TheVariants as demands
+use Rattle.vpg_why.specs.declared.question.Aim.{Aim}
+use Rattle.vpg_why.specs.declared.question.Question.TheVariants as asks
 use Rattle.vpg_why.specs.declared.searching.Found.{Found}
 use Rattle.vpg_why.specs.declared.searching.Found.TheVariants as founds
-use Rattle.vpg_why.specs.Explained.{choices}
-use Rattle.vpg_why.specs.Products.{IsLostUnder, IsExample, IsFirst, AgreeBelow}
+use Rattle.vpg_why.specs.declared.searching.Outlook.{Outlook}
+use Rattle.vpg_why.specs.declared.searching.Outlook.TheVariants as outlooks
+use Rattle.vpg_why.specs.declared.telling.WhyLost.{WhyLost}
+use Rattle.vpg_why.specs.declared.telling.WhyLost.TheVariants as whys
+use Rattle.vpg_why.specs.Explained.{choices, Explains}
+use Rattle.vpg_why.specs.Products.{NoneMeets, Meets, IsFirst, AgreeBelow, AreNeeds}
+use Rattle.vpg_why.specs.Suffices.{Suffice, most_trials}
 
-abbrev pub IsOutlook : NamedGame → NamedDiagram → Which → ℕ → List Literal → Outlook → Type 0
-IsOutlook game diagram which vertex choices outlooks.Lost = IsLostUnder game diagram which vertex choices
-IsOutlook game diagram which vertex choices outlooks.Won = IsExample game diagram which vertex choices
-IsOutlook game diagram which vertex choices (outlooks.Open feature) = (feature < feature_count diagram.lines) × AgreeBelow diagram choices feature
-IsOutlook game diagram which vertex choices outlooks.Unsettled = ⊤
+-- the choices make each feature below this one known
+abbrev pub AreKnownBelow : NamedDiagram → List Literal → ℕ → Type 0
+AreKnownBelow diagram choices feature = (known : List Tri) → IsKnownTable diagram.lines choices known → (f : ℕ) → f < feature → slice_index_or known f Unknown ≡ Unknown → ⊥
 
--- Decisions that have the choices and leave one product, in which the verdict does not hold; it is the first such product that agrees with the choices, where that is shown.
-pub record IsFoundProduct (game : NamedGame) (diagram : NamedDiagram) (which : Which) (vertex : ℕ) (chosen decided : List Literal) (first : Bool) : Type 0 where
-  pub among : AreAmong chosen decided
-  pub example : IsExample game diagram which vertex decided
-  pub is_first : IsTrue first → IsFirst game diagram which vertex chosen example.set
+-- the feature is the first that the choices don't make known
+pub record IsOpen (diagram : NamedDiagram) (choices : List Literal) (feature : ℕ) : Type 0 where
+  pub within : feature < feature_count diagram.lines
+  pub agree : AgreeBelow diagram choices feature
+  pub known : List Tri
+  pub is_table : IsKnownTable diagram.lines choices known
+  pub unknown : slice_index_or known feature Unknown ≡ Unknown
+  pub below : (f : ℕ) → f < feature → slice_index_or known f Unknown ≡ Unknown → ⊥
 
--- decisions that have the choices and leave a product in which the verdict does not hold; or it holds in each
-abbrev pub IsFound : NamedGame → NamedDiagram → Which → ℕ → List Literal → Found → Type 0
-IsFound game diagram which vertex chosen (founds.Product example) = IsFoundProduct game diagram which vertex chosen (choices example.decisions.items) example.first
-IsFound game diagram which vertex chosen founds.Nothing = IsLostUnder game diagram which vertex chosen
-IsFound game diagram which vertex chosen founds.Unsettled = ⊤
+abbrev pub IsOutlook : NamedGame → NamedDiagram → Aim → List Literal → Outlook → Type 0
+IsOutlook game diagram aim choices outlooks.Lost = NoneMeets game diagram aim choices
+IsOutlook game diagram aim choices (outlooks.Met product) = IsOnlyRemaining diagram.lines choices product.items × Meets game aim product.items
+IsOutlook game diagram aim choices (outlooks.Open feature) = IsOpen diagram choices feature
+IsOutlook game diagram aim choices outlooks.Unsettled = ⊤
 
--- some decisions because of which it is lost in each product, or a product in which it is not
-abbrev pub IsWhyLost : NamedGame → NamedDiagram → Which → ℕ → List Decision → WhyLost → Type 0
-IsWhyLost game diagram which vertex decisions (whys.Because found) = Explains (Suffice game diagram (asks.Lost which vertex)) decisions found.decisions.items found.exact
-IsWhyLost game diagram which vertex decisions (whys.Unless example) = IsFoundProduct game diagram which vertex (choices decisions) (choices example.decisions.items) example.first
-IsWhyLost game diagram which vertex decisions whys.Unsettled = ⊤
+abbrev pub IsOutlookExact : Outlook → Type 0
+IsOutlookExact outlooks.Lost = ⊤
+IsOutlookExact (outlooks.Met product) = ⊤
+IsOutlookExact (outlooks.Open feature) = ⊤
+IsOutlookExact outlooks.Unsettled = ⊥
+
+-- A search from the choices on that is so deep, with so many trials, comes to its end.
+pub record HasRoom (diagram : NamedDiagram) (choices : List Literal) (depth trials : ℕ) : Type 0 where
+  pub from : ℕ
+  pub below : AreKnownBelow diagram choices from
+  pub within : from ≤ feature_count diagram.lines
+  pub deep : feature_count diagram.lines < from + depth
+  pub enough : most_trials depth ≤ trials
+
+-- A product that agrees with the choices and meets the aim; it is the first one, where that is shown.
+pub record IsFoundProduct (game : NamedGame) (diagram : NamedDiagram) (aim : Aim) (choices : List Literal) (set : List Bool) (first : Bool) : Type 0 where
+  pub remaining : IsRemaining diagram.lines choices set
+  pub meets : Meets game aim set
+  pub is_first : IsTrue first → IsFirst game diagram aim choices set
+
+-- a product that agrees with the choices and meets the aim; or there is none
+abbrev pub IsFound : NamedGame → NamedDiagram → Aim → List Literal → Found → Type 0
+IsFound game diagram aim choices (founds.Product example) = IsFoundProduct game diagram aim choices example.features.items example.first
+IsFound game diagram aim choices founds.Nothing = NoneMeets game diagram aim choices
+IsFound game diagram aim choices founds.Unsettled = ⊤
+
+-- no limit was met
+abbrev pub IsFoundExact : Found → Type 0
+IsFoundExact (founds.Product example) = IsTrue example.first
+IsFoundExact founds.Nothing = ⊤
+IsFoundExact founds.Unsettled = ⊥
+
+-- some decisions because of which no product meets the aim, or a product that does
+abbrev pub IsWhyLost : NamedGame → NamedDiagram → Aim → List Decision → WhyLost → Type 0
+IsWhyLost game diagram aim decisions (whys.Because found) = Explains (Suffice game diagram (asks.Lost aim)) decisions found.decisions.items found.exact
+IsWhyLost game diagram aim decisions (whys.Unless example) = IsFoundProduct game diagram aim (choices decisions) example.features.items example.first
+IsWhyLost game diagram aim decisions whys.Unsettled = ⊤
+
+abbrev pub IsWhyLostExact : WhyLost → Type 0
+IsWhyLostExact (whys.Because found) = IsTrue found.exact
+IsWhyLostExact (whys.Unless example) = IsTrue example.first
+IsWhyLostExact whys.Unsettled = ⊥
+
+-- what each product has that agrees with the choices and meets the aim, where there is one
+abbrev pub AreFoundNeeds : NamedGame → NamedDiagram → Aim → List Literal → Demand → Type 0
+AreFoundNeeds game diagram aim choices (demands.These found) =
+    ((set : List Bool) × IsRemaining diagram.lines choices set × Meets game aim set) × AreNeeds game diagram aim choices found.literals.items found.exact
+AreFoundNeeds game diagram aim choices demands.Nothing = NoneMeets game diagram aim choices
+AreFoundNeeds game diagram aim choices demands.Unsettled = ⊤
+
+abbrev pub AreNeedsExact : Demand → Type 0
+AreNeedsExact (demands.These found) = IsTrue found.exact
+AreNeedsExact demands.Nothing = ⊤
+AreNeedsExact demands.Unsettled = ⊥

@@ -9,7 +9,8 @@ use Rattle.vpg_measure.specs.declared.which.Which.{Which}
 use Rattle.vpg_why.specs.declared.question.Question.{Question}
 use Rattle.vpg_why.specs.declared.question.Question.TheVariants as asks
 use Rattle.vpg_why.specs.Explained.{choices, Explains}
-use Rattle.vpg_why.specs.Products.{IsLostUnder}
+use Rattle.vpg_why.specs.declared.question.Aim.TheVariants as aims
+use Rattle.vpg_why.specs.Products.{NoneMeets}
 use Rattle.vpg_why.specs.Suffices.{Suffice}
 
 -- what suffices still suffices with more choices
@@ -21,7 +22,7 @@ MoreChoicesSuffice = (game : NamedGame) (diagram : NamedDiagram) (question : Que
 abbrev pub SufficientChoicesLose : Type 0
 SufficientChoicesLose = (game : NamedGame) (diagram : NamedDiagram) (which : Which) (vertex : ℕ) (choices : List Literal) →
     IsGame game → IsNamedDiagram diagram → AreChoicesOf diagram.lines choices → vertex < length game.vertices → Suffice game diagram (asks.Verdict which vertex) choices →
-    IsLostUnder game diagram which vertex choices
+    NoneMeets game diagram (aims.Won which vertex) choices
 
 -- Two explanations of one question from the same decisions are the same, where it is shown of both that none can be left out.
 abbrev pub ExplanationsAreOne : Type 0

@@ -27,3 +27,9 @@ abbrev pub IsRemedy : NamedGame → NamedDiagram → Which → ℕ → List Deci
 IsRemedy game diagram which vertex decisions (remedies.Retract found) = IsRepair (Suffice game diagram (asks.Verdict which vertex)) decisions found.kept.items found.retracted.items found.exact
 IsRemedy game diagram which vertex decisions remedies.Nothing = Suffice game diagram (asks.Verdict which vertex) []
 IsRemedy game diagram which vertex decisions remedies.Unsettled = ⊤
+
+-- no limit was met
+abbrev pub IsRemedyExact : Remedy → Type 0
+IsRemedyExact (remedies.Retract found) = IsTrue found.exact
+IsRemedyExact remedies.Nothing = ⊤
+IsRemedyExact remedies.Unsettled = ⊥

@@ -1,5 +1,5 @@
 -- What may be asked of a list of choices, and when they alone make it so. This project's own.
-use Rattle.std.specs.Prelude.{ℕ, ◌<◌, ⊤, Bool, List, [], ◌∷◌, ◌++◌, length, slice_index, IsTrue}
+use Rattle.std.specs.Prelude.{ℕ, zero, suc, ◌+◌, ◌<◌, ◌≤◌, ⊤, Bool, List, [], ◌∷◌, ◌++◌, length, replicate, slice_index, IsTrue}
 use Rattle.vpg_guards.specs.declared.tri.Tri.{Tri}
 use Rattle.vpg_guards.specs.Known.{kleene}
 use Rattle.vpg_diagram.specs.DiagramText.{NamedDiagram}
@@ -10,9 +10,13 @@ use Rattle.vpg_partial.specs.KnownLaws.{HasConflictOf}
 use Rattle.vpg_partial.specs.KnownTable.{literals_in}
 use Rattle.vpg_partial.specs.TableLaws.{IsKnownTable}
 use Rattle.vpg_measure.specs.Least.{IsValueBelow}
+use Rattle.vpg_measure.specs.Lifts.{IsProgressTable, after_rounds}
 use Rattle.vpg_measure.specs.TwoGames.{levels_for, arena_for, top_for, IsProgressOf}
 use Rattle.vpg_measure.specs.declared.which.Which.{Which}
-use Rattle.vpg_why.specs.Products.{IsLostUnder}
+use Rattle.vpg_why.specs.Products.{NoneMeets}
+use Rattle.vpg_why.specs.declared.question.Aim.{Aim}
+use Rattle.vpg_why.specs.declared.question.Aim.TheVariants as aims
+use Rattle.vpg_why.specs.declared.question.Limits.{Limits}
 use Rattle.vpg_why.specs.declared.question.Question.{Question}
 use Rattle.vpg_why.specs.declared.question.Question.TheVariants as asks
 
@@ -28,26 +32,63 @@ IsTopUnder game which vertex known =
 -- The choices alone make it so. (Where they contradict the diagram, they make everything so.)
 abbrev pub Suffice : NamedGame → NamedDiagram → Question → List Literal → Type 0
 Suffice game diagram (asks.Verdict which vertex) choices = (known : List Tri) → IsKnownTable diagram.lines choices known → IsTopUnder game which vertex known
-Suffice game diagram (asks.Lost which vertex) choices = IsLostUnder game diagram which vertex choices
+Suffice game diagram (asks.Lost aim) choices = NoneMeets game diagram aim choices
 Suffice game diagram (asks.Known feature value) choices = (known : List Tri) → IsKnownTable diagram.lines choices known → IsTrue (literals_in known (choice feature value))
 Suffice game diagram (asks.Conflict feature value) choices = HasConflictOf diagram.lines (choices ++ choice feature value ∷ [])
+
+-- a vertex that is spoken of is one of the game's
+abbrev pub IsAim : NamedGame → Aim → Type 0
+IsAim game aims.Any = ⊤
+IsAim game (aims.Won which vertex) = vertex < length game.vertices
 
 -- what is asked is of a vertex of the game, or of a feature of the diagram
 abbrev pub IsAskable : NamedGame → NamedDiagram → Question → Type 0
 IsAskable game diagram (asks.Verdict which vertex) = vertex < length game.vertices
-IsAskable game diagram (asks.Lost which vertex) = vertex < length game.vertices
+IsAskable game diagram (asks.Lost aim) = IsAim game aim
 IsAskable game diagram (asks.Known feature value) = feature < feature_count diagram.lines
 IsAskable game diagram (asks.Conflict feature value) = feature < feature_count diagram.lines
-
--- It asks of a feature, so it is always answered: what is known of features is computed without a limit.
-abbrev pub IsSettled : Question → Type 0
-IsSettled (asks.Verdict which vertex) = ⊥
-IsSettled (asks.Lost which vertex) = ⊥
-IsSettled (asks.Known feature value) = ⊤
-IsSettled (asks.Conflict feature value) = ⊤
 
 -- under what is known, some progress table of the game is below the top at the vertex
 pub record IsLowUnder (game : NamedGame) (which : Which) (vertex : ℕ) (known : List Tri) : Type 0 where
   pub table : List ℕ
   pub progress : IsProgressOf (kleene known) which (graph_of game) table
   pub low : slice_index table vertex < top_for which (graph_of game)
+
+-- The verdict under what is known bars the aim, or some progress table doesn't.
+abbrev pub IsBarred : NamedGame → Aim → List Tri → Type 0
+IsBarred game aims.Any known = ⊥
+IsBarred game (aims.Won which vertex) known = IsTopUnder game which vertex known
+
+abbrev pub MayMeet : NamedGame → Aim → List Tri → Type 0
+MayMeet game aims.Any known = ⊤
+MayMeet game (aims.Won which vertex) known = IsLowUnder game which vertex known
+
+-- ---- limits
+
+-- under what is known, so many rounds of lifts from zeros leave a progress table
+abbrev pub SettlesWithin : ℕ → NamedGame → Which → List Tri → Type 0
+SettlesWithin rounds game which known = IsProgressTable (levels_for which (graph_of game)) (arena_for (kleene known) which (graph_of game))
+    (after_rounds (levels_for which (graph_of game)) (arena_for (kleene known) which (graph_of game)) rounds (replicate (length (arena_for (kleene known) which (graph_of game))) 0))
+
+-- so it is whatever was chosen
+abbrev pub AlwaysSettles : ℕ → NamedGame → NamedDiagram → Which → Type 0
+AlwaysSettles rounds game diagram which = (choices : List Literal) (known : List Tri) → IsKnownTable diagram.lines choices known → SettlesWithin rounds game which known
+
+abbrev pub AimSettlesUnder : ℕ → NamedGame → Aim → List Tri → Type 0
+AimSettlesUnder rounds game aims.Any known = ⊤
+AimSettlesUnder rounds game (aims.Won which vertex) known = SettlesWithin rounds game which known
+
+abbrev pub AimSettles : ℕ → NamedGame → NamedDiagram → Aim → Type 0
+AimSettles rounds game diagram aim = (choices : List Literal) (known : List Tri) → IsKnownTable diagram.lines choices known → AimSettlesUnder rounds game aim known
+
+-- how many trials a search over so many features, less one, makes at most
+abbrev pub most_trials : ℕ → ℕ
+most_trials zero = 0
+most_trials (suc n) = suc (most_trials n + most_trials n)
+
+-- The limits leave room for an answer, whatever was chosen: the rounds settle each table, and the trials suffice for each case. (What is known of features is computed without a limit.)
+abbrev pub IsSettled : NamedGame → NamedDiagram → Limits → Question → Type 0
+IsSettled game diagram limits (asks.Verdict which vertex) = AlwaysSettles limits.rounds game diagram which
+IsSettled game diagram limits (asks.Lost aim) = AimSettles limits.rounds game diagram aim × (most_trials (feature_count diagram.lines + 1) ≤ limits.trials)
+IsSettled game diagram limits (asks.Known feature value) = ⊤
+IsSettled game diagram limits (asks.Conflict feature value) = ⊤

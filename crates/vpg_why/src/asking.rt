@@ -1,23 +1,24 @@
 //! Asking a question of decisions.
-ghost use Rattle.std.specs.Prelude.{◌≡◌, ◌≢◌, ◌↔◌, ◌<◌, ◌++◌, ◌∷◌, [], length, map, IfOk, IfSome, IsNone, IsTrue};
+ghost use Rattle.std.specs.Prelude.{◌≡◌, ◌≢◌, ◌↔◌, ◌<◌, ◌++◌, ◌∷◌, [], List, ℕ, length, map, replicate, IfOk, IfSome, IsNone, IsTrue};
 ghost use Rattle.vpg_guards.specs.Known.{kleene};
 ghost use Rattle.vpg_diagram.specs.FeatureDiagram.{feature_count};
 ghost use Rattle.vpg_game.specs.Game.{graph_of};
+ghost use Rattle.vpg_measure.specs.Lifts.{IsTableOf, IsProgressTable, IsBelowTable, after_rounds};
 ghost use Rattle.vpg_measure.specs.TwoGames.{levels_for, arena_for};
 ghost use Rattle.vpg_partial.specs.Known.{literal_of};
 ghost use Rattle.vpg_partial.specs.KnownLaws.{HasConflictOf};
 ghost use Rattle.vpg_partial.specs.KnownTable.{literals_in};
 ghost use Rattle.vpg_partial.specs.TableLaws.{AreChoicesOf, IsKnownTable};
-ghost use Rattle.vpg_why.specs.Suffices.{choice, IsTopUnder, IsLowUnder, Suffice};
+ghost use Rattle.vpg_why.specs.Suffices.{choice, IsTopUnder, IsLowUnder, Suffice, SettlesWithin, IsSettled};
 
-use crate::question::{Question, Shown};
+use crate::question::{Limits, Question, Shown};
 use std::alloc::{AllocError, Global};
 use vpg_diagram::Diagram;
 use vpg_game::GuardedGame;
 use vpg_guards::Tri;
 use vpg_guess::raise_by_bounds;
 use vpg_hope::Arena;
-use vpg_measure::{Shape, Table, Which};
+use vpg_measure::{Shape, Table, Which, is_progress, settle_alone};
 use vpg_partial::{Decision, Partial, PartialFault};
 
 /// The shape and the kept edges of one of the two games, and the shape of its dual.
@@ -52,6 +53,31 @@ fn lay_out(
     }
 }
 
+// Raises a table by certified bounds and, where these do not settle it, by rounds of lifts; says whether it is a progress table then.
+fn raise(alloc: Global, side: &Side, table: &mut Table, limits: Limits) -> Result<bool, AllocError>
+    requires { IsTableOf side.now.shape side.now.arena table.old }
+    ensures settled { IfOk result (λ settled. IsTrue settled ↔ IsProgressTable side.now.shape side.now.arena table.new) }
+    ensures table { IsTableOf side.now.shape side.now.arena table.new }
+    ensures below { (other : List ℕ) → IsTableOf side.now.shape side.now.arena other → IsProgressTable side.now.shape side.now.arena other →
+        IsBelowTable table.old other → IsBelowTable table.new other }
+    // It is one where so many rounds alone leave one.
+    ensures rounds { IfOk result (λ settled. IsProgressTable side.now.shape side.now.arena (after_rounds side.now.shape side.now.arena limits.rounds table.old) → IsTrue settled) }
+{
+    let settled = raise_by_bounds(
+        alloc,
+        &side.shape,
+        &side.dual_shape,
+        &side.arena,
+        table,
+        limits.budget,
+    )?;
+    if settled {
+        return Ok(true);
+    }
+    settle_alone(&side.shape, &side.arena, table, limits.rounds);
+    Ok(is_progress(&side.shape, &side.arena, table))
+}
+
 /// Whether every progress table of one of the two games has the top at the vertex: the least one does.
 pub(crate) fn is_top(
     alloc: Global,
@@ -59,24 +85,18 @@ pub(crate) fn is_top(
     which: Which,
     vertex: u32,
     known: &Partial,
-    budget: u64,
+    limits: Limits,
 ) -> Result<Shown, AllocError>
     requires features { length known.now ≡ game.now.features }
     requires vertex { vertex < length game.now.vertices }
     ensures yes { IfOk result (λ shown. shown ≡ Shown.Yes → IsTopUnder game.now which vertex known.now) }
     ensures no { IfOk result (λ shown. shown ≡ Shown.No → IsTopUnder game.now which vertex known.now → ⊥) }
     ensures low { IfOk result (λ shown. shown ≡ Shown.No → IsLowUnder game.now which vertex known.now) }
+    ensures settled { IfOk result (λ shown. SettlesWithin limits.rounds game.now which known.now → shown ≢ Shown.Unsettled) }
 {
     let side = lay_out(alloc, game, which, known)?;
     let mut table = Table::zero(alloc, side.arena.vertices())?;
-    let settled = raise_by_bounds(
-        alloc,
-        &side.shape,
-        &side.dual_shape,
-        &side.arena,
-        &mut table,
-        budget,
-    )?;
+    let settled = raise(alloc, &side, &mut table, limits)?;
     if table.get(vertex) == side.shape.top() {
         Ok(Shown::Yes)
     } else if settled {
@@ -122,17 +142,18 @@ pub(crate) fn verdict_shown(
     which: Which,
     vertex: u32,
     decisions: &[Decision],
-    budget: u64,
+    limits: Limits,
 ) -> Result<Shown, AllocError>
     requires features { game.now.features ≡ feature_count diagram.now.lines }
     requires named { AreChoicesOf diagram.now.lines (map literal_of decisions.now) }
     requires vertex { vertex < length game.now.vertices }
     ensures yes { IfOk result (λ shown. shown ≡ Shown.Yes → Suffice game.now diagram.now (Question.Verdict which vertex) (map literal_of decisions.now)) }
     ensures no { IfOk result (λ shown. shown ≡ Shown.No → Suffice game.now diagram.now (Question.Verdict which vertex) (map literal_of decisions.now) → ⊥) }
+    ensures settled { IfOk result (λ shown. IsSettled game.now diagram.now limits (Question.Verdict which vertex) → shown ≢ Shown.Unsettled) }
 {
     match closed(alloc, diagram, decisions)? {
         Some(known) => {
-            let shown = is_top(alloc, game, which, vertex, &known, budget)?;
+            let shown = is_top(alloc, game, which, vertex, &known, limits)?;
             Ok(shown)
         }
         None => Ok(Shown::Yes),

@@ -1,5 +1,5 @@
 //! Explanations: some of a page's decisions that suffice, of which none can be left out.
-ghost use Rattle.std.specs.Prelude.{◌≡◌, ◌≢◌, ◌<◌, ◌≤◌, ◌+◌, length, take, IfOk, IfSome, IsNone, IsTrue};
+ghost use Rattle.std.specs.Prelude.{◌≡◌, ◌≢◌, ◌<◌, ◌≤◌, ◌+◌, length, IfOk, IfSome, IsNone, IsTrue};
 ghost use Rattle.vpg_diagram.specs.FeatureDiagram.{feature_count};
 ghost use Rattle.vpg_partial.specs.TableLaws.{AreChoicesOf};
 ghost use Rattle.vpg_why.specs.Explained.{choices, front_with, IsLast, Explains};
@@ -53,7 +53,7 @@ fn front_suffices(
     requires within { most ≤ length decisions.now }
     ensures yes { IfOk result (λ shown. shown ≡ Shown.Yes → Suffice game.now diagram.now question (choices (front_with most decisions.now kept.now))) }
     ensures no { IfOk result (λ shown. shown ≡ Shown.No → Suffice game.now diagram.now question (choices (front_with most decisions.now kept.now)) → ⊥) }
-    ensures settled { IfOk result (λ shown. IsSettled question → shown ≢ Shown.Unsettled) }
+    ensures settled { IfOk result (λ shown. IsSettled game.now diagram.now limits question → shown ≢ Shown.Unsettled) }
 {
     let joined = joined(alloc, decisions, most, kept)?;
     let shown = suffice(alloc, game, diagram, question, &joined, limits)?;
@@ -67,6 +67,30 @@ struct Last {
     exact: bool,
 }
 
+// Whether a decision is among those hinted at.
+fn is_hinted(hint: &[Decision], decision: Decision) -> bool {
+    hint.iter().any(|d| d.feature == decision.feature)
+}
+
+// A place between two others: behind the last decision hinted at, or before it, or in the middle.
+fn between(decisions: &[Decision], hint: &[Decision], low: usize, high: usize) -> usize
+    requires apart { low + 1 < high }
+    requires within { high ≤ length decisions.now }
+    ensures above { low < result }
+    ensures below { result < high }
+{
+    for back in 0..high - low {
+        let place = high - 1 - back;
+        if is_hinted(hint, decisions[place]) {
+            if place + 1 < high {
+                return place + 1;
+            }
+            return place;
+        }
+    }
+    low + (high - low) / 2
+}
+
 // Of the first decisions, of which some are needed beside the kept ones, the last that is.
 fn halve(
     alloc: Global,
@@ -77,6 +101,7 @@ fn halve(
     most: usize,
     kept: &[Decision],
     exact: bool,
+    hint: &[Decision],
     limits: Limits,
 ) -> Result<Last, AllocError>
     requires features { game.now.features ≡ feature_count diagram.now.lines }
@@ -86,18 +111,18 @@ fn halve(
     requires within { most ≤ length decisions.now }
     requires some { 0 < most }
     requires enough { Suffice game.now diagram.now question (choices (front_with most decisions.now kept.now)) }
-    requires settled { IsSettled question → IsTrue exact }
+    requires settled { IsSettled game.now diagram.now limits question → IsTrue exact }
     requires short { IsTrue exact → Suffice game.now diagram.now question (choices (front_with 0 decisions.now kept.now)) → ⊥ }
     ensures place { IfOk result (λ last. last.place < most) }
     ensures enough { IfOk result (λ last. Suffice game.now diagram.now question (choices (front_with (last.place + 1) decisions.now kept.now))) }
     ensures short { IfOk result (λ last. IsTrue last.exact → Suffice game.now diagram.now question (choices (front_with last.place decisions.now kept.now)) → ⊥) }
-    ensures settled { IfOk result (λ last. IsSettled question → IsTrue last.exact) }
+    ensures settled { IfOk result (λ last. IsSettled game.now diagram.now limits question → IsTrue last.exact) }
 {
     let mut low = 0;
     let mut high = most;
     let mut exact = exact;
     'halving: while high - low > 1 {
-        let middle = low + (high - low) / 2;
+        let middle = between(decisions, hint, low, high);
         let shown = front_suffices(
             alloc, game, diagram, question, decisions, middle, kept, limits,
         )?;
@@ -125,6 +150,7 @@ fn last_needed(
     decisions: &[Decision],
     most: usize,
     kept: &[Decision],
+    hint: &[Decision],
     limits: Limits,
 ) -> Result<Option<Last>, AllocError>
     requires features { game.now.features ≡ feature_count diagram.now.lines }
@@ -136,7 +162,7 @@ fn last_needed(
     requires enough { Suffice game.now diagram.now question (choices (front_with most decisions.now kept.now)) }
     ensures none { IfOk result (λ found. IsNone found → Suffice game.now diagram.now question (choices (front_with 0 decisions.now kept.now))) }
     ensures some { IfOk result (λ found. IfSome found (λ last. IsLast (Suffice game.now diagram.now question) decisions.now kept.now most last.place last.exact)) }
-    ensures settled { IfOk result (λ found. IfSome found (λ last. IsSettled question → IsTrue last.exact)) }
+    ensures settled { IfOk result (λ found. IfSome found (λ last. IsSettled game.now diagram.now limits question → IsTrue last.exact)) }
 {
     let shown = front_suffices(alloc, game, diagram, question, decisions, 0, kept, limits)?;
     let exact = match shown {
@@ -145,50 +171,19 @@ fn last_needed(
         Shown::Unsettled => false,
     };
     let last = halve(
-        alloc, game, diagram, question, decisions, most, kept, exact, limits,
+        alloc, game, diagram, question, decisions, most, kept, exact, hint, limits,
     )?;
     Ok(Some(last))
 }
 
-// How many of the first decisions suffice: the fewest, as far as the trials were settled.
-pub(crate) fn least_front(
+// As `explain`, where it is tried first whether the last of the decisions hinted at are the last that are needed.
+pub(crate) fn explain_by(
     alloc: Global,
     game: &GuardedGame,
     diagram: &Diagram,
     question: Question,
     decisions: &[Decision],
-    limits: Limits,
-) -> Result<usize, AllocError>
-    requires features { game.now.features ≡ feature_count diagram.now.lines }
-    requires named { AreChoicesOf diagram.now.lines (choices decisions.now) }
-    requires askable { IsAskable game.now diagram.now question }
-    requires enough { Suffice game.now diagram.now question (choices decisions.now) }
-    ensures within { IfOk result (λ front. front ≤ length decisions.now) }
-    ensures enough { IfOk result (λ front. Suffice game.now diagram.now question (choices (take front decisions.now))) }
-{
-    let most = decisions.len();
-    if most == 0 {
-        return Ok(0);
-    }
-    let found = last_needed(alloc, game, diagram, question, decisions, most, &[], limits)?;
-    match found {
-        Some(last) => Ok(last.place + 1),
-        None => Ok(0),
-    }
-}
-
-/// Some of the decisions, which suffice, that suffice alone. None of them can be left out, where that is told: then no list of
-/// them that lacks one suffices.
-///
-/// It is the explanation whose last decision comes earliest on the page, and before it the next, and so on, as far as the tables of
-/// its trials were settled. It takes about the logarithm of the page's decisions in trials for each decision that it lists.
-/// The one error is want of memory.
-pub fn explain(
-    alloc: Global,
-    game: &GuardedGame,
-    diagram: &Diagram,
-    question: Question,
-    decisions: &[Decision],
+    hint: &[Decision],
     limits: Limits,
 ) -> Result<Explanation, AllocError>
     requires features { game.now.features ≡ feature_count diagram.now.lines }
@@ -196,7 +191,7 @@ pub fn explain(
     requires askable { IsAskable game.now diagram.now question }
     requires enough { Suffice game.now diagram.now question (choices decisions.now) }
     ensures explains { IfOk result (λ found. Explains (Suffice game.now diagram.now question) decisions.now found.decisions.items found.exact) }
-    ensures settled { IfOk result (λ found. IsSettled question → IsTrue found.exact) }
+    ensures settled { IfOk result (λ found. IsSettled game.now diagram.now limits question → IsTrue found.exact) }
 {
     let _features = diagram.features();
     let mut kept = Vec::new(alloc);
@@ -204,7 +199,7 @@ pub fn explain(
     let mut most = decisions.len();
     'listing: while most > 0 {
         let found = last_needed(
-            alloc, game, diagram, question, decisions, most, &kept, limits,
+            alloc, game, diagram, question, decisions, most, &kept, hint, limits,
         )?;
         match found {
             Some(last) => {
@@ -219,4 +214,29 @@ pub fn explain(
         decisions: kept,
         exact,
     })
+}
+
+/// Some of the decisions, which suffice, that suffice alone. None of them can be left out, where that is told: then no list of
+/// them that lacks one suffices.
+///
+/// It is the explanation whose last decision comes earliest on the page, and before it the next, and so on, as far as no trial met
+/// a limit. It takes about the logarithm of the page's decisions in trials for each decision that it lists.
+/// The one error is want of memory.
+pub fn explain(
+    alloc: Global,
+    game: &GuardedGame,
+    diagram: &Diagram,
+    question: Question,
+    decisions: &[Decision],
+    limits: Limits,
+) -> Result<Explanation, AllocError>
+    requires features { game.now.features ≡ feature_count diagram.now.lines }
+    requires named { AreChoicesOf diagram.now.lines (choices decisions.now) }
+    requires askable { IsAskable game.now diagram.now question }
+    requires enough { Suffice game.now diagram.now question (choices decisions.now) }
+    ensures explains { IfOk result (λ found. Explains (Suffice game.now diagram.now question) decisions.now found.decisions.items found.exact) }
+    ensures settled { IfOk result (λ found. IsSettled game.now diagram.now limits question → IsTrue found.exact) }
+{
+    let found = explain_by(alloc, game, diagram, question, decisions, &[], limits)?;
+    Ok(found)
 }

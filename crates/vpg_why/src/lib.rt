@@ -28,9 +28,9 @@ mod telling;
 
 pub use answering::suffice;
 pub use explaining::{Explanation, explain};
-pub use forcing::needs;
+pub use forcing::{Demand, Forced, needs};
 pub use offering::{Offer, look_ahead, look_back};
-pub use question::{Limits, Question, Shown};
+pub use question::{Aim, Limits, Question, Shown};
 pub use repairing::{Remedy, Retraction, repair};
 pub use searching::{Example, Found, find};
 pub use telling::{WhyLost, why, why_conflict, why_known, why_lost};

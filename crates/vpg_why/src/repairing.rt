@@ -3,8 +3,8 @@ ghost use Rattle.std.specs.Prelude.{◌≡◌, ◌↔◌, ◌<◌, ◌++◌, ◌
 ghost use Rattle.vpg_diagram.specs.FeatureDiagram.{feature_count};
 ghost use Rattle.vpg_partial.specs.TableLaws.{AreChoicesOf};
 ghost use Rattle.vpg_why.specs.Explained.{choices};
-ghost use Rattle.vpg_why.specs.Repaired.{IsRepair, IsRemedy};
-ghost use Rattle.vpg_why.specs.Suffices.{Suffice, IsAskable};
+ghost use Rattle.vpg_why.specs.Repaired.{IsRepair, IsRemedy, IsRemedyExact};
+ghost use Rattle.vpg_why.specs.Suffices.{Suffice, IsAskable, IsSettled};
 
 use crate::answering::suffice;
 use crate::question::{Limits, Question, Shown};
@@ -30,7 +30,7 @@ pub enum Remedy {
     Retract(Retraction),
     /// It is hopeless, or sure, whatever is retracted.
     Nothing,
-    /// Some tables were not settled.
+    /// A limit was met.
     Unsettled,
 }
 
@@ -70,7 +70,8 @@ fn give_up(
     requires named { AreChoicesOf diagram.now.lines (choices decisions.now) }
     requires askable { IsAskable game.now diagram.now question }
     requires possible { Suffice game.now diagram.now question [] → ⊥ }
-    ensures { IfOk result (λ found. IsRepair (Suffice game.now diagram.now question) decisions.now found.kept.items found.retracted.items found.exact) }
+    ensures repair { IfOk result (λ found. IsRepair (Suffice game.now diagram.now question) decisions.now found.kept.items found.retracted.items found.exact) }
+    ensures settled { IfOk result (λ found. IsSettled game.now diagram.now limits question → IsTrue found.exact) }
 {
     let mut kept = Vec::new(alloc);
     let mut retracted = Vec::new(alloc);
@@ -103,7 +104,8 @@ pub fn repair(
     limits: Limits,
 ) -> Result<Remedy, AllocError>
     requires { vertex < length order.now.game.vertices }
-    ensures { IfOk result (IsRemedy order.now.game order.now.diagram which vertex order.now.decisions) }
+    ensures remedy { IfOk result (IsRemedy order.now.game order.now.diagram which vertex order.now.decisions) }
+    ensures settled { IfOk result (λ found. IsSettled order.now.game order.now.diagram limits (Question.Verdict which vertex) → IsRemedyExact found) }
 {
     let question = Question::Verdict { which, vertex };
     let (game, diagram) = (order.game(), order.diagram());

@@ -1,60 +1,63 @@
-//! Searching for a product, by splitting over features that are not known.
-ghost use Rattle.std.specs.Prelude.{◌≡◌, ◌≢◌, ℕ, ◌<◌, length, slice_index_or, IfOk, IfSome, IsNone};
+//! A search for a product that meets an aim.
+ghost use Rattle.std.specs.Prelude.{◌≡◌, ◌≢◌, ◌<◌, ◌≤◌, ◌+◌, ℕ, length, slice_index_or, IfOk, IfSome, IsNone};
 ghost use Rattle.vpg_guards.specs.declared.tri.Tri.TheVariants.{Unknown};
+ghost use Rattle.vpg_guards.specs.Known.{AreAllKnown};
 ghost use Rattle.vpg_diagram.specs.FeatureDiagram.{feature_count};
-ghost use Rattle.vpg_partial.specs.TableLaws.{AreChoicesOf, AreAmong};
+ghost use Rattle.vpg_partial.specs.TableLaws.{AreChoicesOf};
 ghost use Rattle.vpg_why.specs.Explained.{choices};
-ghost use Rattle.vpg_why.specs.Products.{IsLostUnder, IsExample};
-ghost use Rattle.vpg_why.specs.Found.{IsOutlook, IsFound};
+ghost use Rattle.vpg_why.specs.Found.{HasRoom, IsOutlook, IsOutlookExact, IsFound, IsFoundExact};
+ghost use Rattle.vpg_why.specs.Suffices.{IsAim, IsBarred, MayMeet, AimSettles, AimSettlesUnder, IsSettled, most_trials};
 
 use crate::asking::{closed, is_top, with_one};
-use crate::question::{Limits, Shown};
+use crate::question::{Aim, Limits, Question, Shown};
 use std::alloc::{AllocError, Global};
 use vpg_diagram::Diagram;
 use vpg_game::GuardedGame;
 use vpg_guards::Tri;
-use vpg_measure::{Order, Which};
+use vpg_measure::Order;
 use vpg_partial::{Decision, Partial};
 
-/// What some decisions say of a vertex.
-#[derive(Clone, Copy, Debug)]
+/// What some decisions say of an aim.
+#[derive(Debug, Drop)]
 pub(crate) enum Outlook {
-    /// The verdict holds in each product that is left.
+    /// No product that is left meets it.
     Lost,
-    /// They leave one product, and it does not hold there.
-    Won,
-    /// The feature is not known.
+    /// They leave this product alone, and it does.
+    Met(Vec<bool>),
+    /// The feature is the first that is not known.
     Open { feature: u16 },
-    /// Everything is known, and the tables were not settled.
+    /// Everything is known, and a limit was met.
     Unsettled,
 }
 
-/// A product, by decisions that leave it alone.
+/// A product that is left and meets an aim.
 #[derive(Debug, Drop)]
 pub struct Example {
-    /// Those of the page, and behind them those of the search, with the serial 0.
-    pub decisions: Vec<Decision>,
-    /// Whether it was shown to be the first: of the products that are left and in which the verdict does not hold, none comes before
-    /// it in the order of the features, where a product with a feature comes before one without.
+    /// For each feature whether the product has it.
+    pub features: Vec<bool>,
+    /// Whether it was shown to be the first: of the products that are left and meet the aim, none comes before it in the order of the
+    /// features, where a product with a feature comes before one without.
     pub first: bool,
 }
 
 /// What a search found.
 #[derive(Debug, Drop)]
 pub enum Found {
-    /// A product in which the verdict does not hold.
+    /// A product that is left and meets the aim.
     Product(Example),
-    /// The verdict holds in each product.
+    /// There is none.
     Nothing,
-    /// There were too many trials, or some tables were not settled.
+    /// A limit was met.
     Unsettled,
 }
 
-// A feature that is not known.
+// The first feature that is not known.
 fn open_feature(known: &Partial, features: u16) -> Option<u16>
     requires { length known.now ≡ features }
     ensures within { IfSome result (λ f. f < features) }
-    ensures below { IfSome result (λ f. (g : ℕ) → g < f → slice_index_or known.now g Unknown ≢ Unknown) }
+    ensures open { IfSome result (λ f. slice_index_or known.now f Unknown ≡ Unknown) }
+    ensures below { IfSome result (λ f. (g : ℕ) → g < f → slice_index_or known.now g Unknown ≡ Unknown → ⊥) }
+    ensures none { IsNone result → AreAllKnown features known.now }
 {
     for f in 0..features {
         if known.value(f) == Tri::Unknown {
@@ -64,19 +67,39 @@ fn open_feature(known: &Partial, features: u16) -> Option<u16>
     None
 }
 
+// Whether the verdict under what is known bars the aim.
+fn is_barred(
+    alloc: Global,
+    game: &GuardedGame,
+    aim: Aim,
+    known: &Partial,
+    limits: Limits,
+) -> Result<Shown, AllocError>
+    requires features { length known.now ≡ game.now.features }
+    requires aim { IsAim game.now aim }
+    ensures yes { IfOk result (λ shown. shown ≡ Shown.Yes → IsBarred game.now aim known.now) }
+    ensures no { IfOk result (λ shown. shown ≡ Shown.No → MayMeet game.now aim known.now) }
+    ensures settled { IfOk result (λ shown. AimSettlesUnder limits.rounds game.now aim known.now → shown ≢ Shown.Unsettled) }
+{
+    match aim {
+        Aim::Any => Ok(Shown::No),
+        Aim::Won { which, vertex } => is_top(alloc, game, which, vertex, known, limits),
+    }
+}
+
 fn look(
     alloc: Global,
     game: &GuardedGame,
     diagram: &Diagram,
-    which: Which,
-    vertex: u32,
+    aim: Aim,
     decisions: &[Decision],
-    budget: u64,
+    limits: Limits,
 ) -> Result<Outlook, AllocError>
     requires features { game.now.features ≡ feature_count diagram.now.lines }
     requires named { AreChoicesOf diagram.now.lines (choices decisions.now) }
-    requires vertex { vertex < length game.now.vertices }
-    ensures { IfOk result (IsOutlook game.now diagram.now which vertex (choices decisions.now)) }
+    requires aim { IsAim game.now aim }
+    ensures outlook { IfOk result (IsOutlook game.now diagram.now aim (choices decisions.now)) }
+    ensures settled { IfOk result (λ outlook. AimSettles limits.rounds game.now diagram.now aim → IsOutlookExact outlook) }
 {
     let _vertices = game.vertices();
     let features = diagram.features() as u16;
@@ -84,7 +107,7 @@ fn look(
         Some(known) => known,
         None => return Ok(Outlook::Lost),
     };
-    let shown = is_top(alloc, game, which, vertex, &known, budget)?;
+    let shown = is_barred(alloc, game, aim, &known, limits)?;
     if let Shown::Yes = shown {
         return Ok(Outlook::Lost);
     }
@@ -92,39 +115,39 @@ fn look(
         return Ok(Outlook::Open { feature });
     }
     if let Shown::No = shown {
-        if known.is_full() {
-            return Ok(Outlook::Won);
+        if let Some(product) = known.product(alloc)? {
+            return Ok(Outlook::Met(product));
         }
     }
     Ok(Outlook::Unsettled)
 }
 
-pub(crate) fn search(
+fn search(
     alloc: Global,
     game: &GuardedGame,
     diagram: &Diagram,
-    which: Which,
-    vertex: u32,
+    aim: Aim,
     decisions: &[Decision],
-    budget: u64,
+    limits: Limits,
     depth: u32,
     trials: &mut u64,
 ) -> Result<Found, AllocError>
     requires features { game.now.features ≡ feature_count diagram.now.lines }
     requires named { AreChoicesOf diagram.now.lines (choices decisions.now) }
-    requires vertex { vertex < length game.now.vertices }
-    ensures { IfOk result (IsFound game.now diagram.now which vertex (choices decisions.now)) }
+    requires aim { IsAim game.now aim }
+    ensures found { IfOk result (IsFound game.now diagram.now aim (choices decisions.now)) }
+    ensures spent { IfOk result (λ found. trials.old ≤ trials.new + most_trials depth) }
+    ensures settled { IfOk result (λ found. HasRoom diagram.now (choices decisions.now) depth trials.old → AimSettles limits.rounds game.now diagram.now aim → IsFoundExact found) }
 {
     if depth == 0 || *trials == 0 {
         return Ok(Found::Unsettled);
     }
     *trials -= 1;
-    let feature = match look(alloc, game, diagram, which, vertex, decisions, budget)? {
+    let feature = match look(alloc, game, diagram, aim, decisions, limits)? {
         Outlook::Lost => return Ok(Found::Nothing),
-        Outlook::Won => {
-            let decisions = Vec::from_slice(alloc, decisions)?;
+        Outlook::Met(features) => {
             return Ok(Found::Product(Example {
-                decisions,
+                features,
                 first: true,
             }));
         }
@@ -132,70 +155,71 @@ pub(crate) fn search(
         Outlook::Unsettled => return Ok(Found::Unsettled),
     };
     let more = with_one(alloc, decisions, feature, true)?;
-    let with_it = search(
-        alloc,
-        game,
-        diagram,
-        which,
-        vertex,
-        &more,
-        budget,
-        depth - 1,
-        trials,
-    )?;
+    let with_it = search(alloc, game, diagram, aim, &more, limits, depth - 1, trials)?;
     if let Found::Product(found) = with_it {
         return Ok(Found::Product(found));
     }
     let more = with_one(alloc, decisions, feature, false)?;
-    let without = search(
-        alloc,
-        game,
-        diagram,
-        which,
-        vertex,
-        &more,
-        budget,
-        depth - 1,
-        trials,
-    )?;
-    match (with_it, without) {
-        (Found::Nothing, Found::Product(found)) => Ok(Found::Product(found)),
-        (_, Found::Product(found)) => Ok(Found::Product(Example {
-            decisions: found.decisions,
+    let without = search(alloc, game, diagram, aim, &more, limits, depth - 1, trials)?;
+    if let Found::Nothing = with_it {
+        return Ok(without);
+    }
+    match without {
+        Found::Product(found) => Ok(Found::Product(Example {
+            features: found.features,
             first: false,
         })),
-        (Found::Nothing, Found::Nothing) => Ok(Found::Nothing),
         _ => Ok(Found::Unsettled),
     }
 }
 
-/// A product that is left in which the vertex's verdict does not hold: for the first table one in which Even wins there, for the
-/// second one in which Odd does. Or nothing, where there is none, however cautious the page's verdict is.
+// A search among all products that agree with the decisions.
+pub(crate) fn search_all(
+    alloc: Global,
+    game: &GuardedGame,
+    diagram: &Diagram,
+    aim: Aim,
+    decisions: &[Decision],
+    limits: Limits,
+) -> Result<Found, AllocError>
+    requires features { game.now.features ≡ feature_count diagram.now.lines }
+    requires named { AreChoicesOf diagram.now.lines (choices decisions.now) }
+    requires aim { IsAim game.now aim }
+    ensures found { IfOk result (IsFound game.now diagram.now aim (choices decisions.now)) }
+    ensures settled { IfOk result (λ found. IsSettled game.now diagram.now limits (Question.Lost aim) → IsFoundExact found) }
+{
+    let mut trials = limits.trials;
+    let depth = diagram.features() as u32 + 1;
+    let found = search(
+        alloc,
+        game,
+        diagram,
+        aim,
+        decisions,
+        limits,
+        depth,
+        &mut trials,
+    )?;
+    Ok(found)
+}
+
+/// A product that is left and meets the aim: for the first table one in which Even wins from the vertex, for the second one in which
+/// Odd does, or just any. Or nothing, where there is none, however cautious the page's verdict is.
 ///
 /// It splits over one feature that is not known after another, and leaves out what the verdicts of the page and of each trial cut off.
 /// After so many trials it gives up.
-pub fn find(
-    alloc: Global,
-    order: &Order,
-    which: Which,
-    vertex: u32,
-    limits: Limits,
-) -> Result<Found, AllocError>
-    requires { vertex < length order.now.game.vertices }
-    ensures { IfOk result (IsFound order.now.game order.now.diagram which vertex (choices order.now.decisions)) }
+pub fn find(alloc: Global, order: &Order, aim: Aim, limits: Limits) -> Result<Found, AllocError>
+    requires { IsAim order.now.game aim }
+    ensures found { IfOk result (IsFound order.now.game order.now.diagram aim (choices order.now.decisions)) }
+    ensures settled { IfOk result (λ found. IsSettled order.now.game order.now.diagram limits (Question.Lost aim) → IsFoundExact found) }
 {
-    let mut trials = limits.trials;
-    let depth = order.diagram().features() as u32 + 1;
-    let found = search(
+    let found = search_all(
         alloc,
         order.game(),
         order.diagram(),
-        which,
-        vertex,
+        aim,
         order.decisions(),
-        limits.budget,
-        depth,
-        &mut trials,
+        limits,
     )?;
     Ok(found)
 }

@@ -16,9 +16,11 @@ returns c =
       record {
         yes = λ e. verdict_by c.args.game.now c.args.diagram.now chosen Hopeful c.args.vertex c.in-Some.known t (c.in_ok-hopeless.ensures.yes e);
         no = λ e h. c.in_ok-hopeless.ensures.no e (h c.in-Some.known t);
+        settled = λ s. c.in_ok-hopeless.ensures.settled (s c.in-Some.known t);
       },
       record {
         yes = λ e. verdict_by c.args.game.now c.args.diagram.now chosen Dual c.args.vertex c.in-Some.known t (c.in_ok-sure.ensures.yes e);
         no = λ e h. c.in_ok-sure.ensures.no e (h c.in-Some.known t);
+        settled = λ s. c.in_ok-sure.ensures.settled (s c.in-Some.known t);
       },
     )

@@ -1,8 +1,8 @@
-use Rattle.std.proofs.Common.{◌<◌}
+use Rattle.std.proofs.Common.{◌<◌, IsTrue}
 use Rattle.vpg_diagram.specs.FeatureDiagram.{feature_count}
-use Rattle.vpg_why.specs.Suffices.{Suffice}
+use Rattle.vpg_why.specs.Suffices.{Suffice, IsSettled}
 use Rattle.vpg_why.proofs.KeepingOldest.{IsGoing}
 use Rattle.vpg_why.proofs.repairing.give_up.Given as goal
 
 abbrev pub invariant-deciding : goal.invariant-deciding
-invariant-deciding l = IsGoing (Suffice l.game l.diagram l.question) (λ c. c.feature < feature_count l.diagram.lines) l.decisions l.kept.items l.retracted.items l.d-index l.exact
+invariant-deciding l = IsGoing (Suffice l.game l.diagram l.question) (λ c. c.feature < feature_count l.diagram.lines) l.decisions l.kept.items l.retracted.items l.d-index l.exact × (IsSettled l.game l.diagram l.limits l.question → IsTrue l.exact)

@@ -24,3 +24,6 @@ returns-clause-lost c =
     let explains = rw (c.deref.ensures, c.game.ensures.game, c.deref-2.ensures, c.diagram.ensures.diagram, c.decisions.ensures.decisions) at c.in_ok-found.ensures.explains in
     sufficient_choices_lose order.game order.diagram c.args.which c.args.vertex (choices c.in_ok-found.found.decisions.items) is.game is.diagram
     (among_named order.diagram.lines (choices c.in_ok-found.found.decisions.items) (choices order.decisions) explains.among is.named) c.requires explains.enough
+
+pub returns-clause-settled : goal.returns-clause-settled
+returns-clause-settled c = rw (c.deref.ensures, c.game.ensures.game, c.deref-2.ensures, c.diagram.ensures.diagram) at c.in_ok-found.ensures.settled
