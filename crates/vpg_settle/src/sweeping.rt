@@ -1,16 +1,16 @@
 //! Sweeps: what the lines `settle` and `harvest` make of an order.
-ghost use Rattle.std.specs.Prelude.{◌≡◌, ◌+◌, ◌<◌, ◌≤◌, sum, IfOk, IfErr, IfSome, IsTrue, Some};
-ghost use Rattle.vpg_measure.specs.Lifts.{after_rounds};
+ghost use Rattle.std.specs.Prelude.{◌≡◌, ◌↔◌, ◌+◌, ◌<◌, ◌≤◌, ℕ, sum, IfOk, IfErr, IfSome, IsTrue, Some};
+ghost use Rattle.vpg_measure.specs.Lifts.{after_rounds, IsProgressTable};
 ghost use Rattle.vpg_measure.specs.Orders.{IsSameOrder, IsHarvest, IsSettledHarvest, order_table, harvest_table, order_levels, order_arena};
 ghost use Rattle.vpg_board.specs.Places.{vertices};
-ghost use Rattle.vpg_settle.specs.Sweeping.{IsSweptOrder, IsSweptTo, IsSweptBy, IsGuessed, AreSweeps, Leave, Settles};
+ghost use Rattle.vpg_settle.specs.Sweeping.{IsSettledOrder, IsSweptOrder, IsSweptTo, IsSweptBy, IsGuessed, IsLeft, AreSweeps, Leave, Settles};
 
 use std::alloc::Global;
 use std::sync::Wait;
 use std::thread::Threads;
 use vpg_board::{Gate, Predecessors, sweep_along};
 use vpg_guess::harvest_by_bounds;
-use vpg_measure::{Harvest, Order, Table, Which};
+use vpg_measure::{Harvest, Order, Table, Which, is_progress};
 
 /// A line with so small a number asks for sweeps alone.
 pub const FEW_SWEEPS: u64 = 4;
@@ -27,6 +27,32 @@ pub const MANY_SWEEPS: u64 = 1_000_000;
 
 /// How many sweeps there are behind a guess before that is asked.
 pub const LAST_SWEEPS: u64 = 16;
+
+/// Whether one table of an order is a progress table.
+fn is_settled_in(order: &Order, which: Which) -> bool
+    ensures { IsTrue result ↔ IsProgressTable (order_levels which order.now) (order_arena which order.now) (order_table which order.now) }
+{
+    let table = order.table(which);
+    is_progress(order.shape(which), order.arena(which), table)
+}
+
+/// Whether both are. It ends at the first vertex that a lift raises.
+fn is_settled(order: &Order) -> bool
+    ensures { IsTrue result ↔ IsSettledOrder order.now }
+{
+    is_settled_in(order, Which::Hopeful) && is_settled_in(order, Which::Dual)
+}
+
+/// A settled order as it stands.
+fn as_it_stands(order: Order) -> Harvest
+    requires { IsSettledOrder order }
+    ensures swept { (sweeps : ℕ) → IsSweptOrder order sweeps result }
+    ensures left { IsLeft order result }
+{
+    let harvest = Harvest::of_order(order);
+    let _order = harvest.order();
+    harvest
+}
 
 /// The order after this many rounds of one lifter at most. It takes no memory.
 fn by_rounds(order: Order, rounds: u64) -> Harvest
@@ -278,9 +304,10 @@ fn by_guesses<G: Gate + Sync, T: Threads + Wait + Sync>(
     }
 }
 
-/// The order swept this many times at most, by this many lifters at once; where the first sweep doesn't settle it, its tables are
-/// raised by guesses before the others. The first goes without hints: one lifter's then raises what a round raises. It never
-/// fails: where a board, a hint or a guess finds no memory, the sweeps go on without. The lifters call the gate.
+/// The order swept this many times at most, by this many lifters at once, unless it is settled as it stands. Where the
+/// first sweep doesn't settle it, its tables are raised by guesses before the others. The first goes without hints: one
+/// lifter's then raises what a round raises. It never fails: where a board, a hint or a guess finds no memory, the
+/// sweeps go on without. The lifters call the gate.
 ///
 /// A guess has one budget for both tables; when it is spent, what is known until then is certified and raised. Sweeps follow, up
 /// to the number. From `MANY_SWEEPS` on they end, settled or not, where the tables exceed the order's in sum by the number.
@@ -301,7 +328,16 @@ pub fn swept<G: Gate + Sync, T: Threads + Wait + Sync>(
 
     // No sweep raises nothing.
     ensures none { sweeps ≡ 0 → (which : Which) → harvest_table which result.harvest ≡ order_table which order }
+
+    // A settled order is not swept.
+    ensures settled { IsSettledOrder order → (result.sweeps ≡ 0) × IsLeft order result.harvest }
 {
+    if is_settled(&order) {
+        return SweptHarvest {
+            harvest: as_it_stands(order),
+            sweeps: 0,
+        };
+    }
     let plain = Predecessors::none(alloc, &order);
     if sweeps <= FEW_SWEEPS {
         return by_sweeps(rt, alloc, order, sweeps, lifters, gate, &plain);
