@@ -19,6 +19,7 @@ What the table says of a wrong body:
     mismatch   only a proof file is in the way, also without those answers: this shows nothing of the contract
     PROVED     the contract lets the wrong body through
     compiler   refused by the compiler, as the edit's first line says
+    test       no contract speaks of it: the test fails that the edit's first line names
     bad        it does not fit, or does not compile
     untried    no run has tried it to its end since the table is kept; the column `goal` says what is known of it
 
@@ -53,6 +54,7 @@ ROUNDS = 8
 SIGNED = re.compile(r"(?:(?:pub|abbrev|unfoldable|opaque) )*([^\s(){},]+) :(?:\s|$)")
 GONE = re.compile(r"has no field|is not in scope|has no `|was not admitted")
 BY_COMPILER = "# refused by the compiler: "
+BY_TEST = "# refused by the test: "
 
 
 def copied(room):
@@ -167,11 +169,12 @@ class Body:
         self.crate, self.name, self.part, self.text = crate, name, part, text
         lines = read(edit).decode().split("\n")
         self.compiler = lines[0][len(BY_COMPILER) :].strip() if lines[0].startswith(BY_COMPILER) else ""
+        self.test = lines[0][len(BY_TEST) :].strip() if lines[0].startswith(BY_TEST) else ""
         self.pairs = pairs_of(lines)
         self.why = RT.read_edit(edit, crate.folder)[1]
         self.place, self.functions = place_of(self.pairs, crate)
         # a wrong body outside any function is tried alone, as is one that is tried again
-        self.alone = bool(self.compiler) or len(self.functions) != 1 or None in self.functions
+        self.alone = bool(self.compiler or self.test) or len(self.functions) != 1 or None in self.functions
         # proof files without the answers that were in the way, and the names of those that fell only with another
         self.cuts, self.fallen = {}, set()
         self.seen, self.first, self.rounds, self.seconds, self.is_proved = "open", ("", ""), 0, 0.0, False
@@ -308,6 +311,19 @@ def cut(crate, body, wrong):
     return is_less
 
 
+def is_failing(crate, body, log):
+    """Whether the test that the body names, a crate and a name, fails with it: the tests of that crate are run, unproved, on a copy of the texts."""
+    above, _, test = body.test.partition(" ")
+    with tempfile.TemporaryDirectory(prefix="wrong-body-") as top:
+        shutil.copytree(os.curdir, top, ignore=shutil.ignore_patterns("out", "said-*"), dirs_exist_ok=True)
+        for path, text in applied([body], crate.folder)[0].items():
+            with open(f"{top}/crates/{crate.name}/{path}", "w", encoding="utf-8") as it:
+                it.write(text)
+        said = subprocess.run(["rt", "try", "--test"], cwd=f"{top}/crates/{above}", stdout=subprocess.PIPE, stderr=subprocess.STDOUT, text=True).stdout
+    log.write(f"{body.name}\n{said}\n{'=' * 100}\n")
+    return bool(re.search(rf"(?m)^test (\S+::)?{test} \.\.\. FAILED", said))
+
+
 def batches(bodies, most):
     """Takes the next wrong bodies to be tried at once: of different functions, or one alone."""
     if bodies[0].alone:
@@ -332,6 +348,11 @@ def try_all(crate, bodies, kept, most, log):
             log.write(said)
             is_so = now[0].compiler in said and "logic=" not in said
             yield now[0], ("compiler", "", "", now[0].compiler) if is_so else ("bad", "", "", f"the compiler does not say {now[0].compiler}")
+        elif now[0].test:
+            before = seconds()
+            is_so = is_failing(crate, now[0], log)
+            now[0].seconds += seconds() - before
+            yield now[0], ("test", "", "", now[0].test) if is_so else ("bad", "", "", f"this test does not fail: {now[0].test}")
         else:
             # (what seems to be proved is proved again from nothing, not over what earlier ones left)
             is_proved = len(now) == 1 and now[0].is_proved

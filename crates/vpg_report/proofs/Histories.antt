@@ -14,7 +14,7 @@ use Rattle.vpg_script.specs.Output.{Speaks, Answered}
 use Rattle.vpg_report.specs.Held.{Held, undo_meant, redo_meant, harvest_kept, after_change, after_undo, after_redo, after_keep, after_forget, with_harvest, without_harvest}
 use Rattle.vpg_texts.specs.Scene.{Scene}
 use Rattle.vpg_report.specs.Answers.{Own, NoFeature, NoToken, NoHarvest, NoVertex, vertex_of, call_or, first_call, Rest, Ends, Follows, Asks, TellsSettled, AsksSettled, TellsAdded, Sweeps, Keeps, Lifts, TellsChanged, TellsUndone, TellsRedone, TellsSpent, ShowsPage, TellsEntries, TellsProducts, TellsPlan, TellsPage, Continues, Begins}
-use Rattle.vpg_report.specs.Run.{Between, begun, answering, Asked, asking, AnswersAreHistories}
+use Rattle.vpg_report.specs.Run.{Between, begun, calling, answering, Asked, asking, AnswersAreHistories}
 use Rattle.vpg_report.specs.Setting.{setting_in}
 
 -- ---- lists of events
@@ -188,7 +188,7 @@ module _ (scene : Scene) where
     asked : Asks (record { calls = before; held = old.held }) (record { calls = before ++ calls; held = new.held })
     left : new.book ≡ book_after family old.book calls
 
-  line_of : (old : Between) (before : List Event) (s : Said) (text : List ℕ) (new : Between) → AreLawful (IsLawful family) old.held.harvests → Speaks (answering scene) old s text new →
+  line_of : (old : Between) (before : List Event) (s : Said) (text : List ℕ) (new : Between) → AreLawful (IsLawful family) old.held.harvests → Speaks (calling scene) old s text new →
       Calls (λ a b. Speaks (asking scene) a s text b) old before new
   line_of old before (Ok None) text new all speaks = record {
     calls = [];
@@ -203,7 +203,7 @@ module _ (scene : Scene) where
       record { calls = speaks.0; legal = speaks.1.1; lawful = fine.0; kept = fine.1; asked = (speaks.0, (speaks.1.0, refl)); left = speaks.1.2 }
   line_of old before (Err fault) text new all speaks = absurd speaks
 
-  lines_of : (old : Between) (before : List Event) (lines : List (List ℕ)) (text : List ℕ) (new : Between) → AreLawful (IsLawful family) old.held.harvests → Answered (answering scene) old lines text new →
+  lines_of : (old : Between) (before : List Event) (lines : List (List ℕ)) (text : List ℕ) (new : Between) → AreLawful (IsLawful family) old.held.harvests → Answered (calling scene) old lines text new →
       Calls (λ a b. Answered (asking scene) a lines text b) old before new
   lines_of old before [] text new all answered = record {
     calls = [];
@@ -234,7 +234,19 @@ module _ (scene : Scene) where
         left = rest.left ∙ ap (λ (b : Book). book_after family b rest.calls) first.left ∙ sym (after_more family old.book first.calls rest.calls);
       }
 
+-- what sweeps made is no part of a history
+module _ (scene : Scene) (lifters : ℕ) where
+  speaks_calls : (old : Between) (s : Said) (text : List ℕ) (new : Between) → Speaks (answering scene lifters) old s text new → Speaks (calling scene) old s text new
+  speaks_calls old (Ok None) text new so = so
+  speaks_calls old (Ok (Some request)) text new so = so.0
+  speaks_calls old (Err fault) text new so = so
+
+  answered_calls : (old : Between) (lines : List (List ℕ)) (text : List ℕ) (new : Between) → Answered (answering scene lifters) old lines text new → Answered (calling scene) old lines text new
+  answered_calls old [] text new so = so
+  answered_calls old (line ∷ lines) text new so =
+      (so.0, so.1, so.2, speaks_calls old (said line) so.1 so.0 so.3, so.4, answered_calls so.0 lines so.2 new so.5)
+
 pub answers_are_histories : AnswersAreHistories
-answers_are_histories scene lines text new answered =
-    let all = lines_of scene begun [] lines text new tt answered in
+answers_are_histories scene lifters lines text new answered =
+    let all = lines_of scene begun [] lines text new tt (answered_calls scene lifters begun lines text new answered) in
     (all.calls, (record { legal = all.legal; lawful = all.lawful; leaves = sym all.left }, all.asked))

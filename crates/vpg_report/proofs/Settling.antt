@@ -1,5 +1,5 @@
 -- A harvest that sweeps made, as the book sees it.
-use Rattle.std.proofs.Common.{◌≡◌, ℕ, ◌+◌, ◌<◌, List, [], ◌++◌, ◌∷◌, Option, Some, None, length, refl, sym, ap, ◌∙◌, inl, inr, arith, subst, Bool, true, false, eq-eqb}
+use Rattle.std.proofs.Common.{◌≡◌, ℕ, ◌+◌, ◌<◌, ◌≤◌, List, [], ◌++◌, ◌∷◌, Option, Some, None, length, refl, sym, ap, ◌∙◌, inl, inr, arith, subst, Bool, true, false, eq-eqb}
 use Rattle.std.specs.Prelude.{codes, unwrap_or, if◌then◌else◌, ◌⊎◌, ◌||◌, ◌&&◌, ◌==◌, map, IfSome}
 use Rattle.std.specs.Bool.{beq}
 use Rattle.std.proofs.lemmas.Bool.{or_right}
@@ -12,7 +12,7 @@ use Rattle.vpg_partial.proofs.Tables.{conflicts_stay}
 use Rattle.vpg_measure.specs.declared.which.Which.{Which}
 use Rattle.vpg_measure.specs.declared.which.Which.TheVariants.{Hopeful, Dual}
 use Rattle.vpg_measure.specs.Lifts.{IsBelowTable}
-use Rattle.vpg_measure.specs.Orders.{OrderView, HarvestView, IsOrder, IsSettledHarvest, order_table}
+use Rattle.vpg_measure.specs.Orders.{OrderView, HarvestView, IsOrder, IsSettledHarvest, order_table, harvest_table}
 use Rattle.vpg_measure.specs.TwoGames.{IsTableBelow}
 use Rattle.vpg_measure.proofs.TwoGames.{arena_length}
 use Rattle.vpg_guards.specs.Formula.{Formula}
@@ -25,14 +25,15 @@ use Rattle.vpg_desk.proofs.Deciding.{setting_stands, known_is_consistent}
 use Rattle.vpg_desk.specs.State.{DeskState, setting_between, setting_of, Replies, IsStep}
 use Rattle.vpg_script.specs.Script as script
 use Rattle.vpg_report.specs.Held.{with_harvest}
-use Rattle.vpg_report.specs.Engine.{EngineState, AnswersTo}
+use Rattle.vpg_report.specs.Engine.{EngineState, SweepsTo}
+use Rattle.vpg_report.specs.Made.{IsMadeBy}
 use Rattle.vpg_report.proofs.Asked.{settles, keeps}
 use Rattle.vpg_desk.specs.Commit.{commit_refusal, handed_in}
 use Rattle.vpg_desk.specs.declared.fault.CommitFault.{CommitFault}
 use Rattle.vpg_desk.specs.declared.fault.CommitFault.TheVariants.{OtherGame, Outdated, Memory}
 use Rattle.vpg_trail.specs.Page.{Literal, Decision, same_literal, stands, decisions_of, choices_of}
 use Rattle.vpg_report.specs.Answers.{IsSwept, Checks, most_sweeps, sweeps_of, numbered, settled_text}
-use Rattle.vpg_settle.specs.Sweeping.{IsSweptOrder}
+use Rattle.vpg_settle.specs.Sweeping.{IsSweptOrder, Settles}
 use Rattle.vpg_settle.proofs.Repeated.{progress_moves}
 
 -- an order's game and diagram are a setting
@@ -95,23 +96,43 @@ swept_seen desk order harvest sweeps game diagram is_order swept_order =
     (subst (λ (d : NamedDiagram). IsSwept (family_of (setting_between order.game d)) sweeps order.decisions order.hopeful order.dual (handed_in true harvest)) diagram
     (swept order harvest sweeps is_order swept_order))
 
+-- the sweeps that made it
+pub made_seen : (desk : DeskState) (lifters most n : ℕ) (order : OrderView) (harvest : HarvestView) → order.game ≡ desk.game → order.diagram ≡ desk.diagram → n ≤ most → Settles lifters n order harvest →
+    (most ≡ 0 → (which : Which) → harvest_table which harvest ≡ order_table which order) →
+    IsMadeBy (setting_of desk) lifters most order.decisions order.hopeful order.dual (handed_in true harvest)
+made_seen desk lifters most n order harvest game diagram few settles none = record {
+  order = order;
+  harvest = harvest;
+  sweeps = n;
+  setting_is = ap (λ (g : NamedGame). setting_between g order.diagram) game ∙ ap (λ (d : NamedDiagram). setting_between desk.game d) diagram;
+  decisions_are = refl;
+  hopeful_is = refl;
+  dual_is = refl;
+  made_is = refl;
+  few = few;
+  settles = settles;
+  none = none;
+}
+
 -- an order of the desk is swept, its harvest is committed, and the page is told to be settled or not
-pub settle_answers : (old new : EngineState) (session added : ℕ) (sweeps : Option ℕ) (order : OrderView) (harvest : HarvestView) (b : Bool) (before after : List ℕ) →
+pub settle_answers : (old new : EngineState) (lifters times session added : ℕ) (sweeps : Option ℕ) (order : OrderView) (harvest : HarvestView) (b : Bool) (before after : List ℕ) →
     Replies old.desk Order (Ordered order.decisions order.hopeful order.dual) → order.game ≡ old.desk.game → order.diagram ≡ old.desk.diagram → IsOrder order → IsSweptOrder order (sweeps_of sweeps) harvest →
+    times ≤ sweeps_of sweeps → Settles lifters times order harvest → (sweeps_of sweeps ≡ 0 → (which : Which) → harvest_table which harvest ≡ order_table which order) →
     IsStep old.desk session (Commit (handed_in true harvest)) (Added added) new.desk → Replies new.desk Settled (IsSettled b) → new.held ≡ old.held → after ≡ before ++ settled_text b added →
-    AnswersTo old (record { label = session; command = script.Settle sweeps }) before after new
-settle_answers old new session added sweeps order harvest b before after ordered game diagram is_order swept_order step told held appended =
-    settles old new session added sweeps order.decisions order.hopeful order.dual (handed_in true harvest) b before after ordered
-    (swept_seen old.desk order harvest (sweeps_of sweeps) game diagram is_order swept_order) step told held appended
+    SweepsTo old lifters (record { label = session; command = script.Settle sweeps }) before after new
+settle_answers old new lifters times session added sweeps order harvest b before after ordered game diagram is_order swept_order few made none step told held appended =
+    settles old new lifters session added sweeps order.decisions order.hopeful order.dual (handed_in true harvest) b before after ordered
+    (swept_seen old.desk order harvest (sweeps_of sweeps) game diagram is_order swept_order) (made_seen old.desk lifters (sweeps_of sweeps) times order harvest game diagram few made none) step told held appended
 
 -- an order of the desk is swept, and its harvest is kept
-pub harvest_answers : (old new : EngineState) (session n : ℕ) (order : OrderView) (harvest : HarvestView) (before after : List ℕ) →
+pub harvest_answers : (old new : EngineState) (lifters times session n : ℕ) (order : OrderView) (harvest : HarvestView) (before after : List ℕ) →
     Replies old.desk Order (Ordered order.decisions order.hopeful order.dual) → order.game ≡ old.desk.game → order.diagram ≡ old.desk.diagram → IsOrder order → IsSweptOrder order most_sweeps harvest →
+    times ≤ most_sweeps → Settles lifters times order harvest → (most_sweeps ≡ 0 → (which : Which) → harvest_table which harvest ≡ order_table which order) →
     new.desk ≡ old.desk → new.held ≡ with_harvest old.held (handed_in true harvest) → n ≡ length old.held.harvests + 1 → after ≡ before ++ numbered (codes "harvest") n →
-    AnswersTo old (record { label = session; command = script.Harvest }) before after new
-harvest_answers old new session n order harvest before after ordered game diagram is_order swept_order desk held counted appended =
-    keeps old new session n order.decisions order.hopeful order.dual (handed_in true harvest) before after ordered
-    (swept_seen old.desk order harvest most_sweeps game diagram is_order swept_order) desk held counted appended
+    SweepsTo old lifters (record { label = session; command = script.Harvest }) before after new
+harvest_answers old new lifters times session n order harvest before after ordered game diagram is_order swept_order few made none desk held counted appended =
+    keeps old new lifters session n order.decisions order.hopeful order.dual (handed_in true harvest) before after ordered
+    (swept_seen old.desk order harvest most_sweeps game diagram is_order swept_order) (made_seen old.desk lifters most_sweeps times order harvest game diagram few made none) desk held counted appended
 
 -- ---- what a harvest of the present page is not refused for
 
@@ -151,10 +172,6 @@ pub memory_alone : (desk : DeskState) (harvest : HarvestView) (fault : CommitFau
 memory_alone desk harvest Memory decisions refused = refl
 memory_alone desk harvest OtherGame decisions refused = absurd (never_refused desk harvest true _ decisions refl refused)
 memory_alone desk harvest (Outdated f) decisions refused = absurd (never_refused desk harvest true _ decisions refl refused)
-
-pub no_other : (fault : CommitFault) → fault ≡ Memory → (fault ≡ OtherGame) ⊎ ((f : ℕ) × (fault ≡ Outdated f)) → ⊥
-no_other fault is (inl other) = absurd (cc (is, other))
-no_other fault is (inr outdated) = absurd (cc (is, outdated.1))
 
 -- the sweeps of a settle
 pub rounds_given : (sweeps : Option ℕ) → unwrap_or sweeps 1000000 ≡ sweeps_of sweeps

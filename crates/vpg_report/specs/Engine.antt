@@ -9,7 +9,9 @@ use Rattle.vpg_desk.specs.declared.fault.OpenFault.{OpenFault}
 use Rattle.vpg_desk.specs.declared.fault.OpenFault.TheVariants.{AtLimit, Conflict, Memory}
 use Rattle.vpg_report.specs.Answers.{refused_line, refusal_text}
 use Rattle.vpg_report.specs.Held.{Held, nothing_held}
-use Rattle.vpg_report.specs.Run.{Between, answering}
+use Rattle.vpg_report.specs.Run.{Between, calling}
+use Rattle.vpg_report.specs.Made.{AreMadeBy}
+use Rattle.vpg_report.specs.Setting.{setting_in}
 use Rattle.vpg_texts.specs.Scene.{Scene, scene_of}
 use Rattle.vpg_script.specs.Script as script
 use Rattle.vpg_script.specs.Script.{Request}
@@ -32,10 +34,15 @@ engine_of game diagram = record { desk = record { game = game; diagram = diagram
 -- A text is appended with which the engine answers the request; game and diagram stay.
 pub record AnswersTo (old : EngineState) (request : Request) (before after : List ℕ) (new : EngineState) : Type 0 where
   pub text : List ℕ
-  pub answer : answering (scene_at old) (between_of old) request text (between_of new)
+  pub answer : calling (scene_at old) (between_of old) request text (between_of new)
   pub appended : after ≡ before ++ text
   pub game : new.desk.game ≡ old.desk.game
   pub diagram : new.desk.diagram ≡ old.desk.diagram
+
+-- The same, where what is committed or kept was made by sweeps of this many lifters.
+pub record SweepsTo (old : EngineState) (lifters : ℕ) (request : Request) (before after : List ℕ) (new : EngineState) : Type 0 where
+  pub answers : AnswersTo old request before after new
+  pub made : AreMadeBy (setting_in (scene_at old)) lifters request.command answers.answer.0 new.held
 
 -- the command that decides the feature of a name in or out
 abbrev pub deciding : Bool → List ℕ → script.Command

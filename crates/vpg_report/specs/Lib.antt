@@ -2,6 +2,7 @@ pub mod Answers
 pub mod Engine
 pub mod EngineFields
 pub mod Held
+pub mod Made
 pub mod Output
 pub mod Results
 pub mod Run

@@ -8,6 +8,7 @@ use Rattle.vpg_report.specs.Held.{Held, nothing_held}
 use Rattle.vpg_script.specs.Output.{Machine, Answered}
 use Rattle.vpg_texts.specs.Scene.{Scene}
 use Rattle.vpg_report.specs.Answers.{Serves}
+use Rattle.vpg_report.specs.Made.{AreMadeBy}
 use Rattle.vpg_report.specs.Setting.{setting_in}
 
 -- between two lines: the book of the desk, and what the engine holds
@@ -20,9 +21,13 @@ abbrev pub begun : Between
 begun = record { book = opened; held = nothing_held }
 
 -- A request makes calls, each with the reply that the book gives at that point, is answered with this text, and leaves the book after them.
-abbrev pub answering : Scene → Machine Between
-answering scene old request text new =
+abbrev pub calling : Scene → Machine Between
+calling scene old request text new =
     (calls : List Event) × (Serves scene old.held request calls text new.held × IsLegalFrom (family_of (setting_in scene)) old.book calls × (new.book ≡ book_after (family_of (setting_in scene)) old.book calls))
+
+-- The same, and what is committed or kept was made by at most the line's number of sweeps, each by this many lifters.
+abbrev pub answering : Scene → ℕ → Machine Between
+answering scene lifters old request text new = (so : calling scene old request text new) × AreMadeBy (setting_in scene) lifters request.command so.0 new.held
 
 -- the calls so far, and what the engine holds
 pub record Asked : Type 0 where
@@ -39,5 +44,5 @@ asking scene old request text new = (calls : List Event) × (Serves scene old.he
 -- What is written for lines without a fault are the answers to the calls of a legal history, into which lawful harvests alone were
 -- handed, which are exactly the calls of these lines in their order, and which leaves the book.
 abbrev pub AnswersAreHistories : Type 0
-AnswersAreHistories = (scene : Scene) (lines : List (List ℕ)) (text : List ℕ) (new : Between) → Answered (answering scene) begun lines text new →
+AnswersAreHistories = (scene : Scene) (lifters : ℕ) (lines : List (List ℕ)) (text : List ℕ) (new : Between) → Answered (answering scene lifters) begun lines text new →
     (history : List Event) × (IsHistoryOf (setting_in scene) new.book history × Answered (asking scene) unasked lines text (record { calls = history; held = new.held }))

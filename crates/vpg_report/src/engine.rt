@@ -7,7 +7,7 @@ ghost use Rattle.vpg_trail.specs.Page.{decisions_of};
 ghost use Rattle.vpg_desk.specs.Book.{Commit as Commits, Added};
 ghost use Rattle.vpg_desk.specs.Commit.{IsOrderOf, handed_in};
 ghost use Rattle.vpg_desk.specs.State.{IsOpened, IsStep};
-ghost use Rattle.vpg_report.specs.Engine.{AnswersTo, IsOpenFault, deciding, between_of, engine_of, scene_at};
+ghost use Rattle.vpg_report.specs.Engine.{AnswersTo, SweepsTo, IsOpenFault, deciding, between_of, engine_of, scene_at};
 ghost use Rattle.vpg_report.specs.Run.{answering};
 ghost use Rattle.vpg_script.specs.Script.{Retract, Undo as Undoes, Redo as Redoes, Keep, Forget, Lift, Harvest as Harvests, Commit, Settle, Show, Trail, Products, Plan};
 ghost use Rattle.vpg_script.specs.View.{request_shown};
@@ -72,6 +72,13 @@ fn shared(
     Ok((game.clone()?, diagram.clone()?))
 }
 
+/// The want of memory that a harvest was refused for.
+fn wanting(_refused: CommitRefused) -> AllocError
+    requires { _refused.fault ≡ CommitFault.Memory }
+{
+    AllocError
+}
+
 /// Commits a harvest of the desk's present page.
 fn commit_present(desk: &mut Desk, alloc: Global, harvest: Harvest) -> Result<u32, AllocError>
     requires ours { IsOrderOf desk.old harvest.order }
@@ -81,10 +88,7 @@ fn commit_present(desk: &mut Desk, alloc: Global, harvest: Harvest) -> Result<u3
 {
     match desk.commit_own(alloc, harvest) {
         Ok(added) => Ok(added),
-        Err(refused) => match refused.fault {
-            CommitFault::Memory => Err(AllocError),
-            CommitFault::OtherGame | CommitFault::Outdated { .. } => unreachable!(),
-        },
+        Err(refused) => Err(wanting(refused)),
     }
 }
 
@@ -239,7 +243,7 @@ impl Engine {
         out: &mut Vec<u8>,
     ) -> Result<(), AllocError>
         requires lifters { (1 ≤ lifters) × (lifters ≤ 64) }
-        ensures { OnOk result (AnswersTo self.old (record { label = session; command = Harvests }) out.old.items out.new.items self.new) }
+        ensures { OnOk result (SweepsTo self.old lifters (record { label = session; command = Harvests }) out.old.items out.new.items self.new) }
     {
         self.harvests.reserve(1)?;
         let order = self.desk.order(alloc)?;
@@ -281,7 +285,7 @@ impl Engine {
         out: &mut Vec<u8>,
     ) -> Result<(), AllocError>
         requires lifters { (1 ≤ lifters) × (lifters ≤ 64) }
-        ensures { OnOk result (AnswersTo self.old (record { label = session; command = Settle sweeps }) out.old.items out.new.items self.new) }
+        ensures { OnOk result (SweepsTo self.old lifters (record { label = session; command = Settle sweeps }) out.old.items out.new.items self.new) }
     {
         let order = self.desk.order(alloc)?;
         let harvest = swept(
@@ -386,7 +390,7 @@ impl Server for Engine {
 
     ghost State = { Between };
 
-    ghost answering = { λ scene _. answering scene };
+    ghost answering = { answering };
 
     ghost scene = { λ e. scene_at e };
 

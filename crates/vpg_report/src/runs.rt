@@ -69,8 +69,9 @@ pub fn run<T: Threads + Wait + Sync, R: Source, W: Sink>(
     requires lifters { (1 ≤ lifters) × (lifters ≤ 64) }
     requires features { (arc_value game).features ≡ feature_count (arc_value diagram).lines }
 
-    // What is written are the answers to the lines read, each by calls on the desk's book with the replies that it gives.
-    ensures output { Outcome (answering (scene_of (arc_value game) (arc_value diagram))) (IsOpenRefusal (arc_value game) (arc_value diagram)) begun (R.remaining reader.old) (R.remaining reader.new) (W.contents writer.old) (W.contents writer.new) result }
+    // What is written are the answers to the lines read, each by calls on the desk's book with the replies that it gives. What a line
+    // commits or keeps was made by at most its number of sweeps, each by this many lifters.
+    ensures output { Outcome (answering (scene_of (arc_value game) (arc_value diagram)) lifters) (IsOpenRefusal (arc_value game) (arc_value diagram)) begun (R.remaining reader.old) (R.remaining reader.new) (W.contents writer.old) (W.contents writer.new) result }
 
     // Unless it ends in Open, or in Memory, a desk was opened: game and diagram are a setting, of which the laws of `vpg_desk` speak.
     ensures opened { Opens result (IsOpened (arc_value game) (arc_value diagram)) }

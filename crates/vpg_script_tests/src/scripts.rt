@@ -1,6 +1,7 @@
 //! Lines and devices over a server that refuses, and worked scripts.
 
 mod devices;
+mod order;
 mod rows;
 
 use std::alloc::{AllocError, Global};
@@ -17,14 +18,14 @@ struct Refuser;
 
 impl Server for Refuser {
     ghost use Rattle.std.specs.Prelude.{[]};
-    ghost use Rattle.vpg_report.specs.Run.{Between, answering, begun};
+    ghost use Rattle.vpg_report.specs.Run.{Between, begun, calling};
     ghost use Rattle.vpg_texts.specs.Scene.{Scene as OfScene};
 
     ghost Scene = { OfScene };
 
     ghost State = { Between };
 
-    ghost answering = { λ scene _. answering scene };
+    ghost answering = { λ scene _. calling scene };
 
     ghost scene = { λ _. record { game = []; lines = []; names = []; identifiers = [] } };
 

@@ -28,23 +28,23 @@ TellsOpening names opens.AtLimit fault = fault ≡ told.AtLimit
 TellsOpening names (opens.Conflict f) fault = TellsConflict names f fault
 TellsOpening names opens.Memory fault = fault ≡ told.Memory
 
--- A desk on the family answered the lines that were read, and ended so; what was read, and what was written, is known where the devices tell.
-pub record Ends (diagram : NamedDiagram) (game : NamedGame) (script rest before after : Option (List ℕ)) (ended : Result (Unit {0}) RunFault) : Type 0 where
-  pub answered : Outcome (answering (scene_of game diagram)) (IsOpenRefusal game diagram) begun script rest before after ended
+-- A desk on the family answered the lines that were read, sweeping with this many lifters, and ended so; what was read, and what was written, is known where the devices tell.
+pub record Ends (diagram : NamedDiagram) (game : NamedGame) (lifters : ℕ) (script rest before after : Option (List ℕ)) (ended : Result (Unit {0}) RunFault) : Type 0 where
+  pub answered : Outcome (answering (scene_of game diagram) lifters) (IsOpenRefusal game diagram) begun script rest before after ended
   pub opened : Opens ended (IsOpened game diagram)
 
 -- What is told of a run's end, with the script before and after the run, and what stood in the output before and after.
-abbrev pub IsRun : NamedDiagram → NamedGame → (script rest before after : Option (List ℕ)) → Result (Unit {0}) Fault → Type 0
-IsRun diagram game script rest before after (Ok done) = Ends diagram game script rest before after (Ok done)
-IsRun diagram game script rest before after (Err (told.Line n fault)) = Ends diagram game script rest before after (Err (stops.Line n fault))
-IsRun diagram game script rest before after (Err told.Read) = Ends diagram game script rest before after (Err stops.Read)
-IsRun diagram game script rest before after (Err told.Write) = Ends diagram game script rest before after (Err stops.Write)
-IsRun diagram game script rest before after (Err told.AtLimit) = Ends diagram game script rest before after (Err (stops.Open opens.AtLimit))
+abbrev pub IsRun : NamedDiagram → NamedGame → ℕ → (script rest before after : Option (List ℕ)) → Result (Unit {0}) Fault → Type 0
+IsRun diagram game lifters script rest before after (Ok done) = Ends diagram game lifters script rest before after (Ok done)
+IsRun diagram game lifters script rest before after (Err (told.Line n fault)) = Ends diagram game lifters script rest before after (Err (stops.Line n fault))
+IsRun diagram game lifters script rest before after (Err told.Read) = Ends diagram game lifters script rest before after (Err stops.Read)
+IsRun diagram game lifters script rest before after (Err told.Write) = Ends diagram game lifters script rest before after (Err stops.Write)
+IsRun diagram game lifters script rest before after (Err told.AtLimit) = Ends diagram game lifters script rest before after (Err (stops.Open opens.AtLimit))
 -- the root is named
-IsRun diagram game script rest before after (Err (told.Conflict name)) =
-    Ends diagram game script rest before after (Err (stops.Open (opens.Conflict 0))) × (slice_get diagram.names 0 ≡ Some (string_bytes name))
-IsRun diagram game script rest before after (Err told.Memory) = Ends diagram game script rest before after (Err stops.Memory)
-IsRun diagram game script rest before after (Err fault) = ⊥
+IsRun diagram game lifters script rest before after (Err (told.Conflict name)) =
+    Ends diagram game lifters script rest before after (Err (stops.Open (opens.Conflict 0))) × (slice_get diagram.names 0 ≡ Some (string_bytes name))
+IsRun diagram game lifters script rest before after (Err told.Memory) = Ends diagram game lifters script rest before after (Err stops.Memory)
+IsRun diagram game lifters script rest before after (Err fault) = ⊥
 
 -- This holds of each run but one whose script could not be read to its end.
 abbrev pub UnlessScriptFails : Result (Unit {0}) Fault → Type 0 → Type 0

@@ -142,7 +142,7 @@ impl Family {
         requires features { (arc_value self.game).features ≡ feature_count (arc_value self.diagram).lines }
 
         // What is written are the answers to the script's lines by a desk on the family, and the result tells how they end.
-        ensures output { IsRun (arc_value self.diagram) (arc_value self.game) (R.remaining reader.old) (R.remaining reader.new) (W.contents writer.old) (W.contents writer.new) result }
+        ensures output { IsRun (arc_value self.diagram) (arc_value self.game) lifters (R.remaining reader.old) (R.remaining reader.new) (W.contents writer.old) (W.contents writer.new) result }
 
         // Read and Write come only where the device failed, or the script was read 16,777,216 times.
         ensures read { IsErrOf result Fault.Read → (R.has_failed reader.new ≡ true) ⊎ (R.calls reader.new ≡ 16777216) }

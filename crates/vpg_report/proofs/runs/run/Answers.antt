@@ -7,8 +7,8 @@ use Rattle.vpg_script.specs.Output.{ScriptOutcome}
 use Rattle.vpg_script.proofs.ScriptLemmas.{wrote_nothing}
 use Rattle.vpg_texts.specs.Scene.{scene_of}
 use Rattle.vpg_report.specs.Engine.{EngineState, IsOpenRefusal, between_of, scene_at}
-use Rattle.vpg_report.specs.Output.{Outcome}
-use Rattle.vpg_report.specs.Results.{UnlessRead, UnlessWrite}
+use Rattle.vpg_report.specs.Output.{Outcome, ended}
+use Rattle.vpg_report.specs.Results.{Opens, UnlessRead, UnlessWrite}
 use Rattle.vpg_report.specs.Run.{answering, begun}
 use Rattle.vpg_report.specs.declared.runs.RunFault.{RunFault}
 use Rattle.vpg_report.specs.declared.runs.RunFault.TheVariants as stops
@@ -18,7 +18,7 @@ use Rattle.vpg_report.proofs.runs.run.Goals as goal
 pub returns-in-Err-Memory-clause-output : goal.returns-in-Err-Memory-clause-output
 returns-in-Err-Memory-clause-output g c =
     let input = g.R.Source.remaining c.args.reader.now in
-    ([], begun, prepend_known [] input, wrote_nothing (answering (scene_of (arc_value c.args.game) (arc_value c.args.diagram))) begun input (g.W.Sink.contents c.args.writer.now))
+    ([], begun, prepend_known [] input, wrote_nothing (answering (scene_of (arc_value c.args.game) (arc_value c.args.diagram)) c.args.lifters) begun input (g.W.Sink.contents c.args.writer.now))
 
 pub returns-clause-output : goal.returns-clause-output
 returns-clause-output g c =
@@ -26,11 +26,11 @@ returns-clause-output g c =
     let left = g.R.Source.remaining c.answer_script-answered.new.reader in
     let before = g.W.Sink.contents c.args.writer.now in
     let after = g.W.Sink.contents c.answer_script-answered.new.writer in
-    let serves = answering (scene_of (arc_value c.args.game) (arc_value c.args.diagram)) in
+    let serves = answering (scene_of (arc_value c.args.game) (arc_value c.args.diagram)) c.args.lifters in
     let refuses = IsOpenRefusal (arc_value c.args.game) (arc_value c.args.diagram) in
     subst (λ (r : Result (Unit {0}) RunFault). Outcome serves refuses begun input left before after r) (sym c.ended.ensures)
     (outcome serves refuses begun input left before after c.answer_script-answered.result
-    (subst (λ (e : EngineState). ScriptOutcome (answering (scene_at e)) (between_of e) input left before after c.answer_script-answered.result) c.in-Ok.ensures.opened c.answer_script-answered.ensures.output))
+    (subst (λ (e : EngineState). ScriptOutcome (answering (scene_at e) c.args.lifters) (between_of e) input left before after c.answer_script-answered.result) c.in-Ok.ensures.opened c.answer_script-answered.ensures.output))
 
 pub returns-clause-opened : goal.returns-clause-opened
 returns-clause-opened g c = opens c.ended.result (IsOpened (arc_value c.args.game) (arc_value c.args.diagram)) c.in-Ok.ensures.fits

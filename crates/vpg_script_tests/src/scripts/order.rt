@@ -1,0 +1,95 @@
+//! Each answer is written whole before more of the script is asked for.
+
+use super::rows::family;
+use std::alloc::Global;
+use std::io;
+use std::io::{Read, Write};
+use std::sync::Wait;
+use std::sync::atomic::{AtomicU64, Ordering};
+use std::test::*;
+use std::thread::Threads;
+use vpg_report::run;
+use vpg_script::Device;
+
+const SCRIPT: &[u8] = b"exclude f\n# none\nsettle\n\nshow\n";
+
+/// How many bytes are to be written before each line of the script is read, and before its end is found.
+const WANTED: [u64; 6] = [0, 7, 7, 17, 17, 94];
+
+/// What was written so far, and how often it was not what is wanted.
+#[derive(Drop)]
+struct Seen {
+    written: AtomicU64,
+    missed: AtomicU64,
+}
+
+/// Gives one byte of the script a call, and looks at what was written by then.
+#[derive(Drop)]
+struct Looks<'t> {
+    script: &'static [u8],
+    line: usize,
+    seen: &'t Seen,
+}
+
+impl Read for Looks<'_> {
+    fn read(&mut self, buf: &mut [u8]) -> io::Result<usize> {
+        if WANTED.get(self.line) != Some(&self.seen.written.load(Ordering::SeqCst)) {
+            self.seen.missed.fetch_add(1, Ordering::SeqCst);
+        }
+        if self.script.is_empty() || buf.is_empty() {
+            return Ok(0);
+        }
+        if self.script[0] == b'\n' {
+            self.line = self.line.saturating_add(1);
+        }
+        buf[0] = self.script[0];
+        self.script = &self.script[1..];
+        Ok(1)
+    }
+}
+
+/// Counts the bytes that it takes, a few a call.
+#[derive(Drop)]
+struct Counts<'t> {
+    seen: &'t Seen,
+}
+
+impl Write for Counts<'_> {
+    fn write(&mut self, buf: &[u8]) -> io::Result<usize> {
+        let most = buf.len().min(5);
+        self.seen.written.fetch_add(most as u64, Ordering::SeqCst);
+        Ok(most)
+    }
+
+    fn flush(&mut self) -> io::Result<()> {
+        Ok(())
+    }
+}
+
+/// Runs the script, and says whether it came to its end.
+fn ends<T: Threads + Wait + Sync>(rt: &T, alloc: Global, seen: &Seen) -> Option<bool> {
+    let (game, diagram) = family(alloc)?;
+    if game.features() != diagram.features() {
+        return None;
+    }
+    let mut reader = Device::reader(Looks {
+        script: SCRIPT,
+        line: 0,
+        seen,
+    });
+    let mut writer = Device::writer(Counts { seen });
+    let result = run(rt, alloc, game, diagram, &mut reader, &mut writer, 1);
+    Some(result.is_ok())
+}
+
+#[test]
+fn an_answer_is_written_before_more_is_read(rt: HostRuntime) -> Result<(), Fail> {
+    let seen = Seen {
+        written: AtomicU64::new(0),
+        missed: AtomicU64::new(0),
+    };
+    assert_eq!(rt; ends(&rt, rt.alloc(), &seen), Some(true));
+    assert_eq!(rt; seen.missed.load(Ordering::SeqCst), 0);
+    assert_eq!(rt; seen.written.load(Ordering::SeqCst), 94);
+    Ok(())
+}
