@@ -12,6 +12,8 @@ mod given;
 #[cfg(test)]
 mod guesses;
 #[cfg(test)]
+mod lifters;
+#[cfg(test)]
 mod measures;
 #[cfg(test)]
 mod sweeps;
