@@ -1,5 +1,5 @@
 -- What a call of the desk means for the log.
-use Rattle.std.proofs.Common.{◌≡◌, ℕ, ◌+◌, ◌-◌, ◌<◌, ◌≤◌, List, [], ◌∷◌, ◌++◌, length, map, take, drop, Option, Some, None, refl, sym, ap, ◌∙◌, subst, arith, append_assoc, append-nil, length-append}
+use Rattle.std.proofs.Common.{◌≡◌, ℕ, ◌+◌, ◌<◌, ◌≤◌, List, [], ◌∷◌, ◌++◌, length, drop, Option, Some, None, refl, sym, ap, ◌∙◌, subst, arith, append_assoc, append-nil}
 use mathlib.Core.List.{IsPrefix}
 use Rattle.boxcar.specs.Table.{Shelves}
 use Rattle.vpg_diagram.specs.DiagramText.{NamedDiagram}
@@ -7,17 +7,17 @@ use Rattle.vpg_game.specs.Game.{NamedGame}
 use Rattle.vpg_trail.specs.Page.{Entry as Step}
 use Rattle.vpg_desk.specs.Book.{Family, Book, Call, Reply, Refusal, Page, PageIs, opened, next, IsReply}
 use Rattle.vpg_desk.specs.Desk.{family_of}
-use Rattle.vpg_desk.specs.History.{Event, IsLegal, book_after}
+use Rattle.vpg_desk.specs.History.{Event, book_after}
 use Rattle.vpg_desk.specs.State.{DeskState, Replies, setting_of}
 use Rattle.vpg_desk.proofs.Tokens.{counts_are_limited}
 use Rattle.vpg_measure.specs.Orders.{OrderView, HarvestView}
 use Rattle.vpg_desk.specs.Commit.{IsOrderOf}
 use Rattle.vpg_desk.specs.declared.fault.CommitFault.{CommitFault}
 use Rattle.vpg_office.specs.Faults.{Stops, Tells, CommitTells}
-use Rattle.vpg_office.specs.Fronts.{IsHistory, Extends, Overtakes, calls_by, event, family_between}
-use Rattle.vpg_office.specs.Kept.{IsChronicle, lines_of}
+use Rattle.vpg_office.specs.Fronts.{IsHistory, Extends, calls_by, event, family_between}
+use Rattle.vpg_office.specs.Kept.{IsChronicle}
 use Rattle.vpg_office.specs.Locked.{IsLog}
-use Rattle.vpg_office.specs.Story.{IsOf, events_of}
+use Rattle.vpg_office.specs.Story.{IsOf}
 use Rattle.vpg_office.specs.declared.chronicle.Chronicle.{Chronicle}
 use Rattle.vpg_office.specs.declared.fault.Fault.{Fault}
 use Rattle.vpg_office.specs.declared.fault.Fault.TheVariants.{LogFull, Doubled, Refused as DeskRefuses, Memory}

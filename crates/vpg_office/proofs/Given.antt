@@ -1,12 +1,12 @@
 -- Where the tokens of each serial were given last, and what an undo or a redo by such a token restores.
-use Rattle.std.proofs.Common.{◌≡◌, ◌⊎◌, ℕ, zero, suc, ◌+◌, ◌-◌, ◌<◌, ◌≤◌, ◌==◌, Bool, true, false, ◌||◌, List, [], ◌∷◌, ◌++◌, length, take, Option, Some, None, slice_index, refl, sym, ap, ◌∙◌, subst, arith, append_assoc, append-nil, length-append, inl, inr, ⊎_elim}
+use Rattle.std.proofs.Common.{◌≡◌, ℕ, ◌+◌, ◌<◌, ◌==◌, Bool, true, false, ◌||◌, List, [], ◌∷◌, ◌++◌, length, take, Option, slice_index, refl, sym, ap, ◌∙◌, subst, arith, append_assoc, length-append, ⊎_elim}
 use Rattle.std.specs.List.{list_any}
 use Rattle.std.specs.Prelude.{IsTrue, IsFalse}
 use Rattle.std.proofs.lemmas.Bool.{or_parts, or_from}
-use Rattle.std.proofs.lemmas.List.{take-append-le, take_all}
+use Rattle.std.proofs.lemmas.List.{take-append-le}
 use mathlib.Core.List.{IsPrefix}
 use Rattle.vpg_trail.specs.Page.{Entry as Step}
-use Rattle.vpg_desk.specs.Book.{Family, Reply}
+use Rattle.vpg_desk.specs.Book.{Family}
 use Rattle.vpg_desk.specs.History.{Event, IsLegal, IsBeforeLast, gives_undo, gives_redo, undo_of, redo_of, page_after}
 use Rattle.vpg_desk.proofs.UndoRedo.{undo_goes_back, redo_goes_back}
 use Rattle.vpg_office.specs.Fronts.{before_last, GoesBackTo}

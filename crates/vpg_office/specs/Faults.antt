@@ -1,5 +1,5 @@
 -- Why calls of sessions are not made.
-use Rattle.std.specs.Prelude.{◌≡◌, ℕ, ◌<◌, ◌≤◌, Bool, List, length, drop, Option, Some, None, IfSome, ⊤}
+use Rattle.std.specs.Prelude.{◌≡◌, ℕ, ◌<◌, ◌≤◌, Bool, List, length, drop, Option, Some, None, ⊤}
 use mathlib.Core.List.{IsPrefix}
 use Rattle.std.specs.Bool.{Decides}
 use Rattle.vpg_diagram.specs.DiagramText.{NamedDiagram}

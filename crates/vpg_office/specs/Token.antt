@@ -1,5 +1,5 @@
 -- Tokens as callers see them.
-use Rattle.std.specs.Prelude.{◌≡◌, ℕ, List, [], ◌∷◌, ◌++◌, IsTrue}
+use Rattle.std.specs.Prelude.{◌≡◌, ℕ, List, [], ◌∷◌, ◌++◌}
 use Rattle.boxcar.specs.Table.{Shelves}
 use Rattle.vpg_desk.specs.Book.{Reply}
 use Rattle.vpg_desk.specs.History.{Event}

@@ -1,4 +1,4 @@
-use Rattle.std.proofs.Common.{◌≡◌, ◌+◌, ◌-◌, ℕ, ap, arith}
+use Rattle.std.proofs.Common.{◌≡◌, ◌-◌, ap, arith}
 use Rattle.vpg_desk.specs.Book.{Book}
 use Rattle.vpg_office.proofs.closing.keep_one.Goals as goal
 

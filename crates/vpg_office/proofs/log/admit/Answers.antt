@@ -1,6 +1,4 @@
-use Rattle.std.proofs.Common.{◌≡◌, ◌<◌, ◌≤◌, ℕ, List, length, drop, sym, ap, ◌∙◌, arith, subst}
-use Rattle.vpg_desk.specs.History.{Event}
-use Rattle.vpg_office.specs.Fronts.{calls_by}
+use Rattle.std.proofs.Common.{◌≡◌, ◌<◌, length, drop, sym, ap, ◌∙◌, arith, subst}
 use Rattle.vpg_office.specs.Kept.{lines_of}
 use Rattle.vpg_office.specs.Story.{lines_by}
 use Rattle.vpg_office.proofs.Entering.{calls_since, same_kept, seen_fits}

@@ -1,4 +1,4 @@
-use Rattle.std.proofs.Common.{◌≡◌, ◌+◌, ℕ, List, sym, ap, ◌∙◌, arith}
+use Rattle.std.proofs.Common.{◌+◌, sym, ap, ◌∙◌, arith}
 use Rattle.vpg_office.proofs.Entering.{story_length, new_story, new_events, new_kept}
 use Rattle.vpg_office.proofs.log.enter.Goals as goal
 

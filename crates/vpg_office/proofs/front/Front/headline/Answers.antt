@@ -1,6 +1,5 @@
-use Rattle.std.proofs.Common.{List, subst}
+use Rattle.std.proofs.Common.{subst}
 use Rattle.vpg_desk.specs.Headline.{Headline}
-use Rattle.vpg_desk.specs.History.{Event}
 use Rattle.vpg_desk.specs.State.{setting_between}
 use Rattle.vpg_desk.proofs.Whole.{headline}
 use Rattle.vpg_office.proofs.front.Front.headline.Goals as goal

@@ -1,4 +1,4 @@
-use Rattle.std.proofs.Common.{◌≡◌, length, ap, sym, ◌∙◌}
+use Rattle.std.proofs.Common.{length, ap, sym, ◌∙◌}
 use Rattle.vpg_desk.specs.Book.{opened}
 use Rattle.vpg_office.specs.Fronts.{family_between}
 use Rattle.vpg_office.specs.Kept.{story_to}

@@ -1,19 +1,17 @@
-use Rattle.std.proofs.Common.{◌≡◌, ◌+◌, ◌-◌, ◌≤◌, ℕ, Bool, List, [], ◌∷◌, ◌++◌, length, drop, Option, Some, None, IfSome, refl, sym, ap, ◌∙◌, subst, arith, option_map, true, false}
-use Rattle.std.specs.Prelude.{not, IsTrue}
+use Rattle.std.proofs.Common.{◌≡◌, Bool, Option, Some, IfSome, refl, sym, ap, ◌∙◌, subst, arith, option_map, true}
+use Rattle.std.specs.Prelude.{not}
 use Rattle.std.specs.Bool.{Decides}
-use Rattle.vpg_diagram.specs.DiagramText.{NamedDiagram}
-use Rattle.vpg_game.specs.Game.{NamedGame}
-use Rattle.vpg_measure.specs.Orders.{HarvestView, OrderView}
+use Rattle.vpg_measure.specs.Orders.{HarvestView}
 use Rattle.vpg_desk.specs.Book as book
 use Rattle.vpg_desk.specs.Book.{Book, Refusal, Reply, opened, IsReply}
 use Rattle.vpg_desk.specs.Commit.{commit_refusal, handed_in, IsOrderOf}
-use Rattle.vpg_desk.specs.History.{Event, book_after}
-use Rattle.vpg_desk.specs.Lawful.{IsLawful, HandsIn}
+use Rattle.vpg_desk.specs.History.{book_after}
+use Rattle.vpg_desk.specs.Lawful.{IsLawful}
 use Rattle.vpg_desk.specs.State.{IsStep, Replies}
-use Rattle.vpg_office.specs.Fronts.{Extends, event, family_between}
+use Rattle.vpg_office.specs.Fronts.{Extends, family_between}
 use Rattle.vpg_office.specs.Story.{IsOf, refusal_of, tells_other}
 use Rattle.vpg_office.proofs.Calling.{extends, commit_stops, told_here, log_history, seen_here, log_after, of_here}
-use Rattle.vpg_office.proofs.Committing.{lawful_harvest, ours_is, refused_parts}
+use Rattle.vpg_office.proofs.Committing.{lawful_harvest, refused_parts}
 use Rattle.vpg_office.proofs.log.Log.commit.Goals as goal
 
 pub returns-in-Err-clause-fault : goal.returns-in-Err-clause-fault

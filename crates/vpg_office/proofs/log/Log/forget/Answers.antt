@@ -1,10 +1,10 @@
-use Rattle.std.proofs.Common.{◌≡◌, ◌+◌, ◌-◌, ◌≤◌, ℕ, List, [], ◌∷◌, ◌++◌, length, drop, Option, Some, None, IfSome, refl, sym, ap, ◌∙◌, subst, arith}
+use Rattle.std.proofs.Common.{◌≡◌, ◌-◌, None, refl, sym, ap, ◌∙◌, arith}
 use Rattle.vpg_desk.specs.Book as book
 use Rattle.vpg_desk.specs.Book.{Book, Refusal}
-use Rattle.vpg_desk.specs.State.{IsStep, Replies}
+use Rattle.vpg_desk.specs.State.{IsStep}
 use Rattle.vpg_office.specs.Faults.{never_refused}
 use Rattle.vpg_office.specs.Fronts.{Extends, family_between}
-use Rattle.vpg_office.proofs.Calling.{extends, stops_tell, told_here, log_history, seen_here, log_after}
+use Rattle.vpg_office.proofs.Calling.{extends, stops_tell, log_history, seen_here, log_after}
 use Rattle.vpg_office.proofs.log.Log.forget.Goals as goal
 
 pub returns-in-Err-clause-fault : goal.returns-in-Err-clause-fault

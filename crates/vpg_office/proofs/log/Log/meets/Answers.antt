@@ -1,4 +1,4 @@
-use Rattle.std.proofs.Common.{◌≡◌, List, length, inl, inr, refl, sym, ap, ◌∙◌, subst, arith}
+use Rattle.std.proofs.Common.{List, inl, inr, refl, sym, subst, arith}
 use mathlib.Core.List.{IsPrefix}
 use Rattle.vpg_desk.specs.History.{Event}
 use Rattle.vpg_office.specs.Fronts.{IsHistory, family_between}

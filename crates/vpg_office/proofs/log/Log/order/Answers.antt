@@ -1,11 +1,10 @@
-use Rattle.std.proofs.Common.{◌≡◌, ◌+◌, ◌-◌, ◌≤◌, ℕ, Bool, List, [], ◌∷◌, ◌++◌, length, drop, Option, Some, None, IfSome, refl, sym, ap, ◌∙◌, subst, arith, option_map, true, false}
+use Rattle.std.proofs.Common.{◌≡◌, None, refl, sym, ◌∙◌}
 use Rattle.vpg_trail.specs.Page.{Hopeful, Dual, decisions_of, table_of}
 use Rattle.vpg_desk.specs.Book as book
 use Rattle.vpg_desk.specs.Book.{Book, Refusal, Reply, opened, IsReply}
-use Rattle.vpg_desk.specs.History.{Event, book_after}
-use Rattle.vpg_desk.specs.State.{Replies}
+use Rattle.vpg_desk.specs.History.{book_after}
 use Rattle.vpg_office.specs.Faults.{never_refused}
-use Rattle.vpg_office.specs.Fronts.{Extends, event, family_between}
+use Rattle.vpg_office.specs.Fronts.{Extends, family_between}
 use Rattle.vpg_office.proofs.Calling.{extends, stops_tell, told_here, log_history, seen_here, log_after}
 use Rattle.vpg_desk.proofs.Replies.{reply_one}
 use Rattle.vpg_office.proofs.log.Log.order.Goals as goal

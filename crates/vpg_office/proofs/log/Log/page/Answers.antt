@@ -1,15 +1,15 @@
-use Rattle.std.proofs.Common.{◌≡◌, ◌+◌, ◌-◌, ◌≤◌, ℕ, Bool, List, [], ◌∷◌, ◌++◌, length, drop, Option, Some, None, IfSome, refl, sym, ap, ◌∙◌, subst, arith, option_map, true, false}
+use Rattle.std.proofs.Common.{◌≡◌, length, None, refl, sym, ap, ◌∙◌}
 use Rattle.vpg_trail.specs.Page.{Hopeful, Dual, decisions_of, table_of}
 use Rattle.vpg_game.specs.Game.{graph_of}
 use Rattle.vpg_desk.specs.Book as book
 use Rattle.vpg_desk.specs.Book.{Book, Refusal, Reply, opened, IsReply}
-use Rattle.vpg_desk.specs.History.{Event, book_after}
+use Rattle.vpg_desk.specs.History.{book_after}
 use Rattle.vpg_desk.specs.Headline.{Tells as PageTells}
 use Rattle.vpg_desk.specs.Lawful.{PageIsBelow}
 use Rattle.vpg_desk.specs.Setting.{IsSetting}
-use Rattle.vpg_desk.specs.State.{IsReached, Replies, setting_between}
+use Rattle.vpg_desk.specs.State.{IsReached, setting_between}
 use Rattle.vpg_office.specs.Faults.{never_refused}
-use Rattle.vpg_office.specs.Fronts.{Extends, event, family_between}
+use Rattle.vpg_office.specs.Fronts.{Extends, family_between}
 use Rattle.vpg_office.proofs.Calling.{extends, stops_tell, told_here, log_history, seen_here, log_after, leaves, page_is}
 use Rattle.vpg_desk.proofs.Replies.{reply_one}
 use Rattle.vpg_office.proofs.log.Log.page.Goals as goal

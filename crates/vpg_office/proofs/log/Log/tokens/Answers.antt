@@ -1,4 +1,4 @@
-use Rattle.std.proofs.Common.{◌≡◌, ℕ, List, ap, ◌∙◌}
+use Rattle.std.proofs.Common.{List, ap, ◌∙◌}
 use Rattle.vpg_desk.specs.Book.{Book, opened}
 use Rattle.vpg_desk.specs.History.{Event, book_after}
 use Rattle.vpg_office.specs.Fronts.{family_between}

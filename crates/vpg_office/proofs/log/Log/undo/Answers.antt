@@ -1,11 +1,11 @@
-use Rattle.std.proofs.Common.{◌≡◌, ◌+◌, ◌≤◌, ℕ, List, [], ◌∷◌, ◌++◌, length, drop, Option, Some, None, IfSome, sym, ap, ◌∙◌, subst, arith, option_map, eq-eqb}
+use Rattle.std.proofs.Common.{◌≡◌, List, [], ◌∷◌, ◌++◌, Option, Some, IfSome, sym, ap, ◌∙◌, subst, arith, option_map, eq-eqb}
 use Rattle.std.specs.Prelude.{IsTrue}
 use Rattle.vpg_desk.specs.Book as book
 use Rattle.vpg_desk.specs.Book.{Book, Refusal, opened, IsReply}
 use Rattle.vpg_desk.specs.Faults.{undo_refusal}
 use Rattle.vpg_desk.specs.History.{Event, IsLegal, book_after, gives_undo}
 use Rattle.vpg_desk.specs.State.{Replies}
-use Rattle.vpg_office.specs.Fronts.{Extends, GoesBackTo, event, family_between}
+use Rattle.vpg_office.specs.Fronts.{Extends, event, family_between}
 use Rattle.vpg_office.specs.Kept.{IsLastGiven}
 use Rattle.vpg_office.specs.Story.{refusal_of}
 use Rattle.vpg_office.specs.Token.{EndsWith}

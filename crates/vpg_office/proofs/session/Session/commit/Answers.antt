@@ -1,4 +1,4 @@
-use Rattle.std.proofs.Common.{◌≡◌, ℕ, true, List, IfOk, IfErr}
+use Rattle.std.proofs.Common.{true, IfOk, IfErr}
 use Rattle.vpg_desk.specs.Book as book
 use Rattle.vpg_desk.specs.Commit.{handed_in}
 use Rattle.vpg_office.specs.Faults.{CommitTells}

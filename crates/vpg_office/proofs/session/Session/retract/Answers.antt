@@ -1,4 +1,4 @@
-use Rattle.std.proofs.Common.{◌≡◌, ℕ, List, IfOk, IfErr}
+use Rattle.std.proofs.Common.{◌≡◌, IfOk, IfErr}
 use Rattle.vpg_desk.specs.Book as book
 use Rattle.vpg_desk.specs.Faults.{retract_refusal}
 use Rattle.vpg_office.specs.Faults.{Tells}

@@ -1,4 +1,4 @@
-use Rattle.std.proofs.Common.{◌≡◌, ℕ, List, IfOk, IfErr}
+use Rattle.std.proofs.Common.{◌≡◌, IfOk, IfErr}
 use Rattle.std.specs.Prelude.{OnOk}
 use mathlib.Core.List.{IsPrefix}
 use Rattle.vpg_desk.specs.Book as book
