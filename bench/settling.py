@@ -47,10 +47,10 @@ def seconds(program, *words):
 
 
 def raised(program, game, runs):
-    nothing = min(seconds(program, game, 300, 0)[0] for _ in range(runs))
-    took, words = seconds(program, game, 401, 0)
+    nothing = min(seconds(program, game, "rounds", 0)[0] for _ in range(runs))
+    took, words = seconds(program, game, "guesses", 0)
     for _ in range(runs - 1 if words and took < 2 else 0):
-        took = min(took, seconds(program, game, 401, 0)[0])
+        took = min(took, seconds(program, game, "guesses", 0)[0])
     told = " more" if words is None else "" if words[1] == "true" else " open"
     return f"{max(took - nothing, 0) * 1e3:.0f}{told}"
 

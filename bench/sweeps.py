@@ -25,10 +25,10 @@ def ran(program, *words):
     return dict(settled=out[1] == "true", sweeps=int(out[3]), lifts=int(out[5]), sums=(int(out[7]), int(out[8])), millis=millis)
 
 
-def best(program, game, number, most):
+def best(program, game, how, most, lifters=1):
     """The least of five runs, less the least of five runs that raise nothing."""
-    nothing = min(ran(program, game, number, 0)["millis"] for _ in range(5))
-    it = min((ran(program, game, number, most) for _ in range(5)), key=lambda it: it["millis"])
+    nothing = min(ran(program, game, how, 0, lifters)["millis"] for _ in range(5))
+    it = min((ran(program, game, how, most, lifters) for _ in range(5)), key=lambda it: it["millis"])
     it["millis"] = max(it["millis"] - nothing, 0.1)
     return it
 
@@ -52,16 +52,16 @@ def main():
             with open(game) as text:
                 places = 2 * (sum(1 for _ in text) - 1)
             print(f"{family}, {places // 2} vertices", flush=True)
-            alone = best(program, game, 300, rounds)
+            alone = best(program, game, "rounds", rounds)
             tell("rounds", alone, rounds * places)
-            it = best(program, game, 500, rounds)
+            it = best(program, game, "board", rounds)
             tell("boards of one seat", it, it["sweeps"] * places, alone["millis"])
             for lifters in LIFTERS:
-                it = best(program, game, 100 + lifters, rounds)
+                it = best(program, game, "sweeps", rounds, lifters)
                 tell(f"{lifters} plain", it, it["sweeps"] * places, alone["millis"])
             for lifters in LIFTERS:
-                it = best(program, game, lifters, max(1, rounds // 10))
-                tell(f"{lifters} with hints", it, ran(program, game, 200 + lifters, max(1, rounds // 10))["lifts"])
+                it = best(program, game, "hints", max(1, rounds // 10), lifters)
+                tell(f"{lifters} with hints", it, ran(program, game, "counted", max(1, rounds // 10), lifters)["lifts"])
 
 
 if __name__ == "__main__":

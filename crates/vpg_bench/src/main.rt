@@ -1,18 +1,18 @@
-//! Sweeps, to be measured from outside: both tables of a game are raised from zero, until they are settled or so many times.
+//! Ways of settling, to be measured from outside: both tables of a game are raised from zero, until they are settled or so many times.
 //!
-//!     vpg_bench GAME NUMBER MOST
+//!     vpg_bench GAME HOW MOST [LIFTERS]
 //!
-//! NUMBER is 1 to 64 for sweeps by so many lifters with hints; 100 more for just MOST sweeps without hints; 200 more for sweeps with hints
-//! whose lifts are counted; 300 for rounds of one thread without sweeps; 401 to 464 for certified guesses and then sweeps as with 200
-//! more, where the guesses leave anything to lift; 500 for a board that one seat claims and lifts by calls. MOST is how many sweeps
-//! or rounds there may be.
+//! HOW is `rounds` for rounds of one thread without sweeps, `sweeps` for just MOST sweeps without hints, `hints` for sweeps with
+//! hints, `counted` for the same with their lifts counted, `guesses` for certified guesses and then sweeps as by `counted` where the
+//! guesses leave anything to lift, and `board` for a board that one seat claims and lifts by calls. MOST is how many sweeps or rounds
+//! there may be, LIFTERS how many lifters a sweep has, 1 to 64 and 1 where it is left out. Other words are refused.
 //!
 //! The game is over the features r, f and g. It prints one line: whether the tables are settled, in how many sweeps, how many lifts
 //! were counted, and the sums of both tables. Without words it sweeps a game that is built in. `bench/sweeps.py` runs it, and
 //! measures what it takes.
 #![tactic(auto)]
 
-ghost use Rattle.std.specs.Prelude.{◌≡◌, ◌↔◌, ◌<◌, ◌≤◌, IsTrue, All};
+ghost use Rattle.std.specs.Prelude.{◌≡◌, ◌↔◌, ◌<◌, ◌≤◌, IsTrue, IfOk, All};
 ghost use Rattle.vpg_board.specs.Places.{vertices};
 
 use anyhow::{Result, bail};
@@ -32,8 +32,8 @@ const DIAGRAM: &[u8] = b"root r\noptional r f\noptional r g\n";
 
 const GAME: &[u8] = b"parity 1; 0 1 0 1[f],0; 1 2 1 0[g],1;";
 
-/// How many edges and vertices each step of a guess may look at, as in the lines of a script.
-const BUDGET: u64 = 1 << 28;
+/// How many edges and vertices a guess at both tables may look at, as in the lines of a script.
+const BUDGET: u64 = 1 << 27;
 
 /// More claims than a board has places.
 const MOST_CLAIMS: u32 = 131_074;
@@ -314,48 +314,53 @@ fn tell(rt: &HostRuntime, reached: &Reached) -> Result<()> {
     Ok(())
 }
 
-/// The number that a word's digits are.
-fn number_of(word: &str) -> u64 {
-    let mut number = 0u64;
-    for digit in word.as_bytes() {
-        let value = digit.saturating_sub(b'0') as u64;
-        number = number.saturating_mul(10).saturating_add(value);
-    }
-    number
-}
-
-/// How a number asks for it.
-fn how_of(number: u64) -> How {
-    match number / 100 {
-        0 => How::Hinted,
-        1 => How::Plain,
-        2 => How::Counted,
-        3 => How::Alone,
-        4 => How::Guessed,
-        _ => How::Seated,
+/// The way that a word asks for.
+fn how_of(word: &str) -> Result<How> {
+    match word {
+        "rounds" => Ok(How::Alone),
+        "sweeps" => Ok(How::Plain),
+        "hints" => Ok(How::Hinted),
+        "counted" => Ok(How::Counted),
+        "guesses" => Ok(How::Guessed),
+        "board" => Ok(How::Seated),
+        _ => bail!("{word} is no way of settling"),
     }
 }
 
-/// How many lifters it names.
-fn lifters_of(number: u64) -> u32
-    ensures { (1 ≤ result) × (result ≤ 64) }
+/// The number that a word spells.
+fn number_of(word: &str) -> Result<u64> {
+    match word.parse::<u64>() {
+        Ok(number) => Ok(number),
+        Err(_) => bail!("{word} is no number"),
+    }
+}
+
+/// How many lifters a word names.
+fn lifters_of(word: Option<&String>) -> Result<u32>
+    ensures { IfOk result (λ lifters. (1 ≤ lifters) × (lifters ≤ 64)) }
 {
-    match u32::try_from(number % 100) {
-        Ok(lifters) => lifters.clamp(1, 64),
-        Err(_) => 1,
+    let Some(word) = word else {
+        return Ok(1);
+    };
+    let lifters = number_of(word.as_str())?;
+    if lifters < 1 || 64 < lifters {
+        bail!("there are 1 to 64 lifters");
     }
+    Ok(lifters as u32)
 }
 
-/// Raises an order as a number asks for, and tells what was reached.
+/// Raises an order so, and tells what was reached.
 fn measure<T: Threads + Wait + Sync>(
     rt: &HostRuntime,
     threads: &T,
     order: Order,
-    number: u64,
+    how: How,
+    lifters: u32,
     most: u64,
-) -> Result<()> {
-    let lifters = lifters_of(number);
-    let reached = reach(threads, rt.alloc(), order, how_of(number), lifters, most)?;
+) -> Result<()>
+    requires { (1 ≤ lifters) × (lifters ≤ 64) }
+{
+    let reached = reach(threads, rt.alloc(), order, how, lifters, most)?;
     tell(rt, &reached)
 }
 
@@ -379,7 +384,9 @@ fn main(rt: HostRuntime) -> Result<()> {
     if words.len() < 4 {
         return sweep_built_in(&rt, &rt);
     }
+    let how = how_of(words[2].as_str())?;
+    let most = number_of(words[3].as_str())?;
+    let lifters = lifters_of(words.get(4))?;
     let order = order_of_file(&rt, words[1].as_str())?;
-    let number = number_of(words[2].as_str());
-    measure(&rt, &rt, order, number, number_of(words[3].as_str()))
+    measure(&rt, &rt, order, how, lifters, most)
 }
