@@ -1,0 +1,161 @@
+//! A family with the names of its vertices, and its pictures.
+ghost use Rattle.std.specs.Prelude.{◌≡◌, ◌↔◌, ◌<◌, IsTrue, IfOk, All, length};
+
+use anyhow::{Context, Result, bail};
+use std::alloc::{AllocError, Global};
+use vpg_diagram::Diagram;
+use vpg_draw::{draw_features, draw_game};
+use vpg_game::GuardedGame;
+use vpg_guards::Names;
+use vpg_lint::explain_game;
+use vpg_measure::Verdict;
+use vpg_names::VertexNames;
+use vpg_partial::{Decision, Partial};
+
+/// A family.
+#[derive(Drop)]
+pub struct Family {
+    diagram: Diagram,
+    game: GuardedGame,
+    names: VertexNames,
+}
+
+impl Family {
+    /// Where its game starts.
+    pub fn start(&self) -> Option<u64> {
+        self.names.start()
+    }
+}
+
+/// The family of these texts.
+pub fn read(alloc: Global, diagram: &[u8], game: &[u8]) -> Result<Family> {
+    let names = VertexNames::read(alloc, game)?;
+    let diagram = Diagram::read(alloc, diagram)?;
+    let game = GuardedGame::read(alloc, game, diagram.names())?;
+    Ok(Family {
+        diagram,
+        game,
+        names,
+    })
+}
+
+/// Whether each decision is of one of this many features.
+fn are_below(features: usize, decisions: &[Decision]) -> bool
+    ensures { IsTrue result ↔ All (λ d. d.feature < features) decisions.now }
+{
+    decisions.iter().all(|d| (d.feature as usize) < features)
+}
+
+/// What the decisions make known, where each is of a feature of the diagram.
+fn close_checked(alloc: Global, diagram: &Diagram, decisions: &[Decision]) -> Result<Partial> {
+    if !are_below(diagram.features(), decisions) {
+        bail!("features");
+    }
+    Ok(Partial::close(alloc, diagram, decisions)?)
+}
+
+/// The decision of a word.
+fn decision_of(names: &Names, word: &[u8]) -> Result<Decision> {
+    let (sign, name) = word.split_first().context("word")?;
+    let feature = names.get(name).context("feature")?;
+    Ok(Decision {
+        serial: 1,
+        session: 1,
+        feature,
+        value: *sign == b'+',
+    })
+}
+
+/// The decisions of a row.
+fn decisions_of(alloc: Global, names: &Names, text: &[u8]) -> Result<Vec<Decision>> {
+    let mut decisions = Vec::new(alloc);
+    for word in text.split(|sign| *sign == b' ') {
+        if !word.is_empty() {
+            decisions.push(decision_of(names, word)?)?;
+        }
+    }
+    Ok(decisions)
+}
+
+/// A verdict for each vertex: hopeless at each second, sure at two of four.
+fn verdicts(alloc: Global, vertices: usize) -> Result<Vec<Verdict>, AllocError>
+    ensures { IfOk result (λ list. length list.items ≡ vertices) }
+{
+    let mut list = Vec::new(alloc);
+    for v in 0..vertices {
+        list.push(Verdict {
+            hopeless: v % 2 == 0,
+            sure: v % 4 > 0 && v % 4 < 3,
+        })?;
+    }
+    Ok(list)
+}
+
+/// Appends the picture of the game.
+fn game_picture(
+    alloc: Global,
+    family: &Family,
+    known: &Partial,
+    decisions: &[Decision],
+    out: &mut Vec<u8>,
+) -> Result<()> {
+    let game = &family.game;
+    let features = family.diagram.names();
+    let verdicts = verdicts(alloc, game.vertices())?;
+    if features.len() != game.features() || known.values().len() != game.features() {
+        bail!("features");
+    }
+    if !are_below(game.features(), decisions) {
+        bail!("features");
+    }
+    draw_game(
+        alloc,
+        game,
+        features,
+        known,
+        decisions,
+        &family.names,
+        &verdicts,
+        out,
+    )?;
+    Ok(())
+}
+
+/// Appends the picture of the diagram.
+fn feature_picture(
+    alloc: Global,
+    text: &[u8],
+    diagram: &Diagram,
+    known: &Partial,
+    decisions: &[Decision],
+    out: &mut Vec<u8>,
+) -> Result<()> {
+    let count = diagram.names().len();
+    if known.values().len() != count || !are_below(count, decisions) {
+        bail!("features");
+    }
+    draw_features(alloc, text, diagram, known, decisions, out)?;
+    Ok(())
+}
+
+/// The pictures under the decisions of a row.
+pub fn pictures(alloc: Global, family: &Family, text: &[u8], row: &[u8]) -> Result<Vec<u8>> {
+    let diagram = &family.diagram;
+    let decisions = decisions_of(alloc, diagram.names(), row)?;
+    let known = close_checked(alloc, diagram, &decisions)?;
+    let mut out = Vec::new(alloc);
+    game_picture(alloc, family, &known, &decisions, &mut out)?;
+    feature_picture(alloc, text, diagram, &known, &decisions, &mut out)?;
+    Ok(out)
+}
+
+/// What is said of a text that is no game over the features of the family.
+pub fn explained(alloc: Global, family: &Family, text: &[u8]) -> Result<Vec<u8>> {
+    let names = family.diagram.names();
+    let mut out = Vec::new(alloc);
+    match GuardedGame::read(alloc, text, names) {
+        Ok(_) => out.extend_from_slice(b"a game\n")?,
+        Err(fault) => explain_game(alloc, text, names, fault, &mut out)?,
+    }
+    Ok(out)
+}
