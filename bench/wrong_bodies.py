@@ -138,19 +138,21 @@ def faults(said):
 
 
 def without(text, line):
-    """The text of a proof file without the definition, or the `use`, that stands at this line, and its name."""
+    """The text of a proof file without the definition, or the `use`, that stands at this line, its name, and where it began."""
     lines = text.split("\n")
+    if line > len(lines):
+        return None, "", line
     if lines[line - 1].startswith("use "):
-        return "\n".join([*lines[: line - 1], *lines[line:]]), ""
+        return "\n".join([*lines[: line - 1], *lines[line:]]), "", line
     signed = {at: it[1] for at, line in enumerate(lines) if (it := SIGNED.match(line))}
     begin = max((at for at in signed if at < line), default=None)
     if begin is None:
-        return None, ""
+        return None, "", line
     name, end = signed[begin], begin + 1
     while end < len(lines) and (not lines[end].strip() or lines[end].startswith((" ", f"{name} "))):
         end += 1
     begin -= lines[begin - 1].startswith("unfolding ")
-    return "\n".join([*lines[:begin], *lines[end:]]), name.rpartition("::")[2]
+    return "\n".join([*lines[:begin], *lines[end:]]), name.rpartition("::")[2], begin + 1
 
 
 def best(goals):
@@ -301,12 +303,13 @@ def tried(crate, bodies, kept, log):
 
 def cut(crate, body, wrong):
     """Takes the answers that are in the way out of the proof files that the body is tried with."""
-    is_less = False
+    is_less, left = False, {}
     for path, line, _ in sorted(wrong, key=lambda it: (it[0], -it[1])):
-        if re.search(r"(Answers|Invariants)\.antt$", path):
-            new, name = without(body.cuts.get(path) or read(f"{crate.folder}/{path}").decode(), line)
+        # (of what is cut already, a second fault says nothing new)
+        if re.search(r"(Answers|Invariants)\.antt$", path) and line < left.get(path, line + 1):
+            new, name, begin = without(body.cuts.get(path) or read(f"{crate.folder}/{path}").decode(), line)
             if new is not None:
-                body.cuts[path], is_less = new, True
+                body.cuts[path], is_less, left[path] = new, True, begin
                 body.fallen |= {name} if body.rounds > 1 else set()
     return is_less
 
