@@ -1,0 +1,128 @@
+-- What a call of the desk means for the log.
+use Rattle.std.proofs.Common.{◌≡◌, ℕ, ◌+◌, ◌-◌, ◌<◌, ◌≤◌, List, [], ◌∷◌, ◌++◌, length, map, take, drop, Option, Some, None, refl, sym, ap, ◌∙◌, subst, arith, append_assoc, append-nil, length-append}
+use mathlib.Core.List.{IsPrefix}
+use Rattle.boxcar.specs.Table.{Shelves}
+use Rattle.vpg_diagram.specs.DiagramText.{NamedDiagram}
+use Rattle.vpg_game.specs.Game.{NamedGame}
+use Rattle.vpg_trail.specs.Page.{Entry as Step}
+use Rattle.vpg_desk.specs.Book.{Family, Book, Call, Reply, Refusal, Page, PageIs, opened, next, IsReply}
+use Rattle.vpg_desk.specs.Desk.{family_of}
+use Rattle.vpg_desk.specs.History.{Event, IsLegal, book_after}
+use Rattle.vpg_desk.specs.State.{DeskState, Replies, setting_of}
+use Rattle.vpg_desk.proofs.Tokens.{counts_are_limited}
+use Rattle.vpg_measure.specs.Orders.{OrderView, HarvestView}
+use Rattle.vpg_desk.specs.Commit.{IsOrderOf}
+use Rattle.vpg_desk.specs.declared.fault.CommitFault.{CommitFault}
+use Rattle.vpg_office.specs.Faults.{Stops, Tells, CommitTells}
+use Rattle.vpg_office.specs.Fronts.{IsHistory, Extends, Overtakes, calls_by, event, family_between}
+use Rattle.vpg_office.specs.Kept.{IsChronicle, lines_of}
+use Rattle.vpg_office.specs.Locked.{IsLog}
+use Rattle.vpg_office.specs.Story.{IsOf, events_of}
+use Rattle.vpg_office.specs.declared.chronicle.Chronicle.{Chronicle}
+use Rattle.vpg_office.specs.declared.fault.Fault.{Fault}
+use Rattle.vpg_office.specs.declared.fault.Fault.TheVariants.{LogFull, Doubled, Refused as DeskRefuses, Memory}
+use Rattle.vpg_office.proofs.Stories.{book_more}
+
+-- what comes after a beginning
+rest_of : (front log : List Event) (p : IsPrefix front log) → drop (length front) log ≡ p.0
+rest_of [] log p = sym p.1
+rest_of (x ∷ front) [] p = absurd (cc (p.1))
+rest_of (x ∷ front) (y ∷ log) p = rest_of front log (p.0, cc (p.1))
+
+pub prefix_more : (h log new : List Event) (e : Event) → IsPrefix h log → new ≡ log ++ e ∷ [] → IsPrefix h new
+prefix_more h log new e p is = (p.0 ++ e ∷ [], sym (append_assoc h p.0 (e ∷ [])) ∙ (ap (λ (l : List Event). l ++ e ∷ []) p.1 ∙ sym is))
+
+pub prefix_self : (xs : List Event) → IsPrefix xs xs
+prefix_self xs = ([], append-nil xs)
+
+-- of two beginnings of one list the shorter begins the longer
+pub prefix_shorter : (xs ys zs : List Event) → IsPrefix xs zs → IsPrefix ys zs → length xs ≤ length ys → IsPrefix xs ys
+prefix_shorter [] ys zs p q le = (ys, refl)
+prefix_shorter (x ∷ xs) [] zs p q le = absurd (omega arith)
+prefix_shorter (x ∷ xs) (y ∷ ys) [] p q le = absurd (cc (p.1))
+prefix_shorter (x ∷ xs) (y ∷ ys) (z ∷ zs) p q le =
+    let heads : x ≡ y = cc (p.1, q.1) in
+    let rest = prefix_shorter xs ys zs (p.0, cc (p.1)) (q.0, cc (q.1)) (omega arith) in
+    (rest.0, cc (heads, rest.1))
+
+pub kept_history : (row : Shelves) (game : NamedGame) (diagram : NamedDiagram) (c : Chronicle) (newest : List Event) → IsChronicle row game diagram c newest → IsHistory (family_between game diagram) newest
+kept_history row game diagram c newest kept = subst (IsHistory (family_between game diagram)) (sym kept.newest_is) kept.is_story.history
+
+pub extends : {row : Shelves} {game : NamedGame} {diagram : NamedDiagram} {c : Chronicle} {new : List Event} (front newest : List Event) (session : ℕ) (call : Call) (reply : Reply) → IsPrefix front newest →
+    calls_by session (drop (length front) newest) ≡ 0 → new ≡ newest ++ event session call reply ∷ [] → IsChronicle row game diagram c new → Extends (family_between game diagram) front session call reply new
+extends {row} {game} {diagram} {c} {new} front newest session call reply p none is kept = record {
+  between = p.0;
+  is = is ∙ ap (λ (l : List Event). l ++ event session call reply ∷ []) (sym p.1);
+  none = ap (calls_by session) (sym (rest_of front newest p)) ∙ none;
+  history = kept_history row game diagram c new kept;
+}
+
+pub stops_tell : {L F : Type 0} (family : Family) (limit : ℕ) (refusal : F → Option Refusal) (call : Call) (session : ℕ) (front newest : List Event) (f : Fault L F) → IsPrefix front newest → IsHistory family newest →
+    Stops limit front session newest f → Tells family limit refusal call session front front f
+stops_tell family limit refusal call session front newest (LogFull g) p h s =
+    (refl, subst (λ (l : List Event). IsPrefix front l) (sym s.0) p, ap length s.0 ∙ (omega (arith, s.1, s.2)), subst (IsHistory family) (sym s.0) h)
+stops_tell family limit refusal call session front newest (Doubled g) p h s =
+    (refl, subst (λ (l : List Event). length l < limit) (sym s.0) s.1, record { between = p.0; is = s.0 ∙ sym p.1; some = subst (λ (l : List Event). 0 < calls_by session l) (rest_of front newest p) s.2; history = subst (IsHistory family) (sym s.0) h })
+stops_tell family limit refusal call session front newest (DeskRefuses fault) p h s = absurd s
+stops_tell family limit refusal call session front newest Memory p h s = refl
+
+module _ {row : Shelves} {game : NamedGame} {diagram : NamedDiagram} {limit : ℕ} {chronicle : Chronicle} {newest : List Event} {desk : DeskState} {total parts amount sessions room : ℕ}
+    (i : IsLog row game diagram limit chronicle newest desk total parts amount sessions room) where
+  abbrev F : Family
+  F = family_between game diagram
+
+  -- the desk's reply is that of the log's book
+  pub told_here : (call : Call) (reply : Reply) → Replies desk call reply → IsReply F (book_after F opened newest) call reply
+  told_here call reply r = coe 0 1 (k. IsReply (family_between (i.of_game k) (i.of_diagram k)) (i.replay k) call reply) r
+
+  pub leaves : (session : ℕ) (call : Call) (reply : Reply) → next (family_of (setting_of desk)) desk.book session call reply ≡ book_after F opened (newest ++ event session call reply ∷ [])
+  leaves session call reply = (λ k. next (family_between (i.of_game k) (i.of_diagram k)) (i.replay k) session call reply) ∙ sym (book_more F newest (event session call reply))
+
+  pub log_history : IsHistory F newest
+  log_history = kept_history row game diagram chronicle newest i.kept
+
+  pub seen_here : {log : List Event} (front : List Event) → newest ≡ log → IsPrefix front log → IsPrefix front newest
+  seen_here {log} front is p = subst (λ (l : List Event). IsPrefix front l) (sym is) p
+
+  -- a part is left for one token more
+  pub some_part : 0 < parts
+  some_part =
+      let h = counts_are_limited F newest (kept_history row game diagram chronicle newest i.kept).legal in
+      omega (arith, i.left, ap (λ (b : Book). b.tokens) i.replay, h.0, h.1)
+
+  pub log_after : (after : Chronicle) (new : List Event) (desk_after : DeskState) (total_after parts_after amount_after : ℕ) (session : ℕ) (call : Call) (reply : Reply) → IsChronicle row game diagram after new →
+      new ≡ newest ++ event session call reply ∷ [] → desk_after.game ≡ desk.game → desk_after.diagram ≡ desk.diagram → desk_after.book ≡ next (family_of (setting_of desk)) desk.book session call reply →
+      total_after ≡ desk_after.book.tokens → amount_after ≡ 0 → parts_after + desk_after.book.tokens ≡ 1048577 → IsLog row game diagram limit after new desk_after total_after parts_after amount_after sessions room
+  log_after after new desk_after total_after parts_after amount_after session call reply kept is g d b t a p = record {
+    kept = kept;
+    of_game = g ∙ i.of_game;
+    of_diagram = d ∙ i.of_diagram;
+    replay = b ∙ leaves session call reply ∙ ap (book_after F opened) (sym is);
+    counted = t;
+    none = a;
+    left = p;
+    most = i.most;
+    few = i.few;
+    joined = i.joined;
+  }
+
+  -- an order of the desk is of the office's game and diagram
+  pub of_here : (order : OrderView) → IsOrderOf desk order → IsOf game diagram order
+  of_here order ours = (ours.0 ∙ i.of_game, ours.1 ∙ i.of_diagram)
+
+  pub to_desk : (order : OrderView) → IsOf game diagram order → IsOrderOf desk order
+  to_desk order ours = (ours.0 ∙ sym i.of_game, ours.1 ∙ sym i.of_diagram)
+
+-- a page has the entries of the desk's present page
+pub page_is : (state : DeskState) (entries : List Step) → Replies state Page (PageIs entries) → entries ≡ state.book.present
+page_is state entries (None, (refuses, told)) = cc told
+page_is state entries (Some r, (refuses, told)) = absurd (cc told)
+
+pub commit_stops : {L : Type 0} (game : NamedGame) (diagram : NamedDiagram) (limit : ℕ) (harvest : HarvestView) (session : ℕ) (front newest : List Event) (f : Fault L CommitFault) → IsPrefix front newest →
+    IsHistory (family_between game diagram) newest → Stops limit front session newest f → CommitTells game diagram limit harvest session front front f
+commit_stops game diagram limit harvest session front newest (LogFull g) p h s =
+    (refl, subst (λ (l : List Event). IsPrefix front l) (sym s.0) p, ap length s.0 ∙ (omega (arith, s.1, s.2)), subst (IsHistory (family_between game diagram)) (sym s.0) h)
+commit_stops game diagram limit harvest session front newest (Doubled g) p h s =
+    (refl, subst (λ (l : List Event). length l < limit) (sym s.0) s.1, record { between = p.0; is = s.0 ∙ sym p.1; some = subst (λ (l : List Event). 0 < calls_by session l) (rest_of front newest p) s.2; history = subst (IsHistory (family_between game diagram)) (sym s.0) h })
+commit_stops game diagram limit harvest session front newest (DeskRefuses fault) p h s = absurd s
+commit_stops game diagram limit harvest session front newest Memory p h s = refl

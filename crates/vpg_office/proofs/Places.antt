@@ -1,0 +1,163 @@
+-- The tokens of the row that show the log.
+use Rattle.std.proofs.Common.{◌≡◌, ◌≢◌, ◌⊎◌, Some, ℕ, zero, suc, ◌+◌, ◌-◌, ◌<◌, ◌≤◌, ◌==◌, cond, List, [], ◌∷◌, ◌++◌, length, map, take, drop, get_or, refl, sym, ap, ◌∙◌, subst, ⊎_elim, inl, inr, arith, length-append, add-one}
+use Rattle.std.proofs.lemmas.Bool.Decides.{nat_tests}
+use Rattle.std.proofs.lemmas.List.{take-append-le, take_all, length-map}
+use mathlib.Core.Option.{some, some-injective, some-ne-none}
+use mathlib.Core.List.{IsPrefix}
+use lib.ListN.{get_elem?, take-append-drop}
+use Rattle.boxcar.specs.Table.{Shelves, Where, Shows}
+use Rattle.vpg_diagram.specs.DiagramText.{NamedDiagram}
+use Rattle.vpg_game.specs.Game.{NamedGame}
+use Rattle.vpg_desk.specs.Book.{Family, opened}
+use Rattle.vpg_desk.specs.History.{Event}
+use Rattle.vpg_office.specs.Fronts.{family_between}
+use Rattle.vpg_office.specs.Kept.{IsEntryOf, ShowsEach, IsFront, IsChronicle, line, lines_of, story}
+use Rattle.vpg_office.specs.Story.{Line, line_of, lines_by, events_of, IsStory}
+use Rattle.vpg_office.specs.declared.asked.Answer.{Answer}
+use Rattle.vpg_office.specs.declared.asked.Answer.TheVariants.{Spent}
+use Rattle.vpg_office.specs.declared.asked.Asked.TheVariants.{Settled}
+use Rattle.vpg_office.specs.declared.chronicle.Chronicle.{Chronicle}
+use Rattle.vpg_office.proofs.Stories.{events-length, events-take, same_last, story_take}
+use Rattle.vpg_office.specs.declared.asked.Entry.{Entry}
+use Rattle.vpg_office.specs.declared.asked.Told.{Told}
+
+one : (n m : ℕ) → n ≡ m → cond {A = ℕ} (n == m) 1 0 ≡ 1
+one n m e = grind (arith, nat_tests)
+
+other : (n m : ℕ) → n ≢ m → cond {A = ℕ} (n == m) 1 0 ≡ 0
+other n m e = grind (arith, nat_tests)
+
+pub lines_at : (s : ℕ) (ts : List Told) (i : ℕ) (d : Told) → i < length ts → (get_or ts i d).session ≡ s → 0 < lines_by s (lines_of ts)
+lines_at s [] i d low is = absurd (omega arith)
+lines_at s (t ∷ ts) zero d low is = let h = one t.session s is in omega arith
+lines_at s (t ∷ ts) (suc i) d low is = let h = lines_at s ts i d (omega arith) is in omega arith
+
+pub lines_more : (s : ℕ) (ts : List Told) (i : ℕ) (d : Told) → i < length ts → (get_or ts i d).session ≢ s → lines_by s (lines_of (take i ts)) ≡ 0 → lines_by s (lines_of (take (i + 1) ts)) ≡ 0
+lines_more s ts i d low is none = ap (λ n. lines_by s (lines_of (take n ts))) (add-one i) ∙ by ts i low is none
+  where
+    by : (ts : List Told) (i : ℕ) → i < length ts → (get_or ts i d).session ≢ s → lines_by s (lines_of (take i ts)) ≡ 0 → lines_by s (lines_of (take (suc i) ts)) ≡ 0
+    by [] i low is none = refl
+    by (t ∷ ts) zero low is none = let h = other t.session s is in omega arith
+    by (t ∷ ts) (suc i) low is none = let h = by ts i (omega arith) is (omega arith) in omega arith
+
+pub drop-map : (n : ℕ) (ts : List Told) → lines_of (drop n ts) ≡ drop n (lines_of ts)
+drop-map zero ts = refl
+drop-map (suc n) [] = refl
+drop-map (suc n) (t ∷ ts) = drop-map n ts
+
+pub shows_none : (row : Shelves) → ShowsEach row [] []
+shows_none row = record { same = refl; each = λ i p l e. absurd (some-ne-none p (sym e)) }
+
+at_place : {A : Type 0} (xs : List A) (i : ℕ) (v : A) → get_elem? xs i ≡ some v → suc i ≤ length xs
+at_place [] i v e = absurd (some-ne-none v (sym e))
+at_place (x ∷ xs) zero v e = omega arith
+at_place (x ∷ xs) (suc i) v e = let h = at_place xs i v e in omega arith
+
+at_end : {A : Type 0} (xs : List A) (a : A) (i : ℕ) (b : A) → get_elem? (xs ++ a ∷ []) i ≡ some b → (get_elem? xs i ≡ some b) ⊎ ((i ≡ length xs) × (a ≡ b))
+at_end [] a zero b e = inr (refl, some-injective a b e)
+at_end [] a (suc i) b e = absurd (some-ne-none b (sym e))
+at_end (x ∷ xs) a zero b e = inl e
+at_end (x ∷ xs) a (suc i) b e = ⊎_elim (λ h. inl h) (λ h. inr (ap suc h.0, h.1)) (at_end xs a i b e)
+
+take_end : (lines : List Line) (l : Line) → take (length lines) (lines ++ l ∷ []) ≡ lines
+take_end [] l = refl
+take_end (x ∷ lines) l = ap (λ (k : List Line). x ∷ k) (take_end lines l)
+
+-- one more place, whose entry has the log before it
+pub shows_more : (row : Shelves) (places : List (Where Entry)) (lines : List Line) (p : Where Entry) (l : Line) → ShowsEach row places lines → Shows row p → IsEntryOf lines l.session l.asked p.value →
+    ShowsEach row (places ++ p ∷ []) (lines ++ l ∷ [])
+shows_more row places lines p l h shows is = record {
+  same = omega (arith, h.same, length-append places (p ∷ []), length-append lines (l ∷ []));
+  each = λ i q m at_q at_m. ⊎_elim
+      (λ (old : get_elem? places i ≡ some q).
+      let low = at_place places i q old in
+      ⊎_elim
+      (λ (was : get_elem? lines i ≡ some m).
+      let o = h.each i q m old was in
+      (o.0, subst (λ (ls : List Line). IsEntryOf ls m.session m.asked q.value) (sym (take-append-le i lines (l ∷ []) (omega (arith, h.same)))) o.1))
+      (λ (now : (i ≡ length lines) × (l ≡ m)). absurd (omega (arith, now.0, h.same)))
+      (at_end lines l i m at_m))
+      (λ (new : (i ≡ length places) × (p ≡ q)).
+      let here : i ≡ length lines = new.0 ∙ h.same in
+      ⊎_elim
+      (λ (was : get_elem? lines i ≡ some m). absurd (omega (arith, at_place lines i m was, here)))
+      (λ (now : (i ≡ length lines) × (l ≡ m)). (
+        subst (λ (r : Where Entry). Shows row r) new.1 shows,
+        subst (λ (r : Where Entry). IsEntryOf (take i (lines ++ l ∷ [])) m.session m.asked r.value) new.1
+            (subst (λ (x : Line). IsEntryOf (take i (lines ++ l ∷ [])) x.session x.asked p.value) now.1
+            (subst (λ (ls : List Line). IsEntryOf ls l.session l.asked p.value) (sym (ap (λ n. take n (lines ++ l ∷ [])) here ∙ take_end lines l)) is)),
+      ))
+      (at_end lines l i m at_m))
+      (at_end places p i q at_q);
+}
+
+get_at : {A : Type 0} (xs : List A) (i : ℕ) (d : A) → i < length xs → get_elem? xs i ≡ some (get_or xs i d)
+get_at [] i d h = absurd (omega arith)
+get_at (x ∷ xs) zero d h = refl
+get_at (x ∷ xs) (suc i) d h = get_at xs i d (omega arith)
+
+take_next : (lines : List Line) (i : ℕ) (d : Line) → i < length lines → take (i + 1) lines ≡ take i lines ++ get_or lines i d ∷ []
+take_next lines i d low = ap (λ n. take n lines) (add-one i) ∙ by lines i low
+  where
+    by : (lines : List Line) (i : ℕ) → i < length lines → take (suc i) lines ≡ take i lines ++ get_or lines i d ∷ []
+    by [] i low = absurd (omega arith)
+    by (l ∷ lines) zero low = refl
+    by (l ∷ lines) (suc i) low = ap (λ (k : List Line). l ∷ k) (by lines i (omega arith))
+
+-- the token at a place of the log: the calls up to it are those before its entry, and one of its entry's session and asking
+pub at_log : (row : Shelves) (places : List (Where Entry)) (lines : List Line) (i : ℕ) (p : Where Entry) (d : Line) → ShowsEach row places lines → i < length places → p ≡ get_or places i p →
+    (l : Line) × (Shows row p × IsEntryOf (take i lines) l.session l.asked p.value × (take (i + 1) lines ≡ take i lines ++ l ∷ []))
+at_log row places lines i p d h low is =
+    let e = h.each i p (get_or lines i d) (get_at places i p low ∙ ap some (sym is)) (get_at lines i d (omega (arith, h.same))) in
+    (get_or lines i d, (e.0, e.1, take_next lines i d (omega (arith, h.same))))
+
+pub prefix_take : (n : ℕ) (events : List Event) → IsPrefix (take n events) events
+prefix_take n events = (drop n events, take-append-drop n events)
+
+-- ---- fronts by their places
+
+pub some_story : (e : Entry) (answer : Answer) → 0 < length (story e answer)
+some_story e answer = omega (arith, length-append (lines_of e.before.value.items) (line e.session e.asked.value answer ∷ []))
+
+module _ (row : Shelves) (game : NamedGame) (diagram : NamedDiagram) (c : Chronicle) (newest : List Event) (kept : IsChronicle row game diagram c newest) where
+  abbrev F : Family
+  F = family_between game diagram
+
+  pub newest_length : length newest ≡ length c.told.items
+  newest_length = ap length kept.newest_is ∙ events-length F opened (lines_of c.told.items) ∙ length-map c.told.items line_of
+
+  pub is_shown : (count : ℕ) (mine : Where Entry) → count - 1 < length c.places.items → mine ≡ get_or c.places.items (count - 1) mine → Shows row mine
+  is_shown count mine low is = (at_log row c.places.items (lines_of c.told.items) (count - 1) mine (line 0 Settled Spent) kept.shows low is).1.0
+
+  -- a front whose last place is the log's there is a beginning of the log
+  pub is_beginning : {limit : ℕ} (count : ℕ) (place mine : Where Entry) (answer : Answer) → IsFront row game diagram limit count (Some (place, answer)) → count ≤ length c.places.items → mine ≡ get_or c.places.items (count - 1) mine →
+      mine.value ≡ place.value → IsPrefix (events_of F (story place.value answer)) newest
+  is_beginning count place mine answer front low is same =
+      subst (λ (l : List Event). IsPrefix l newest) (sym events) (prefix_take (count - 1 + 1) newest)
+    where
+      some_call : 0 < count
+      some_call = let e : count ≡ length (story place.value answer) = front.count_is in let s = some_story place.value answer in omega arith
+
+      at : (l : Line) × (Shows row mine × IsEntryOf (take (count - 1) (lines_of c.told.items)) l.session l.asked mine.value × (take (count - 1 + 1) (lines_of c.told.items) ≡ take (count - 1) (lines_of c.told.items) ++ l ∷ []))
+      at = at_log row c.places.items (lines_of c.told.items) (count - 1) mine (line 0 Settled Spent) kept.shows (omega (arith, some_call)) is
+
+      l : Line
+      l = at.0
+
+      xs : List Line
+      xs = take (count - 1) (lines_of c.told.items)
+
+      entry : IsEntryOf xs l.session l.asked place.value
+      entry = subst (λ (e : Entry). IsEntryOf xs l.session l.asked e) same at.1.1
+
+      theirs : story place.value answer ≡ xs ++ line place.value.session place.value.asked.value answer ∷ []
+      theirs = ap (λ (ls : List Line). ls ++ line place.value.session place.value.asked.value answer ∷ []) entry.before
+
+      events : events_of F (story place.value answer) ≡ take (count - 1 + 1) newest
+      events =
+          ap (events_of F) theirs
+          ∙ same_last game diagram xs (line place.value.session place.value.asked.value answer) l
+          (subst (IsStory game diagram) theirs front.is_story) (subst (IsStory game diagram) at.1.2 (story_take game diagram (count - 1 + 1) (lines_of c.told.items) kept.is_story)) entry.session entry.asked
+          ∙ ap (events_of F) (sym at.1.2)
+          ∙ sym (events-take F opened (count - 1 + 1) (lines_of c.told.items))
+          ∙ ap (take (count - 1 + 1)) (sym kept.newest_is)

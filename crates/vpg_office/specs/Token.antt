@@ -1,0 +1,23 @@
+-- Tokens as callers see them.
+use Rattle.std.specs.Prelude.{◌≡◌, ℕ, List, [], ◌∷◌, ◌++◌, IsTrue}
+use Rattle.boxcar.specs.Table.{Shelves}
+use Rattle.vpg_desk.specs.Book.{Reply}
+use Rattle.vpg_desk.specs.History.{Event}
+
+-- the change, and the history up to the call that gave the token
+pub record Held : Type 0 where
+  pub serial : ℕ
+  pub history : List Event
+
+-- the history ends with a call that gave a token of this serial
+pub record EndsWith (gives : Reply → Type 0) (history : List Event) : Type 0 where
+  pub before : List Event
+  pub own : Event
+  pub is : history ≡ before ++ own ∷ []
+  pub gave : gives own.reply
+
+-- what an office stands on: the name of its row, and its ledger's name and parts
+pub record Named : Type 0 where
+  pub row : Shelves
+  pub name : ℕ
+  pub parts : ℕ

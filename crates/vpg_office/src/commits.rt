@@ -1,0 +1,113 @@
+//! Committing what lifters bring back.
+ghost use Rattle.std.specs.Prelude.{◌≡◌, ◌<◌, Bool, true, Some, None, length, IfOk, IfErr, OnOk, option_map};
+ghost use Rattle.std.specs.Bool.{Decides};
+ghost use mathlib.Core.List.{IsPrefix};
+ghost use Rattle.vpg_desk.specs.Book as book;
+ghost use Rattle.vpg_office.specs.Fronts.{Extends, family_between};
+ghost use Rattle.vpg_desk.specs.Commit.{commit_refusal, handed_in};
+ghost use Rattle.vpg_office.specs.Faults.{CommitTells};
+ghost use Rattle.vpg_office.specs.Story.{IsOf, refusal_of};
+
+use crate::asked::{Answer, Asked, Cause};
+use crate::chronicle::Row;
+use crate::fault::{Fault, Returned};
+use crate::front::Front;
+use crate::log::{Log, admit, enter};
+use crate::terms::Terms;
+use std::alloc::Global;
+use std::snapshot::Snapshot;
+use std::sync::Wait;
+use vpg_desk::{CommitFault, CommitRefused};
+use vpg_measure::Harvest;
+
+/// Why the desk refuses to commit, where it isn't want of memory.
+fn commit_cause(fault: CommitFault) -> Option<Cause>
+    ensures { option_map refusal_of result ≡ commit_refusal fault }
+{
+    match fault {
+        CommitFault::OtherGame => Some(Cause::OtherGame),
+        CommitFault::Outdated { feature } => Some(Cause::Outdated { feature }),
+        CommitFault::Memory => None,
+    }
+}
+
+impl<L: Terms> Log<L> {
+    /// Session `session` commits a harvest.
+    pub(crate) fn commit<R: Wait>(
+        &mut self,
+        rt: &R,
+        alloc: Global,
+        row: &Row,
+        session: u32,
+        front: &mut Front<L>,
+        harvest: Harvest,
+    ) -> Result<u32, Returned<L, CommitFault, Harvest>>
+        requires row { row.now ≡ L.shelves }
+        requires seen { IsPrefix front.old self.old }
+        ensures done { IfOk result (λ added. Extends (family_between L.game L.diagram) front.old session (book.Commit (handed_in true harvest)) (book.Added added) front.new) }
+        ensures same { OnOk result (IsOf L.game L.diagram harvest.order) }
+        ensures fault { IfErr result (λ b. CommitTells L.game L.diagram L.limit harvest session front.old front.new b.fault) }
+        ensures back { IfErr result (λ b. b.value ≡ harvest) }
+    {
+        let _ = harvest.order();
+        let asked = Asked::Commit {
+            harvest: Snapshot::of(&harvest),
+        };
+        let place = match admit(
+            rt,
+            row,
+            &mut self.chronicle,
+            &self.newest,
+            front,
+            self.room,
+            session,
+            &asked,
+        ) {
+            Ok(place) => place,
+            Err(fault) => {
+                return Err(Returned {
+                    fault,
+                    value: harvest,
+                });
+            }
+        };
+        match self.desk.commit(alloc, harvest) {
+            Ok(entries) => {
+                let answer = Answer::Added { entries };
+                enter(
+                    &mut self.chronicle,
+                    &mut self.newest,
+                    &place,
+                    session,
+                    &asked,
+                    answer,
+                );
+                *front = self.newest.copy();
+                Ok(entries)
+            }
+            Err(refused) => {
+                let CommitRefused { fault, harvest } = refused;
+                let Some(cause) = commit_cause(fault) else {
+                    return Err(Returned {
+                        fault: Fault::Memory,
+                        value: harvest,
+                    });
+                };
+                let answer = Answer::Refused { cause };
+                enter(
+                    &mut self.chronicle,
+                    &mut self.newest,
+                    &place,
+                    session,
+                    &asked,
+                    answer,
+                );
+                *front = self.newest.copy();
+                Err(Returned {
+                    fault: Fault::Refused { fault },
+                    value: harvest,
+                })
+            }
+        }
+    }
+}

@@ -1,0 +1,106 @@
+//! A front: a beginning of the log that was seen.
+ghost use Rattle.std.specs.Prelude.{◌≡◌, ◌≤◌, [], length};
+ghost use Rattle.boxcar.specs.Table.{Shows};
+ghost use Rattle.vpg_desk.specs.Headline.{Headline};
+ghost use Rattle.vpg_desk.specs.State.{IsOpened, setting_between};
+ghost use Rattle.vpg_office.specs.Fronts.{IsHistory, family_between};
+ghost use Rattle.vpg_office.specs.Kept.{story};
+ghost use Rattle.vpg_office.specs.Story.{events_of, IsStory};
+
+use crate::asked::{Answer, Entry};
+use crate::terms::Terms;
+use boxcar::Pushed;
+use std::marker::{Model, PhantomData};
+
+pub(crate) type Place = Pushed<Entry>;
+
+/// A beginning of the log of an office. Contracts see it as a history of the office's desk: its calls with their sessions and
+/// replies.
+#[derive(Drop)]
+pub struct Front<L: Terms> {
+    pub(crate) count: usize,
+    pub(crate) last: Option<(Place, Answer)>,
+    pub(crate) of: PhantomData<L>,
+}
+
+impl<L: Terms> Model for Front<L> {
+    ghost use Rattle.std.specs.Coded.{codes};
+    ghost use Rattle.std.specs.Prelude.{List};
+    ghost use Rattle.vpg_desk.specs.History.{Event};
+
+    ghost Value = { List Event };
+
+    ghost coded = { Prim.hlevel codes };
+
+    ghost use Rattle.vpg_office.specs.Fronts.{family_between};
+    ghost use Rattle.vpg_office.specs.Kept.{story_to, IsFront};
+    ghost use Rattle.vpg_office.specs.Story.{events_of};
+
+    ghost view = { λ f. events_of (family_between L.game L.diagram) (story_to f.last) };
+
+    ghost invariant = { λ f. IsFront L.shelves L.game L.diagram L.limit f.count f.last };
+}
+
+impl<L: Terms> Front<L> {
+    /// The front that has seen nothing.
+    pub fn empty() -> Front<L>
+        requires { IsOpened L.game L.diagram }
+        ensures { result ≡ [] }
+    {
+        Front {
+            count: 0,
+            last: None,
+            of: PhantomData,
+        }
+    }
+
+    /// The front that ends at a place.
+    pub(crate) fn at(place: &Place, answer: Answer, count: usize) -> Front<L>
+        requires row { Shows L.shelves place.now }
+        requires count { count ≡ length (story place.now.value answer) }
+        requires fits { count ≤ L.limit }
+        requires is_story { IsStory L.game L.diagram (story place.now.value answer) }
+        ensures { result ≡ events_of (family_between L.game L.diagram) (story place.now.value answer) }
+    {
+        Front {
+            count,
+            last: Some((place.again(), answer)),
+            of: PhantomData,
+        }
+    }
+
+    /// How many calls it has: at most as many as the log takes.
+    pub fn len(&self) -> usize
+        ensures length { result ≡ length self.now }
+        ensures fits { result ≤ L.limit }
+        // It is a legal history of the desk, into which lawful harvests alone were handed.
+        ensures history { IsHistory (family_between L.game L.diagram) self.now }
+    {
+        self.count
+    }
+
+    /// The same front once more.
+    pub fn copy(&self) -> Front<L>
+        ensures same { result ≡ self.now }
+        ensures history { IsHistory (family_between L.game L.diagram) self.now }
+        ensures opens { IsOpened L.game L.diagram }
+    {
+        let last = match &self.last {
+            Some((place, answer)) => Some((place.again(), *answer)),
+            None => None,
+        };
+        Front {
+            count: self.count,
+            last,
+            of: PhantomData,
+        }
+    }
+
+    /// What holds of every legal history holds of it: undo and redo restore pages, each page's tables are below every progress
+    /// table, settled ones are the least, hopeless and sure mean what they say.
+    pub fn headline(&self)
+        ensures { Headline (setting_between L.game L.diagram) self.now }
+    {
+        let _ = &self.count;
+    }
+}

@@ -1,0 +1,37 @@
+//! Offices: one desk that several sessions share, each call of theirs one event under a lock.
+//!
+//! A session lends a front to each call: a beginning of the log, which contracts see as a legal history of the desk (`vpg_desk`). The
+//! front grows to end with the call. Tokens carry the place of the call that gave them. `with_office` opens an office for a caller's
+//! work; `close` and `end` end it. Definitions: `specs/Fronts.antt` (histories and how a call extends them), `specs/Faults.antt` (what a
+//! refused call tells), `specs/Token.antt`; what lies under the lock is in `specs/Kept.antt`, `specs/Locked.antt` and `specs/Story.antt`.
+#![tactic(auto)]
+
+mod asked;
+mod chronicle;
+mod closing;
+mod commits;
+mod fault;
+mod front;
+mod log;
+mod looks;
+mod office;
+mod redo_token;
+mod retract;
+mod session;
+mod sharing;
+mod site;
+mod terms;
+mod tokens;
+mod undo_token;
+mod work;
+
+pub use fault::{Fault, Never, Returned};
+pub use front::Front;
+pub use office::{NotOpened, Office, TokensOut, TooManySessions};
+pub use redo_token::Redo;
+pub use session::Session;
+pub use sharing::may_be_shared;
+pub use site::Site;
+pub use terms::Terms;
+pub use undo_token::Undo;
+pub use work::{Work, with_office};

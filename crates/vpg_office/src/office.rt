@@ -1,0 +1,208 @@
+//! The office: the row of calls, and the log under a lock.
+ghost use Rattle.std.specs.Arc.{arc_value};
+ghost use Rattle.std.specs.Prelude.{◌≡◌, ◌⊎◌, ◌+◌, ◌<◌, ◌≤◌, ◌↔◌, ℕ, List, [], length, IfOk, IfErr, OnOk};
+ghost use mathlib.Core.List.{IsPrefix};
+ghost use Rattle.vpg_diagram.specs.FeatureDiagram.{feature_count};
+ghost use Rattle.vpg_game.specs.Game.{IsAtLimit};
+ghost use Rattle.vpg_partial.specs.KnownLaws.{HasConflictOf};
+ghost use Rattle.vpg_desk.specs.Book.{opened};
+ghost use Rattle.vpg_desk.specs.History.{book_after};
+ghost use Rattle.vpg_desk.specs.State.{IsOpened};
+ghost use Rattle.vpg_office.specs.Fronts.{IsHistory, family_between};
+
+use crate::chronicle::Row;
+use crate::front::Front;
+use crate::log::Log;
+use crate::redo_token::Redo;
+use crate::session::Session;
+use crate::site::Site;
+use crate::terms::Terms;
+use crate::undo_token::Undo;
+use std::alloc::Global;
+use std::sync::{Arc, Mutex, MutexGuard, Wait};
+use thiserror::Error;
+use vpg_desk::{Desk, OpenFault, OpenRefused};
+use vpg_diagram::Diagram;
+use vpg_game::GuardedGame;
+
+/// A row of calls, by its name.
+pub trait Rowed {
+    ghost use Rattle.boxcar.specs.Table.{Shelves};
+
+    ghost row_of: { Self → Shelves };
+
+    fn is_row(&self) -> bool;
+}
+
+impl Rowed for Row {
+    ghost row_of = { λ r. r };
+
+    fn is_row(&self) -> bool {
+        true
+    }
+}
+
+/// Sessions share it by reference; `close` or `end` ends it. The row's type is a parameter, so that the check finds that threads may
+/// share it.
+pub struct Shared<W: Rowed, L: Terms> {
+    pub(crate) row: W,
+    pub(crate) log: Mutex<Log<L>>,
+    ghost of: { W.row_of row ≡ L.shelves },
+}
+
+pub type Office<L> = Shared<Row, L>;
+
+/// An office has 1,024 sessions.
+#[derive(Clone, Copy, Debug, PartialEq, Eq, Error)]
+#[error("TooManySessions")]
+pub struct TooManySessions;
+
+/// Tokens of the office are out.
+pub struct TokensOut<L: Terms> {
+    /// Their exact number, at least one.
+    pub tokens: u64,
+    pub office: Office<L>,
+}
+
+/// An office that isn't opened, with what was handed in.
+#[derive(Drop)]
+pub struct NotOpened {
+    pub fault: OpenFault,
+    pub game: Arc<GuardedGame>,
+    pub diagram: Arc<Diagram>,
+    pub site: Site,
+}
+
+impl<L: Terms> Shared<Row, L> {
+    /// An office on a game and a diagram, whose log takes `room` calls.
+    pub fn open(
+        alloc: Global,
+        site: Site,
+        game: Arc<GuardedGame>,
+        diagram: Arc<Diagram>,
+        room: u32,
+    ) -> Result<Office<L>, NotOpened>
+        requires features { (arc_value game).features ≡ feature_count (arc_value diagram).lines }
+        requires site { (site.row ≡ L.shelves) × (site.name ≡ L.name) × (site.parts ≡ L.parts) }
+        requires of { (arc_value game ≡ L.game) × (arc_value diagram ≡ L.diagram) }
+        requires room { (room ≡ L.limit) × (1 ≤ room) × (room ≤ 1048576) }
+        ensures fits { OnOk result (IsOpened L.game L.diagram) }
+        ensures at_limit { IfErr result (λ refused. (refused.fault ≡ OpenFault.AtLimit) ↔ IsAtLimit (arc_value game)) }
+        ensures conflict { IfErr result (λ refused. (f : ℕ) → refused.fault ≡ OpenFault.Conflict f → HasConflictOf (arc_value diagram).lines [] × (f ≡ 0)) }
+        ensures game_back { IfErr result (λ refused. arc_value refused.game ≡ arc_value game) }
+        ensures diagram_back { IfErr result (λ refused. arc_value refused.diagram ≡ arc_value diagram) }
+        ensures site_back { IfErr result (λ refused. refused.site ≡ site) }
+    {
+        match Desk::open(alloc, game, diagram) {
+            Ok(desk) => {
+                let Site { row, blank } = site;
+                let (book, rest) = blank.open::<L>();
+                let log = Log::open(alloc, desk, book, rest, room as usize);
+                Ok(Shared {
+                    row,
+                    log: Mutex::new(log),
+                })
+            }
+            Err(refused) => {
+                let OpenRefused {
+                    fault,
+                    game,
+                    diagram,
+                } = refused;
+                Err(NotOpened {
+                    fault,
+                    game,
+                    diagram,
+                    site,
+                })
+            }
+        }
+    }
+
+    /// A further session, with the log so far. Refused where there are 1,024.
+    pub fn join<R: Wait>(&self, rt: &R) -> Result<(Session<L>, Front<L>), TooManySessions>
+        ensures history { IfOk result (λ r. IsHistory (family_between L.game L.diagram) r.1) }
+        ensures number { IfOk result (λ r. (1 ≤ r.0) × (r.0 ≤ 1024)) }
+    {
+        let mut log = self.log.lock(rt);
+        let number = log.number();
+        let front = log.front();
+        MutexGuard::unlock(log);
+        match number {
+            Some(number) => Ok((Session::numbered(number), front)),
+            None => Err(TooManySessions),
+        }
+    }
+
+    /// The first becomes the longer of both.
+    pub fn meet<R: Wait>(&self, rt: &R, front: &mut Front<L>, other: &Front<L>)
+        ensures mine { IsPrefix front.old front.new }
+        ensures theirs { IsPrefix other.now front.new }
+        ensures one { (front.new ≡ front.old) ⊎ (front.new ≡ other.now) }
+        ensures history { IsHistory (family_between L.game L.diagram) front.new }
+    {
+        'again: for _ in rt.forever() {
+            let log = self.log.lock(rt);
+            let met = log.meets(&self.row, front, other);
+            MutexGuard::unlock(log);
+            if met {
+                return;
+            }
+        }
+        unreachable!()
+    }
+
+    /// Ends the office, where no token of it is out; else it comes back, with their exact number. The front grows to the whole log,
+    /// by which the number is told.
+    pub fn close<R: Wait>(self, rt: &R, front: &mut Front<L>) -> Result<(), TokensOut<L>>
+        ensures begins { IsPrefix front.old front.new }
+        ensures history { IsHistory (family_between L.game L.diagram) front.new }
+        ensures closed { OnOk result ((book_after (family_between L.game L.diagram) opened front.new).tokens ≡ 0) }
+        ensures out { IfErr result (λ out. (out.tokens ≡ (book_after (family_between L.game L.diagram) opened front.new).tokens) × (0 < out.tokens)) }
+    {
+        let Shared { row, log } = self;
+        let log = log.into_inner();
+        'again: for _ in rt.forever() {
+            if log.has(&row, front) {
+                *front = log.front();
+                let tokens = log.tokens();
+                if tokens == 0 {
+                    log.dissolve();
+                    return Ok(());
+                }
+                return Err(TokensOut {
+                    tokens,
+                    office: Shared {
+                        row,
+                        log: Mutex::new(log),
+                    },
+                });
+            }
+        }
+        unreachable!()
+    }
+
+    /// Spends the tokens handed in, and ends the office, whatever the log's room. It is never refused, and answers how many further
+    /// tokens are out. The front grows to the whole log, by which the number is told.
+    pub fn end<R: Wait>(
+        self,
+        rt: &R,
+        front: &mut Front<L>,
+        undos: Vec<Undo<L>>,
+        redos: Vec<Redo<L>>,
+    ) -> u64
+        ensures begins { IsPrefix front.old front.new }
+        ensures history { IsHistory (family_between L.game L.diagram) front.new }
+        ensures further { result + length undos.items + length redos.items ≡ (book_after (family_between L.game L.diagram) opened front.new).tokens }
+    {
+        let Shared { row, log } = self;
+        let log = log.into_inner();
+        'again: for _ in rt.forever() {
+            if log.has(&row, front) {
+                *front = log.front();
+                return log.end(undos, redos);
+            }
+        }
+        unreachable!()
+    }
+}

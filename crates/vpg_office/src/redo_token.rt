@@ -1,0 +1,41 @@
+//! Tokens of changes that sessions undid.
+ghost use Rattle.std.specs.Prelude.{◌≡◌};
+
+use crate::front::Front;
+use crate::terms::Terms;
+use std::marker::Model;
+use std::sync::ledger::Share;
+
+/// Stands for a change that was undone. It can be neither copied nor let go: `Session::redo` or `Session::forget` spends
+/// it, or `Office::end`. Contracts see the change's serial, and the history up to the call that gave the token.
+pub struct Redo<L: Terms> {
+    pub(crate) token: vpg_desk::Redo,
+    pub(crate) place: Front<L>,
+    pub(crate) share: Share<L>,
+}
+
+impl<L: Terms> Model for Redo<L> {
+    ghost use Rattle.std.specs.Coded.{codes};
+    ghost use Rattle.vpg_office.specs.Token.{Held};
+
+    ghost Value = { Held };
+
+    ghost coded = { Prim.hlevel codes };
+
+    ghost use Rattle.std.specs.Prelude.{◌≡◌, IsTrue};
+    ghost use Rattle.vpg_desk.specs.History.{gives_redo};
+    ghost use Rattle.vpg_office.specs.Token.{EndsWith};
+
+    ghost view = { λ t. record { serial = t.token; history = t.place } };
+
+    ghost invariant = { λ t. (t.share.amount ≡ 1) × (t.share.parts ≡ 1) × EndsWith (λ reply. IsTrue (gives_redo t.token reply)) t.place };
+}
+
+impl<L: Terms> Redo<L> {
+    /// The serial of the change.
+    pub fn serial(&self) -> u64
+        ensures { result ≡ self.now.serial }
+    {
+        self.token.serial()
+    }
+}

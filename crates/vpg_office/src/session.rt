@@ -1,0 +1,371 @@
+//! Sessions and their calls.
+ghost use Rattle.std.specs.Prelude.{◌≡◌, ◌<◌, ◌≤◌, true, length, IfOk, IfErr, OnOk};
+ghost use mathlib.Core.List.{IsPrefix};
+ghost use Rattle.vpg_desk.specs.Book as book;
+ghost use Rattle.vpg_desk.specs.Commit.{handed_in};
+ghost use Rattle.vpg_game.specs.Game.{graph_of};
+ghost use Rattle.vpg_trail.specs.Page.{Hopeful, Dual, decisions_of, table_of};
+ghost use Rattle.vpg_desk.specs.Headline.{Tells as PageTells};
+ghost use Rattle.vpg_desk.specs.History.{book_after};
+ghost use Rattle.vpg_desk.specs.Lawful.{PageIsBelow};
+ghost use Rattle.vpg_desk.specs.Setting.{IsSetting};
+ghost use Rattle.vpg_desk.specs.State.{IsReached, setting_between};
+ghost use Rattle.vpg_desk.specs.Faults.{decide_refusal, redo_refusal, retract_refusal, undo_refusal};
+ghost use Rattle.vpg_office.specs.Faults.{Begins, CommitTells, Tells, never_refused};
+ghost use Rattle.vpg_office.specs.Fronts.{Extends, GoesBackTo, family_between};
+ghost use Rattle.vpg_office.specs.Story.{IsOf};
+
+use crate::fault::{Fault, Never, Returned};
+use crate::front::Front;
+use crate::office::Office;
+use crate::redo_token::Redo;
+use crate::terms::Terms;
+use crate::undo_token::Undo;
+use std::alloc::Global;
+use std::marker::{Model, PhantomData};
+use std::sync::{MutexGuard, Wait};
+use vpg_desk::{CommitFault, DecideFault, RedoFault, RetractFault, UndoFault};
+use vpg_measure::{Harvest, Order, Verdict};
+use vpg_trail::Page;
+
+/// A session of an office. It can't be copied. Contracts see its number, from 1 to 1,024.
+#[derive(Drop)]
+pub struct Session<L: Terms> {
+    number: u32,
+    of: PhantomData<L>,
+}
+
+impl<L: Terms> Model for Session<L> {
+    ghost use Rattle.std.specs.Prelude.{ℕ};
+
+    ghost Value = { ℕ };
+
+    ghost view = { λ s. s.number };
+
+    ghost use Rattle.std.specs.Prelude.{◌≤◌};
+
+    ghost invariant = { λ s. (1 ≤ s.number) × (s.number ≤ 1024) };
+}
+
+impl<L: Terms> Session<L> {
+    pub(crate) fn numbered(number: u32) -> Session<L>
+        requires { (1 ≤ number) × (number ≤ 1024) }
+        ensures { result ≡ number }
+    {
+        Session {
+            number,
+            of: PhantomData,
+        }
+    }
+
+    /// Its number.
+    pub fn number(&self) -> u32
+        ensures number { result ≡ self.now }
+        ensures range { (1 ≤ result) × (result ≤ 1024) }
+    {
+        self.number
+    }
+
+    /// Decides a feature in or out, as `Desk::decide`.
+    pub fn decide<R: Wait>(
+        &mut self,
+        rt: &R,
+        alloc: Global,
+        office: &Office<L>,
+        front: &mut Front<L>,
+        feature: u16,
+        value: bool,
+    ) -> Result<Undo<L>, Fault<L, DecideFault>>
+        ensures done { IfOk result (λ t. Extends (family_between L.game L.diagram) front.old self.old (book.Decide feature value) (book.Changed t.serial) front.new × (t.history ≡ front.new)) }
+        ensures fault { IfErr result (Tells (family_between L.game L.diagram) L.limit decide_refusal (book.Decide feature value) self.old front.old front.new) }
+        ensures same { self.new ≡ self.old }
+    {
+        let number = self.number;
+        'again: for _ in rt.forever() {
+            let mut log = office.log.lock(rt);
+            if log.has(&office.row, front) {
+                let answer = log.decide(rt, alloc, &office.row, number, front, feature, value);
+                MutexGuard::unlock(log);
+                return answer;
+            }
+            MutexGuard::unlock(log);
+        }
+        unreachable!()
+    }
+
+    /// Takes the decision on a feature back, as `Desk::retract`.
+    pub fn retract<R: Wait>(
+        &mut self,
+        rt: &R,
+        alloc: Global,
+        office: &Office<L>,
+        front: &mut Front<L>,
+        feature: u16,
+    ) -> Result<Undo<L>, Fault<L, RetractFault>>
+        ensures done { IfOk result (λ t. Extends (family_between L.game L.diagram) front.old self.old (book.Retract feature) (book.Changed t.serial) front.new × (t.history ≡ front.new)) }
+        ensures fault { IfErr result (Tells (family_between L.game L.diagram) L.limit retract_refusal (book.Retract feature) self.old front.old front.new) }
+        ensures same { self.new ≡ self.old }
+    {
+        let number = self.number;
+        'again: for _ in rt.forever() {
+            let mut log = office.log.lock(rt);
+            if log.has(&office.row, front) {
+                let answer = log.retract(rt, alloc, &office.row, number, front, feature);
+                MutexGuard::unlock(log);
+                return answer;
+            }
+            MutexGuard::unlock(log);
+        }
+        unreachable!()
+    }
+
+    /// Takes the token's change back, as `Desk::undo`: the present page is the one just before the call that gave the token.
+    pub fn undo<R: Wait>(
+        &mut self,
+        rt: &R,
+        alloc: Global,
+        office: &Office<L>,
+        front: &mut Front<L>,
+        token: Undo<L>,
+    ) -> Result<Redo<L>, Returned<L, UndoFault, Undo<L>>>
+        ensures done { IfOk result (λ t. Extends (family_between L.game L.diagram) front.old self.old (book.Undo token.serial) (book.Undone t.serial) front.new × (t.history ≡ front.new)) }
+        ensures goes_back { OnOk result (GoesBackTo (family_between L.game L.diagram) front.new token.history) }
+        ensures begins { OnOk result (IsPrefix token.history front.new) }
+        ensures fault { IfErr result (λ b. Tells (family_between L.game L.diagram) L.limit undo_refusal (book.Undo token.serial) self.old front.old front.new b.fault) }
+        ensures refused { IfErr result (λ b. Begins token.history front.new b.fault) }
+        ensures back { IfErr result (λ b. b.value ≡ token) }
+        ensures same { self.new ≡ self.old }
+    {
+        let number = self.number;
+        'again: for _ in rt.forever() {
+            let mut log = office.log.lock(rt);
+            if log.has(&office.row, front) && log.holds(&office.row, token.serial(), &token.place) {
+                let answer = log.undo(rt, alloc, &office.row, number, front, token);
+                MutexGuard::unlock(log);
+                return answer;
+            }
+            MutexGuard::unlock(log);
+        }
+        unreachable!()
+    }
+
+    /// Makes the token's change again, as `Desk::redo`: the present page is the one just before the call that gave the token.
+    pub fn redo<R: Wait>(
+        &mut self,
+        rt: &R,
+        alloc: Global,
+        office: &Office<L>,
+        front: &mut Front<L>,
+        token: Redo<L>,
+    ) -> Result<Undo<L>, Returned<L, RedoFault, Redo<L>>>
+        ensures done { IfOk result (λ t. Extends (family_between L.game L.diagram) front.old self.old (book.Redo token.serial) (book.Redone t.serial) front.new × (t.history ≡ front.new)) }
+        ensures goes_back { OnOk result (GoesBackTo (family_between L.game L.diagram) front.new token.history) }
+        ensures begins { OnOk result (IsPrefix token.history front.new) }
+        ensures fault { IfErr result (λ b. Tells (family_between L.game L.diagram) L.limit redo_refusal (book.Redo token.serial) self.old front.old front.new b.fault) }
+        ensures refused { IfErr result (λ b. Begins token.history front.new b.fault) }
+        ensures back { IfErr result (λ b. b.value ≡ token) }
+        ensures same { self.new ≡ self.old }
+    {
+        let number = self.number;
+        'again: for _ in rt.forever() {
+            let mut log = office.log.lock(rt);
+            if log.has(&office.row, front) && log.holds(&office.row, token.serial(), &token.place) {
+                let answer = log.redo(rt, alloc, &office.row, number, front, token);
+                MutexGuard::unlock(log);
+                return answer;
+            }
+            MutexGuard::unlock(log);
+        }
+        unreachable!()
+    }
+
+    /// Spends a token, as `Desk::keep`.
+    pub fn keep<R: Wait>(
+        &mut self,
+        rt: &R,
+        office: &Office<L>,
+        front: &mut Front<L>,
+        token: Undo<L>,
+    ) -> Result<(), Returned<L, Never, Undo<L>>>
+        ensures done { OnOk result (Extends (family_between L.game L.diagram) front.old self.old (book.Keep token.serial) book.Spent front.new) }
+        ensures begins { OnOk result (IsPrefix token.history front.new) }
+        ensures fault { IfErr result (λ b. Tells (family_between L.game L.diagram) L.limit never_refused (book.Keep token.serial) self.old front.old front.new b.fault) }
+        ensures back { IfErr result (λ b. b.value ≡ token) }
+        ensures same { self.new ≡ self.old }
+    {
+        let number = self.number;
+        'again: for _ in rt.forever() {
+            let mut log = office.log.lock(rt);
+            if log.has(&office.row, front) && log.has(&office.row, &token.place) {
+                let answer = log.keep(rt, &office.row, number, front, token);
+                MutexGuard::unlock(log);
+                return answer;
+            }
+            MutexGuard::unlock(log);
+        }
+        unreachable!()
+    }
+
+    /// Spends a token, as `Desk::forget`.
+    pub fn forget<R: Wait>(
+        &mut self,
+        rt: &R,
+        office: &Office<L>,
+        front: &mut Front<L>,
+        token: Redo<L>,
+    ) -> Result<(), Returned<L, Never, Redo<L>>>
+        ensures done { OnOk result (Extends (family_between L.game L.diagram) front.old self.old (book.Forget token.serial) book.Spent front.new) }
+        ensures begins { OnOk result (IsPrefix token.history front.new) }
+        ensures fault { IfErr result (λ b. Tells (family_between L.game L.diagram) L.limit never_refused (book.Forget token.serial) self.old front.old front.new b.fault) }
+        ensures back { IfErr result (λ b. b.value ≡ token) }
+        ensures same { self.new ≡ self.old }
+    {
+        let number = self.number;
+        'again: for _ in rt.forever() {
+            let mut log = office.log.lock(rt);
+            if log.has(&office.row, front) && log.has(&office.row, &token.place) {
+                let answer = log.forget(rt, &office.row, number, front, token);
+                MutexGuard::unlock(log);
+                return answer;
+            }
+            MutexGuard::unlock(log);
+        }
+        unreachable!()
+    }
+
+    /// Whether both tables of the present page are progress tables.
+    pub fn settled<R: Wait>(
+        &mut self,
+        rt: &R,
+        office: &Office<L>,
+        front: &mut Front<L>,
+    ) -> Result<bool, Fault<L, Never>>
+        ensures done { IfOk result (λ r. Extends (family_between L.game L.diagram) front.old self.old book.Settled (book.IsSettled r) front.new) }
+        ensures fault { IfErr result (Tells (family_between L.game L.diagram) L.limit never_refused book.Settled self.old front.old front.new) }
+        ensures same { self.new ≡ self.old }
+    {
+        let number = self.number;
+        'again: for _ in rt.forever() {
+            let mut log = office.log.lock(rt);
+            if log.has(&office.row, front) {
+                let answer = log.settled(rt, &office.row, number, front);
+                MutexGuard::unlock(log);
+                return answer;
+            }
+            MutexGuard::unlock(log);
+        }
+        unreachable!()
+    }
+
+    /// What the present tables say of a vertex.
+    pub fn verdict<R: Wait>(
+        &mut self,
+        rt: &R,
+        office: &Office<L>,
+        front: &mut Front<L>,
+        vertex: u32,
+    ) -> Result<Verdict, Fault<L, Never>>
+        requires { vertex < length L.game.vertices }
+        ensures done { IfOk result (λ r. Extends (family_between L.game L.diagram) front.old self.old (book.Verdict vertex) (book.VerdictIs r.hopeless r.sure) front.new) }
+        ensures fault { IfErr result (Tells (family_between L.game L.diagram) L.limit never_refused (book.Verdict vertex) self.old front.old front.new) }
+        ensures same { self.new ≡ self.old }
+    {
+        let number = self.number;
+        'again: for _ in rt.forever() {
+            let mut log = office.log.lock(rt);
+            if log.has(&office.row, front) {
+                let answer = log.verdict(rt, &office.row, number, front, vertex);
+                MutexGuard::unlock(log);
+                return answer;
+            }
+            MutexGuard::unlock(log);
+        }
+        unreachable!()
+    }
+
+    /// The present page, as `Desk::page`.
+    pub fn page<R: Wait>(
+        &mut self,
+        rt: &R,
+        alloc: Global,
+        office: &Office<L>,
+        front: &mut Front<L>,
+    ) -> Result<Page, Fault<L, Never>>
+        ensures done { IfOk result (λ r. Extends (family_between L.game L.diagram) front.old self.old book.Page (book.PageIs r.entries) front.new) }
+        ensures decisions { IfOk result (λ r. r.decisions ≡ decisions_of r.entries) }
+        ensures hopeful { IfOk result (λ r. r.hopeful ≡ table_of Hopeful r.entries (length (graph_of L.game))) }
+        ensures dual { IfOk result (λ r. r.dual ≡ table_of Dual r.entries (length (graph_of L.game))) }
+        ensures below { IfOk result (λ r. PageIsBelow (family_between L.game L.diagram) r.entries) }
+        ensures tells { IfOk result (λ r. PageTells (setting_between L.game L.diagram) r.entries) }
+        ensures setting { OnOk result (IsSetting (setting_between L.game L.diagram)) }
+        ensures reached { OnOk result (IsReached (setting_between L.game L.diagram) (book_after (family_between L.game L.diagram) book.opened front.new)) }
+        ensures fault { IfErr result (Tells (family_between L.game L.diagram) L.limit never_refused book.Page self.old front.old front.new) }
+        ensures same { self.new ≡ self.old }
+    {
+        let number = self.number;
+        'again: for _ in rt.forever() {
+            let mut log = office.log.lock(rt);
+            if log.has(&office.row, front) {
+                let answer = log.page(rt, alloc, &office.row, number, front);
+                MutexGuard::unlock(log);
+                return answer;
+            }
+            MutexGuard::unlock(log);
+        }
+        unreachable!()
+    }
+
+    /// What lifters take along.
+    pub fn order<R: Wait>(
+        &mut self,
+        rt: &R,
+        alloc: Global,
+        office: &Office<L>,
+        front: &mut Front<L>,
+    ) -> Result<Order, Fault<L, Never>>
+        ensures done { IfOk result (λ r. Extends (family_between L.game L.diagram) front.old self.old book.Order (book.Ordered r.decisions r.hopeful r.dual) front.new) }
+        ensures ours { IfOk result (λ r. IsOf L.game L.diagram r) }
+        ensures fault { IfErr result (Tells (family_between L.game L.diagram) L.limit never_refused book.Order self.old front.old front.new) }
+        ensures same { self.new ≡ self.old }
+    {
+        let number = self.number;
+        'again: for _ in rt.forever() {
+            let mut log = office.log.lock(rt);
+            if log.has(&office.row, front) {
+                let answer = log.order(rt, alloc, &office.row, number, front);
+                MutexGuard::unlock(log);
+                return answer;
+            }
+            MutexGuard::unlock(log);
+        }
+        unreachable!()
+    }
+
+    /// Raises the present tables to the harvest's, as `Desk::commit`.
+    pub fn commit<R: Wait>(
+        &mut self,
+        rt: &R,
+        alloc: Global,
+        office: &Office<L>,
+        front: &mut Front<L>,
+        harvest: Harvest,
+    ) -> Result<u32, Returned<L, CommitFault, Harvest>>
+        ensures done { IfOk result (λ added. Extends (family_between L.game L.diagram) front.old self.old (book.Commit (handed_in true harvest)) (book.Added added) front.new) }
+        ensures ours { OnOk result (IsOf L.game L.diagram harvest.order) }
+        ensures fault { IfErr result (λ b. CommitTells L.game L.diagram L.limit harvest self.old front.old front.new b.fault) }
+        ensures back { IfErr result (λ b. b.value ≡ harvest) }
+        ensures same { self.new ≡ self.old }
+    {
+        let number = self.number;
+        'again: for _ in rt.forever() {
+            let mut log = office.log.lock(rt);
+            if log.has(&office.row, front) {
+                let answer = log.commit(rt, alloc, &office.row, number, front, harvest);
+                MutexGuard::unlock(log);
+                return answer;
+            }
+            MutexGuard::unlock(log);
+        }
+        unreachable!()
+    }
+}

@@ -1,0 +1,43 @@
+//! What an office stands on.
+ghost use Rattle.std.specs.Prelude.{◌≡◌};
+
+use crate::chronicle::Row;
+use std::alloc::{AllocError, Global};
+use std::marker::Model;
+use std::sync::ledger::Blank;
+
+/// One more than the most calls of a log, so than the most tokens that are out.
+pub const PARTS: u64 = 1_048_577;
+
+/// An empty row of calls and a blank ledger, which no office has yet. Who opens an office picks its type parameter from them. Contracts see
+/// the row's name, and the ledger's name and parts.
+#[derive(Drop)]
+pub struct Site {
+    pub(crate) row: Row,
+    pub(crate) blank: Blank,
+}
+
+impl Model for Site {
+    ghost use Rattle.std.specs.Coded.{codes};
+    ghost use Rattle.boxcar.specs.Table.{shelves_coded};
+    ghost use Rattle.vpg_office.specs.Token.{Named};
+
+    ghost Value = { Named };
+
+    ghost coded = { Prim.hlevel (codes, shelves_coded) };
+
+    ghost use Rattle.std.specs.Prelude.{◌≡◌};
+
+    ghost view = { λ g. record { row = g.row; name = g.blank.name; parts = g.blank.parts } };
+
+    ghost invariant = { λ g. g.blank.parts ≡ 1048577 };
+}
+
+impl Site {
+    pub fn new(alloc: Global) -> Result<Site, AllocError> {
+        Ok(Site {
+            row: Row::new(alloc)?,
+            blank: Blank::new(PARTS),
+        })
+    }
+}

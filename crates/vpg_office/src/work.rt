@@ -1,0 +1,117 @@
+//! Opening an office without picking what ties its parts together.
+ghost use Rattle.std.specs.Arc.{arc_value};
+ghost use Rattle.std.specs.Prelude.{◌≡◌, ◌≤◌, ℕ, [], IfOk, IfErr};
+ghost use Rattle.vpg_diagram.specs.FeatureDiagram.{feature_count};
+ghost use Rattle.vpg_game.specs.Game.{IsAtLimit};
+ghost use Rattle.vpg_partial.specs.KnownLaws.{HasConflictOf};
+
+use crate::front::Front;
+use crate::office::{NotOpened, Office};
+use crate::site::Site;
+use crate::terms::Terms;
+use std::alloc::{AllocError, Global};
+use std::marker::Brand;
+use std::sync::{Arc, Wait};
+use vpg_desk::{OpenFault, OpenRefused};
+use vpg_diagram::Diagram;
+use vpg_game::GuardedGame;
+
+/// What is done with an office, whatever ties its parts together.
+pub trait Work<R> {
+    ghost use Rattle.std.specs.Arc.{arc_value};
+    ghost use Rattle.std.specs.Prelude.{◌≡◌, []};
+
+    type Answer;
+
+    /// Works with the office of this game and diagram, and ends it. The front has seen nothing.
+    fn work<L: Terms + Send + Sync>(
+        self,
+        rt: &R,
+        office: Office<L>,
+        front: Front<L>,
+        game: Arc<GuardedGame>,
+        diagram: Arc<Diagram>,
+    ) -> Self::Answer
+        requires of { (arc_value game ≡ L.game) × (arc_value diagram ≡ L.diagram) }
+        requires fresh { front ≡ [] };
+}
+
+/// Opens an office whose log takes `room` calls, and hands it to the work. Refused as `Desk::open`: game and diagram come back.
+pub fn with_office<R: Wait, W: Work<R> + Drop>(
+    rt: &R,
+    alloc: Global,
+    game: Arc<GuardedGame>,
+    diagram: Arc<Diagram>,
+    room: u32,
+    work: W,
+) -> Result<W::Answer, OpenRefused>
+    requires features { (arc_value game).features ≡ feature_count (arc_value diagram).lines }
+    requires room { (1 ≤ room) × (room ≤ 1048576) }
+    ensures at_limit { IfErr result (λ refused. (refused.fault ≡ OpenFault.AtLimit) → IsAtLimit (arc_value game)) }
+    ensures conflict { IfErr result (λ refused. (f : ℕ) → refused.fault ≡ OpenFault.Conflict f → HasConflictOf (arc_value diagram).lines [] × (f ≡ 0)) }
+    ensures game_back { IfErr result (λ refused. arc_value refused.game ≡ arc_value game) }
+    ensures diagram_back { IfErr result (λ refused. arc_value refused.diagram ≡ arc_value diagram) }
+{
+    let Ok(site) = Site::new(alloc) else {
+        return Err(OpenRefused {
+            fault: OpenFault::Memory,
+            game,
+            diagram,
+        });
+    };
+    with_site::<Brand, R, W>(rt, alloc, site, game, diagram, room, work)
+}
+
+/// Further owners of both.
+fn again(
+    game: &Arc<GuardedGame>,
+    diagram: &Arc<Diagram>,
+) -> Result<(Arc<GuardedGame>, Arc<Diagram>), AllocError>
+    ensures game { IfOk result (λ both. arc_value both.0 ≡ arc_value game.now) }
+    ensures diagram { IfOk result (λ both. arc_value both.1 ≡ arc_value diagram.now) }
+{
+    Ok((game.clone()?, diagram.clone()?))
+}
+
+fn with_site<L: Terms + Send + Sync, R: Wait, W: Work<R> + Drop>(
+    rt: &R,
+    alloc: Global,
+    site: Site,
+    game: Arc<GuardedGame>,
+    diagram: Arc<Diagram>,
+    room: u32,
+    work: W,
+) -> Result<W::Answer, OpenRefused>
+    requires features { (arc_value game).features ≡ feature_count (arc_value diagram).lines }
+    requires site { (site.row ≡ L.shelves) × (site.name ≡ L.name) × (site.parts ≡ L.parts) }
+    requires of { (arc_value game ≡ L.game) × (arc_value diagram ≡ L.diagram) }
+    requires room { (room ≡ L.limit) × (1 ≤ room) × (room ≤ 1048576) }
+    ensures at_limit { IfErr result (λ refused. (refused.fault ≡ OpenFault.AtLimit) → IsAtLimit (arc_value game)) }
+    ensures conflict { IfErr result (λ refused. (f : ℕ) → refused.fault ≡ OpenFault.Conflict f → HasConflictOf (arc_value diagram).lines [] × (f ≡ 0)) }
+    ensures game_back { IfErr result (λ refused. arc_value refused.game ≡ arc_value game) }
+    ensures diagram_back { IfErr result (λ refused. arc_value refused.diagram ≡ arc_value diagram) }
+{
+    let Ok((same_game, same_diagram)) = again(&game, &diagram) else {
+        return Err(OpenRefused {
+            fault: OpenFault::Memory,
+            game,
+            diagram,
+        });
+    };
+    match Office::<L>::open(alloc, site, game, diagram, room) {
+        Ok(office) => Ok(work.work(rt, office, Front::empty(), same_game, same_diagram)),
+        Err(refused) => {
+            let NotOpened {
+                fault,
+                game,
+                diagram,
+                site: _,
+            } = refused;
+            Err(OpenRefused {
+                fault,
+                game,
+                diagram,
+            })
+        }
+    }
+}
