@@ -8,7 +8,7 @@ use Rattle.std.proofs.sync.ledger.Share.TheSendSync.{the_send as share_send}
 use Rattle.std.specs.contracts.sync.ledger.Book as Book
 use Rattle.std.specs.contracts.sync.ledger.Share as Share
 use Rattle.std.specs.declared.sync.ledger.Ledger as ledger
-use Rattle.boxcar.proofs.table.Placed.TheSendSync.{the_send as placed_send}
+use Rattle.boxcar.proofs.table.Placed.TheSendSync.{the_send as placed_send, the_sync as placed_sync}
 use Rattle.boxcar.proofs.vec.Vec.TheSendSync.{the_sync as row_sync}
 use Rattle.boxcar.specs.contracts.vec.Anything as Anything
 use Rattle.boxcar.specs.contracts.vec.AnythingKeeps.TheImpl as keeps
@@ -17,7 +17,8 @@ use Rattle.std.specs.contracts.alloc.Global as Global
 use Rattle.std.specs.contracts.impls.GlobalAllocator.TheImpl as allocator
 use Rattle.std.specs.contracts.sync.Mutex as Mutex
 use Rattle.vpg_desk.proofs.Crossing.{desk_send}
-use Rattle.vpg_office.proofs.front.Front.TheSendSync.{the_send as front_send}
+use Rattle.vpg_watch.proofs.press.Press.TheSendSync.{the_send as press_send}
+use Rattle.vpg_office.proofs.front.Front.TheSendSync.{the_send as front_send, the_sync as front_sync}
 use Rattle.vpg_office.specs.contracts.asked.Entry as Entry
 use Rattle.vpg_office.specs.contracts.asked.Told as Told
 use Rattle.vpg_office.specs.contracts.chronicle.Chronicle as Chronicle
@@ -48,6 +49,9 @@ module _ (L : RattleType) (t : terms.Ghosts L.Denot) (l : ledger.Ghosts L.Denot)
   front_sends : IsSend (Front.the_row L t l)
   front_sends = search (front_send, placed_send, sendable, crosses) depth 40
 
+  front_syncs : IsSync (Front.the_row L t l)
+  front_syncs = search (front_sync, placed_sync, sendable, crosses) depth 40
+
   book_sends : IsSend (Book.the_row L l)
   book_sends = search (book_send, sendable, crosses) depth 20
 
@@ -55,7 +59,7 @@ module _ (L : RattleType) (t : terms.Ghosts L.Denot) (l : ledger.Ghosts L.Denot)
   share_sends = search (share_send, sendable, crosses) depth 20
 
   fields_send : AllSend (fields (Inside.the_type L t l))
-  fields_send = (chronicle_field, (search (front_sends, sendable) depth 12, (search (desk_send, sendable) depth 12, (search (book_sends, sendable) depth 12, (search (share_sends, sendable) depth 12, (search sendable depth 12, (search sendable depth 12, tt)))))))
+  fields_send = (chronicle_field, (search (front_sends, sendable) depth 12, (search (desk_send, sendable) depth 12, (search (book_sends, sendable) depth 12, (search (share_sends, sendable) depth 12, (search sendable depth 12, (search sendable depth 12, (search (press_send, front_sends, front_syncs, sendable, crosses) depth 40, tt))))))))
 
   inside_send : IsSend (Inside.the_row L t l)
   inside_send = recorded_send (Inside.the_field L t l).row _ _ (Inside.the_type L t l).to_one (struct_send (shape (Inside.the_type L t l)) fields_send)

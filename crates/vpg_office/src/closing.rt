@@ -8,6 +8,7 @@ use crate::log::Log;
 use crate::redo_token::Redo;
 use crate::terms::Terms;
 use crate::undo_token::Undo;
+use std::sync::Wait;
 use std::sync::ledger::Book;
 use vpg_desk::Desk;
 
@@ -76,7 +77,7 @@ impl<L: Terms> Log<L> {
     }
 
     /// Spends the tokens handed in, and ends the log. Answers how many further tokens are out.
-    pub(crate) fn end(self, undos: Vec<Undo<L>>, redos: Vec<Redo<L>>) -> u64
+    pub(crate) fn end<R: Wait>(self, rt: &R, undos: Vec<Undo<L>>, redos: Vec<Redo<L>>) -> u64
         ensures { result + length undos.items + length redos.items ≡ (book_after (family_between L.game L.diagram) opened self).tokens }
     {
         let Log {
@@ -87,16 +88,18 @@ impl<L: Terms> Log<L> {
             rest: _,
             sessions: _,
             room: _,
+            press,
         } = self;
         keep_all(&mut desk, &mut book, undos);
         forget_all(&mut desk, &mut book, redos);
         let further = desk.tokens();
+        press.close(rt);
         let_go(desk);
         further
     }
 
     /// Lets the log go.
-    pub(crate) fn dissolve(self) {
+    pub(crate) fn dissolve<R: Wait>(self, rt: &R) {
         let Log {
             chronicle: _,
             newest: _,
@@ -105,7 +108,9 @@ impl<L: Terms> Log<L> {
             rest: _,
             sessions: _,
             room: _,
+            press,
         } = self;
+        press.close(rt);
         let_go(desk);
     }
 }

@@ -13,17 +13,19 @@ ghost use Rattle.vpg_office.specs.Fronts.{IsHistory, family_between};
 use crate::chronicle::Row;
 use crate::front::Front;
 use crate::log::Log;
+use crate::publishing::opening_press;
 use crate::redo_token::Redo;
 use crate::session::Session;
 use crate::site::Site;
 use crate::terms::Terms;
 use crate::undo_token::Undo;
-use std::alloc::Global;
+use std::alloc::{AllocError, Global};
 use std::sync::{Arc, Mutex, MutexGuard, Wait};
 use thiserror::Error;
 use vpg_desk::{Desk, OpenFault, OpenRefused};
 use vpg_diagram::Diagram;
 use vpg_game::GuardedGame;
+use vpg_watch::{NoPlace, Press, Watch};
 
 /// A row of calls, by its name.
 pub trait Rowed {
@@ -73,9 +75,47 @@ pub struct NotOpened {
     pub site: Site,
 }
 
+/// Further owners of both.
+pub(crate) fn again(
+    game: &Arc<GuardedGame>,
+    diagram: &Arc<Diagram>,
+) -> Result<(Arc<GuardedGame>, Arc<Diagram>), AllocError>
+    ensures game { IfOk result (λ both. arc_value both.0 ≡ arc_value game.now) }
+    ensures diagram { IfOk result (λ both. arc_value both.1 ≡ arc_value diagram.now) }
+{
+    Ok((game.clone()?, diagram.clone()?))
+}
+
+/// A desk on a game and a diagram, and a press that shows its sheet.
+fn opened_desk<L: Terms, R: Wait>(
+    rt: &R,
+    alloc: Global,
+    game: Arc<GuardedGame>,
+    diagram: Arc<Diagram>,
+) -> Result<(Desk, Press<Front<L>>), OpenFault>
+    requires features { (arc_value game).features ≡ feature_count (arc_value diagram).lines }
+    requires of { (arc_value game ≡ L.game) × (arc_value diagram ≡ L.diagram) }
+    ensures opened { IfOk result (λ r. r.0.book ≡ opened) }
+    ensures game { IfOk result (λ r. r.0.game ≡ arc_value game) }
+    ensures diagram { IfOk result (λ r. r.0.diagram ≡ arc_value diagram) }
+    ensures press { IfOk result (λ r. r.1.front ≡ []) }
+    ensures fits { OnOk result (IsOpened (arc_value game) (arc_value diagram)) }
+    ensures at_limit { IfErr result (λ fault. (fault ≡ OpenFault.AtLimit) ↔ IsAtLimit (arc_value game)) }
+    ensures conflict { IfErr result (λ fault. (f : ℕ) → fault ≡ OpenFault.Conflict f → HasConflictOf (arc_value diagram).lines [] × (f ≡ 0)) }
+{
+    match Desk::open(alloc, game, diagram) {
+        Ok(desk) => match opening_press::<L, R>(rt, alloc, &desk) {
+            Ok(press) => Ok((desk, press)),
+            Err(_) => Err(OpenFault::Memory),
+        },
+        Err(refused) => Err(refused.fault),
+    }
+}
+
 impl<L: Terms> Shared<Row, L> {
     /// An office on a game and a diagram, whose log takes `room` calls.
-    pub fn open(
+    pub fn open<R: Wait>(
+        rt: &R,
         alloc: Global,
         site: Site,
         game: Arc<GuardedGame>,
@@ -93,29 +133,35 @@ impl<L: Terms> Shared<Row, L> {
         ensures diagram_back { IfErr result (λ refused. arc_value refused.diagram ≡ arc_value diagram) }
         ensures site_back { IfErr result (λ refused. refused.site ≡ site) }
     {
-        match Desk::open(alloc, game, diagram) {
-            Ok(desk) => {
+        let Ok((same_game, same_diagram)) = again(&game, &diagram) else {
+            let fault = if game.is_at_limit() {
+                OpenFault::AtLimit
+            } else {
+                OpenFault::Memory
+            };
+            return Err(NotOpened {
+                fault,
+                game,
+                diagram,
+                site,
+            });
+        };
+        match opened_desk::<L, R>(rt, alloc, game, diagram) {
+            Ok((desk, press)) => {
                 let Site { row, blank } = site;
                 let (book, rest) = blank.open::<L>();
-                let log = Log::open(alloc, desk, book, rest, room as usize);
+                let log = Log::open(alloc, desk, book, rest, room as usize, press);
                 Ok(Shared {
                     row,
                     log: Mutex::new(log),
                 })
             }
-            Err(refused) => {
-                let OpenRefused {
-                    fault,
-                    game,
-                    diagram,
-                } = refused;
-                Err(NotOpened {
-                    fault,
-                    game,
-                    diagram,
-                    site,
-                })
-            }
+            Err(fault) => Err(NotOpened {
+                fault,
+                game: same_game,
+                diagram: same_diagram,
+                site,
+            }),
         }
     }
 
@@ -132,6 +178,17 @@ impl<L: Terms> Shared<Row, L> {
             Some(number) => Ok((Session::numbered(number), front)),
             None => Err(TooManySessions),
         }
+    }
+
+    /// A watch of the sheets that the office publishes: one as it is opened, and one with each accepted decide, retract, undo, redo and
+    /// commit. Refused where there are 64.
+    pub fn watch<R: Wait>(&self, rt: &R) -> Result<Watch<Front<L>>, NoPlace>
+        ensures history { IfOk result (IsHistory (family_between L.game L.diagram)) }
+    {
+        let mut log = self.log.lock(rt);
+        let watch = log.watch();
+        MutexGuard::unlock(log);
+        watch
     }
 
     /// The first becomes the longer of both.
@@ -167,7 +224,7 @@ impl<L: Terms> Shared<Row, L> {
                 *front = log.front();
                 let tokens = log.tokens();
                 if tokens == 0 {
-                    log.dissolve();
+                    log.dissolve(rt);
                     return Ok(());
                 }
                 return Err(TokensOut {
@@ -200,7 +257,7 @@ impl<L: Terms> Shared<Row, L> {
         'again: for _ in rt.forever() {
             if log.has(&row, front) {
                 *front = log.front();
-                return log.end(undos, redos);
+                return log.end(rt, undos, redos);
             }
         }
         unreachable!()

@@ -14,8 +14,9 @@ use vpg_game::GuardedGame;
 use vpg_measure::{Harvest, Order};
 use vpg_office::{
     Fault, Front, Office, Redo, Returned, Session, Terms, TokensOut, TooManySessions, Undo, Work,
-    with_office,
+    read, with_office,
 };
+use vpg_watch::Watch;
 
 const DIAGRAM: &[u8] = b"root r\noptional r f\noptional r g\n";
 
@@ -37,6 +38,8 @@ enum Run {
     Settles,
     Refuses,
     Outdated,
+    Watched,
+    Followed,
 }
 
 impl<R: Threads + Wait + Abort + AllocGlobal + Sync> Work<R> for Run {
@@ -62,6 +65,8 @@ impl<R: Threads + Wait + Abort + AllocGlobal + Sync> Work<R> for Run {
             Run::Settles => settles(rt, office),
             Run::Refuses => refuses(rt, office),
             Run::Outdated => outdated(rt, office),
+            Run::Watched => watched(rt, office),
+            Run::Followed => follows(rt, office),
         }
     }
 }
@@ -659,5 +664,109 @@ fn commits_late<L: Terms + Send + Sync, R: Threads + Wait + Abort + AllocGlobal 
 #[test]
 fn a_harvest_comes_late(rt: HostRuntime) -> Result<(), Fail> {
     on_office(&rt, 10, Run::Late);
+    Ok(())
+}
+
+/// A watch, where there is a place.
+fn watch<L: Terms, R: Wait + Abort>(rt: &R, office: &Office<L>) -> Watch<Front<L>> {
+    match office.watch(rt) {
+        Ok(watch) => watch,
+        Err(_) => panic!(rt; "no place"),
+    }
+}
+
+/// The number of calls of the sheet that is read, and whether its page is settled.
+fn seen<L: Terms>(watch: &mut Watch<Front<L>>) -> Option<(u32, bool)> {
+    match read(watch) {
+        Ok(sheet) => Some((sheet.at, sheet.settled)),
+        Err(_) => None,
+    }
+}
+
+/// A watcher sees what changes the page, and nothing else.
+fn watched<L: Terms, R: Wait + Abort + AllocGlobal>(rt: &R, office: Office<L>) {
+    let mut one = joined(rt, &office);
+    let mut two = joined(rt, &office);
+    let mut first = watch(rt, &office);
+    assert!(rt; seen(&mut first) == Some((0, false)));
+    let token = decide(rt, &office, &mut one, F, true);
+    assert!(rt; seen(&mut first) == Some((1, false)));
+    assert_eq!(rt; entries(rt, &office, &mut two), 1);
+    assert!(rt; seen(&mut first) == Some((1, false)));
+    let mut second = watch(rt, &office);
+    assert!(rt; seen(&mut second) == Some((1, false)));
+    let lifted = harvest(rt, &office, &mut two);
+    assert!(rt; added(rt, commit(rt, &office, &mut two, lifted)) == 3);
+    assert!(rt; seen(&mut first) == Some((4, true)));
+    let token = undone(rt, undo(rt, &office, &mut one, token));
+    assert!(rt; seen(&mut second) == Some((5, false)));
+    forget(rt, &office, &mut one, token);
+    close(rt, office, &mut one.1);
+    assert!(rt; seen(&mut first) == None);
+}
+
+#[test]
+fn a_watcher_sees_changes(rt: HostRuntime) -> Result<(), Fail> {
+    on_office(&rt, 10, Run::Watched);
+    Ok(())
+}
+
+/// Reads until so many calls are seen, at most so often. Says how many were seen, and whether no read fell behind one before.
+fn follow<L: Terms>(watch: Watch<Front<L>>, reads: u32, last: u32) -> (u32, bool) {
+    let mut watch = watch;
+    let mut at = 0;
+    for _ in 0..reads {
+        let Some((now, _)) = seen(&mut watch) else {
+            return (at, false);
+        };
+        if now < at {
+            return (at, false);
+        }
+        at = now;
+        if at >= last {
+            return (at, true);
+        }
+        thread::yield_now();
+    }
+    (at, true)
+}
+
+/// Two follow, each in a thread of its own.
+fn follow_both<L: Terms + Send + Sync, R: Threads + Wait + Sync>(
+    rt: &R,
+    one: Watch<Front<L>>,
+    two: Watch<Front<L>>,
+    last: u32,
+) -> bool {
+    let (one, two) = join(
+        rt,
+        move || follow(one, 100_000_000, last),
+        move || follow(two, 100_000_000, last),
+    );
+    one.1 && two.1 && one.0 == last && two.0 == last
+}
+
+/// A session decides and retracts five hundred times, and is followed by watchers that never go back and see its last change.
+fn follows<L: Terms + Send + Sync, R: Threads + Wait + Abort + AllocGlobal + Sync>(
+    rt: &R,
+    office: Office<L>,
+) {
+    let me = joined(rt, &office);
+    let one = watch(rt, &office);
+    let two = watch(rt, &office);
+    let (me, both) = join(
+        rt,
+        || rounds(rt, &office, me, F, 500),
+        move || follow_both(rt, one, two, 1999),
+    );
+    let mut me = me;
+    assert!(rt; both);
+    assert_eq!(rt; me.1.len(), 2000);
+    close(rt, office, &mut me.1);
+}
+
+#[test]
+fn watchers_never_go_back(rt: HostRuntime) -> Result<(), Fail> {
+    on_office(&rt, 2000, Run::Followed);
     Ok(())
 }

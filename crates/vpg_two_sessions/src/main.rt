@@ -1,17 +1,19 @@
-//! Two sessions of one office, each in a thread of its own: one lifts while the other decides. Then the decision is taken back by its token,
-//! and the office is ended.
+//! Two sessions of one office, each in a thread of its own: one lifts while the other decides, and a third thread watches. Then the decision is
+//! taken back by its token, and the office is ended.
 #![tactic(auto)]
 
 ghost use Rattle.std.specs.Prelude.{◌≡◌, ◌≤◌, vec_len, vec_capacity};
 
 use anyhow::{Result, bail};
 use std::alloc::Global;
+use std::sync::atomic::{AtomicU64, Ordering};
 use std::sync::{Arc, Wait};
-use std::thread::{Threads, join};
+use std::thread::{Threads, join, yield_now};
 use vpg_diagram::Diagram;
 use vpg_game::GuardedGame;
-use vpg_measure::Harvest;
-use vpg_office::{Front, Office, Redo, Returned, Session, Terms, Undo, Work, with_office};
+use vpg_measure::{Harvest, Verdict};
+use vpg_office::{Front, Office, Redo, Returned, Session, Terms, Undo, Work, read, with_office};
+use vpg_watch::Watch;
 
 const DIAGRAM: &[u8] = b"root r\noptional r f\noptional r g\n";
 
@@ -25,12 +27,24 @@ const F: u16 = 1;
 struct Day {
     /// How many lifts the commit added.
     added: Option<u32>,
+    /// What the watcher saw last, before the decision was taken back.
+    seen: Option<Seen>,
     /// Whether the decision was made and taken back.
     undone: bool,
     /// How many calls the log has.
     calls: usize,
     /// How many tokens were out at the end and not handed in.
     further: u64,
+}
+
+/// What is seen of the first vertex.
+#[derive(Clone, Copy)]
+struct Seen {
+    /// After so many calls.
+    calls: u32,
+    verdict: Verdict,
+    /// Whether a read ever fell behind the one before.
+    back: bool,
 }
 
 /// A session with its front.
@@ -82,6 +96,57 @@ fn decides<L: Terms, R: Wait>(
         Ok(undo) => (seat, Some(undo)),
         Err(_fault) => (seat, None),
     }
+}
+
+/// Two sessions at work; then the first lifts once more, so that the page is settled whoever came first.
+fn works<L: Terms + Send + Sync, R: Threads + Wait + Sync>(
+    rt: &R,
+    alloc: Global,
+    office: &Office<L>,
+    lifter: Seat<L>,
+    decider: Seat<L>,
+    done: &AtomicU64,
+) -> (Option<u32>, Seat<L>, Option<Undo<L>>) {
+    let ((lifter, added), (decider, undo)) = join(
+        rt,
+        || lifts(rt, alloc, office, lifter),
+        || decides(rt, alloc, office, decider),
+    );
+    let (_lifter, _more) = lifts(rt, alloc, office, lifter);
+    done.store(1, Ordering::SeqCst);
+    (added, decider, undo)
+}
+
+/// Reads the sheet that is shown.
+fn looks<L: Terms>(watch: &mut Watch<Front<L>>, before: Option<Seen>) -> Option<Seen> {
+    let Ok(sheet) = read(watch) else {
+        return before;
+    };
+    let verdict = *sheet.verdicts.as_slice().first()?;
+    let back = match before {
+        Some(before) => before.back || sheet.at < before.calls,
+        None => false,
+    };
+    Some(Seen {
+        calls: sheet.at,
+        verdict,
+        back,
+    })
+}
+
+/// Reads on until the sessions are done, and once more.
+fn follows<L: Terms>(watch: Watch<Front<L>>, done: &AtomicU64) -> Option<Seen> {
+    let mut watch = watch;
+    let mut seen = None;
+    for _ in 0..u64::MAX {
+        let last = done.load(Ordering::SeqCst) != 0;
+        seen = looks(&mut watch, seen);
+        if last {
+            break;
+        }
+        yield_now();
+    }
+    seen
 }
 
 /// Takes the decision back.
@@ -167,10 +232,15 @@ impl<R: Threads + Wait + Sync> Work<R> for Plan {
             session: two,
             front: second,
         };
-        let ((_lifter, added), (mut decider, undo)) = join(
+        let Ok(watch) = office.watch(rt) else {
+            let _further = office.end(rt, &mut front, undos, redos);
+            return None;
+        };
+        let done = AtomicU64::new(0);
+        let ((added, mut decider, undo), seen) = join(
             rt,
-            || lifts(rt, alloc, &office, lifter),
-            || decides(rt, alloc, &office, decider),
+            || works(rt, alloc, &office, lifter, decider, &done),
+            || follows(watch, &done),
         );
         let (undo, redo) = match undo {
             Some(undo) => undoes(rt, alloc, &office, &mut decider, undo),
@@ -180,6 +250,7 @@ impl<R: Threads + Wait + Sync> Work<R> for Plan {
         let further = ends(rt, office, &mut front, undos, redos, undo, redo);
         Some(Day {
             added,
+            seen,
             undone,
             calls: front.len(),
             further,
@@ -199,6 +270,12 @@ fn main(rt: HostRuntime) -> Result<()> {
         Ok(Some(day)) => {
             if let Some(added) = day.added {
                 println!(rt; "added {added}")?;
+            }
+            if let Some(seen) = day.seen {
+                println!(rt;
+                    "seen after {} calls: hopeless {}, sure {}, back {}",
+                    seen.calls, seen.verdict.hopeless, seen.verdict.sure, seen.back
+                )?;
             }
             println!(rt; "undone {}", day.undone)?;
             println!(rt; "calls {}", day.calls)?;
