@@ -66,8 +66,8 @@ stops_tell family limit refusal call session front newest (Doubled g) p h s =
 stops_tell family limit refusal call session front newest (DeskRefuses fault) p h s = absurd s
 stops_tell family limit refusal call session front newest Memory p h s = refl
 
-module _ {row : Shelves} {game : NamedGame} {diagram : NamedDiagram} {limit : ℕ} {chronicle : Chronicle} {newest : List Event} {desk : DeskState} {total parts amount sessions room : ℕ}
-    (i : IsLog row game diagram limit chronicle newest desk total parts amount sessions room) where
+module _ {row : Shelves} {game : NamedGame} {diagram : NamedDiagram} {limit : ℕ} {chronicle : Chronicle} {newest : List Event} {desk : DeskState} {total parts amount sessions room : ℕ} {shown : List Event}
+    (i : IsLog row game diagram limit chronicle newest desk total parts amount sessions room shown) where
   abbrev F : Family
   F = family_between game diagram
 
@@ -92,7 +92,7 @@ module _ {row : Shelves} {game : NamedGame} {diagram : NamedDiagram} {limit : �
 
   pub log_after : (after : Chronicle) (new : List Event) (desk_after : DeskState) (total_after parts_after amount_after : ℕ) (session : ℕ) (call : Call) (reply : Reply) → IsChronicle row game diagram after new →
       new ≡ newest ++ event session call reply ∷ [] → desk_after.game ≡ desk.game → desk_after.diagram ≡ desk.diagram → desk_after.book ≡ next (family_of (setting_of desk)) desk.book session call reply →
-      total_after ≡ desk_after.book.tokens → amount_after ≡ 0 → parts_after + desk_after.book.tokens ≡ 1048577 → IsLog row game diagram limit after new desk_after total_after parts_after amount_after sessions room
+      total_after ≡ desk_after.book.tokens → amount_after ≡ 0 → parts_after + desk_after.book.tokens ≡ 1048577 → IsLog row game diagram limit after new desk_after total_after parts_after amount_after sessions room shown
   log_after after new desk_after total_after parts_after amount_after session call reply kept is g d b t a p = record {
     kept = kept;
     of_game = g ∙ i.of_game;
@@ -104,6 +104,7 @@ module _ {row : Shelves} {game : NamedGame} {diagram : NamedDiagram} {limit : �
     most = i.most;
     few = i.few;
     joined = i.joined;
+    published = prefix_more shown newest new (event session call reply) i.published is;
   }
 
   -- an order of the desk is of the office's game and diagram

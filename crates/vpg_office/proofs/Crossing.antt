@@ -17,7 +17,8 @@ use Rattle.std.specs.contracts.alloc.Global as Global
 use Rattle.std.specs.contracts.impls.GlobalAllocator.TheImpl as allocator
 use Rattle.std.specs.contracts.sync.Mutex as Mutex
 use Rattle.vpg_desk.proofs.Crossing.{desk_send}
-use Rattle.vpg_office.proofs.front.Front.TheSendSync.{the_send as front_send}
+use Rattle.vpg_watch.proofs.press.Press.TheSendSync.{the_send as press_send}
+use Rattle.vpg_office.proofs.front.Front.TheSendSync.{the_send as front_send, the_sync as front_sync}
 use Rattle.vpg_office.specs.contracts.asked.Entry as Entry
 use Rattle.vpg_office.specs.contracts.asked.Told as Told
 use Rattle.vpg_office.specs.contracts.chronicle.Chronicle as Chronicle
@@ -46,7 +47,10 @@ chronicle_field = search (told_send, placed_send, sendable, crosses) depth 40
 
 module _ (L : RattleType) (t : terms.Ghosts L.Denot) (l : ledger.Ghosts L.Denot) where
   front_sends : IsSend (Front.the_row L t l)
-  front_sends = search (front_send, placed_send, sendable, crosses) depth 40
+  front_sends = search (front_send, sendable, crosses) depth 40
+
+  front_syncs : IsSync (Front.the_row L t l)
+  front_syncs = search (front_sync, sendable, crosses) depth 40
 
   book_sends : IsSend (Book.the_row L l)
   book_sends = search (book_send, sendable, crosses) depth 20
@@ -55,7 +59,7 @@ module _ (L : RattleType) (t : terms.Ghosts L.Denot) (l : ledger.Ghosts L.Denot)
   share_sends = search (share_send, sendable, crosses) depth 20
 
   fields_send : AllSend (fields (Inside.the_type L t l))
-  fields_send = (chronicle_field, (search (front_sends, sendable) depth 12, (search (desk_send, sendable) depth 12, (search (book_sends, sendable) depth 12, (search (share_sends, sendable) depth 12, (search sendable depth 12, (search sendable depth 12, tt)))))))
+  fields_send = (chronicle_field, (search (front_sends, sendable) depth 12, (search (desk_send, sendable) depth 12, (search (book_sends, sendable) depth 12, (search (share_sends, sendable) depth 12, (search sendable depth 12, (search sendable depth 12, (search (press_send, front_sends, front_syncs, sendable, crosses) depth 40, tt))))))))
 
   inside_send : IsSend (Inside.the_row L t l)
   inside_send = recorded_send (Inside.the_field L t l).row _ _ (Inside.the_type L t l).to_one (struct_send (shape (Inside.the_type L t l)) fields_send)
@@ -75,11 +79,11 @@ module _ (L : RattleType) (t : terms.Ghosts L.Denot) (l : ledger.Ghosts L.Denot)
   lock_field : IsSend L → IsSync L → IsSync (Mutex.the_field (Log.the_row L t l)).row
   lock_field s y = let a = log_send s y in search (a, sendable, crosses) depth 20
 
-  pub office_sync : IsSend L → IsSync L → IsSync (Shared.the_row Row L rowed.ghosts t l)
+  pub office_sync : IsSend L → IsSync L → IsSync (Shared.the_row Row L (Log.the_row L t l) rowed.ghosts t l)
   office_sync s y =
-      let T = Shared.the_type Row L rowed.ghosts t l in
+      let T = Shared.the_type Row L (Log.the_row L t l) rowed.ghosts t l in
       let a = lock_field s y in
-      recorded_sync (Shared.the_field Row L rowed.ghosts t l).row _ _ T.to_one (struct_sync (shape T) (search (row_row, row_field, sendable) depth 8, (search (a, sendable) depth 8, tt)))
+      recorded_sync (Shared.the_field Row L (Log.the_row L t l) rowed.ghosts t l).row _ _ T.to_one (struct_sync (shape T) (search (row_row, row_field, sendable) depth 8, (search (a, sendable) depth 8, (search sendable depth 8, tt))))
 
 -- for `search` in a function that shares an office
 pub ruleset office_crosses = (office_sync, log_send, entry_send, entry_sync, front_send, row_sync)

@@ -37,7 +37,7 @@ any-append : (test : Event → Bool) (xs ys : List Event) → list_any test xs �
 any-append test [] ys a b = b
 any-append test (x ∷ xs) ys a b = or_from (test x) _ (or_parts (test x) _ a).0 (any-append test xs ys (or_parts (test x) _ a).1 b)
 
-take_front : (xs ys : List Event) → take (length xs) (xs ++ ys) ≡ xs
+pub take_front : (xs ys : List Event) → take (length xs) (xs ++ ys) ≡ xs
 take_front [] ys = refl
 take_front (x ∷ xs) ys = ap (λ (l : List Event). x ∷ l) (take_front xs ys)
 

@@ -4,5 +4,6 @@ pub mod Crossing
 pub mod Entering
 pub mod Given
 pub mod Places
+pub mod Sheets
 pub mod Stories
 pub mod Swinging

@@ -53,7 +53,7 @@ at_place [] i v e = absurd (some-ne-none v (sym e))
 at_place (x ∷ xs) zero v e = omega arith
 at_place (x ∷ xs) (suc i) v e = let h = at_place xs i v e in omega arith
 
-at_end : {A : Type 0} (xs : List A) (a : A) (i : ℕ) (b : A) → get_elem? (xs ++ a ∷ []) i ≡ some b → (get_elem? xs i ≡ some b) ⊎ ((i ≡ length xs) × (a ≡ b))
+pub at_end : {A : Type 0} (xs : List A) (a : A) (i : ℕ) (b : A) → get_elem? (xs ++ a ∷ []) i ≡ some b → (get_elem? xs i ≡ some b) ⊎ ((i ≡ length xs) × (a ≡ b))
 at_end [] a zero b e = inr (refl, some-injective a b e)
 at_end [] a (suc i) b e = absurd (some-ne-none b (sym e))
 at_end (x ∷ xs) a zero b e = inl e

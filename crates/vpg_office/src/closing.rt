@@ -4,12 +4,15 @@ ghost use Rattle.vpg_desk.specs.Book.{opened};
 ghost use Rattle.vpg_desk.specs.History.{book_after};
 ghost use Rattle.vpg_office.specs.Fronts.{family_between};
 
+use crate::front::Front;
 use crate::log::Log;
 use crate::redo_token::Redo;
 use crate::terms::Terms;
 use crate::undo_token::Undo;
+use std::sync::Wait;
 use std::sync::ledger::Book;
 use vpg_desk::Desk;
+use vpg_watch::Press;
 
 /// Spends undos, until none is left.
 fn keep_all<L: Terms>(desk: &mut Desk, book: &mut Book<L>, undos: Vec<Undo<L>>)
@@ -76,7 +79,7 @@ impl<L: Terms> Log<L> {
     }
 
     /// Spends the tokens handed in, and ends the log. Answers how many further tokens are out.
-    pub(crate) fn end(self, undos: Vec<Undo<L>>, redos: Vec<Redo<L>>) -> u64
+    pub(crate) fn end<R: Wait>(self, rt: &R, undos: Vec<Undo<L>>, redos: Vec<Redo<L>>) -> u64
         ensures { result + length undos.items + length redos.items ≡ (book_after (family_between L.game L.diagram) opened self).tokens }
     {
         let Log {
@@ -87,16 +90,17 @@ impl<L: Terms> Log<L> {
             rest: _,
             sessions: _,
             room: _,
+            press,
         } = self;
         keep_all(&mut desk, &mut book, undos);
         forget_all(&mut desk, &mut book, redos);
         let further = desk.tokens();
-        let_go(desk);
+        let_go(rt, desk, press);
         further
     }
 
     /// Lets the log go.
-    pub(crate) fn dissolve(self) {
+    pub(crate) fn dissolve<R: Wait>(self, rt: &R) {
         let Log {
             chronicle: _,
             newest: _,
@@ -105,10 +109,13 @@ impl<L: Terms> Log<L> {
             rest: _,
             sessions: _,
             room: _,
+            press,
         } = self;
-        let_go(desk);
+        let_go(rt, desk, press);
     }
 }
 
-/// Lets a desk go.
-fn let_go(_desk: Desk) {}
+/// Closes the press, and lets the desk go.
+fn let_go<L: Terms, R: Wait>(rt: &R, _desk: Desk, press: Press<Front<L>>) {
+    press.close(rt);
+}

@@ -1,6 +1,8 @@
 //! Why calls of sessions are not made, and what comes back.
 use crate::front::Front;
 use crate::terms::Terms;
+use std::error::Error;
+use std::fmt;
 use vpg_desk::{CommitFault, DecideFault, RedoFault, RetractFault, UndoFault};
 
 /// Why a session's call gives nothing. `Refused` is the desk's own refusal, which is logged; the others are not.
@@ -14,6 +16,25 @@ pub enum Fault<L: Terms, F> {
     Memory,
 }
 
+impl<L: Terms, F: fmt::Display> fmt::Display for Fault<L, F> {
+    fn fmt<W: fmt::Write>(&self, f: &mut fmt::Formatter<W>) -> fmt::Result {
+        match self {
+            Fault::LogFull { .. } => write!(f, "LogFull"),
+            Fault::Doubled { .. } => write!(f, "Doubled"),
+            Fault::Refused { fault } => write!(f, "{fault}"),
+            Fault::Memory => write!(f, "Memory"),
+        }
+    }
+}
+
+impl<L: Terms, F: fmt::Display> fmt::Debug for Fault<L, F> {
+    fn fmt<W: fmt::Write>(&self, f: &mut fmt::Formatter<W>) -> fmt::Result {
+        write!(f, "{self}")
+    }
+}
+
+impl<L: Terms, F: fmt::Display + Drop> Error for Fault<L, F> {}
+
 /// The refusal of a call that the desk never refuses.
 #[derive(Clone, Copy)]
 pub enum Never {}
@@ -22,4 +43,10 @@ pub enum Never {}
 pub struct Returned<L: Terms, F, T> {
     pub fault: Fault<L, F>,
     pub value: T,
+}
+
+impl fmt::Display for Never {
+    fn fmt<W: fmt::Write>(&self, _f: &mut fmt::Formatter<W>) -> fmt::Result {
+        match *self {}
+    }
 }

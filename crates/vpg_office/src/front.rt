@@ -11,6 +11,7 @@ use crate::asked::{Answer, Entry};
 use crate::terms::Terms;
 use boxcar::Pushed;
 use std::marker::{Model, PhantomData};
+use vpg_watch::Follows;
 
 pub(crate) type Place = Pushed<Entry>;
 
@@ -39,6 +40,35 @@ impl<L: Terms> Model for Front<L> {
     ghost view = { λ f. events_of (family_between L.game L.diagram) (story_to f.last) };
 
     ghost invariant = { λ f. IsFront L.shelves L.game L.diagram L.limit f.count f.last };
+}
+
+impl<L: Terms> Follows for Front<L> {
+    ghost use Rattle.std.specs.Prelude.{[], length};
+    ghost use mathlib.Core.List.{IsPrefix};
+    ghost use Rattle.vpg_office.specs.Sheets.{IsSheetOf};
+    ghost use Rattle.vpg_office.specs.Beginnings.{from_empty, itself, through, grows, counted};
+
+    ghost begins = { λ later earlier. IsPrefix earlier later };
+
+    ghost empty = { [] };
+
+    ghost calls = { length };
+
+    ghost belongs = { IsSheetOf L.game L.diagram };
+
+    fn len(&self) -> usize {
+        Front::len(self)
+    }
+
+    ghost from_empty = { from_empty };
+
+    ghost itself = { itself };
+
+    ghost through = { through };
+
+    ghost grows = { grows };
+
+    ghost counted = { counted L.game L.diagram };
 }
 
 impl<L: Terms> Front<L> {

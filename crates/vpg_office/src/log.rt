@@ -1,4 +1,4 @@
-//! What lies under the office's lock: the log, its desk, and the ledger of tokens.
+//! What lies under the office's lock: the log, its desk, the ledger of tokens, and the press.
 ghost use Rattle.std.specs.Prelude.{◌≡◌, ◌+◌, ◌-◌, ◌<◌, ◌≤◌, ◌⊎◌, ℕ, List, [], ◌∷◌, ◌++◌, length, drop, true, false, Some, None, IfOk, IfErr, OnOk, OnErr, IfSome, option_map};
 ghost use mathlib.Core.List.{IsPrefix};
 ghost use Rattle.boxcar.specs.Table.{Shows};
@@ -23,9 +23,10 @@ use std::marker::Model;
 use std::sync::Wait;
 use std::sync::ledger::{Book, Share};
 use vpg_desk::{DecideFault, Desk};
+use vpg_watch::Press;
 
-/// The log, its desk, and the ledger's book. Contracts see it as the history that the log is.
-pub(crate) struct Log<L: Terms> {
+/// The log, its desk, the ledger's book, and the press. Contracts see it as the history that the log is.
+pub struct Log<L: Terms> {
     pub(crate) chronicle: Chronicle,
     // the whole log
     pub(crate) newest: Front<L>,
@@ -34,6 +35,7 @@ pub(crate) struct Log<L: Terms> {
     pub(crate) rest: Share<L>,
     pub(crate) sessions: u32,
     pub(crate) room: usize,
+    pub(crate) press: Press<Front<L>>,
 }
 
 impl<L: Terms> Model for Log<L> {
@@ -49,7 +51,7 @@ impl<L: Terms> Model for Log<L> {
 
     ghost view = { λ g. g.newest };
 
-    ghost invariant = { λ g. IsLog L.shelves L.game L.diagram L.limit g.chronicle g.newest g.desk g.book.total g.rest.parts g.rest.amount g.sessions g.room };
+    ghost invariant = { λ g. IsLog L.shelves L.game L.diagram L.limit g.chronicle g.newest g.desk g.book.total g.rest.parts g.rest.amount g.sessions g.room g.press.front };
 }
 
 /// Whether the front is a beginning of the log.
@@ -168,12 +170,14 @@ impl<L: Terms> Log<L> {
         book: Book<L>,
         rest: Share<L>,
         room: usize,
+        press: Press<Front<L>>,
     ) -> Log<L>
         requires of { (desk.game ≡ L.game) × (desk.diagram ≡ L.diagram) }
         requires opened { desk.book ≡ opened }
         requires opens { IsOpened L.game L.diagram }
         requires ledger { (book.total ≡ 0) × (rest.amount ≡ 0) × (rest.parts ≡ 1048577) }
         requires room { (room ≡ L.limit) × (room ≤ 1048576) }
+        requires press { press.front ≡ [] }
         ensures { result ≡ [] }
     {
         Log {
@@ -184,6 +188,7 @@ impl<L: Terms> Log<L> {
             rest,
             sessions: 0,
             room,
+            press,
         }
     }
 

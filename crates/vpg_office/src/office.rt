@@ -13,17 +13,20 @@ ghost use Rattle.vpg_office.specs.Fronts.{IsHistory, family_between};
 use crate::chronicle::Row;
 use crate::front::Front;
 use crate::log::Log;
+use crate::publishing::opening_press;
 use crate::redo_token::Redo;
 use crate::session::Session;
 use crate::site::Site;
 use crate::terms::Terms;
 use crate::undo_token::Undo;
-use std::alloc::Global;
+use std::alloc::{AllocError, Global};
+use std::marker::PhantomData;
 use std::sync::{Arc, Mutex, MutexGuard, Wait};
 use thiserror::Error;
 use vpg_desk::{Desk, OpenFault, OpenRefused};
 use vpg_diagram::Diagram;
 use vpg_game::GuardedGame;
+use vpg_watch::{NoPlace, Press, Watch};
 
 /// A row of calls, by its name.
 pub trait Rowed {
@@ -42,15 +45,16 @@ impl Rowed for Row {
     }
 }
 
-/// Sessions share it by reference; `close` or `end` ends it. The row's type is a parameter, so that the check finds that threads may
-/// share it.
-pub struct Shared<W: Rowed, L: Terms> {
+/// Sessions share it by reference; `close` or `end` ends it. The types of the row and of the log are parameters, so that the check finds
+/// that threads may share it.
+pub struct Shared<W: Rowed, L: Terms, T> {
     pub(crate) row: W,
-    pub(crate) log: Mutex<Log<L>>,
-    ghost of: { W.row_of row ≡ L.shelves },
+    pub(crate) log: Mutex<T>,
+    pub(crate) of: PhantomData<L>,
+    ghost of_row: { W.row_of row ≡ L.shelves },
 }
 
-pub type Office<L> = Shared<Row, L>;
+pub type Office<L> = Shared<Row, L, Log<L>>;
 
 /// An office has 1,024 sessions.
 #[derive(Clone, Copy, Debug, PartialEq, Eq, Error)]
@@ -73,9 +77,48 @@ pub struct NotOpened {
     pub site: Site,
 }
 
-impl<L: Terms> Shared<Row, L> {
+/// Further owners of both.
+pub(crate) fn again(
+    game: &Arc<GuardedGame>,
+    diagram: &Arc<Diagram>,
+) -> Result<(Arc<GuardedGame>, Arc<Diagram>), AllocError>
+    ensures game { IfOk result (λ both. arc_value both.0 ≡ arc_value game.now) }
+    ensures diagram { IfOk result (λ both. arc_value both.1 ≡ arc_value diagram.now) }
+{
+    Ok((game.clone()?, diagram.clone()?))
+}
+
+/// A desk on a game and a diagram, and a press that shows its sheet.
+fn opened_desk<L: Terms, R: Wait>(
+    rt: &R,
+    alloc: Global,
+    game: Arc<GuardedGame>,
+    diagram: Arc<Diagram>,
+) -> Result<(Desk, Press<Front<L>>), OpenFault>
+    requires features { (arc_value game).features ≡ feature_count (arc_value diagram).lines }
+    requires of { (arc_value game ≡ L.game) × (arc_value diagram ≡ L.diagram) }
+    requires few { L.limit ≤ 1048576 }
+    ensures opened { IfOk result (λ r. r.0.book ≡ opened) }
+    ensures game { IfOk result (λ r. r.0.game ≡ arc_value game) }
+    ensures diagram { IfOk result (λ r. r.0.diagram ≡ arc_value diagram) }
+    ensures press { IfOk result (λ r. r.1.front ≡ []) }
+    ensures fits { OnOk result (IsOpened (arc_value game) (arc_value diagram)) }
+    ensures at_limit { IfErr result (λ fault. (fault ≡ OpenFault.AtLimit) ↔ IsAtLimit (arc_value game)) }
+    ensures conflict { IfErr result (λ fault. (f : ℕ) → fault ≡ OpenFault.Conflict f → HasConflictOf (arc_value diagram).lines [] × (f ≡ 0)) }
+{
+    match Desk::open(alloc, game, diagram) {
+        Ok(desk) => match opening_press::<L, R>(rt, alloc, &desk) {
+            Ok(press) => Ok((desk, press)),
+            Err(_) => Err(OpenFault::Memory),
+        },
+        Err(refused) => Err(refused.fault),
+    }
+}
+
+impl<L: Terms> Shared<Row, L, Log<L>> {
     /// An office on a game and a diagram, whose log takes `room` calls.
-    pub fn open(
+    pub fn open<R: Wait>(
+        rt: &R,
         alloc: Global,
         site: Site,
         game: Arc<GuardedGame>,
@@ -93,29 +136,36 @@ impl<L: Terms> Shared<Row, L> {
         ensures diagram_back { IfErr result (λ refused. arc_value refused.diagram ≡ arc_value diagram) }
         ensures site_back { IfErr result (λ refused. refused.site ≡ site) }
     {
-        match Desk::open(alloc, game, diagram) {
-            Ok(desk) => {
+        let Ok((same_game, same_diagram)) = again(&game, &diagram) else {
+            let fault = if game.is_at_limit() {
+                OpenFault::AtLimit
+            } else {
+                OpenFault::Memory
+            };
+            return Err(NotOpened {
+                fault,
+                game,
+                diagram,
+                site,
+            });
+        };
+        match opened_desk::<L, R>(rt, alloc, game, diagram) {
+            Ok((desk, press)) => {
                 let Site { row, blank } = site;
                 let (book, rest) = blank.open::<L>();
-                let log = Log::open(alloc, desk, book, rest, room as usize);
+                let log = Log::open(alloc, desk, book, rest, room as usize, press);
                 Ok(Shared {
                     row,
                     log: Mutex::new(log),
+                    of: PhantomData,
                 })
             }
-            Err(refused) => {
-                let OpenRefused {
-                    fault,
-                    game,
-                    diagram,
-                } = refused;
-                Err(NotOpened {
-                    fault,
-                    game,
-                    diagram,
-                    site,
-                })
-            }
+            Err(fault) => Err(NotOpened {
+                fault,
+                game: same_game,
+                diagram: same_diagram,
+                site,
+            }),
         }
     }
 
@@ -132,6 +182,18 @@ impl<L: Terms> Shared<Row, L> {
             Some(number) => Ok((Session::numbered(number), front)),
             None => Err(TooManySessions),
         }
+    }
+
+    /// A watch of the sheets that the office publishes: one as it opens, and one with each accepted decide, retract, undo, redo and
+    /// commit, but for those that find no memory. Its first read gives the sheet that is shown now or a later one. The one refusal is
+    /// `NoPlace`: there may be 64 watches at once.
+    pub fn watch<R: Wait>(&self, rt: &R) -> Result<Watch<Front<L>>, NoPlace>
+        ensures history { IfOk result (IsHistory (family_between L.game L.diagram)) }
+    {
+        let mut log = self.log.lock(rt);
+        let watch = log.watch();
+        MutexGuard::unlock(log);
+        watch
     }
 
     /// The first becomes the longer of both.
@@ -160,14 +222,14 @@ impl<L: Terms> Shared<Row, L> {
         ensures closed { OnOk result ((book_after (family_between L.game L.diagram) opened front.new).tokens ≡ 0) }
         ensures out { IfErr result (λ out. (out.tokens ≡ (book_after (family_between L.game L.diagram) opened front.new).tokens) × (0 < out.tokens)) }
     {
-        let Shared { row, log } = self;
+        let Shared { row, log, of: _ } = self;
         let log = log.into_inner();
         'again: for _ in rt.forever() {
             if log.has(&row, front) {
                 *front = log.front();
                 let tokens = log.tokens();
                 if tokens == 0 {
-                    log.dissolve();
+                    log.dissolve(rt);
                     return Ok(());
                 }
                 return Err(TokensOut {
@@ -175,6 +237,7 @@ impl<L: Terms> Shared<Row, L> {
                     office: Shared {
                         row,
                         log: Mutex::new(log),
+                        of: PhantomData,
                     },
                 });
             }
@@ -195,12 +258,12 @@ impl<L: Terms> Shared<Row, L> {
         ensures history { IsHistory (family_between L.game L.diagram) front.new }
         ensures further { result + length undos.items + length redos.items ≡ (book_after (family_between L.game L.diagram) opened front.new).tokens }
     {
-        let Shared { row, log } = self;
+        let Shared { row, log, of: _ } = self;
         let log = log.into_inner();
         'again: for _ in rt.forever() {
             if log.has(&row, front) {
                 *front = log.front();
-                return log.end(undos, redos);
+                return log.end(rt, undos, redos);
             }
         }
         unreachable!()

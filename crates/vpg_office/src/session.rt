@@ -85,6 +85,7 @@ impl<L: Terms> Session<L> {
             let mut log = office.log.lock(rt);
             if log.has(&office.row, front) {
                 let answer = log.decide(rt, alloc, &office.row, number, front, feature, value);
+                log.publish(rt, alloc, answer.is_ok());
                 MutexGuard::unlock(log);
                 return answer;
             }
@@ -111,6 +112,7 @@ impl<L: Terms> Session<L> {
             let mut log = office.log.lock(rt);
             if log.has(&office.row, front) {
                 let answer = log.retract(rt, alloc, &office.row, number, front, feature);
+                log.publish(rt, alloc, answer.is_ok());
                 MutexGuard::unlock(log);
                 return answer;
             }
@@ -141,6 +143,7 @@ impl<L: Terms> Session<L> {
             let mut log = office.log.lock(rt);
             if log.has(&office.row, front) && log.holds(&office.row, token.serial(), &token.place) {
                 let answer = log.undo(rt, alloc, &office.row, number, front, token);
+                log.publish(rt, alloc, answer.is_ok());
                 MutexGuard::unlock(log);
                 return answer;
             }
@@ -171,6 +174,7 @@ impl<L: Terms> Session<L> {
             let mut log = office.log.lock(rt);
             if log.has(&office.row, front) && log.holds(&office.row, token.serial(), &token.place) {
                 let answer = log.redo(rt, alloc, &office.row, number, front, token);
+                log.publish(rt, alloc, answer.is_ok());
                 MutexGuard::unlock(log);
                 return answer;
             }
@@ -361,6 +365,7 @@ impl<L: Terms> Session<L> {
             let mut log = office.log.lock(rt);
             if log.has(&office.row, front) {
                 let answer = log.commit(rt, alloc, &office.row, number, front, harvest);
+                log.publish(rt, alloc, answer.is_ok());
                 MutexGuard::unlock(log);
                 return answer;
             }

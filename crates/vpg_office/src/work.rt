@@ -1,15 +1,15 @@
 //! Opening an office without picking what ties its parts together.
 ghost use Rattle.std.specs.Arc.{arc_value};
-ghost use Rattle.std.specs.Prelude.{◌≡◌, ◌≤◌, ℕ, [], IfOk, IfErr};
+ghost use Rattle.std.specs.Prelude.{◌≡◌, ◌≤◌, ℕ, [], IfErr};
 ghost use Rattle.vpg_diagram.specs.FeatureDiagram.{feature_count};
 ghost use Rattle.vpg_game.specs.Game.{IsAtLimit};
 ghost use Rattle.vpg_partial.specs.KnownLaws.{HasConflictOf};
 
 use crate::front::Front;
-use crate::office::{NotOpened, Office};
+use crate::office::{NotOpened, Office, again};
 use crate::site::Site;
 use crate::terms::Terms;
-use std::alloc::{AllocError, Global};
+use std::alloc::Global;
 use std::marker::Brand;
 use std::sync::{Arc, Wait};
 use vpg_desk::{OpenFault, OpenRefused};
@@ -62,17 +62,6 @@ pub fn with_office<R: Wait, W: Work<R> + Drop>(
     with_site::<Brand, R, W>(rt, alloc, site, game, diagram, room, work)
 }
 
-/// Further owners of both.
-fn again(
-    game: &Arc<GuardedGame>,
-    diagram: &Arc<Diagram>,
-) -> Result<(Arc<GuardedGame>, Arc<Diagram>), AllocError>
-    ensures game { IfOk result (λ both. arc_value both.0 ≡ arc_value game.now) }
-    ensures diagram { IfOk result (λ both. arc_value both.1 ≡ arc_value diagram.now) }
-{
-    Ok((game.clone()?, diagram.clone()?))
-}
-
 fn with_site<L: Terms + Send + Sync, R: Wait, W: Work<R> + Drop>(
     rt: &R,
     alloc: Global,
@@ -98,7 +87,7 @@ fn with_site<L: Terms + Send + Sync, R: Wait, W: Work<R> + Drop>(
             diagram,
         });
     };
-    match Office::<L>::open(alloc, site, game, diagram, room) {
+    match Office::<L>::open(rt, alloc, site, game, diagram, room) {
         Ok(office) => Ok(work.work(rt, office, Front::empty(), same_game, same_diagram)),
         Err(refused) => {
             let NotOpened {
