@@ -1,5 +1,5 @@
 -- What a plan's choices do.
-use Rattle.std.proofs.Common.{◌≡◌, ℕ, suc, ◌<◌, Bool, true, false, List, [], ◌∷◌, length, get_or, Option, Some, None, refl, sym, ◌∙◌, subst, arith, find}
+use Rattle.std.proofs.Common.{◌≡◌, ℕ, suc, ◌<◌, ◌≤◌, Bool, true, false, List, [], ◌∷◌, length, get_or, Option, Some, None, refl, sym, ◌∙◌, subst, arith, find}
 use Rattle.std.specs.Prelude.{map, All, IfSome, if◌then◌else◌, slice_index}
 use Rattle.std.proofs.lemmas.List.{length-map, same_lists, get_or_default}
 use Rattle.std.proofs.lemmas.List.Elements.{All-from_get_or}
@@ -11,22 +11,27 @@ use Rattle.vpg_guards.specs.declared.tri.Tri.{Tri}
 use Rattle.vpg_guards.specs.declared.tri.Tri.TheVariants.{No, Unknown, Yes}
 use Rattle.vpg_diagram.specs.DiagramText.{NamedDiagram, IsNamedDiagram}
 use Rattle.vpg_diagram.specs.FeatureDiagram.{Line, feature_count}
-use Rattle.vpg_game.specs.Game.{NamedGame, IsGame, unnamed, graph_of}
+use Rattle.vpg_game.specs.Game.{NamedGame, IsGame, unnamed, graph_of, vertex_ids}
 use Rattle.vpg_game.specs.Guarded.{GuardedGame, IsClosedGuarded, AllGuards}
 use Rattle.vpg_game.proofs.Graphs.{games_have_graphs}
 use Rattle.vpg_game.specs.declared.levels.Level.{Level}
+use Rattle.vpg_hope.specs.Games.{Game}
 use Rattle.vpg_hope.specs.Arena.{Vertex, IsClosed, vertex_at}
 use Rattle.vpg_hope.specs.Hope.{IsFullOf}
 use Rattle.vpg_partial.specs.KnownLaws.{IsRemaining}
 use Rattle.vpg_partial.specs.TableLaws.{AreChoicesOf, IsKnownTable}
 use Rattle.vpg_partial.proofs.Tables.{tables_refine, remaining_products_complete, full_tables_have_one_product}
+use Rattle.vpg_measure.specs.Games.{GamesView, ArePageGames}
 use Rattle.vpg_measure.specs.Lifts.{AreChoices, choice_of}
-use Rattle.vpg_measure.specs.TwoGames.{levels_for, arena_for}
+use Rattle.vpg_measure.specs.TwoGames.{levels_for, top_for, arena_for}
 use Rattle.vpg_measure.proofs.NumberGuards.{possible_number}
 use Rattle.vpg_measure.proofs.TwoGames.{arena_length, arena_closed}
-use Rattle.vpg_trail.specs.Page.{Hopeful, Literal, Decision, literal_of}
-use Rattle.vpg_texts.specs.Scene.{scene_of, AreProgressTables}
-use Rattle.vpg_texts.specs.Plan.{AreChosen, PlanWins}
+use Rattle.vpg_trail.specs.Page.{Hopeful, Dual, Literal, Decision, literal_of}
+use Rattle.vpg_texts.specs.Scene.{scene_of, AreProgressTables, AreSettledTables}
+use Rattle.vpg_texts.specs.Plan.{AreChosen, IsPlanned, IsPlanFault, PlanWins}
+use Rattle.vpg_texts.specs.Text.{plan_text}
+use Rattle.vpg_texts.specs.declared.showing.plans.PlanFault.TheVariants.{NotFull, NotSettled}
+use Rattle.vpg_texts.proofs.Settled.{all_settled, settled_back}
 
 -- ---- what is known is one table
 
@@ -121,3 +126,37 @@ module _ (game : NamedGame) (diagram : NamedDiagram) (decisions : List Decision)
             (subst (λ (k : List Tri). AreChosen k (graph_of game) hopeful chosen) (known_is_one diagram.lines (map literal_of decisions) under.0 known under.1.0 is_known) under.1.1)
             v (subst (λ n. v < n) (sym (arena_length Formula (kleene known) Hopeful (graph_of game))) l) low;
       }
+
+-- ---- a plan over the games of a page
+
+module _ (game : NamedGame) (diagram : NamedDiagram) (decisions : List Decision) (games : GamesView) (are : ArePageGames game diagram (map literal_of decisions) games) where
+  pub chosen_are : (hopeful : List ℕ) (chosen : List (Option ℕ)) → AreChoices games.hopeful_levels games.hopeful_arena hopeful chosen → AreChosen games.known (graph_of game) hopeful chosen
+  chosen_are hopeful chosen h =
+      subst (λ (a : Game). AreChoices (levels_for Hopeful (graph_of game)) a hopeful chosen) (are.arena Hopeful)
+      (subst (λ (s : List Level). AreChoices s games.hopeful_arena hopeful chosen) (are.levels Hopeful) h)
+
+  module _ (hopeful dual : List ℕ) where
+    pub not_full : ¬ (AreAllKnown (length games.known) games.known) → IsPlanFault (scene_of game diagram) decisions hopeful dual NotFull
+    not_full fails = (games.known, (are.known, fails))
+
+    pub not_settled : AreAllKnown (length games.known) games.known → ¬ (AreSettledTables games hopeful dual) → IsPlanFault (scene_of game diagram) decisions hopeful dual NotSettled
+    not_settled full fails = (games.known, (are.known, (full, λ all. fails (settled_back game diagram (map literal_of decisions) games are hopeful dual all))))
+
+    module _ (hopeful_len : length hopeful ≡ length game.vertices) (dual_len : length dual ≡ length game.vertices)
+        (hopeful_within : All (λ n. n ≤ top_for Hopeful (graph_of game)) hopeful) (dual_within : All (λ n. n ≤ top_for Dual (graph_of game)) dual)
+        (full : AreAllKnown (length games.known) games.known) (settled : AreSettledTables games hopeful dual) where
+      progress : AreProgressTables games.known (graph_of game) hopeful dual
+      progress = all_settled game diagram (map literal_of decisions) games are hopeful dual hopeful_len dual_len hopeful_within dual_within settled
+
+      pub planned : (chosen : List (Option ℕ)) (text : List ℕ) → AreChoices games.hopeful_levels games.hopeful_arena hopeful chosen → text ≡ plan_text (vertex_ids game.vertices) chosen →
+          IsPlanned (scene_of game diagram) decisions hopeful dual text
+      planned chosen text h text_is = (
+        games.known,
+        (
+          are.known,
+          record { full = full; settled = progress; chosen = chosen; chosen_are = chosen_are hopeful chosen h; text_is = text_is },
+        ),
+      )
+
+      pub planned_wins : game.features ≡ feature_count diagram.lines → AreChoicesOf diagram.lines (map literal_of decisions) → PlanWins (scene_of game diagram) decisions hopeful
+      planned_wins same named = plan_wins game diagram decisions are.is_game are.is_diagram same named games.known are.known hopeful dual full progress

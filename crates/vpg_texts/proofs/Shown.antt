@@ -1,13 +1,22 @@
--- Decisions of a diagram's features, without a conflict.
-use Rattle.std.proofs.Common.{◌≡◌, ℕ, zero, suc, ◌<◌, List, [], ◌∷◌, ◌++◌, sym, ap, ◌∙◌, arith, subst, Result, Ok, Err}
+-- What is shown of a page: decisions of a diagram's features, without a conflict.
+use Rattle.std.specs.Bool.{Decides}
+use Rattle.std.proofs.Common.{Bool, length, ap₂, ◌≡◌, ℕ, zero, suc, ◌<◌, List, [], ◌∷◌, ◌++◌, sym, ap, ◌∙◌, arith, subst, Result, Ok, Err}
 use Rattle.std.specs.Prelude.{map, All, OnOk, is_ok, if◌then◌else◌}
 use Rattle.vpg_diagram.specs.FeatureDiagram.{Line, feature_count}
 use Rattle.vpg_diagram.specs.Clauses.{clauses_of, counts_of}
+use Rattle.vpg_diagram.specs.DiagramText.{NamedDiagram}
+use Rattle.vpg_game.specs.Game.{NamedGame, graph_of, vertex_ids}
+use Rattle.vpg_game.specs.Levels.{top_of}
+use Rattle.vpg_guards.specs.Known.{AreAllKnown}
+use Rattle.vpg_measure.specs.Games.{GamesView, ArePageGames}
+use Rattle.vpg_measure.specs.declared.which.Which.TheVariants.{Hopeful, Dual}
 use Rattle.vpg_partial.specs.declared.decision.Decision.{Decision}
 use Rattle.vpg_partial.specs.Known.{literal_of, NamesConflict}
 use Rattle.vpg_partial.specs.KnownLaws.{HasConflictOf}
 use Rattle.vpg_partial.specs.TableLaws.{AreChoicesOf}
 use Rattle.vpg_partial.proofs.KnownLemmas.{conflict_named}
+use Rattle.vpg_texts.specs.Scene.{AreProgressTables, ShowsUnder, scene_of}
+use Rattle.vpg_texts.specs.Text.{show_text}
 
 pub named_below : (lines : List Line) (n : ℕ) (decisions : List Decision) → AreChoicesOf lines (map literal_of decisions) → n ≡ feature_count lines →
     All (λ d. d.feature < n) decisions
@@ -30,3 +39,21 @@ appended (Err e) new longer same is = tt
 -- what was written into an empty buffer
 pub written : (text after before body : List ℕ) → text ≡ after → after ≡ before ++ body → before ≡ [] → text ≡ body
 written text after before body same more empty = same ∙ more ∙ ap (λ (bytes : List ℕ). bytes ++ body) empty
+
+-- what is written over the games of a page, into an empty buffer
+pub shows : (game : NamedGame) (diagram : NamedDiagram) (decisions : List Decision) (games : GamesView) → ArePageGames game diagram (map literal_of decisions) games →
+    (full settled : Bool) (hopeful dual before text : List ℕ) (names : List (List ℕ)) → names ≡ diagram.names → before ≡ [] →
+    Decides full (AreAllKnown (length games.known) games.known) → Decides settled (AreProgressTables games.known (graph_of game) hopeful dual) →
+    text ≡ before ++ show_text names (vertex_ids game.vertices) (top_of games.hopeful_levels) (top_of games.dual_levels) (map literal_of decisions) full settled hopeful dual →
+    ShowsUnder (scene_of game diagram) games.known decisions hopeful dual text
+shows game diagram decisions games are full settled hopeful dual before text names names_is empty full_is settled_is text_is = record {
+  full = full;
+  settled = settled;
+  full_is = full_is;
+  settled_is = settled_is;
+  text_is = text_is
+      ∙ ap (λ (bytes : List ℕ). bytes ++ show_text names (vertex_ids game.vertices) (top_of games.hopeful_levels) (top_of games.dual_levels) (map literal_of decisions) full settled hopeful dual) empty
+      ∙ ap (λ (ns : List (List ℕ)). show_text ns (vertex_ids game.vertices) (top_of games.hopeful_levels) (top_of games.dual_levels) (map literal_of decisions) full settled hopeful dual) names_is
+      ∙ ap₂ (λ (first second : ℕ). show_text diagram.names (vertex_ids game.vertices) first second (map literal_of decisions) full settled hopeful dual)
+      (ap top_of (are.levels Hopeful)) (ap top_of (are.levels Dual));
+}

@@ -9,6 +9,8 @@ use Rattle.vpg_diagram.specs.DiagramText.{NamedDiagram}
 use Rattle.vpg_game.specs.Game.{NamedGame, graph_of, vertex_ids}
 use Rattle.vpg_partial.specs.TableLaws.{IsKnownTable}
 use Rattle.vpg_game.specs.Guarded.{GuardedGame}
+use Rattle.vpg_measure.specs.Games.{GamesView, games_levels, games_arena}
+use Rattle.vpg_measure.specs.Lifts.{IsProgressTable}
 use Rattle.vpg_measure.specs.TwoGames.{top_for, IsProgressOf}
 use Rattle.vpg_trail.specs.Page.{Which, Hopeful, Dual, Entry, Decided, Lifted, Decision, literal_of}
 use Rattle.vpg_texts.specs.Text.{show_text, products_text}
@@ -37,6 +39,10 @@ UnderKnown scene decisions P = (known : List Tri) × (IsKnownTable scene.lines (
 abbrev pub table_in : List ℕ → List ℕ → Which → List ℕ
 table_in hopeful dual Hopeful = hopeful
 table_in hopeful dual Dual = dual
+
+-- no lift raises either of two tables of these games
+abbrev pub AreSettledTables : GamesView → (hopeful dual : List ℕ) → Type 0
+AreSettledTables games hopeful dual = (which : Which) → IsProgressTable (games_levels which games) (games_arena which games) (table_in hopeful dual which)
 
 -- under what is known, both are progress tables of their games
 abbrev pub AreProgressTables : List Tri → GuardedGame Formula → (hopeful dual : List ℕ) → Type 0

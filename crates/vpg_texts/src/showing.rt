@@ -1,8 +1,10 @@
 //! The texts that show a page.
 ghost use Rattle.std.specs.Prelude.{◌≡◌, map, IfOk};
+ghost use Rattle.vpg_diagram.specs.FeatureDiagram.{feature_count};
+ghost use Rattle.vpg_measure.specs.Games.{ArePageGames};
 ghost use Rattle.vpg_partial.specs.Known.{literal_of};
 ghost use Rattle.vpg_partial.specs.KnownLaws.{HasConflictOf};
-ghost use Rattle.vpg_partial.specs.TableLaws.{AreChoicesOf, IsKnownTable};
+ghost use Rattle.vpg_partial.specs.TableLaws.{AreChoicesOf};
 
 mod entries;
 mod known;
@@ -10,26 +12,31 @@ mod page;
 mod plans;
 
 pub use entries::trail;
-pub use known::products;
-pub use page::show;
-pub use plans::{PlanFault, plan};
+pub use known::{products, products_over};
+pub use page::{show, show_over};
+pub use plans::{PlanFault, plan, plan_over};
 use std::alloc::{AllocError, Global};
 use vpg_diagram::Diagram;
-use vpg_partial::{Decision, Partial, PartialFault};
+use vpg_game::GuardedGame;
+use vpg_measure::{OrderFault, PageGames};
+use vpg_partial::Decision;
 
-/// What decisions without a conflict make known.
-pub(crate) fn known_of(
+/// What decisions without a conflict make of a game that has a dual.
+pub(crate) fn games_of(
     alloc: Global,
+    game: &GuardedGame,
     diagram: &Diagram,
     decisions: &[Decision],
-) -> Result<Partial, AllocError>
+) -> Result<PageGames, AllocError>
+    requires features { game.now.features ≡ feature_count diagram.now.lines }
     requires named { AreChoicesOf diagram.now.lines (map literal_of decisions.now) }
     requires consistent { ¬ (HasConflictOf diagram.now.lines (map literal_of decisions.now)) }
-    ensures { IfOk result (IsKnownTable diagram.now.lines (map literal_of decisions.now)) }
+    ensures { IfOk result (ArePageGames game.now diagram.now (map literal_of decisions.now)) }
 {
-    match Partial::close(alloc, diagram, decisions) {
-        Ok(known) => Ok(known),
-        Err(PartialFault::Memory) => Err(AllocError),
-        Err(PartialFault::Conflict { .. }) => unreachable!(),
+    match PageGames::under(alloc, game, diagram, decisions) {
+        Ok(games) => Ok(games),
+        Err(OrderFault::Conflict { .. }) => unreachable!(),
+        Err(OrderFault::AtLimit) => Err(AllocError),
+        Err(OrderFault::Memory) => Err(AllocError),
     }
 }

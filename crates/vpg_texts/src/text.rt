@@ -6,13 +6,14 @@ ghost use Rattle.vpg_texts.specs.Text.{deciding_text, table_text, entry_line, tr
 ghost use Rattle.vpg_trail.specs.Page.{literal_of};
 ghost use Rattle.vpg_trail.specs.Shown.{entry_of};
 ghost use Rattle.vpg_game.specs.Game.{vertex_ids};
+ghost use Rattle.vpg_game.specs.Levels.{top_of};
 
 use itoa::Buffer;
 use std::alloc::AllocError;
 use vpg_diagram::Literal;
 use vpg_game::GuardedGame;
 use vpg_guards::{Names, Tri};
-use vpg_measure::{Table, Which};
+use vpg_measure::{PageGames, Table, Which};
 use vpg_partial::{Decision, Partial};
 use vpg_trail::Entry;
 
@@ -124,21 +125,14 @@ fn sure(sure: bool, out: &mut Vec<u8>) -> Result<(), AllocError>
     Ok(())
 }
 
-/// The numbers that stand for top in the two tables.
-#[derive(Clone, Copy, Debug)]
-pub struct Tops {
-    pub hopeful: u64,
-    pub dual: u64,
-}
-
-fn measures(tops: Tops, id: u32, h: u64, d: u64, out: &mut Vec<u8>) -> Result<(), AllocError>
-    ensures { OnOk result (out.new.items ≡ out.old.items ++ vertex_line tops.hopeful tops.dual id h d) }
+fn measures(games: &PageGames, id: u32, h: u64, d: u64, out: &mut Vec<u8>) -> Result<(), AllocError>
+    ensures { OnOk result (out.new.items ≡ out.old.items ++ vertex_line (top_of games.now.hopeful_levels) (top_of games.now.dual_levels) id h d) }
 {
     number(id as u64, out)?;
     blank_number(h, out)?;
     blank_number(d, out)?;
-    hopeless(h == tops.hopeful, out)?;
-    sure(d == tops.dual, out)
+    hopeless(h == games.shape(Which::Hopeful).top(), out)?;
+    sure(d == games.shape(Which::Dual).top(), out)
 }
 
 fn identifier(game: &GuardedGame, v: u32) -> u32
@@ -150,7 +144,7 @@ fn identifier(game: &GuardedGame, v: u32) -> u32
 
 /// The line of a vertex.
 fn vertex(
-    tops: Tops,
+    games: &PageGames,
     game: &GuardedGame,
     hopeful: &Table,
     dual: &Table,
@@ -160,14 +154,14 @@ fn vertex(
     requires game { v < length game.now.vertices }
     requires hopeful { v < length hopeful.now }
     requires dual { v < length dual.now }
-    ensures { OnOk result (out.new.items ≡ out.old.items ++ vertex_line tops.hopeful tops.dual (slice_index (vertex_ids game.now.vertices) v) (slice_index hopeful.now v) (slice_index dual.now v)) }
+    ensures { OnOk result (out.new.items ≡ out.old.items ++ vertex_line (top_of games.now.hopeful_levels) (top_of games.now.dual_levels) (slice_index (vertex_ids game.now.vertices) v) (slice_index hopeful.now v) (slice_index dual.now v)) }
 {
-    measures(tops, identifier(game, v), hopeful.get(v), dual.get(v), out)
+    measures(games, identifier(game, v), hopeful.get(v), dual.get(v), out)
 }
 
 /// The lines of all vertices.
 fn vertices(
-    tops: Tops,
+    games: &PageGames,
     game: &GuardedGame,
     hopeful: &Table,
     dual: &Table,
@@ -175,11 +169,11 @@ fn vertices(
 ) -> Result<(), AllocError>
     requires hopeful { length hopeful.now ≡ length game.now.vertices }
     requires dual { length dual.now ≡ length game.now.vertices }
-    ensures { OnOk result (out.new.items ≡ out.old.items ++ vertex_lines tops.hopeful tops.dual (vertex_ids game.now.vertices) hopeful.now dual.now (length game.now.vertices)) }
+    ensures { OnOk result (out.new.items ≡ out.old.items ++ vertex_lines (top_of games.now.hopeful_levels) (top_of games.now.dual_levels) (vertex_ids game.now.vertices) hopeful.now dual.now (length game.now.vertices)) }
 {
     let count = game.vertices() as u32;
     for v in 0..count {
-        vertex(tops, game, hopeful, dual, v, out)?;
+        vertex(games, game, hopeful, dual, v, out)?;
     }
     Ok(())
 }
@@ -188,7 +182,7 @@ fn vertices(
 pub(crate) fn page(
     names: &Names,
     game: &GuardedGame,
-    tops: Tops,
+    games: &PageGames,
     ds: &[Decision],
     full: bool,
     settled: bool,
@@ -199,7 +193,7 @@ pub(crate) fn page(
     requires decisions { All (λ d. d.feature < length names.now) ds.now }
     requires hopeful { length hopeful.now ≡ length game.now.vertices }
     requires dual { length dual.now ≡ length game.now.vertices }
-    ensures { OnOk result (out.new.items ≡ out.old.items ++ show_text names.now (vertex_ids game.now.vertices) tops.hopeful tops.dual (map literal_of ds.now) full settled hopeful.now dual.now) }
+    ensures { OnOk result (out.new.items ≡ out.old.items ++ show_text names.now (vertex_ids game.now.vertices) (top_of games.now.hopeful_levels) (top_of games.now.dual_levels) (map literal_of ds.now) full settled hopeful.now dual.now) }
 {
     out.extend_from_slice(b"decisions")?;
     decided(names, ds, out)?;
@@ -208,7 +202,7 @@ pub(crate) fn page(
     answer(full, out)?;
     out.extend_from_slice(b"settled")?;
     answer(settled, out)?;
-    vertices(tops, game, hopeful, dual, out)
+    vertices(games, game, hopeful, dual, out)
 }
 
 fn table(which: Which, out: &mut Vec<u8>) -> Result<(), AllocError>

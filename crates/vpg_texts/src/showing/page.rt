@@ -1,91 +1,70 @@
 //! The text of a page's decisions, tables and verdicts.
-ghost use Rattle.std.specs.Prelude.{◌≡◌, ◌≤◌, ◌++◌, ℕ, List, length, map, All, IfOk, OnOk, OnErr};
+ghost use Rattle.std.specs.Prelude.{◌≡◌, ◌≤◌, ◌↔◌, ◌++◌, ℕ, List, length, map, All, IfOk, IsTrue, OnOk, OnErr};
+ghost use Rattle.std.specs.Bool.{Decides};
 ghost use Rattle.vpg_diagram.specs.FeatureDiagram.{feature_count};
+ghost use Rattle.vpg_game.specs.Game.{graph_of};
+ghost use Rattle.vpg_measure.specs.Games.{ArePageGames, games_levels, games_arena};
+ghost use Rattle.vpg_measure.specs.Lifts.{IsTableOf, IsProgressTable};
+ghost use Rattle.vpg_measure.specs.TwoGames.{top_for};
 ghost use Rattle.vpg_partial.specs.Known.{literal_of};
 ghost use Rattle.vpg_partial.specs.KnownLaws.{HasConflictOf};
 ghost use Rattle.vpg_partial.specs.TableLaws.{AreChoicesOf};
-ghost use Rattle.std.specs.Bool.{Decides};
-ghost use Rattle.vpg_game.specs.Game.{graph_of};
-ghost use Rattle.vpg_measure.specs.TwoGames.{top_for, levels_for};
-ghost use Rattle.vpg_texts.specs.Scene.{AreProgressTables, IsShown, ShowsUnder, scene_of};
+ghost use Rattle.vpg_texts.specs.Scene.{AreSettledTables, IsShown, ShowsUnder, scene_of};
 
-use crate::showing::known_of;
+use crate::showing::games_of;
 use crate::text;
-use crate::text::Tops;
 use std::alloc::{AllocError, Global};
 use vpg_diagram::Diagram;
 use vpg_game::GuardedGame;
-use vpg_hope::Arena;
-use vpg_measure::{Shape, Table, Which, is_progress};
-use vpg_partial::{Decision, Partial};
+use vpg_measure::{PageGames, Table, Which, is_progress};
+use vpg_partial::Decision;
 use vpg_trail::Page;
 
-/// The shapes of the measures of the game and of its dual.
-#[derive(Drop)]
-struct Shapes {
-    hopeful: Shape,
-    dual: Shape,
-}
-
-/// Whether both tables are progress tables under what is known.
-fn is_settled(
-    alloc: Global,
-    shapes: &Shapes,
-    game: &GuardedGame,
-    known: &Partial,
-    hopeful: &Table,
-    dual: &Table,
-) -> Result<bool, AllocError>
-    requires features { length known.now ≡ game.now.features }
-    requires shape { shapes.now.hopeful ≡ levels_for Which.Hopeful (graph_of game.now) }
-    requires dual_shape { shapes.now.dual ≡ levels_for Which.Dual (graph_of game.now) }
-    requires hopeful { length hopeful.now ≡ length game.now.vertices }
-    requires dual { length dual.now ≡ length game.now.vertices }
-    requires hopeful_within { All (λ n. n ≤ top_for Which.Hopeful (graph_of game.now)) hopeful.now }
-    requires dual_within { All (λ n. n ≤ top_for Which.Dual (graph_of game.now)) dual.now }
-    ensures { IfOk result (λ settled. Decides settled (AreProgressTables known.now (graph_of game.now) hopeful.now dual.now)) }
+/// Whether no lift raises one of the two tables.
+pub(crate) fn is_settled_table(games: &PageGames, which: Which, table: &Table) -> bool
+    requires { IsTableOf (games_levels which games.now) (games_arena which games.now) table.now }
+    ensures { IsTrue result ↔ IsProgressTable (games_levels which games.now) (games_arena which games.now) table.now }
 {
-    let arena = Arena::hopeful(alloc, game, known)?;
-    if !is_progress(&shapes.hopeful, &arena, hopeful) {
-        return Ok(false);
-    }
-    let dual_arena = Arena::hopeful_of_dual(alloc, game, known)?;
-    Ok(is_progress(&shapes.dual, &dual_arena, dual))
+    is_progress(games.shape(which), games.arena(which), table)
 }
 
-/// The text of decisions and tables, under what is known.
+/// Whether no lift raises either table.
+fn is_settled(games: &PageGames, hopeful: &Table, dual: &Table) -> bool
+    requires hopeful { IsTableOf games.now.hopeful_levels games.now.hopeful_arena hopeful.now }
+    requires dual { IsTableOf games.now.dual_levels games.now.dual_arena dual.now }
+    ensures { Decides result (AreSettledTables games.now hopeful.now dual.now) }
+{
+    if !is_settled_table(games, Which::Hopeful, hopeful) {
+        return false;
+    }
+    is_settled_table(games, Which::Dual, dual)
+}
+
+/// The text of decisions and tables, over what the decisions make of the game.
 fn shown(
     alloc: Global,
+    games: &PageGames,
     game: &GuardedGame,
     diagram: &Diagram,
-    known: &Partial,
     decisions: &[Decision],
     hopeful: &Table,
     dual: &Table,
 ) -> Result<Vec<u8>, AllocError>
-    requires features { length known.now ≡ game.now.features }
-    requires decisions { AreChoicesOf diagram.now.lines (map literal_of decisions.now) }
+    requires games { ArePageGames game.now diagram.now (map literal_of decisions.now) games.now }
+    requires named { AreChoicesOf diagram.now.lines (map literal_of decisions.now) }
     requires hopeful { length hopeful.now ≡ length game.now.vertices }
     requires dual { length dual.now ≡ length game.now.vertices }
     requires hopeful_within { All (λ n. n ≤ top_for Which.Hopeful (graph_of game.now)) hopeful.now }
     requires dual_within { All (λ n. n ≤ top_for Which.Dual (graph_of game.now)) dual.now }
-    ensures { IfOk result (λ text. ShowsUnder (scene_of game.now diagram.now) known.now decisions.now hopeful.now dual.now text.items) }
+    ensures { IfOk result (λ text. ShowsUnder (scene_of game.now diagram.now) games.now.known decisions.now hopeful.now dual.now text.items) }
 {
-    let shapes = Shapes {
-        hopeful: Shape::of(alloc, game)?,
-        dual: Shape::of_dual(alloc, game)?,
-    };
-    let tops = Tops {
-        hopeful: shapes.hopeful.top(),
-        dual: shapes.dual.top(),
-    };
-    let full = known.is_full();
-    let settled = is_settled(alloc, &shapes, game, known, hopeful, dual)?;
+    let full = games.known().is_full();
+    let settled = is_settled(games, hopeful, dual);
     let mut text = Vec::new(alloc);
     text::page(
         diagram.names(),
         game,
-        tops,
+        games,
         decisions,
         full,
         settled,
@@ -94,6 +73,36 @@ fn shown(
         &mut text,
     )?;
     Ok(text)
+}
+
+/// Appends the text of a page as `show` does, over what its decisions make of its game: no guard is looked at.
+pub fn show_over(
+    alloc: Global,
+    games: &PageGames,
+    page: &Page,
+    game: &GuardedGame,
+    diagram: &Diagram,
+    out: &mut Vec<u8>,
+) -> Result<(), AllocError>
+    requires games { ArePageGames game.now diagram.now (map literal_of page.now.decisions) games.now }
+    requires named { AreChoicesOf diagram.now.lines (map literal_of page.now.decisions) }
+    requires hopeful { length page.now.hopeful ≡ length game.now.vertices }
+    requires dual { length page.now.dual ≡ length game.now.vertices }
+    requires hopeful_within { All (λ n. n ≤ top_for Which.Hopeful (graph_of game.now)) page.now.hopeful }
+    requires dual_within { All (λ n. n ≤ top_for Which.Dual (graph_of game.now)) page.now.dual }
+    ensures shown { OnOk result ((text : List ℕ) × (IsShown (scene_of game.now diagram.now) page.now.decisions page.now.hopeful page.now.dual text × (out.new.items ≡ out.old.items ++ text))) }
+    ensures unchanged { OnErr result (out.new.items ≡ out.old.items) }
+{
+    let text = shown(
+        alloc,
+        games,
+        game,
+        diagram,
+        page.decisions.as_slice(),
+        &page.hopeful,
+        &page.dual,
+    )?;
+    out.extend_from_slice(&text)
 }
 
 /// Appends the text of a page: its decisions in their order, whether each feature is known, whether both tables are progress
@@ -116,16 +125,6 @@ pub fn show(
     ensures shown { OnOk result ((text : List ℕ) × (IsShown (scene_of game.now diagram.now) page.now.decisions page.now.hopeful page.now.dual text × (out.new.items ≡ out.old.items ++ text))) }
     ensures unchanged { OnErr result (out.new.items ≡ out.old.items) }
 {
-    let decisions = page.decisions.as_slice();
-    let known = known_of(alloc, diagram, decisions)?;
-    let text = shown(
-        alloc,
-        game,
-        diagram,
-        &known,
-        decisions,
-        &page.hopeful,
-        &page.dual,
-    )?;
-    out.extend_from_slice(&text)
+    let games = games_of(alloc, game, diagram, page.decisions.as_slice())?;
+    show_over(alloc, &games, page, game, diagram, out)
 }
