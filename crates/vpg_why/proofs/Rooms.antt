@@ -1,17 +1,16 @@
 -- What a search has room for.
-use Rattle.std.proofs.Common.{◌≡◌, ℕ, zero, suc, ◌+◌, ◌-◌, ◌<◌, ◌≤◌, ◌⊎◌, inl, inr, Bool, true, false, List, [], ◌∷◌, ◌++◌, slice_index_or, IsTrue, Contains, refl, subst, arith}
+use Rattle.std.proofs.Common.{◌≡◌, ℕ, zero, suc, ◌+◌, ◌-◌, ◌<◌, ◌≤◌, ◌⊎◌, inl, inr, Bool, true, false, List, [], ◌∷◌, ◌++◌, slice_index_or, IsTrue, refl, subst, arith}
 use Rattle.std.proofs.lemmas.Bool.{cases_lt, cases_order}
 use Rattle.std.proofs.lemmas.List.Elements.{Contains-append_left}
 use Rattle.vpg_guards.specs.declared.tri.Tri.{Tri}
 use Rattle.vpg_guards.specs.declared.tri.Tri.TheVariants.{No, Unknown, Yes}
 use Rattle.vpg_diagram.specs.DiagramText.{NamedDiagram}
-use Rattle.vpg_diagram.specs.FeatureDiagram.{feature_count}
 use Rattle.vpg_diagram.specs.Clauses.{clauses_of, counts_of}
 use Rattle.vpg_diagram.specs.declared.clause.Literal.{Literal}
 use Rattle.vpg_diagram.proofs.Lists.{All-back}
 use Rattle.vpg_partial.specs.Known.{IsKnown}
-use Rattle.vpg_partial.specs.KnownTable.{is_known_as, literals_in}
-use Rattle.vpg_partial.specs.TableLaws.{AreAmong, IsKnownTable}
+use Rattle.vpg_partial.specs.KnownTable.{is_known_as}
+use Rattle.vpg_partial.specs.TableLaws.{AreAmong}
 use Rattle.vpg_why.specs.declared.searching.Example.{Example}
 use Rattle.vpg_why.specs.declared.searching.Found.{Found}
 use Rattle.vpg_why.specs.declared.searching.Found.TheVariants as founds

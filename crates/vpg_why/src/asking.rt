@@ -3,6 +3,7 @@ ghost use Rattle.std.specs.Prelude.{◌≡◌, ◌≢◌, ◌↔◌, ◌<◌, �
 ghost use Rattle.vpg_guards.specs.Known.{kleene};
 ghost use Rattle.vpg_diagram.specs.FeatureDiagram.{feature_count};
 ghost use Rattle.vpg_game.specs.Game.{graph_of};
+ghost use Rattle.vpg_measure.specs.Games.{AreGamesOf, ArePageGames};
 ghost use Rattle.vpg_measure.specs.Lifts.{IsTableOf, IsProgressTable, IsBelowTable, after_rounds};
 ghost use Rattle.vpg_measure.specs.TwoGames.{levels_for, arena_for};
 ghost use Rattle.vpg_partial.specs.Known.{literal_of};
@@ -13,91 +14,64 @@ ghost use Rattle.vpg_why.specs.Suffices.{choice, IsTopUnder, IsLowUnder, Suffice
 
 use crate::question::{Limits, Question, Shown};
 use std::alloc::{AllocError, Global};
-use vpg_diagram::Diagram;
-use vpg_game::GuardedGame;
 use vpg_guards::Tri;
 use vpg_guess::raise_by_bounds;
 use vpg_hope::Arena;
-use vpg_measure::{Shape, Table, Which, is_progress, settle_alone};
+use vpg_measure::{Order, OrderFault, PageGames, Shape, Table, Which, is_progress, settle_alone};
 use vpg_partial::{Decision, Partial, PartialFault};
 
-/// The shape and the kept edges of one of the two games, and the shape of its dual.
-#[derive(Drop)]
-struct Side {
-    shape: Shape,
-    dual_shape: Shape,
-    arena: Arena,
-}
-
-fn lay_out(
-    alloc: Global,
-    game: &GuardedGame,
-    which: Which,
-    known: &Partial,
-) -> Result<Side, AllocError>
-    requires { length known.now ≡ game.now.features }
-    ensures shape { IfOk result (λ side. side.shape ≡ levels_for which (graph_of game.now)) }
-    ensures arena { IfOk result (λ side. side.arena ≡ arena_for (kleene known.now) which (graph_of game.now)) }
-{
-    match which {
-        Which::Hopeful => Ok(Side {
-            shape: Shape::of(alloc, game)?,
-            dual_shape: Shape::of_dual(alloc, game)?,
-            arena: Arena::hopeful(alloc, game, known)?,
-        }),
-        Which::Dual => Ok(Side {
-            shape: Shape::of_dual(alloc, game)?,
-            dual_shape: Shape::of_dual_of_dual(alloc, game)?,
-            arena: Arena::hopeful_of_dual(alloc, game, known)?,
-        }),
-    }
-}
-
 // Raises a table by certified bounds and, where these do not settle it, by rounds of lifts; says whether it is a progress table then.
-fn raise(alloc: Global, side: &Side, table: &mut Table, limits: Limits) -> Result<bool, AllocError>
-    requires { IsTableOf side.now.shape side.now.arena table.old }
-    ensures settled { IfOk result (λ settled. IsTrue settled ↔ IsProgressTable side.now.shape side.now.arena table.new) }
-    ensures table { IsTableOf side.now.shape side.now.arena table.new }
-    ensures below { (other : List ℕ) → IsTableOf side.now.shape side.now.arena other → IsProgressTable side.now.shape side.now.arena other →
+fn raise(
+    alloc: Global,
+    shape: &Shape,
+    dual_shape: &Shape,
+    arena: &Arena,
+    table: &mut Table,
+    limits: Limits,
+) -> Result<bool, AllocError>
+    requires { IsTableOf shape.now arena.now table.old }
+    ensures settled { IfOk result (λ settled. IsTrue settled ↔ IsProgressTable shape.now arena.now table.new) }
+    ensures table { IsTableOf shape.now arena.now table.new }
+    ensures below { (other : List ℕ) → IsTableOf shape.now arena.now other → IsProgressTable shape.now arena.now other →
         IsBelowTable table.old other → IsBelowTable table.new other }
     // It is one where so many rounds alone leave one.
-    ensures rounds { IfOk result (λ settled. IsProgressTable side.now.shape side.now.arena (after_rounds side.now.shape side.now.arena limits.rounds table.old) → IsTrue settled) }
+    ensures rounds { IfOk result (λ settled. IsProgressTable shape.now arena.now (after_rounds shape.now arena.now limits.rounds table.old) → IsTrue settled) }
 {
-    let settled = raise_by_bounds(
-        alloc,
-        &side.shape,
-        &side.dual_shape,
-        &side.arena,
-        table,
-        limits.budget,
-    )?;
+    let settled = raise_by_bounds(alloc, shape, dual_shape, arena, table, limits.budget)?;
     if settled {
         return Ok(true);
     }
-    settle_alone(&side.shape, &side.arena, table, limits.rounds);
-    Ok(is_progress(&side.shape, &side.arena, table))
+    settle_alone(shape, arena, table, limits.rounds);
+    Ok(is_progress(shape, arena, table))
 }
 
-/// Whether every progress table of one of the two games has the top at the vertex: the least one does.
+/// Whether every progress table of one of the two games has the top at the vertex: the least one does. The games are those of
+/// some decisions.
 pub(crate) fn is_top(
     alloc: Global,
-    game: &GuardedGame,
+    order: &Order,
+    games: &PageGames,
     which: Which,
     vertex: u32,
-    known: &Partial,
     limits: Limits,
 ) -> Result<Shown, AllocError>
-    requires features { length known.now ≡ game.now.features }
-    requires vertex { vertex < length game.now.vertices }
-    ensures yes { IfOk result (λ shown. shown ≡ Shown.Yes → IsTopUnder game.now which vertex known.now) }
-    ensures no { IfOk result (λ shown. shown ≡ Shown.No → IsTopUnder game.now which vertex known.now → ⊥) }
-    ensures low { IfOk result (λ shown. shown ≡ Shown.No → IsLowUnder game.now which vertex known.now) }
-    ensures settled { IfOk result (λ shown. SettlesWithin limits.rounds game.now which known.now → shown ≢ Shown.Unsettled) }
+    requires games { AreGamesOf order.now.game order.now.diagram games.now }
+    requires vertex { vertex < length order.now.game.vertices }
+    ensures yes { IfOk result (λ shown. shown ≡ Shown.Yes → IsTopUnder order.now.game which vertex games.now.known) }
+    ensures no { IfOk result (λ shown. shown ≡ Shown.No → IsTopUnder order.now.game which vertex games.now.known → ⊥) }
+    ensures low { IfOk result (λ shown. shown ≡ Shown.No → IsLowUnder order.now.game which vertex games.now.known) }
+    ensures settled { IfOk result (λ shown. SettlesWithin limits.rounds order.now.game which games.now.known → shown ≢ Shown.Unsettled) }
 {
-    let side = lay_out(alloc, game, which, known)?;
-    let mut table = Table::zero(alloc, side.arena.vertices())?;
-    let settled = raise(alloc, &side, &mut table, limits)?;
-    if table.get(vertex) == side.shape.top() {
+    let shape = games.shape(which);
+    let arena = games.arena(which);
+    let again = Shape::of_dual_of_dual(alloc, order.game())?;
+    let dual_shape = match which {
+        Which::Hopeful => games.shape(Which::Dual),
+        Which::Dual => &again,
+    };
+    let mut table = Table::zero(alloc, arena.vertices())?;
+    let settled = raise(alloc, shape, dual_shape, arena, &mut table, limits)?;
+    if table.get(vertex) == shape.top() {
         Ok(Shown::Yes)
     } else if settled {
         Ok(Shown::No)
@@ -118,42 +92,61 @@ fn is_known(known: &Partial, feature: u16, value: bool) -> bool
     }
 }
 
-// What the decisions make known; nothing where they have a conflict.
+// What the decisions make known; nothing where they have a conflict. It is asked where the game is not: of features alone.
 pub(crate) fn closed(
     alloc: Global,
-    diagram: &Diagram,
+    order: &Order,
     decisions: &[Decision],
 ) -> Result<Option<Partial>, AllocError>
-    requires { AreChoicesOf diagram.now.lines (map literal_of decisions.now) }
-    ensures known { IfOk result (λ found. IfSome found (λ known. IsKnownTable diagram.now.lines (map literal_of decisions.now) known)) }
-    ensures conflict { IfOk result (λ found. IsNone found → HasConflictOf diagram.now.lines (map literal_of decisions.now)) }
+    requires { AreChoicesOf order.now.diagram.lines (map literal_of decisions.now) }
+    ensures known { IfOk result (λ found. IfSome found (λ known. IsKnownTable order.now.diagram.lines (map literal_of decisions.now) known)) }
+    ensures conflict { IfOk result (λ found. IsNone found → HasConflictOf order.now.diagram.lines (map literal_of decisions.now)) }
 {
-    match Partial::close(alloc, diagram, decisions) {
+    match Partial::close(alloc, order.diagram(), decisions) {
         Ok(known) => Ok(Some(known)),
         Err(PartialFault::Conflict { feature: _ }) => Ok(None),
         Err(PartialFault::Memory) => Err(AllocError),
     }
 }
 
+// What the decisions make of the order's game, from what the order's own make of it; nothing where they have a conflict.
+pub(crate) fn games_with(
+    alloc: Global,
+    order: &Order,
+    decisions: &[Decision],
+) -> Result<Option<PageGames>, AllocError>
+    requires { AreChoicesOf order.now.diagram.lines (map literal_of decisions.now) }
+    ensures games { IfOk result (λ found. IfSome found (λ games. ArePageGames order.now.game order.now.diagram (map literal_of decisions.now) games)) }
+    ensures conflict { IfOk result (λ found. IsNone found → HasConflictOf order.now.diagram.lines (map literal_of decisions.now)) }
+{
+    match order
+        .games()
+        .updated(alloc, order.game(), order.diagram(), decisions)
+    {
+        Ok(games) => Ok(Some(games)),
+        Err(OrderFault::Conflict { feature: _ }) => Ok(None),
+        Err(OrderFault::AtLimit) => unreachable!(),
+        Err(OrderFault::Memory) => Err(AllocError),
+    }
+}
+
 pub(crate) fn verdict_shown(
     alloc: Global,
-    game: &GuardedGame,
-    diagram: &Diagram,
+    order: &Order,
     which: Which,
     vertex: u32,
     decisions: &[Decision],
     limits: Limits,
 ) -> Result<Shown, AllocError>
-    requires features { game.now.features ≡ feature_count diagram.now.lines }
-    requires named { AreChoicesOf diagram.now.lines (map literal_of decisions.now) }
-    requires vertex { vertex < length game.now.vertices }
-    ensures yes { IfOk result (λ shown. shown ≡ Shown.Yes → Suffice game.now diagram.now (Question.Verdict which vertex) (map literal_of decisions.now)) }
-    ensures no { IfOk result (λ shown. shown ≡ Shown.No → Suffice game.now diagram.now (Question.Verdict which vertex) (map literal_of decisions.now) → ⊥) }
-    ensures settled { IfOk result (λ shown. IsSettled game.now diagram.now limits (Question.Verdict which vertex) → shown ≢ Shown.Unsettled) }
+    requires named { AreChoicesOf order.now.diagram.lines (map literal_of decisions.now) }
+    requires vertex { vertex < length order.now.game.vertices }
+    ensures yes { IfOk result (λ shown. shown ≡ Shown.Yes → Suffice order.now.game order.now.diagram (Question.Verdict which vertex) (map literal_of decisions.now)) }
+    ensures no { IfOk result (λ shown. shown ≡ Shown.No → Suffice order.now.game order.now.diagram (Question.Verdict which vertex) (map literal_of decisions.now) → ⊥) }
+    ensures settled { IfOk result (λ shown. IsSettled order.now.game order.now.diagram limits (Question.Verdict which vertex) → shown ≢ Shown.Unsettled) }
 {
-    match closed(alloc, diagram, decisions)? {
-        Some(known) => {
-            let shown = is_top(alloc, game, which, vertex, &known, limits)?;
+    match games_with(alloc, order, decisions)? {
+        Some(games) => {
+            let shown = is_top(alloc, order, &games, which, vertex, limits)?;
             Ok(shown)
         }
         None => Ok(Shown::Yes),
@@ -162,19 +155,18 @@ pub(crate) fn verdict_shown(
 
 pub(crate) fn known_shown(
     alloc: Global,
-    game: &GuardedGame,
-    diagram: &Diagram,
+    order: &Order,
     feature: u16,
     value: bool,
     decisions: &[Decision],
 ) -> Result<Shown, AllocError>
-    requires named { AreChoicesOf diagram.now.lines (map literal_of decisions.now) }
-    requires feature { feature < feature_count diagram.now.lines }
-    ensures yes { IfOk result (λ shown. shown ≡ Shown.Yes → Suffice game.now diagram.now (Question.Known feature value) (map literal_of decisions.now)) }
-    ensures no { IfOk result (λ shown. shown ≡ Shown.No → Suffice game.now diagram.now (Question.Known feature value) (map literal_of decisions.now) → ⊥) }
+    requires named { AreChoicesOf order.now.diagram.lines (map literal_of decisions.now) }
+    requires feature { feature < feature_count order.now.diagram.lines }
+    ensures yes { IfOk result (λ shown. shown ≡ Shown.Yes → Suffice order.now.game order.now.diagram (Question.Known feature value) (map literal_of decisions.now)) }
+    ensures no { IfOk result (λ shown. shown ≡ Shown.No → Suffice order.now.game order.now.diagram (Question.Known feature value) (map literal_of decisions.now) → ⊥) }
     ensures settled { IfOk result (λ shown. shown ≢ Shown.Unsettled) }
 {
-    match closed(alloc, diagram, decisions)? {
+    match closed(alloc, order, decisions)? {
         Some(known) => {
             if is_known(&known, feature, value) {
                 Ok(Shown::Yes)
@@ -208,20 +200,19 @@ pub(crate) fn with_one(
 
 pub(crate) fn conflict_shown(
     alloc: Global,
-    game: &GuardedGame,
-    diagram: &Diagram,
+    order: &Order,
     feature: u16,
     value: bool,
     decisions: &[Decision],
 ) -> Result<Shown, AllocError>
-    requires named { AreChoicesOf diagram.now.lines (map literal_of decisions.now) }
-    requires feature { feature < feature_count diagram.now.lines }
-    ensures yes { IfOk result (λ shown. shown ≡ Shown.Yes → Suffice game.now diagram.now (Question.Conflict feature value) (map literal_of decisions.now)) }
-    ensures no { IfOk result (λ shown. shown ≡ Shown.No → Suffice game.now diagram.now (Question.Conflict feature value) (map literal_of decisions.now) → ⊥) }
+    requires named { AreChoicesOf order.now.diagram.lines (map literal_of decisions.now) }
+    requires feature { feature < feature_count order.now.diagram.lines }
+    ensures yes { IfOk result (λ shown. shown ≡ Shown.Yes → Suffice order.now.game order.now.diagram (Question.Conflict feature value) (map literal_of decisions.now)) }
+    ensures no { IfOk result (λ shown. shown ≡ Shown.No → Suffice order.now.game order.now.diagram (Question.Conflict feature value) (map literal_of decisions.now) → ⊥) }
     ensures settled { IfOk result (λ shown. shown ≢ Shown.Unsettled) }
 {
     let more = with_one(alloc, decisions, feature, value)?;
-    match closed(alloc, diagram, &more)? {
+    match closed(alloc, order, &more)? {
         Some(_) => Ok(Shown::No),
         None => Ok(Shown::Yes),
     }

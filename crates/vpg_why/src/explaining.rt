@@ -1,6 +1,5 @@
 //! Explanations: some of a page's decisions that suffice, of which none can be left out.
 ghost use Rattle.std.specs.Prelude.{◌≡◌, ◌≢◌, ◌<◌, ◌≤◌, ◌+◌, length, IfOk, IfSome, IsNone, IsTrue};
-ghost use Rattle.vpg_diagram.specs.FeatureDiagram.{feature_count};
 ghost use Rattle.vpg_partial.specs.TableLaws.{AreChoicesOf};
 ghost use Rattle.vpg_why.specs.Explained.{choices, front_with, IsLast, Explains};
 ghost use Rattle.vpg_why.specs.Suffices.{Suffice, IsAskable, IsSettled};
@@ -8,8 +7,7 @@ ghost use Rattle.vpg_why.specs.Suffices.{Suffice, IsAskable, IsSettled};
 use crate::answering::suffice;
 use crate::question::{Limits, Question, Shown};
 use std::alloc::{AllocError, Global};
-use vpg_diagram::Diagram;
-use vpg_game::GuardedGame;
+use vpg_measure::Order;
 use vpg_partial::Decision;
 
 /// Some decisions that suffice, in the page's order.
@@ -38,25 +36,23 @@ fn joined(
 // Whether the first decisions and others behind them suffice.
 fn front_suffices(
     alloc: Global,
-    game: &GuardedGame,
-    diagram: &Diagram,
+    order: &Order,
     question: Question,
     decisions: &[Decision],
     most: usize,
     kept: &[Decision],
     limits: Limits,
 ) -> Result<Shown, AllocError>
-    requires features { game.now.features ≡ feature_count diagram.now.lines }
-    requires named { AreChoicesOf diagram.now.lines (choices decisions.now) }
-    requires kept_named { AreChoicesOf diagram.now.lines (choices kept.now) }
-    requires askable { IsAskable game.now diagram.now question }
+    requires named { AreChoicesOf order.now.diagram.lines (choices decisions.now) }
+    requires kept_named { AreChoicesOf order.now.diagram.lines (choices kept.now) }
+    requires askable { IsAskable order.now.game order.now.diagram question }
     requires within { most ≤ length decisions.now }
-    ensures yes { IfOk result (λ shown. shown ≡ Shown.Yes → Suffice game.now diagram.now question (choices (front_with most decisions.now kept.now))) }
-    ensures no { IfOk result (λ shown. shown ≡ Shown.No → Suffice game.now diagram.now question (choices (front_with most decisions.now kept.now)) → ⊥) }
-    ensures settled { IfOk result (λ shown. IsSettled game.now diagram.now limits question → shown ≢ Shown.Unsettled) }
+    ensures yes { IfOk result (λ shown. shown ≡ Shown.Yes → Suffice order.now.game order.now.diagram question (choices (front_with most decisions.now kept.now))) }
+    ensures no { IfOk result (λ shown. shown ≡ Shown.No → Suffice order.now.game order.now.diagram question (choices (front_with most decisions.now kept.now)) → ⊥) }
+    ensures settled { IfOk result (λ shown. IsSettled order.now.game order.now.diagram limits question → shown ≢ Shown.Unsettled) }
 {
     let joined = joined(alloc, decisions, most, kept)?;
-    let shown = suffice(alloc, game, diagram, question, &joined, limits)?;
+    let shown = suffice(alloc, order, question, &joined, limits)?;
     Ok(shown)
 }
 
@@ -94,8 +90,7 @@ fn between(decisions: &[Decision], hint: &[Decision], low: usize, high: usize) -
 // Of the first decisions, of which some are needed beside the kept ones, the last that is.
 fn halve(
     alloc: Global,
-    game: &GuardedGame,
-    diagram: &Diagram,
+    order: &Order,
     question: Question,
     decisions: &[Decision],
     most: usize,
@@ -104,28 +99,25 @@ fn halve(
     hint: &[Decision],
     limits: Limits,
 ) -> Result<Last, AllocError>
-    requires features { game.now.features ≡ feature_count diagram.now.lines }
-    requires named { AreChoicesOf diagram.now.lines (choices decisions.now) }
-    requires kept_named { AreChoicesOf diagram.now.lines (choices kept.now) }
-    requires askable { IsAskable game.now diagram.now question }
+    requires named { AreChoicesOf order.now.diagram.lines (choices decisions.now) }
+    requires kept_named { AreChoicesOf order.now.diagram.lines (choices kept.now) }
+    requires askable { IsAskable order.now.game order.now.diagram question }
     requires within { most ≤ length decisions.now }
     requires some { 0 < most }
-    requires enough { Suffice game.now diagram.now question (choices (front_with most decisions.now kept.now)) }
-    requires settled { IsSettled game.now diagram.now limits question → IsTrue exact }
-    requires short { IsTrue exact → Suffice game.now diagram.now question (choices (front_with 0 decisions.now kept.now)) → ⊥ }
+    requires enough { Suffice order.now.game order.now.diagram question (choices (front_with most decisions.now kept.now)) }
+    requires settled { IsSettled order.now.game order.now.diagram limits question → IsTrue exact }
+    requires short { IsTrue exact → Suffice order.now.game order.now.diagram question (choices (front_with 0 decisions.now kept.now)) → ⊥ }
     ensures place { IfOk result (λ last. last.place < most) }
-    ensures enough { IfOk result (λ last. Suffice game.now diagram.now question (choices (front_with (last.place + 1) decisions.now kept.now))) }
-    ensures short { IfOk result (λ last. IsTrue last.exact → Suffice game.now diagram.now question (choices (front_with last.place decisions.now kept.now)) → ⊥) }
-    ensures settled { IfOk result (λ last. IsSettled game.now diagram.now limits question → IsTrue last.exact) }
+    ensures enough { IfOk result (λ last. Suffice order.now.game order.now.diagram question (choices (front_with (last.place + 1) decisions.now kept.now))) }
+    ensures short { IfOk result (λ last. IsTrue last.exact → Suffice order.now.game order.now.diagram question (choices (front_with last.place decisions.now kept.now)) → ⊥) }
+    ensures settled { IfOk result (λ last. IsSettled order.now.game order.now.diagram limits question → IsTrue last.exact) }
 {
     let mut low = 0;
     let mut high = most;
     let mut exact = exact;
     'halving: while high - low > 1 {
         let middle = between(decisions, hint, low, high);
-        let shown = front_suffices(
-            alloc, game, diagram, question, decisions, middle, kept, limits,
-        )?;
+        let shown = front_suffices(alloc, order, question, decisions, middle, kept, limits)?;
         match shown {
             Shown::Yes => high = middle,
             Shown::No => {
@@ -144,8 +136,7 @@ fn halve(
 // The last of the first decisions that is needed beside the kept ones, if one is.
 fn last_needed(
     alloc: Global,
-    game: &GuardedGame,
-    diagram: &Diagram,
+    order: &Order,
     question: Question,
     decisions: &[Decision],
     most: usize,
@@ -153,25 +144,24 @@ fn last_needed(
     hint: &[Decision],
     limits: Limits,
 ) -> Result<Option<Last>, AllocError>
-    requires features { game.now.features ≡ feature_count diagram.now.lines }
-    requires named { AreChoicesOf diagram.now.lines (choices decisions.now) }
-    requires kept_named { AreChoicesOf diagram.now.lines (choices kept.now) }
-    requires askable { IsAskable game.now diagram.now question }
+    requires named { AreChoicesOf order.now.diagram.lines (choices decisions.now) }
+    requires kept_named { AreChoicesOf order.now.diagram.lines (choices kept.now) }
+    requires askable { IsAskable order.now.game order.now.diagram question }
     requires within { most ≤ length decisions.now }
     requires some { 0 < most }
-    requires enough { Suffice game.now diagram.now question (choices (front_with most decisions.now kept.now)) }
-    ensures none { IfOk result (λ found. IsNone found → Suffice game.now diagram.now question (choices (front_with 0 decisions.now kept.now))) }
-    ensures some { IfOk result (λ found. IfSome found (λ last. IsLast (Suffice game.now diagram.now question) decisions.now kept.now most last.place last.exact)) }
-    ensures settled { IfOk result (λ found. IfSome found (λ last. IsSettled game.now diagram.now limits question → IsTrue last.exact)) }
+    requires enough { Suffice order.now.game order.now.diagram question (choices (front_with most decisions.now kept.now)) }
+    ensures none { IfOk result (λ found. IsNone found → Suffice order.now.game order.now.diagram question (choices (front_with 0 decisions.now kept.now))) }
+    ensures some { IfOk result (λ found. IfSome found (λ last. IsLast (Suffice order.now.game order.now.diagram question) decisions.now kept.now most last.place last.exact)) }
+    ensures settled { IfOk result (λ found. IfSome found (λ last. IsSettled order.now.game order.now.diagram limits question → IsTrue last.exact)) }
 {
-    let shown = front_suffices(alloc, game, diagram, question, decisions, 0, kept, limits)?;
+    let shown = front_suffices(alloc, order, question, decisions, 0, kept, limits)?;
     let exact = match shown {
         Shown::Yes => return Ok(None),
         Shown::No => true,
         Shown::Unsettled => false,
     };
     let last = halve(
-        alloc, game, diagram, question, decisions, most, kept, exact, hint, limits,
+        alloc, order, question, decisions, most, kept, exact, hint, limits,
     )?;
     Ok(Some(last))
 }
@@ -179,28 +169,25 @@ fn last_needed(
 // As `explain`, where it is tried first whether the last of the decisions hinted at are the last that are needed.
 pub(crate) fn explain_by(
     alloc: Global,
-    game: &GuardedGame,
-    diagram: &Diagram,
+    order: &Order,
     question: Question,
     decisions: &[Decision],
     hint: &[Decision],
     limits: Limits,
 ) -> Result<Explanation, AllocError>
-    requires features { game.now.features ≡ feature_count diagram.now.lines }
-    requires named { AreChoicesOf diagram.now.lines (choices decisions.now) }
-    requires askable { IsAskable game.now diagram.now question }
-    requires enough { Suffice game.now diagram.now question (choices decisions.now) }
-    ensures explains { IfOk result (λ found. Explains (Suffice game.now diagram.now question) decisions.now found.decisions.items found.exact) }
-    ensures settled { IfOk result (λ found. IsSettled game.now diagram.now limits question → IsTrue found.exact) }
+    requires named { AreChoicesOf order.now.diagram.lines (choices decisions.now) }
+    requires askable { IsAskable order.now.game order.now.diagram question }
+    requires enough { Suffice order.now.game order.now.diagram question (choices decisions.now) }
+    ensures explains { IfOk result (λ found. Explains (Suffice order.now.game order.now.diagram question) decisions.now found.decisions.items found.exact) }
+    ensures settled { IfOk result (λ found. IsSettled order.now.game order.now.diagram limits question → IsTrue found.exact) }
 {
-    let _features = diagram.features();
+    // What every order keeps, for the proof.
+    let _order = order.game();
     let mut kept = Vec::new(alloc);
     let mut exact = true;
     let mut most = decisions.len();
     'listing: while most > 0 {
-        let found = last_needed(
-            alloc, game, diagram, question, decisions, most, &kept, hint, limits,
-        )?;
+        let found = last_needed(alloc, order, question, decisions, most, &kept, hint, limits)?;
         match found {
             Some(last) => {
                 kept.insert(0, decisions[last.place])?;
@@ -224,19 +211,17 @@ pub(crate) fn explain_by(
 /// The one error is want of memory.
 pub fn explain(
     alloc: Global,
-    game: &GuardedGame,
-    diagram: &Diagram,
+    order: &Order,
     question: Question,
     decisions: &[Decision],
     limits: Limits,
 ) -> Result<Explanation, AllocError>
-    requires features { game.now.features ≡ feature_count diagram.now.lines }
-    requires named { AreChoicesOf diagram.now.lines (choices decisions.now) }
-    requires askable { IsAskable game.now diagram.now question }
-    requires enough { Suffice game.now diagram.now question (choices decisions.now) }
-    ensures explains { IfOk result (λ found. Explains (Suffice game.now diagram.now question) decisions.now found.decisions.items found.exact) }
-    ensures settled { IfOk result (λ found. IsSettled game.now diagram.now limits question → IsTrue found.exact) }
+    requires named { AreChoicesOf order.now.diagram.lines (choices decisions.now) }
+    requires askable { IsAskable order.now.game order.now.diagram question }
+    requires enough { Suffice order.now.game order.now.diagram question (choices decisions.now) }
+    ensures explains { IfOk result (λ found. Explains (Suffice order.now.game order.now.diagram question) decisions.now found.decisions.items found.exact) }
+    ensures settled { IfOk result (λ found. IsSettled order.now.game order.now.diagram limits question → IsTrue found.exact) }
 {
-    let found = explain_by(alloc, game, diagram, question, decisions, &[], limits)?;
+    let found = explain_by(alloc, order, question, decisions, &[], limits)?;
     Ok(found)
 }

@@ -5,6 +5,8 @@
 //! decision contradictory. What some decisions make so, more do. So `explain` can look for few: it lists decisions that suffice, of
 //! which none can be left out. There is one such list that prefers older decisions, so the answer is a function of the page.
 //!
+//! Each trial goes over from the order's games to those of its decisions; what is asked of features alone makes no games.
+//!
 //! The layer above uses `why`, `why_lost`, `why_known`, `why_conflict` (explanations), `find` (an example or a counterexample, or that
 //! there is none), `needs` (what all that are won have), `look_ahead`, `look_back` (what one more decision, or one fewer, would do) and
 //! `repair` (what to retract). `Which::Hopeful` asks for Even, `Which::Dual` for Odd. Every answer has `Limits` of work, and says where

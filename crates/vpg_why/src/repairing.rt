@@ -1,6 +1,5 @@
 //! What to retract so that a verdict no longer holds.
 ghost use Rattle.std.specs.Prelude.{◌≡◌, ◌↔◌, ◌<◌, ◌++◌, ◌∷◌, [], length, IfOk, IsTrue};
-ghost use Rattle.vpg_diagram.specs.FeatureDiagram.{feature_count};
 ghost use Rattle.vpg_partial.specs.TableLaws.{AreChoicesOf};
 ghost use Rattle.vpg_why.specs.Explained.{choices};
 ghost use Rattle.vpg_why.specs.Repaired.{IsRepair, IsRemedy, IsRemedyExact};
@@ -9,8 +8,6 @@ ghost use Rattle.vpg_why.specs.Suffices.{Suffice, IsAskable, IsSettled};
 use crate::answering::suffice;
 use crate::question::{Limits, Question, Shown};
 use std::alloc::{AllocError, Global};
-use vpg_diagram::Diagram;
-use vpg_game::GuardedGame;
 use vpg_measure::{Order, Which};
 use vpg_partial::Decision;
 
@@ -60,25 +57,23 @@ fn is_yes(shown: Shown) -> bool
 // Which decisions to give up, the oldest first to be kept.
 fn give_up(
     alloc: Global,
-    game: &GuardedGame,
-    diagram: &Diagram,
+    order: &Order,
     question: Question,
     decisions: &[Decision],
     limits: Limits,
 ) -> Result<Retraction, AllocError>
-    requires features { game.now.features ≡ feature_count diagram.now.lines }
-    requires named { AreChoicesOf diagram.now.lines (choices decisions.now) }
-    requires askable { IsAskable game.now diagram.now question }
-    requires possible { Suffice game.now diagram.now question [] → ⊥ }
-    ensures repair { IfOk result (λ found. IsRepair (Suffice game.now diagram.now question) decisions.now found.kept.items found.retracted.items found.exact) }
-    ensures settled { IfOk result (λ found. IsSettled game.now diagram.now limits question → IsTrue found.exact) }
+    requires named { AreChoicesOf order.now.diagram.lines (choices decisions.now) }
+    requires askable { IsAskable order.now.game order.now.diagram question }
+    requires possible { Suffice order.now.game order.now.diagram question [] → ⊥ }
+    ensures repair { IfOk result (λ found. IsRepair (Suffice order.now.game order.now.diagram question) decisions.now found.kept.items found.retracted.items found.exact) }
+    ensures settled { IfOk result (λ found. IsSettled order.now.game order.now.diagram limits question → IsTrue found.exact) }
 {
     let mut kept = Vec::new(alloc);
     let mut retracted = Vec::new(alloc);
     let mut exact = true;
     'deciding: for d in decisions {
         let more = appended(alloc, &kept, *d)?;
-        let shown = suffice(alloc, game, diagram, question, &more, limits)?;
+        let shown = suffice(alloc, order, question, &more, limits)?;
         if let Shown::No = shown {
             kept = more;
         } else {
@@ -108,12 +103,11 @@ pub fn repair(
     ensures settled { IfOk result (λ found. IsSettled order.now.game order.now.diagram limits (Question.Verdict which vertex) → IsRemedyExact found) }
 {
     let question = Question::Verdict { which, vertex };
-    let (game, diagram) = (order.game(), order.diagram());
-    match suffice(alloc, game, diagram, question, &[], limits)? {
+    match suffice(alloc, order, question, &[], limits)? {
         Shown::Yes => return Ok(Remedy::Nothing),
         Shown::No => {}
         Shown::Unsettled => return Ok(Remedy::Unsettled),
     }
-    let found = give_up(alloc, game, diagram, question, order.decisions(), limits)?;
+    let found = give_up(alloc, order, question, order.decisions(), limits)?;
     Ok(Remedy::Retract(found))
 }

@@ -2,19 +2,16 @@
 ghost use Rattle.std.specs.Prelude.{◌≡◌, ◌≢◌, ◌<◌, ◌≤◌, ◌+◌, ℕ, length, slice_index_or, IfOk, IfSome, IsNone};
 ghost use Rattle.vpg_guards.specs.declared.tri.Tri.TheVariants.{Unknown};
 ghost use Rattle.vpg_guards.specs.Known.{AreAllKnown};
-ghost use Rattle.vpg_diagram.specs.FeatureDiagram.{feature_count};
-ghost use Rattle.vpg_partial.specs.TableLaws.{AreChoicesOf};
+ghost use Rattle.vpg_partial.specs.TableLaws.{AreChoicesOf, IsKnownTable};
 ghost use Rattle.vpg_why.specs.Explained.{choices};
 ghost use Rattle.vpg_why.specs.Found.{HasRoom, IsOutlook, IsOutlookExact, IsFound, IsFoundExact};
-ghost use Rattle.vpg_why.specs.Suffices.{IsAim, IsBarred, MayMeet, AimSettles, AimSettlesUnder, IsSettled, most_trials};
+ghost use Rattle.vpg_why.specs.Suffices.{IsAim, IsBarred, MayMeet, AimSettles, AlwaysSettles, IsSettled, most_trials};
 
-use crate::asking::{closed, is_top, with_one};
+use crate::asking::{closed, games_with, is_top, with_one};
 use crate::question::{Aim, Limits, Question, Shown};
 use std::alloc::{AllocError, Global};
-use vpg_diagram::Diagram;
-use vpg_game::GuardedGame;
 use vpg_guards::Tri;
-use vpg_measure::Order;
+use vpg_measure::{Order, Which};
 use vpg_partial::{Decision, Partial};
 
 /// What some decisions say of an aim.
@@ -67,51 +64,28 @@ fn open_feature(known: &Partial, features: u16) -> Option<u16>
     None
 }
 
-// Whether the verdict under what is known bars the aim.
-fn is_barred(
+// What the decisions say of an aim, where this was shown of the verdict under what they make known: that it bars the aim, or not.
+fn outlook_under(
     alloc: Global,
-    game: &GuardedGame,
-    aim: Aim,
-    known: &Partial,
-    limits: Limits,
-) -> Result<Shown, AllocError>
-    requires features { length known.now ≡ game.now.features }
-    requires aim { IsAim game.now aim }
-    ensures yes { IfOk result (λ shown. shown ≡ Shown.Yes → IsBarred game.now aim known.now) }
-    ensures no { IfOk result (λ shown. shown ≡ Shown.No → MayMeet game.now aim known.now) }
-    ensures settled { IfOk result (λ shown. AimSettlesUnder limits.rounds game.now aim known.now → shown ≢ Shown.Unsettled) }
-{
-    match aim {
-        Aim::Any => Ok(Shown::No),
-        Aim::Won { which, vertex } => is_top(alloc, game, which, vertex, known, limits),
-    }
-}
-
-fn look(
-    alloc: Global,
-    game: &GuardedGame,
-    diagram: &Diagram,
+    order: &Order,
     aim: Aim,
     decisions: &[Decision],
-    limits: Limits,
+    known: &Partial,
+    shown: Shown,
 ) -> Result<Outlook, AllocError>
-    requires features { game.now.features ≡ feature_count diagram.now.lines }
-    requires named { AreChoicesOf diagram.now.lines (choices decisions.now) }
-    requires aim { IsAim game.now aim }
-    ensures outlook { IfOk result (IsOutlook game.now diagram.now aim (choices decisions.now)) }
-    ensures settled { IfOk result (λ outlook. AimSettles limits.rounds game.now diagram.now aim → IsOutlookExact outlook) }
+    requires named { AreChoicesOf order.now.diagram.lines (choices decisions.now) }
+    requires known { IsKnownTable order.now.diagram.lines (choices decisions.now) known.now }
+    requires aim { IsAim order.now.game aim }
+    requires yes { shown ≡ Shown.Yes → IsBarred order.now.game aim known.now }
+    requires no { shown ≡ Shown.No → MayMeet order.now.game aim known.now }
+    ensures outlook { IfOk result (IsOutlook order.now.game order.now.diagram aim (choices decisions.now)) }
+    ensures settled { IfOk result (λ outlook. shown ≢ Shown.Unsettled → IsOutlookExact outlook) }
 {
-    let _vertices = game.vertices();
-    let features = diagram.features() as u16;
-    let known = match closed(alloc, diagram, decisions)? {
-        Some(known) => known,
-        None => return Ok(Outlook::Lost),
-    };
-    let shown = is_barred(alloc, game, aim, &known, limits)?;
+    let features = order.diagram().features() as u16;
     if let Shown::Yes = shown {
         return Ok(Outlook::Lost);
     }
-    if let Some(feature) = open_feature(&known, features) {
+    if let Some(feature) = open_feature(known, features) {
         return Ok(Outlook::Open { feature });
     }
     if let Shown::No = shown {
@@ -122,28 +96,92 @@ fn look(
     Ok(Outlook::Unsettled)
 }
 
+// For any product: the features alone are looked at.
+fn look_at_features(
+    alloc: Global,
+    order: &Order,
+    decisions: &[Decision],
+) -> Result<Outlook, AllocError>
+    requires { AreChoicesOf order.now.diagram.lines (choices decisions.now) }
+    ensures outlook { IfOk result (IsOutlook order.now.game order.now.diagram Aim.Any (choices decisions.now)) }
+    ensures exact { IfOk result IsOutlookExact }
+{
+    // What every order keeps, for the proof.
+    let _order = order.game();
+    match closed(alloc, order, decisions)? {
+        Some(known) => {
+            let found = outlook_under(alloc, order, Aim::Any, decisions, &known, Shown::No)?;
+            Ok(found)
+        }
+        None => Ok(Outlook::Lost),
+    }
+}
+
+// For one that is won.
+fn look_at_game(
+    alloc: Global,
+    order: &Order,
+    which: Which,
+    vertex: u32,
+    decisions: &[Decision],
+    limits: Limits,
+) -> Result<Outlook, AllocError>
+    requires named { AreChoicesOf order.now.diagram.lines (choices decisions.now) }
+    requires vertex { vertex < length order.now.game.vertices }
+    ensures outlook { IfOk result (IsOutlook order.now.game order.now.diagram (Aim.Won which vertex) (choices decisions.now)) }
+    ensures settled { IfOk result (λ outlook. AlwaysSettles limits.rounds order.now.game order.now.diagram which → IsOutlookExact outlook) }
+{
+    // What every order keeps, for the proof.
+    let _order = order.game();
+    match games_with(alloc, order, decisions)? {
+        Some(games) => {
+            let shown = is_top(alloc, order, &games, which, vertex, limits)?;
+            let aim = Aim::Won { which, vertex };
+            let found = outlook_under(alloc, order, aim, decisions, games.known(), shown)?;
+            Ok(found)
+        }
+        None => Ok(Outlook::Lost),
+    }
+}
+
+fn look(
+    alloc: Global,
+    order: &Order,
+    aim: Aim,
+    decisions: &[Decision],
+    limits: Limits,
+) -> Result<Outlook, AllocError>
+    requires named { AreChoicesOf order.now.diagram.lines (choices decisions.now) }
+    requires aim { IsAim order.now.game aim }
+    ensures outlook { IfOk result (IsOutlook order.now.game order.now.diagram aim (choices decisions.now)) }
+    ensures settled { IfOk result (λ outlook. AimSettles limits.rounds order.now.game order.now.diagram aim → IsOutlookExact outlook) }
+{
+    match aim {
+        Aim::Any => look_at_features(alloc, order, decisions),
+        Aim::Won { which, vertex } => look_at_game(alloc, order, which, vertex, decisions, limits),
+    }
+}
+
 fn search(
     alloc: Global,
-    game: &GuardedGame,
-    diagram: &Diagram,
+    order: &Order,
     aim: Aim,
     decisions: &[Decision],
     limits: Limits,
     depth: u32,
     trials: &mut u64,
 ) -> Result<Found, AllocError>
-    requires features { game.now.features ≡ feature_count diagram.now.lines }
-    requires named { AreChoicesOf diagram.now.lines (choices decisions.now) }
-    requires aim { IsAim game.now aim }
-    ensures found { IfOk result (IsFound game.now diagram.now aim (choices decisions.now)) }
+    requires named { AreChoicesOf order.now.diagram.lines (choices decisions.now) }
+    requires aim { IsAim order.now.game aim }
+    ensures found { IfOk result (IsFound order.now.game order.now.diagram aim (choices decisions.now)) }
     ensures spent { IfOk result (λ found. trials.old ≤ trials.new + most_trials depth) }
-    ensures settled { IfOk result (λ found. HasRoom diagram.now (choices decisions.now) depth trials.old → AimSettles limits.rounds game.now diagram.now aim → IsFoundExact found) }
+    ensures settled { IfOk result (λ found. HasRoom order.now.diagram (choices decisions.now) depth trials.old → AimSettles limits.rounds order.now.game order.now.diagram aim → IsFoundExact found) }
 {
     if depth == 0 || *trials == 0 {
         return Ok(Found::Unsettled);
     }
     *trials -= 1;
-    let feature = match look(alloc, game, diagram, aim, decisions, limits)? {
+    let feature = match look(alloc, order, aim, decisions, limits)? {
         Outlook::Lost => return Ok(Found::Nothing),
         Outlook::Met(features) => {
             return Ok(Found::Product(Example {
@@ -155,12 +193,12 @@ fn search(
         Outlook::Unsettled => return Ok(Found::Unsettled),
     };
     let more = with_one(alloc, decisions, feature, true)?;
-    let with_it = search(alloc, game, diagram, aim, &more, limits, depth - 1, trials)?;
+    let with_it = search(alloc, order, aim, &more, limits, depth - 1, trials)?;
     if let Found::Product(found) = with_it {
         return Ok(Found::Product(found));
     }
     let more = with_one(alloc, decisions, feature, false)?;
-    let without = search(alloc, game, diagram, aim, &more, limits, depth - 1, trials)?;
+    let without = search(alloc, order, aim, &more, limits, depth - 1, trials)?;
     if let Found::Nothing = with_it {
         return Ok(without);
     }
@@ -176,30 +214,19 @@ fn search(
 // A search among all products that agree with the decisions.
 pub(crate) fn search_all(
     alloc: Global,
-    game: &GuardedGame,
-    diagram: &Diagram,
+    order: &Order,
     aim: Aim,
     decisions: &[Decision],
     limits: Limits,
 ) -> Result<Found, AllocError>
-    requires features { game.now.features ≡ feature_count diagram.now.lines }
-    requires named { AreChoicesOf diagram.now.lines (choices decisions.now) }
-    requires aim { IsAim game.now aim }
-    ensures found { IfOk result (IsFound game.now diagram.now aim (choices decisions.now)) }
-    ensures settled { IfOk result (λ found. IsSettled game.now diagram.now limits (Question.Lost aim) → IsFoundExact found) }
+    requires named { AreChoicesOf order.now.diagram.lines (choices decisions.now) }
+    requires aim { IsAim order.now.game aim }
+    ensures found { IfOk result (IsFound order.now.game order.now.diagram aim (choices decisions.now)) }
+    ensures settled { IfOk result (λ found. IsSettled order.now.game order.now.diagram limits (Question.Lost aim) → IsFoundExact found) }
 {
     let mut trials = limits.trials;
-    let depth = diagram.features() as u32 + 1;
-    let found = search(
-        alloc,
-        game,
-        diagram,
-        aim,
-        decisions,
-        limits,
-        depth,
-        &mut trials,
-    )?;
+    let depth = order.diagram().features() as u32 + 1;
+    let found = search(alloc, order, aim, decisions, limits, depth, &mut trials)?;
     Ok(found)
 }
 
@@ -213,13 +240,6 @@ pub fn find(alloc: Global, order: &Order, aim: Aim, limits: Limits) -> Result<Fo
     ensures found { IfOk result (IsFound order.now.game order.now.diagram aim (choices order.now.decisions)) }
     ensures settled { IfOk result (λ found. IsSettled order.now.game order.now.diagram limits (Question.Lost aim) → IsFoundExact found) }
 {
-    let found = search_all(
-        alloc,
-        order.game(),
-        order.diagram(),
-        aim,
-        order.decisions(),
-        limits,
-    )?;
+    let found = search_all(alloc, order, aim, order.decisions(), limits)?;
     Ok(found)
 }

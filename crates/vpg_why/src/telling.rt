@@ -38,14 +38,7 @@ pub fn why(
         return Ok(None);
     }
     let question = Question::Verdict { which, vertex };
-    let found = explain(
-        alloc,
-        order.game(),
-        order.diagram(),
-        question,
-        order.decisions(),
-        limits,
-    )?;
+    let found = explain(alloc, order, question, order.decisions(), limits)?;
     Ok(Some(found))
 }
 
@@ -99,8 +92,7 @@ pub fn why_lost(
     let hint = hint_for(alloc, order, aim, limits)?;
     let found = explain_by(
         alloc,
-        order.game(),
-        order.diagram(),
+        order,
         Question::Lost { aim },
         order.decisions(),
         &hint,
@@ -126,13 +118,12 @@ fn why_so(
         rounds: 0,
         trials: 0,
     };
-    let (game, diagram) = (order.game(), order.diagram());
-    let shown = suffice(alloc, game, diagram, question, order.decisions(), limits)?;
+    let shown = suffice(alloc, order, question, order.decisions(), limits)?;
     match shown {
         Shown::Yes => {}
         _ => return Ok(None),
     }
-    let found = explain(alloc, game, diagram, question, order.decisions(), limits)?;
+    let found = explain(alloc, order, question, order.decisions(), limits)?;
     Ok(Some(found))
 }
 

@@ -6,7 +6,7 @@ use Rattle.vpg_why.proofs.asking.conflict_shown.Goals as goal
 
 pub returns-in-Some-clause-no : goal.returns-in-Some-clause-no
 returns-in-Some-clause-no c e h =
-    no_conflict c.args.diagram.now.lines (map literal_of c.args.decisions.now ++ choice c.args.feature c.args.value ∷ []) c.in-Some.field-0
+    no_conflict c.args.order.now.diagram.lines (map literal_of c.args.decisions.now ++ choice c.args.feature c.args.value ∷ []) c.in-Some.field-0
     (rw (c.in-Some.is, c.deref.ensures.value, c.in_ok-more.ensures) at c.in_ok-closed.ensures.known) h
 
 pub returns-clause-yes : goal.returns-clause-yes

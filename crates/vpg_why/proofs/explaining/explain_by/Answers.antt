@@ -12,27 +12,27 @@ abbrev no_decision : Decision
 no_decision = record { serial = 0; session = 0; feature = 0; value = false }
 
 pub listing-init : goal.listing-init
-listing-init c = first_listed c.args.game.now c.args.diagram.now c.args.limits c.args.question c.args.decisions.now c.features-features.ensures.diagram c.requires.named c.new-kept.result.items c.new-kept.ensures.items c.requires.enough
+listing-init c = first_listed c.args.order.now.game c.args.order.now.diagram c.args.limits c.args.question c.args.decisions.now c.game-order.ensures.order.diagram c.requires.named c.new-kept.result.items c.new-kept.ensures.items c.requires.enough
 
 pub last_needed-requires-clause-kept_named : goal.last_needed-requires-clause-kept_named
 last_needed-requires-clause-kept_named c =
-    rw c.deref.ensures.value (among_named c.args.diagram.now.lines (choices c.listing.kept.items) (choices c.args.decisions.now) c.listing.invariant.listing.among c.requires.named)
+    rw c.deref.ensures.value (among_named c.args.order.now.diagram.lines (choices c.listing.kept.items) (choices c.args.decisions.now) c.listing.invariant.listing.among c.requires.named)
 
 pub last_needed-requires-clause-enough : goal.last_needed-requires-clause-enough
 last_needed-requires-clause-enough c =
-    rw c.deref.ensures.value (subst (λ (cs : List Literal). Suffice c.args.game.now c.args.diagram.now c.args.question cs)
+    rw c.deref.ensures.value (subst (λ (cs : List Literal). Suffice c.args.order.now.game c.args.order.now.diagram c.args.question cs)
     (sym (choices_with c.listing.most c.args.decisions.now c.listing.kept.items)) c.listing.invariant.listing.enough)
 
 pub listing-preserved-then-exact : goal.listing-preserved-then-exact
 listing-preserved-then-exact c =
-    subst (λ (b : Bool). IsListed (Suffice c.args.game.now c.args.diagram.now c.args.question) (IsSettled c.args.game.now c.args.diagram.now c.args.limits c.args.question) c.args.decisions.now c.insert.new.self.items c.in-Some.last.place (b && c.in-Some.last.exact)) c.if-exact.true
-    (next_listed c.args.game.now c.args.diagram.now c.args.limits c.args.question c.args.decisions.now c.features-features.ensures.diagram c.requires.named c.listing.kept.items c.insert.new.self.items
+    subst (λ (b : Bool). IsListed (Suffice c.args.order.now.game c.args.order.now.diagram c.args.question) (IsSettled c.args.order.now.game c.args.order.now.diagram c.args.limits c.args.question) c.args.decisions.now c.insert.new.self.items c.in-Some.last.place (b && c.in-Some.last.exact)) c.if-exact.true
+    (next_listed c.args.order.now.game c.args.order.now.diagram c.args.limits c.args.question c.args.decisions.now c.game-order.ensures.order.diagram c.requires.named c.listing.kept.items c.insert.new.self.items
     c.listing.most c.in-Some.last.place c.listing.exact c.in-Some.last.exact no_decision c.listing.invariant (rw (c.in-Some.is, c.deref.ensures.value) at c.in_ok-found.ensures.some) (rw c.in-Some.is at c.in_ok-found.ensures.settled) c.in_ok-insert-in-Some.ensures.items)
 
 pub listing-preserved-else-exact : goal.listing-preserved-else-exact
 listing-preserved-else-exact c =
-    subst (λ (b : Bool). IsListed (Suffice c.args.game.now c.args.diagram.now c.args.question) (IsSettled c.args.game.now c.args.diagram.now c.args.limits c.args.question) c.args.decisions.now c.insert.new.self.items c.in-Some.last.place b) (and_false c.listing.exact c.in-Some.last.exact c.if-exact.false)
-    (next_listed c.args.game.now c.args.diagram.now c.args.limits c.args.question c.args.decisions.now c.features-features.ensures.diagram c.requires.named c.listing.kept.items c.insert.new.self.items
+    subst (λ (b : Bool). IsListed (Suffice c.args.order.now.game c.args.order.now.diagram c.args.question) (IsSettled c.args.order.now.game c.args.order.now.diagram c.args.limits c.args.question) c.args.decisions.now c.insert.new.self.items c.in-Some.last.place b) (and_false c.listing.exact c.in-Some.last.exact c.if-exact.false)
+    (next_listed c.args.order.now.game c.args.order.now.diagram c.args.limits c.args.question c.args.decisions.now c.game-order.ensures.order.diagram c.requires.named c.listing.kept.items c.insert.new.self.items
     c.listing.most c.in-Some.last.place c.listing.exact c.in-Some.last.exact no_decision c.listing.invariant (rw (c.in-Some.is, c.deref.ensures.value) at c.in_ok-found.ensures.some) (rw c.in-Some.is at c.in_ok-found.ensures.settled) c.in_ok-insert-in-Some.ensures.items)
   where
     and_false : (a b : Bool) → a ≡ false → (a && b) ≡ a
@@ -44,12 +44,12 @@ listing-preserved-else-exact c =
 
 pub listing-preserved : goal.listing-preserved
 listing-preserved c =
-    last_listed c.args.game.now c.args.diagram.now c.args.limits c.args.question c.args.decisions.now c.features-features.ensures.diagram c.requires.named c.listing.kept.items c.listing.most c.listing.exact
+    last_listed c.args.order.now.game c.args.order.now.diagram c.args.limits c.args.question c.args.decisions.now c.game-order.ensures.order.diagram c.requires.named c.listing.kept.items c.listing.most c.listing.exact
     c.listing.invariant ((rw (c.in-None.is, c.deref.ensures.value) at c.in_ok-found.ensures.none) refl)
 
 pub returns : goal.returns
 returns c = record {
-  explains = explained c.args.game.now c.args.diagram.now c.args.limits c.args.question c.args.decisions.now c.features-features.ensures.diagram c.requires.named c.listing.kept.items c.listing.most c.listing.exact
+  explains = explained c.args.order.now.game c.args.order.now.diagram c.args.limits c.args.question c.args.decisions.now c.game-order.ensures.order.diagram c.requires.named c.listing.kept.items c.listing.most c.listing.exact
       (omega (arith, c.listing-test.false)) c.listing.invariant;
   settled = c.listing.invariant.settled;
 }

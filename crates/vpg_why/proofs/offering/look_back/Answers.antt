@@ -3,4 +3,4 @@ use Rattle.vpg_why.proofs.offering.look_back.Goals as goal
 
 pub offered-requires-clause-named : goal.offered-requires-clause-named
 offered-requires-clause-named c =
-    rw (c.deref-2.ensures, c.diagram.ensures.diagram, c.deref-3.ensures.value, c.in_ok-fewer.ensures, c.decisions.ensures.decisions) (without_named c.args.order.now.diagram.lines c.args.place c.args.order.now.decisions c.decisions.ensures.order.named)
+    rw (c.deref.ensures.value, c.in_ok-fewer.ensures, c.decisions.ensures.decisions) (without_named c.args.order.now.diagram.lines c.args.place c.args.order.now.decisions c.decisions.ensures.order.named)

@@ -9,21 +9,18 @@ use Rattle.vpg_why.proofs.telling.why.Goals as goal
 
 pub explain-requires-clause-enough : goal.explain-requires-clause-enough
 explain-requires-clause-enough c =
-    rw (c.deref.ensures, c.game.ensures.game, c.deref-2.ensures, c.diagram.ensures.diagram, c.decisions.ensures.decisions)
+    rw c.decisions.ensures.decisions
     (made c.args.order.now c.table.ensures.order c.args.which c.args.vertex c.requires
     (ap (λ (t : List ℕ). slice_index t c.args.vertex) (sym c.table.ensures.table) ∙ sym c.get.ensures ∙ c.if-get-top.false ∙ c.top.ensures.top ∙ ap (λ (s : List Level). top_of s) c.shape.ensures))
 
 pub returns-clause-explains : goal.returns-clause-explains
 returns-clause-explains c =
-    rw (c.deref.ensures, c.game.ensures.game, c.deref-2.ensures, c.diagram.ensures.diagram, c.decisions.ensures.decisions) at c.in_ok-found.ensures.explains
+    rw c.decisions.ensures.decisions at c.in_ok-found.ensures.explains
 
 pub returns-clause-lost : goal.returns-clause-lost
 returns-clause-lost c =
     let order = c.args.order.now in
     let is = c.table.ensures.order in
-    let explains = rw (c.deref.ensures, c.game.ensures.game, c.deref-2.ensures, c.diagram.ensures.diagram, c.decisions.ensures.decisions) at c.in_ok-found.ensures.explains in
+    let explains = rw c.decisions.ensures.decisions at c.in_ok-found.ensures.explains in
     sufficient_choices_lose order.game order.diagram c.args.which c.args.vertex (choices c.in_ok-found.found.decisions.items) is.game is.diagram
     (among_named order.diagram.lines (choices c.in_ok-found.found.decisions.items) (choices order.decisions) explains.among is.named) c.requires explains.enough
-
-pub returns-clause-settled : goal.returns-clause-settled
-returns-clause-settled c = rw (c.deref.ensures, c.game.ensures.game, c.deref-2.ensures, c.diagram.ensures.diagram) at c.in_ok-found.ensures.settled

@@ -14,12 +14,12 @@ only_no shown.Unsettled a b = absurd (b refl)
 pub returns-in_default-clause-told : goal.returns-in_default-clause-told
 returns-in_default-clause-told c = (
   (λ e. absurd (clash e)),
-  λ h. absurd ((rw (c.deref.ensures, c.game-game.ensures.game, c.deref-2.ensures, c.diagram-diagram.ensures.diagram, c.decisions.ensures.decisions) at c.in_ok-shown.ensures.no)
-      (only_no c.in_ok-shown.shown c.in_default.not-Yes ((rw (c.deref.ensures, c.game-game.ensures.game, c.deref-2.ensures, c.diagram-diagram.ensures.diagram) at c.in_ok-shown.ensures.settled) (c.requires.settled (record { budget = 0; rounds = 0; trials = 0 })))) h),
+  λ h. absurd ((rw c.decisions.ensures.decisions at c.in_ok-shown.ensures.no)
+      (only_no c.in_ok-shown.shown c.in_default.not-Yes (c.in_ok-shown.ensures.settled (c.requires.settled (record { budget = 0; rounds = 0; trials = 0 })))) h),
 )
 
 pub returns-clause-explains : goal.returns-clause-explains
-returns-clause-explains c = rw (c.deref-3.ensures, c.game-game.ensures.game, c.deref-4.ensures, c.diagram-diagram.ensures.diagram, c.decisions-2.ensures.decisions) at c.in_ok-found.ensures.explains
+returns-clause-explains c = rw c.decisions-2.ensures.decisions at c.in_ok-found.ensures.explains
 
 pub returns-clause-exact : goal.returns-clause-exact
-returns-clause-exact c = (rw (c.deref-3.ensures, c.game-game.ensures.game, c.deref-4.ensures, c.diagram-diagram.ensures.diagram) at c.in_ok-found.ensures.settled) (c.requires.settled (record { budget = 0; rounds = 0; trials = 0 }))
+returns-clause-exact c = c.in_ok-found.ensures.settled (c.requires.settled (record { budget = 0; rounds = 0; trials = 0 }))

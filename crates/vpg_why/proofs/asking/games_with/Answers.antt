@@ -1,0 +1,14 @@
+use Rattle.std.proofs.Common.{Err, map, ap}
+use Rattle.vpg_diagram.specs.Clauses.{clauses_of, counts_of}
+use Rattle.vpg_partial.specs.Known.{literal_of}
+use Rattle.vpg_partial.proofs.KnownLemmas.{conflict_named}
+use Rattle.vpg_why.proofs.asking.games_with.Goals as goal
+
+pub updated-requires-clause-held : goal.updated-requires-clause-held
+updated-requires-clause-held c = (map literal_of c.args.order.now.decisions, rw (c.deref.ensures, c.deref-2.ensures, c.deref-3.ensures, c.game.ensures.game, c.diagram.ensures.diagram) c.games.ensures)
+
+pub returns-in-Err-Conflict-clause-conflict : goal.returns-in-Err-Conflict-clause-conflict
+returns-in-Err-Conflict-clause-conflict c e =
+    let lines = c.args.order.now.diagram.lines in
+    conflict_named (clauses_of lines) (counts_of lines) (map literal_of c.args.decisions.now) c.in-Err-Conflict.field-0-0
+    (rw (c.deref-3.ensures, c.diagram.ensures.diagram) at (c.in-Err-Conflict.ensures.conflict c.in-Err-Conflict.field-0-0 (ap Err c.in-Err-Conflict.field-0-is)))

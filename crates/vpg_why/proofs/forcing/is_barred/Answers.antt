@@ -1,4 +1,0 @@
-use Rattle.vpg_why.proofs.forcing.is_barred.Goals as goal
-
-pub returns-clause-settled : goal.returns-clause-settled
-returns-clause-settled c = rw (c.deref.ensures, c.game.ensures.game, c.deref-2.ensures, c.diagram.ensures.diagram) at c.in_ok-shown.ensures.settled
