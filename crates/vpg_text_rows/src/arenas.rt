@@ -1,4 +1,4 @@
-//! Rows of decisions, written as `+f -g`, and of what they leave of games.
+//! Rows of what decisions make known, and of what they leave of games.
 //!
 //! - `close DECISIONS ~ DIAGRAM` is answered a sign for each feature: known in (`+`), known out (`-`) or not known (`?`).
 //! - `product DECISIONS ~ DIAGRAM` is answered whether each feature is known, and the product where there is one.
@@ -7,59 +7,20 @@
 //! - `project SIGNS ~ GAME` is answered what is written of the game of the set of features with `+`, behind a text that stood there
 //!   before.
 
-ghost use Rattle.std.specs.Prelude.{◌↔◌, ◌<◌, IsTrue, All};
-
+use crate::decisions::{close_checked, decisions_of};
 use crate::guards::put_text;
 use crate::text::{set_of, two_of};
-use anyhow::{Context, Result, bail};
+use anyhow::{Result, bail};
 use std::alloc::Global;
 use std::fmt::Write;
 use vpg_diagram::Diagram;
 use vpg_game::GuardedGame;
-use vpg_guards::{Names, Tri};
+use vpg_guards::Tri;
 use vpg_hope::{Arena, PlainGame, project};
-use vpg_partial::{Decision, Partial};
+use vpg_partial::Partial;
 
 /// The features `r`, `f` and `g`.
 const FREE: &[u8] = b"root r\noptional r f\noptional r g\n";
-
-/// Whether each decision is of one of this many features.
-fn are_below(features: usize, decisions: &[Decision]) -> bool
-    ensures { IsTrue result ↔ All (λ d. d.feature < features) decisions.now }
-{
-    decisions.iter().all(|d| (d.feature as usize) < features)
-}
-
-/// What the decisions make known, where each is of a feature of the diagram.
-fn close_checked(alloc: Global, diagram: &Diagram, decisions: &[Decision]) -> Result<Partial> {
-    if !are_below(diagram.features(), decisions) {
-        bail!("features");
-    }
-    Ok(Partial::close(alloc, diagram, decisions)?)
-}
-
-/// The decision of a word.
-fn decision_of(names: &Names, word: &[u8]) -> Result<Decision> {
-    let (sign, name) = word.split_first().context("word")?;
-    let feature = names.get(name).context("feature")?;
-    Ok(Decision {
-        serial: 1,
-        session: 1,
-        feature,
-        value: *sign == b'+',
-    })
-}
-
-/// The decisions of a line.
-fn decisions_of(alloc: Global, names: &Names, text: &[u8]) -> Result<Vec<Decision>> {
-    let mut decisions = Vec::new(alloc);
-    for word in text.split(|sign| *sign == b' ') {
-        if !word.is_empty() {
-            decisions.push(decision_of(names, word)?)?;
-        }
-    }
-    Ok(decisions)
-}
 
 /// What the decisions of a line make known.
 fn closed(alloc: Global, diagram: &Diagram, text: &[u8]) -> Result<Partial> {

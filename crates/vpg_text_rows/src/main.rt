@@ -3,15 +3,22 @@
 //! Each file of the folder that the program runs in is a table: a row is a word for what is asked, and the text that it is asked of.
 //! The program writes each row with its answer behind ` = `, and comments as they stand. `text` says how a row writes a text; the modules
 //! of the tables say what each word asks. A fault is an answer as any other.
+//!
+//! Behind them comes what is shown at a terminal. `diagram` and `game` are a family, and `family` makes up verdicts of it, so that each of
+//! the four is there. The program writes where its game starts, its two pictures under each list of decisions of `pictures`, and what
+//! is wrong with each text of `faults` as its game.
 #![tactic(auto)]
 
 mod arenas;
+mod decisions;
 mod diagrams;
+mod family;
 mod games;
 mod guards;
 mod names;
 mod text;
 
+use crate::family::{Family, explained, pictures, read};
 use crate::text::spelled;
 use anyhow::{Context, Result};
 use std::alloc::Global;
@@ -68,9 +75,47 @@ fn carry_out(rt: &HostRuntime, table: &str) -> Result<()> {
     Ok(())
 }
 
+/// Writes the pictures under a list of decisions.
+fn draw_row(rt: &HostRuntime, family: &Family, text: &str, row: &str) -> Result<()> {
+    let written = pictures(rt.alloc(), family, text.as_bytes(), row.as_bytes())?;
+    println!(rt; "# {row}")?;
+    println!(rt; "{}", str::from_utf8(&written)?)?;
+    Ok(())
+}
+
+/// Writes the pictures under all lists of decisions.
+fn draw(rt: &HostRuntime, family: &Family, text: &str) -> Result<()> {
+    println!(rt; "start {:?}", family.start())?;
+    let rows = fs::read_to_string(rt, "pictures")?;
+    for row in rows.lines() {
+        draw_row(rt, family, text, row)?;
+    }
+    Ok(())
+}
+
+/// Writes what is wrong with each text of a table.
+fn explain(rt: &HostRuntime, family: &Family) -> Result<()> {
+    let rows = fs::read_to_string(rt, "faults")?;
+    for row in rows.lines() {
+        let written = explained(rt.alloc(), family, row.as_bytes())?;
+        println!(rt; "# {row}")?;
+        print!(rt; "{}", str::from_utf8(&written)?)?;
+    }
+    Ok(())
+}
+
+/// Writes what is shown of a family at a terminal.
+fn show(rt: &HostRuntime) -> Result<()> {
+    let text = fs::read_to_string(rt, "diagram")?;
+    let game = fs::read_to_string(rt, "game")?;
+    let family = read(rt.alloc(), text.as_bytes(), game.as_bytes()).context("family")?;
+    draw(rt, &family, text.as_str())?;
+    explain(rt, &family)
+}
+
 fn main(rt: HostRuntime) -> Result<()> {
     for table in TABLES {
         carry_out(&rt, table).context(table)?;
     }
-    Ok(())
+    show(&rt)
 }

@@ -1,12 +1,12 @@
 //! A family with the names of its vertices, and its pictures.
-ghost use Rattle.std.specs.Prelude.{◌≡◌, ◌↔◌, ◌<◌, IsTrue, IfOk, All, length};
+ghost use Rattle.std.specs.Prelude.{◌≡◌, IfOk, length};
 
-use anyhow::{Context, Result, bail};
+use crate::decisions::{are_below, close_checked, decisions_of};
+use anyhow::{Result, bail};
 use std::alloc::{AllocError, Global};
 use vpg_diagram::Diagram;
 use vpg_draw::{draw_features, draw_game};
 use vpg_game::GuardedGame;
-use vpg_guards::Names;
 use vpg_lint::explain_game;
 use vpg_measure::Verdict;
 use vpg_names::VertexNames;
@@ -37,44 +37,6 @@ pub fn read(alloc: Global, diagram: &[u8], game: &[u8]) -> Result<Family> {
         game,
         names,
     })
-}
-
-/// Whether each decision is of one of this many features.
-fn are_below(features: usize, decisions: &[Decision]) -> bool
-    ensures { IsTrue result ↔ All (λ d. d.feature < features) decisions.now }
-{
-    decisions.iter().all(|d| (d.feature as usize) < features)
-}
-
-/// What the decisions make known, where each is of a feature of the diagram.
-fn close_checked(alloc: Global, diagram: &Diagram, decisions: &[Decision]) -> Result<Partial> {
-    if !are_below(diagram.features(), decisions) {
-        bail!("features");
-    }
-    Ok(Partial::close(alloc, diagram, decisions)?)
-}
-
-/// The decision of a word.
-fn decision_of(names: &Names, word: &[u8]) -> Result<Decision> {
-    let (sign, name) = word.split_first().context("word")?;
-    let feature = names.get(name).context("feature")?;
-    Ok(Decision {
-        serial: 1,
-        session: 1,
-        feature,
-        value: *sign == b'+',
-    })
-}
-
-/// The decisions of a row.
-fn decisions_of(alloc: Global, names: &Names, text: &[u8]) -> Result<Vec<Decision>> {
-    let mut decisions = Vec::new(alloc);
-    for word in text.split(|sign| *sign == b' ') {
-        if !word.is_empty() {
-            decisions.push(decision_of(names, word)?)?;
-        }
-    }
-    Ok(decisions)
 }
 
 /// A verdict for each vertex: hopeless at each second, sure at two of four.
