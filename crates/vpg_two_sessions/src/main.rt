@@ -1,0 +1,238 @@
+//! Two sessions of one office, each in a thread of its own: one lifts while the other decides. Then the decision is taken back by
+//! its token, and the office is ended.
+#![tactic(auto)]
+
+ghost use Rattle.std.specs.Arc.{arc_value};
+ghost use Rattle.std.specs.Prelude.{◌≡◌, ◌≤◌, vec_len, vec_capacity};
+ghost use Rattle.vpg_diagram.specs.FeatureDiagram.{feature_count};
+
+use anyhow::bail;
+use std::alloc::Global;
+use std::marker::Brand;
+use std::sync::{Arc, Wait};
+use std::thread::{Threads, join};
+use vpg_desk::OpenFault;
+use vpg_diagram::Diagram;
+use vpg_game::GuardedGame;
+use vpg_measure::Harvest;
+use vpg_office::{Front, Office, Redo, Returned, Session, Site, Terms, Undo};
+
+const DIAGRAM: &[u8] = b"root r\noptional r f\noptional r g\n";
+
+const GAME: &[u8] = b"parity 1; 0 1 0 1[f],0; 1 2 1 0[g],1;";
+
+/// The feature f.
+const F: u16 = 1;
+
+/// What came of a day.
+#[derive(Drop)]
+struct Day {
+    /// How many lifts the commit added.
+    added: Option<u32>,
+    /// Whether the decision was made and taken back.
+    undone: bool,
+    /// How many calls the log has.
+    calls: usize,
+    /// How many tokens were out at the end and not handed in.
+    further: u64,
+}
+
+/// A session with its front.
+#[derive(Drop)]
+struct Seat<L: Terms> {
+    session: Session<L>,
+    front: Front<L>,
+}
+
+/// Takes an order, lifts until both tables are settled, and commits.
+fn lifts<L: Terms, R: Wait>(
+    rt: &R,
+    alloc: Global,
+    office: &Office<L>,
+    seat: Seat<L>,
+) -> (Seat<L>, Option<u32>) {
+    let mut seat = seat;
+    let Ok(order) = seat.session.order(rt, alloc, office, &mut seat.front) else {
+        return (seat, None);
+    };
+    let harvest = Harvest::alone(order, 1000);
+    match seat
+        .session
+        .commit(rt, alloc, office, &mut seat.front, harvest)
+    {
+        Ok(added) => (seat, Some(added)),
+        Err(returned) => {
+            let Returned {
+                fault: _fault,
+                value: _harvest,
+            } = returned;
+            (seat, None)
+        }
+    }
+}
+
+/// Decides f out.
+fn decides<L: Terms, R: Wait>(
+    rt: &R,
+    alloc: Global,
+    office: &Office<L>,
+    seat: Seat<L>,
+) -> (Seat<L>, Option<Undo<L>>) {
+    let mut seat = seat;
+    match seat
+        .session
+        .decide(rt, alloc, office, &mut seat.front, F, false)
+    {
+        Ok(undo) => (seat, Some(undo)),
+        Err(_fault) => (seat, None),
+    }
+}
+
+/// One session lifts while the other decides.
+fn works<L: Terms + Send + Sync, R: Threads + Wait + Sync>(
+    rt: &R,
+    alloc: Global,
+    office: &Office<L>,
+    lifter: Seat<L>,
+    decider: Seat<L>,
+) -> (Option<u32>, Seat<L>, Option<Undo<L>>) {
+    let (lifted, decided) = join(
+        rt,
+        || lifts(rt, alloc, office, lifter),
+        || decides(rt, alloc, office, decider),
+    );
+    let (_lifter, added) = lifted;
+    let (decider, undo) = decided;
+    (added, decider, undo)
+}
+
+/// Takes the decision back.
+fn undoes<L: Terms, R: Wait>(
+    rt: &R,
+    alloc: Global,
+    office: &Office<L>,
+    seat: &mut Seat<L>,
+    undo: Undo<L>,
+) -> (Option<Undo<L>>, Option<Redo<L>>) {
+    match seat.session.undo(rt, alloc, office, &mut seat.front, undo) {
+        Ok(redo) => (None, Some(redo)),
+        Err(returned) => {
+            let Returned {
+                fault: _fault,
+                value,
+            } = returned;
+            (Some(value), None)
+        }
+    }
+}
+
+/// Ends the office with the tokens that are left.
+fn ends<L: Terms, R: Wait>(
+    rt: &R,
+    office: Office<L>,
+    front: &mut Front<L>,
+    undos: Vec<Undo<L>>,
+    redos: Vec<Redo<L>>,
+    undo: Option<Undo<L>>,
+    redo: Option<Redo<L>>,
+) -> u64
+    requires undos { (vec_len undos ≡ 0) × (1 ≤ vec_capacity undos) }
+    requires redos { (vec_len redos ≡ 0) × (1 ≤ vec_capacity redos) }
+{
+    let mut undos = undos;
+    let mut redos = redos;
+    if let Some(undo) = undo {
+        undos.push_reserved(undo);
+    }
+    if let Some(redo) = redo {
+        redos.push_reserved(redo);
+    }
+    office.end(rt, front, undos, redos)
+}
+
+/// Has two sessions work, takes the decision back, and ends the office with the tokens that are left.
+fn spend_day<L: Terms + Send + Sync, R: Threads + Wait + Sync>(
+    rt: &R,
+    alloc: Global,
+    office: Office<L>,
+    front: Front<L>,
+) -> Option<Day> {
+    let mut front = front;
+    let Ok(undos) = Vec::with_capacity(alloc, 1) else {
+        let _further = office.end(rt, &mut front, Vec::new(alloc), Vec::new(alloc));
+        return None;
+    };
+    let Ok(redos) = Vec::with_capacity(alloc, 1) else {
+        let _further = office.end(rt, &mut front, undos, Vec::new(alloc));
+        return None;
+    };
+    let (Ok((one, first)), Ok((two, second))) = (office.join(rt), office.join(rt)) else {
+        let _further = office.end(rt, &mut front, undos, redos);
+        return None;
+    };
+    let lifter = Seat {
+        session: one,
+        front: first,
+    };
+    let decider = Seat {
+        session: two,
+        front: second,
+    };
+    let (added, mut decider, undo) = works(rt, alloc, &office, lifter, decider);
+    let (undo, redo) = match undo {
+        Some(undo) => undoes(rt, alloc, &office, &mut decider, undo),
+        None => (None, None),
+    };
+    let undone = redo.is_some();
+    let further = ends(rt, office, &mut front, undos, redos, undo, redo);
+    Some(Day {
+        added,
+        undone,
+        calls: front.len(),
+        further,
+    })
+}
+
+/// Opens an office whose log takes so many calls, and spends a day there. `L` says which row of calls and which ledger it has.
+fn open_and_work<L: Terms + Send + Sync, R: Threads + Wait + Sync>(
+    rt: &R,
+    alloc: Global,
+    site: Site,
+    game: Arc<GuardedGame>,
+    diagram: Arc<Diagram>,
+    room: u32,
+) -> Result<Option<Day>, OpenFault>
+    requires features { (arc_value game).features ≡ feature_count (arc_value diagram).lines }
+    requires site { (site.row ≡ L.shelves) × (site.name ≡ L.name) × (site.parts ≡ L.parts) }
+    requires of { (arc_value game ≡ L.game) × (arc_value diagram ≡ L.diagram) }
+    requires room { (room ≡ L.limit) × (1 ≤ room) × (room ≤ 1048576) }
+{
+    match Office::<L>::open(rt, alloc, site, game, diagram, room) {
+        Ok(office) => Ok(spend_day(rt, alloc, office, Front::empty())),
+        Err(refused) => Err(refused.fault),
+    }
+}
+
+fn main(rt: HostRuntime) -> anyhow::Result<()> {
+    let alloc = rt.alloc();
+    let diagram = Diagram::read(alloc, DIAGRAM)?;
+    let game = GuardedGame::read(alloc, GAME, diagram.names())?;
+    if game.features() != diagram.features() {
+        bail!("the game is of another diagram");
+    }
+    let (game, diagram) = (Arc::new(alloc, game)?, Arc::new(alloc, diagram)?);
+    let site = Site::new(alloc)?;
+    match open_and_work::<Brand, HostRuntime>(&rt, alloc, site, game, diagram, 100) {
+        Ok(Some(day)) => {
+            if let Some(added) = day.added {
+                println!(rt; "added {added}")?;
+            }
+            println!(rt; "undone {}", day.undone)?;
+            println!(rt; "calls {}", day.calls)?;
+            println!(rt; "further {}", day.further)?;
+        }
+        Ok(None) => println!(rt; "no memory")?,
+        Err(fault) => bail!("{fault}"),
+    }
+    Ok(())
+}
