@@ -149,7 +149,9 @@ def without(text, line):
     if begin is None:
         return None, "", line
     name, end = signed[begin], begin + 1
-    while end < len(lines) and (not lines[end].strip() or lines[end].startswith((" ", f"{name} "))):
+    # (its clauses begin with its name, below a line of what they unfold, and may end in a bracket at the line's begin)
+    own = (" ", f"{name} ", "unfolding ", ")", "]", "}")
+    while end < len(lines) and (not lines[end].strip() or lines[end].startswith(own)):
         end += 1
     begin -= lines[begin - 1].startswith("unfolding ")
     return "\n".join([*lines[:begin], *lines[end:]]), name.rpartition("::")[2], begin + 1

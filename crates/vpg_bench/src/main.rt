@@ -25,6 +25,7 @@ use vpg_board::{Board, Gate, OpenGate, Predecessors, Seat, sweep_along};
 use vpg_diagram::Diagram;
 use vpg_game::GuardedGame;
 use vpg_guess::harvest_by_bounds;
+use vpg_measure::laws::orders::zeros_are_opening;
 use vpg_measure::{Harvest, Order, Refused, Table, Which};
 use vpg_partial::Decision;
 
@@ -90,6 +91,7 @@ fn order_of(
         return Ok(None);
     }
     let vertices = game.vertices() as u32;
+    zeros_are_opening();
     let hopeful = Table::zero(alloc, vertices)?;
     let dual = Table::zero(alloc, vertices)?;
     let game = Arc::new(alloc, game)?;

@@ -1,31 +1,15 @@
-use Rattle.std.proofs.Common.{◌≡◌, ℕ, ◌<◌, List, length, replicate, map, All, ◌∙◌, sym, subst, arith}
+use Rattle.std.proofs.Common.{◌≡◌, ℕ, ◌<◌, List, length, map, All, subst, arith}
 use Rattle.std.specs.Arc.{arc_value}
 use Rattle.std.specs.List.{AllByRecursion}
 use Rattle.std.proofs.lemmas.List.Elements.{recursion_from_All}
-use Rattle.vpg_guards.specs.Known.{kleene}
-use Rattle.vpg_diagram.specs.DiagramText.{NamedDiagram}
 use Rattle.vpg_diagram.specs.FeatureDiagram.{Line, feature_count}
 use Rattle.vpg_diagram.specs.declared.clause.Literal.{Literal}
 use Rattle.vpg_diagram.proofs.Lists.{All-map}
-use Rattle.vpg_game.specs.Game.{NamedGame, graph_of}
 use Rattle.vpg_partial.specs.declared.decision.Decision.{Decision}
 use Rattle.vpg_partial.specs.Known.{literal_of}
 use Rattle.vpg_partial.specs.TableLaws.{AreChoicesOf}
-use Rattle.vpg_measure.specs.declared.which.Which.{Which}
 use Rattle.vpg_measure.specs.declared.which.Which.TheVariants.{Hopeful, Dual}
-use Rattle.vpg_measure.specs.Orders.{IsOpeningTable}
-use Rattle.vpg_measure.specs.TwoGames.{IsTableBelow, levels_for, arena_for}
-use Rattle.vpg_measure.proofs.Below.{zeros_are_below}
-use Rattle.vpg_measure.proofs.OrderLemmas.{arena_count}
 use Rattle.vpg_bench.proofs.order_of.Goals as goal
-
-zeros_open : (game : NamedGame) (diagram : NamedDiagram) (decisions : List Decision) (which : Which) (n : ℕ) → n ≡ length game.vertices →
-    IsOpeningTable game diagram decisions which (replicate n 0)
-zeros_open game diagram decisions which n e known is =
-    let arena = arena_for (kleene known) which (graph_of game) in
-    let zeros = zeros_are_below (levels_for which (graph_of game)) arena in
-    let count : length arena ≡ n = arena_count known which game ∙ sym e in
-    subst (λ (m : ℕ). IsTableBelow (kleene known) which (graph_of game) (replicate m 0)) count (record { is_table = zeros.0; below = zeros.1 })
 
 choices_below : (lines : List Line) (decisions : List Decision) (n : ℕ) → n ≡ feature_count lines → All (λ d. d.feature < n) decisions → AreChoicesOf lines (map literal_of decisions)
 choices_below lines decisions n e below =
@@ -44,8 +28,8 @@ count c = rw c.in_ok-game.ensures.ok c.vertices-vertices.ensures.count
 
 pub of-requires-clause-hopeful : goal.of-requires-clause-hopeful
 of-requires-clause-hopeful c = rw c.in_ok-hopeful.ensures
-    (zeros_open (arc_value c.in_ok-game.game) (arc_value c.in_ok-diagram.diagram) c.args.decisions.items Hopeful c.vertices-vertices.result (count c))
+    (c.zeros_are_opening.ensures (arc_value c.in_ok-game.game) (arc_value c.in_ok-diagram.diagram) c.args.decisions.items Hopeful c.vertices-vertices.result (count c))
 
 pub of-requires-clause-dual : goal.of-requires-clause-dual
 of-requires-clause-dual c = rw c.in_ok-dual.ensures
-    (zeros_open (arc_value c.in_ok-game.game) (arc_value c.in_ok-diagram.diagram) c.args.decisions.items Dual c.vertices-vertices.result (count c))
+    (c.zeros_are_opening.ensures (arc_value c.in_ok-game.game) (arc_value c.in_ok-diagram.diagram) c.args.decisions.items Dual c.vertices-vertices.result (count c))

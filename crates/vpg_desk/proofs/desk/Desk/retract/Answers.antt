@@ -1,10 +1,10 @@
-use Rattle.std.proofs.Common.{◌≡◌, IfErr, Result, Ok, Err, ◌∙◌, ◌+◌, ◌<◌, ◌++◌, ℕ, List, [], length, map, take, drop, sym, ap, subst, arith}
+use Rattle.std.proofs.Common.{◌≡◌, IfErr, Result, Ok, Err, ◌∙◌, ◌+◌, ◌<◌, ◌++◌, ℕ, List, [], length, map, filter, not, take, drop, sym, ap, subst, arith}
 use Rattle.std.specs.Arc.{arc_value}
 use Rattle.std.proofs.lemmas.List.{take-map, length-map}
 use Rattle.vpg_diagram.specs.DiagramText.{NamedDiagram}
 use Rattle.vpg_diagram.specs.FeatureDiagram.{feature_count}
 use Rattle.vpg_measure.specs.Games.{ArePageGames}
-use Rattle.vpg_trail.specs.Page.{Entry as Step, choices_of, has_decided, before_decision, after_decision, retracted}
+use Rattle.vpg_trail.specs.Page.{Entry as Step, choices_of, has_decided, assumes, reset_all, before_decision, after_decision, retracted}
 use Rattle.vpg_trail.specs.Shown.{entry_of}
 use Rattle.vpg_trail.specs.WellFormed.{LiftsStandAfter}
 use Rattle.vpg_desk.specs.Book.{Retract, Changed}
@@ -24,24 +24,33 @@ accepted c =
     (subst (λ (n : ℕ). c.args.feature < n) (c.features.ensures.count ∙ ap (λ (x : NamedDiagram). feature_count x.lines) c.deref.ensures) c.if-feature-features.false)
     (sym (c.in-Some.ensures.decided ∙ ap (has_decided c.args.feature) c.entries-entries.ensures.entries)) c.if-self-eq-MOST_CHANGES.false
 
+-- what stays of the entries after the decision
+abbrev Stays : After-deref-4 → Type 0
+Stays c =
+    map entry_of c.in_ok-kept.kept.items ≡ reset_all (map entry_of (take c.in-Some.place c.entries-entries.result.now))
+    (filter (λ e. not (assumes c.args.feature e)) (map entry_of (drop (c.in-Some.place + 1) c.entries-entries.result.now)))
+
 -- the entries before the decision and what stays of those after it
-page : (c : After-deref-4) → map entry_of (take c.in-Some.place c.entries-entries.result.now) ++ map entry_of c.in_ok-kept.kept.items ≡ retracted c.args.feature c.self.inside.trail.entries
-page c =
+page : (c : After-deref-4) → Stays c →
+    map entry_of (take c.in-Some.place c.entries-entries.result.now) ++ map entry_of c.in_ok-kept.kept.items ≡ retracted c.args.feature c.self.inside.trail.entries
+page c stays =
     retracted_parts c.args.feature c.self.inside.trail.entries (map entry_of (take c.in-Some.place c.entries-entries.result.now)) (map entry_of (drop (c.in-Some.place + 1) c.entries-entries.result.now)) (map entry_of c.in_ok-kept.kept.items)
     (c.in-Some.ensures.before ∙ ap (before_decision c.args.feature) c.entries-entries.ensures.entries)
     (c.in-Some.ensures.after ∙ ap (after_decision c.args.feature) c.entries-entries.ensures.entries)
-    c.in_ok-kept.ensures.kept
+    stays
 
-shown : (c : After-deref-4) → map entry_of (take c.in-Some.place c.entries-entries.result.now) ++ map entry_of c.deref-4.result.now ≡ retracted c.args.feature c.self.inside.trail.entries
-shown c = ap (λ l. map entry_of (take c.in-Some.place c.entries-entries.result.now) ++ map entry_of l) c.deref-4.ensures.value ∙ page c
+shown : (c : After-deref-4) → Stays c →
+    map entry_of (take c.in-Some.place c.entries-entries.result.now) ++ map entry_of c.deref-4.result.now ≡ retracted c.args.feature c.self.inside.trail.entries
+shown c stays = ap (λ l. map entry_of (take c.in-Some.place c.entries-entries.result.now) ++ map entry_of l) c.deref-4.ensures.value ∙ page c stays
 
-left : (c : After-deref-4) → take c.in-Some.place c.self.inside.trail.entries ++ map entry_of c.in_ok-kept.kept.items ≡ retracted c.args.feature c.self.inside.trail.entries
-left c =
-    ap (λ (l : List Step). l ++ map entry_of c.in_ok-kept.kept.items) (ap (take c.in-Some.place) (sym c.entries-entries.ensures.entries) ∙ take-map entry_of c.in-Some.place c.entries-entries.result.now) ∙ page c
+left : (c : After-deref-4) → Stays c →
+    take c.in-Some.place c.self.inside.trail.entries ++ map entry_of c.in_ok-kept.kept.items ≡ retracted c.args.feature c.self.inside.trail.entries
+left c stays =
+    ap (λ (l : List Step). l ++ map entry_of c.in_ok-kept.kept.items) (ap (take c.in-Some.place) (sym c.entries-entries.ensures.entries) ∙ take-map entry_of c.in-Some.place c.entries-entries.result.now) ∙ page c stays
 
 pub games_of_page-requires-clause-consistent : goal.games_of_page-requires-clause-consistent
 games_of_page-requires-clause-consistent c =
-    coe 0 1 (k. HasConflict (setting_between (sym c.deref-2.ensures k) (sym c.deref-3.ensures k)) (choices_of (sym (shown (goal.at.games_of_page-requires-clause-consistent c).After-deref-4) k)) → ⊥)
+    coe 0 1 (k. HasConflict (setting_between (sym c.deref-2.ensures k) (sym c.deref-3.ensures k)) (choices_of (sym (shown (goal.at.games_of_page-requires-clause-consistent c).After-deref-4 c.in_ok-kept.ensures.kept) k)) → ⊥)
     (retracted_consistent c.self.inside c.self.invariant c.args.feature (accepted (goal.at.games_of_page-requires-clause-consistent c).After-vertices))
 
 pub cut_out-requires-clause-lifts : goal.cut_out-requires-clause-lifts
@@ -59,8 +68,8 @@ pub invariant_of-self-2 : goal.invariant_of-self-2
 invariant_of-self-2 c =
     let at = (goal.at.invariant_of-self-2 c).After-deref-4 in
     retracted_desk c.self.inside c.self.invariant c.args.feature (accepted (goal.at.invariant_of-self-2 c).After-vertices) c.args.session c.in-Some.place (map entry_of c.in_ok-kept.kept.items) c.in_ok-games.games c.cut_out.new.past c.cut_out.new.trail c.clear.new.self
-    (omega (arith, c.in-Some.ensures.place, length-map c.entries-entries.result.now entry_of, ap length c.entries-entries.ensures.entries)) (left at) c.in_ok-cut_out.ensures.past c.in_ok-cut_out.ensures.below c.in_ok-cut_out.ensures.trail c.clear.ensures.items
-    (coe 0 1 (k. ArePageGames (c.deref-2.ensures k) (c.deref-3.ensures k) (choices_of (shown at k)) (arc_value c.in_ok-games.games)) c.in_ok-games.ensures)
+    (omega (arith, c.in-Some.ensures.place, length-map c.entries-entries.result.now entry_of, ap length c.entries-entries.ensures.entries)) (left at c.in_ok-kept.ensures.kept) c.in_ok-cut_out.ensures.past c.in_ok-cut_out.ensures.below c.in_ok-cut_out.ensures.trail c.clear.ensures.items
+    (coe 0 1 (k. ArePageGames (c.deref-2.ensures k) (c.deref-3.ensures k) (choices_of (shown at c.in_ok-kept.ensures.kept k)) (arc_value c.in_ok-games.games)) c.in_ok-games.ensures)
 
 pub returns-clause-accepted : goal.returns-clause-accepted
 returns-clause-accepted c =
@@ -68,8 +77,8 @@ returns-clause-accepted c =
     subst (λ (n : ℕ). IsStep c.args.self.now c.args.session (Retract c.args.feature) (Changed n) (desk_of (record { game = c.self.inside.game; diagram = c.self.inside.diagram; games = c.in_ok-games.games; trail = c.cut_out.new.trail; past = c.cut_out.new.past; future = c.clear.new.self; changes = c.self.inside.changes + 1; tokens = c.self.inside.tokens + 1 }))) (sym c.of.ensures)
     (subst (λ (s : DeskState). IsStep s c.args.session (Retract c.args.feature) (Changed (c.self.inside.changes + 1)) (desk_of (record { game = c.self.inside.game; diagram = c.self.inside.diagram; games = c.in_ok-games.games; trail = c.cut_out.new.trail; past = c.cut_out.new.past; future = c.clear.new.self; changes = c.self.inside.changes + 1; tokens = c.self.inside.tokens + 1 }))) c.self.view_is
     (retracted_step c.self.inside c.self.invariant c.args.feature (accepted (goal.at.returns-clause-accepted c).After-vertices) c.args.session c.in-Some.place (map entry_of c.in_ok-kept.kept.items) c.in_ok-games.games c.cut_out.new.past c.cut_out.new.trail c.clear.new.self
-    (omega (arith, c.in-Some.ensures.place, length-map c.entries-entries.result.now entry_of, ap length c.entries-entries.ensures.entries)) (left at) c.in_ok-cut_out.ensures.past c.in_ok-cut_out.ensures.below c.in_ok-cut_out.ensures.trail c.clear.ensures.items
-    (coe 0 1 (k. ArePageGames (c.deref-2.ensures k) (c.deref-3.ensures k) (choices_of (shown at k)) (arc_value c.in_ok-games.games)) c.in_ok-games.ensures)))
+    (omega (arith, c.in-Some.ensures.place, length-map c.entries-entries.result.now entry_of, ap length c.entries-entries.ensures.entries)) (left at c.in_ok-kept.ensures.kept) c.in_ok-cut_out.ensures.past c.in_ok-cut_out.ensures.below c.in_ok-cut_out.ensures.trail c.clear.ensures.items
+    (coe 0 1 (k. ArePageGames (c.deref-2.ensures k) (c.deref-3.ensures k) (choices_of (shown at c.in_ok-kept.ensures.kept k)) (arc_value c.in_ok-games.games)) c.in_ok-games.ensures)))
 
 -- want of memory comes where nothing else refuses
 unrefused : {T E X : Type 0} (fault : E) (r : Result T E) → X → IfErr r (λ f. f ≡ fault → X)
