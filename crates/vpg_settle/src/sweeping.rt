@@ -18,7 +18,7 @@ pub const FEW_SWEEPS: u64 = 4;
 /// The sweeps that come before a guess: a small change is settled by them.
 pub const FIRST_SWEEPS: u64 = 1;
 
-/// How many edges and vertices a guess at both tables may look at, in all its parts together: about two seconds at most.
+/// How many edges and vertices a guess at both tables may look at, in all its parts together.
 pub const BUDGET: u64 = 1 << 27;
 
 /// From so many sweeps on, the sweeps behind a guess end where the tables exceed those that the line began with, in sum, by the
