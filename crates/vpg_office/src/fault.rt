@@ -1,6 +1,7 @@
 //! Why calls of sessions are not made, and what comes back.
 use crate::front::Front;
 use crate::terms::Terms;
+use std::convert::Infallible;
 use std::error::Error;
 use std::fmt;
 use vpg_desk::{CommitFault, DecideFault, RedoFault, RetractFault, UndoFault};
@@ -35,18 +36,11 @@ impl<L: Terms, F: fmt::Display> fmt::Debug for Fault<L, F> {
 
 impl<L: Terms, F: fmt::Display + Drop> Error for Fault<L, F> {}
 
-/// The refusal of a call that the desk never refuses.
-#[derive(Clone, Copy)]
-pub enum Never {}
+/// The refusal of a call that the desk never refuses: there is none.
+pub type Never = Infallible;
 
 /// What a call took by value comes back beside the fault.
 pub struct Returned<L: Terms, F, T> {
     pub fault: Fault<L, F>,
     pub value: T,
-}
-
-impl fmt::Display for Never {
-    fn fmt<W: fmt::Write>(&self, _f: &mut fmt::Formatter<W>) -> fmt::Result {
-        match *self {}
-    }
 }
