@@ -1,12 +1,13 @@
 #!/usr/bin/env python3
 """What a line of a script costs on a large family: decisions, lifts and settling, one line at a time.
 
-    decisions.py VPGDESK [VERTICES [FEATURES [GAME DIAGRAM VERTEX FEATURE..]]]
+    decisions.py VPGDESK[,VPGDESK..] [VERTICES [FEATURES [GAME DIAGRAM VERTEX FEATURE..]]]
 
 The family has VERTICES vertices (65,536 if left out) of sixteen edges each and FEATURES optional features (200), of which each is named by about one
 edge in a thousand. For each kind of line: the processor time of a script of 100 such lines, less that of the same script without them, over 100; the
 least of three runs; and the peak memory. With GAME, DIAGRAM, a VERTEX and FEATUREs these are measured in its place: each FEATURE may be decided in by itself,
-out by itself, and together with the others.
+out by itself, and together with the others. Several programs, as one before a change and one after it, take turns, so that they share the machine's load;
+each has a column.
 """
 import os
 import random
@@ -50,9 +51,14 @@ def spent(program, game, diagram, lines):
     return usage.ru_utime + usage.ru_stime, usage.ru_maxrss / 1024
 
 
-def least(program, game, diagram, lines):
-    runs = [spent(program, game, diagram, lines) for _ in range(RUNS)]
-    return min(seconds for seconds, _ in runs), max(memory for _, memory in runs)
+def least(programs, game, diagram, lines):
+    """For each program the least seconds and the most megabytes of its runs."""
+    runs = [[spent(program, game, diagram, lines) for program in programs] for _ in range(RUNS)]
+    return [(min(seconds for seconds, _ in of_one), max(memory for _, memory in of_one)) for of_one in zip(*runs)]
+
+
+def told(name, figures):
+    print(f"{name:20}" + "".join(f" {milliseconds:10.3f} ms {memory:5.0f} MB" for milliseconds, memory in figures), flush=True)
 
 
 def cycled(features, line):
@@ -86,21 +92,21 @@ def cases(vertex, features):
 def main():
     if len(sys.argv) < 2:
         sys.exit(__doc__)
-    program = sys.argv[1]
+    programs = sys.argv[1].split(",")
     with tempfile.TemporaryDirectory() as folder:
         if len(sys.argv) > 6:
             game, diagram, vertex, features = sys.argv[4], sys.argv[5], sys.argv[6], sys.argv[7:]
         else:
             vertices = int(sys.argv[2]) if len(sys.argv) > 2 else 65536
             game, diagram, vertex, features = write_family(folder, vertices, int(sys.argv[3]) if len(sys.argv) > 3 else 200)
-        reading, memory = least(program, game, diagram, [])
-        print(f"{'reading':20} {reading * 1000:10.1f} ms {memory:8.0f} MB", flush=True)
-        known = {(): reading}
+        reading = least(programs, game, diagram, [])
+        told("reading", [(seconds * 1000, memory) for seconds, memory in reading])
+        known = {(): [seconds for seconds, _ in reading]}
         for name, before, lines in cases(vertex, features):
             if tuple(before) not in known:
-                known[tuple(before)] = least(program, game, diagram, before)[0]
-            seconds, memory = least(program, game, diagram, before + lines)
-            print(f"{name:20} {(seconds - known[tuple(before)]) * 1000 / len(lines):10.3f} ms {memory:8.0f} MB", flush=True)
+                known[tuple(before)] = [seconds for seconds, _ in least(programs, game, diagram, before)]
+            found = zip(least(programs, game, diagram, before + lines), known[tuple(before)])
+            told(name, [((seconds - without) * 1000 / len(lines), memory) for (seconds, memory), without in found])
 
 
 if __name__ == "__main__":
