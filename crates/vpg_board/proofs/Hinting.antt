@@ -37,11 +37,3 @@ module _ (n : ℕ) where
   pub head : (found : Option Hint) (P : Type 0) → MatchOption found P (λ x. All (IsHint n) (x ∷ [])) → IfSome found (IsHint n)
   head None P h = tt
   head (Some x) P h = h 0 x (omega arith)
-
--- one more edge from inside
-pub one_more_edge : (n : ℕ) (edges : List (ℕ × ℕ)) (e : ℕ × ℕ) → e.0 < n → All (λ (e : ℕ × ℕ). e.0 < n) edges → All (λ (e : ℕ × ℕ). e.0 < n) (edges ++ e ∷ [])
-one_more_edge n edges e inside h = All-append (λ (e : ℕ × ℕ). e.0 < n) edges (e ∷ []) h at
-  where
-    at : All (λ (e : ℕ × ℕ). e.0 < n) (e ∷ [])
-    at zero d lt = inside
-    at (suc k) d lt = absurd (omega arith)

@@ -13,5 +13,7 @@ pub mod Working
 pub mod Sharing
 pub mod Moving
 pub mod Swept
+pub mod Chaining
+pub mod Kept
 pub mod Hinting
 pub mod Lone

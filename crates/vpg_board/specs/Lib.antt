@@ -8,5 +8,7 @@ pub mod BoardFields
 pub mod Steps
 pub mod Loading
 pub mod Worked
+pub mod Predecessors
+pub mod Chains
 pub mod Hints
 pub mod Alone

@@ -22,7 +22,7 @@ fn raise_and_hint<J: Vertices>(
     v: u32,
 )
     requires vertex { v < vertices harvest.old.order }
-    requires predecessors { predecessors.now ≡ J.vertices }
+    requires predecessors { predecessors.now.vertices ≡ J.vertices }
     ensures rises { Rises harvest.old harvest.new }
     ensures lifted { lift_over which harvest.old v ≤ slice_index (harvest_table which harvest.new) v }
 {
@@ -40,7 +40,7 @@ fn raise_hinted<J: Vertices, G: Gate>(
 )
     requires harvest { IsHarvest harvest.old }
     requires game { J.vertices ≡ vertices harvest.old.order }
-    requires predecessors { predecessors.now ≡ J.vertices }
+    requires predecessors { predecessors.now.vertices ≡ J.vertices }
     ensures { Rises harvest.old harvest.new }
 {
     'hinted: for _ in 0..HINTED_LIFTS {
@@ -74,7 +74,7 @@ fn raise_with_hints<J: Vertices, G: Gate>(
     which: Which,
 )
     requires game { J.vertices ≡ vertices harvest.old.order }
-    requires predecessors { predecessors.now ≡ J.vertices }
+    requires predecessors { predecessors.now.vertices ≡ J.vertices }
     ensures rises { Rises harvest.old harvest.new }
     ensures lifted { AreLifted which harvest.old harvest.new (vertices harvest.old.order) }
 {
@@ -96,7 +96,7 @@ fn raise_table<J: Vertices, G: Gate>(
     which: Which,
 )
     requires game { J.vertices ≡ vertices harvest.old.order }
-    requires predecessors { predecessors.now ≡ J.vertices }
+    requires predecessors { predecessors.now.vertices ≡ J.vertices }
     ensures rises { Rises harvest.old harvest.new }
     ensures lifted { AreLifted which harvest.old harvest.new (vertices harvest.old.order) }
 {
@@ -115,7 +115,7 @@ pub(crate) fn sweep_alone<J: Vertices, G: Gate>(
     predecessors: &Predecessors,
 ) -> Harvest
     requires game { J.vertices ≡ vertices order }
-    requires predecessors { predecessors.now ≡ J.vertices }
+    requires predecessors { predecessors.now.vertices ≡ J.vertices }
     ensures order { IsSameOrder result.order order }
     ensures lifted { (which : Which) (v : ℕ) → v < vertices order →
         lift_of (order_levels which order) (order_table which order) (vertex_at (order_arena which order) v) ≤ slice_index (harvest_table which result) v }

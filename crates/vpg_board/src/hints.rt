@@ -1,7 +1,8 @@
 //! Hints: vertices that lifters hand to one another, since a vertex that they keep an edge to was raised.
 
 ghost use Rattle.std.specs.Prelude.{◌<◌, ℕ, All, IfSome, length};
-ghost use Rattle.vpg_board.specs.Hints.{IsHint, LeadFrom};
+ghost use Rattle.vpg_board.specs.Hints.{IsHint};
+ghost use Rattle.vpg_board.specs.Chains.{LeadFrom};
 
 use crate::predecessors::Chains;
 use crossbeam_deque::protocol::{Outcome, Protocol};
@@ -151,7 +152,7 @@ impl<J: Vertices> Hints<J> {
 
     /// A vertex was raised: all that keep an edge to it are worth a lift.
     pub(crate) fn give_all(&mut self, which: Which, edges: &Chains, v: u32)
-        requires { LeadFrom J.vertices edges.now }
+        requires { LeadFrom J.vertices edges.now.edges.items }
     {
         let mut at = edges.last_to(v);
         for _ in 0..edges.len() {

@@ -12,8 +12,9 @@
 //! Definitions: `specs/Places` (both tables as one list of words, lifts on them), `specs/Lifters` and `specs/Run` (what a lifter
 //! knows, the steps, runs), `specs/Rule` (what every run keeps, in two halves), `specs/Taken` (which steps a lifter took),
 //! `specs/Seats` (boards and seats as callers see them), `specs/Steps` (what each atomic step leaves and tells), `specs/Worked`
-//! (what lifters have done in a sweep), `specs/Alone` (what one has done alone). What holds of every run, and that the atomic
-//! steps are those of runs, stands in `laws`.
+//! (what lifters have done in a sweep), `specs/Alone` (what one has done alone), `specs/Predecessors` (which vertices
+//! keep an edge to which), `specs/Chains` (how these are kept), `specs/Hints` (what a hint names). What holds of every
+//! run, and that the atomic steps are those of runs, stands in `laws`.
 #![tactic(auto)]
 
 mod alone;

@@ -53,7 +53,7 @@ fn lift_and_hint<J: Vertices>(
 )
     requires board { seat.old.board ≡ board.now }
     requires vertex { v < vertices board.now.order }
-    requires predecessors { predecessors.now ≡ J.vertices }
+    requires predecessors { predecessors.now.vertices ≡ J.vertices }
     ensures board { seat.new.board ≡ seat.old.board }
     ensures seen { SeesMore seat.old.lifter seat.new.lifter }
     ensures safe { IsSafe seat.new.lifter }
@@ -75,7 +75,7 @@ fn lift_hinted<J: Vertices, G: Gate>(
 )
     requires works { Works board.now seat.old }
     requires game { J.vertices ≡ vertices board.now.order }
-    requires predecessors { predecessors.now ≡ J.vertices }
+    requires predecessors { predecessors.now.vertices ≡ J.vertices }
     ensures works { Works board.now seat.new }
     ensures stand { SameStand seat.old.lifter seat.new.lifter }
 {
@@ -100,7 +100,7 @@ fn work<J: Vertices, G: Gate, R: Wait>(
 ) -> Seat
     requires works { Works board.now seat }
     requires game { J.vertices ≡ vertices board.now.order }
-    requires predecessors { predecessors.now ≡ J.vertices }
+    requires predecessors { predecessors.now.vertices ≡ J.vertices }
     ensures { HasWorked board.now seat.lifter result }
 {
     let mut seat = seat;
@@ -141,7 +141,7 @@ fn work_together<J: Vertices + Send + Sync, G: Gate + Sync, R: Threads + Wait + 
 ) -> Seat
     requires works { Works board.now seat }
     requires game { J.vertices ≡ vertices board.now.order }
-    requires predecessors { predecessors.now ≡ J.vertices }
+    requires predecessors { predecessors.now.vertices ≡ J.vertices }
     ensures { HasWorked board.now seat.lifter result }
 {
     let mut seat = seat;
@@ -157,11 +157,13 @@ fn work_together<J: Vertices + Send + Sync, G: Gate + Sync, R: Threads + Wait + 
     let (other, mine) = join(
         rt,
         move || -> Seat
-            requires { IsSync R.row × IsSync G.row × Works board.now other × (J.vertices ≡ vertices board.now.order) × (predecessors.now ≡ J.vertices) }
+            requires { IsSync R.row × IsSync G.row × Works board.now other
+                × (J.vertices ≡ vertices board.now.order) × (predecessors.now.vertices ≡ J.vertices) }
             ensures { HasWorked board.entry.now other.lifter result }
         { work(rt, board, gate, lifters, other, predecessors, hints) },
         move || -> Seat
-            requires { IsSync R.row × IsSync G.row × Works board.now seat × (J.vertices ≡ vertices board.now.order) × (predecessors.now ≡ J.vertices) }
+            requires { IsSync R.row × IsSync G.row × Works board.now seat
+                × (J.vertices ≡ vertices board.now.order) × (predecessors.now.vertices ≡ J.vertices) }
             ensures { HasWorked board.entry.now seat.lifter result }
         { work_together(rt, board, gate, rest, seat, predecessors, crew) },
     );
@@ -182,7 +184,7 @@ fn work_with_hints<J: Vertices + Send + Sync, G: Gate + Sync, R: Threads + Wait 
 ) -> Seat
     requires works { Works board.now seat }
     requires game { J.vertices ≡ vertices board.now.order }
-    requires predecessors { predecessors.now ≡ J.vertices }
+    requires predecessors { predecessors.now.vertices ≡ J.vertices }
     ensures { HasWorked board.now seat.lifter result }
 {
     // Without predecessors there is nothing to hint at.
@@ -236,7 +238,7 @@ pub fn sweep_along<G: Gate + Sync, R: Threads + Wait + Sync>(
     gate: &G,
     predecessors: &Predecessors,
 ) -> Result<Harvest, Order>
-    requires predecessors { predecessors.now ≡ vertices order }
+    requires predecessors { predecessors.now.vertices ≡ vertices order }
     requires lifters { (1 ≤ lifters) × (lifters ≤ 64) }
     ensures order { IfOk result (λ harvest. IsSameOrder harvest.order order) }
 

@@ -82,7 +82,7 @@ fn swept_once<G: Gate + Sync, T: Threads + Wait + Sync>(
     predecessors: &Predecessors,
 ) -> Harvest
     requires lifters { (1 ≤ lifters) × (lifters ≤ 64) }
-    requires predecessors { predecessors.now ≡ vertices order }
+    requires predecessors { predecessors.now.vertices ≡ vertices order }
     ensures { IsSweptOrder order 1 result }
 {
     match sweep_along(rt, alloc, order, lifters, gate, predecessors) {
@@ -101,7 +101,7 @@ fn sweep<G: Gate + Sync, T: Threads + Wait + Sync>(
     predecessors: &Predecessors,
 ) -> Harvest
     requires lifters { (1 ≤ lifters) × (lifters ≤ 64) }
-    requires predecessors { predecessors.now ≡ vertices order }
+    requires predecessors { predecessors.now.vertices ≡ vertices order }
     ensures swept { IsSweptOrder order 1 result }
     ensures by { IsSweptBy lifters order result }
 {
@@ -119,7 +119,7 @@ pub fn sweep_often<G: Gate + Sync, T: Threads + Wait + Sync>(
     predecessors: &Predecessors,
 ) -> Result<SweptHarvest, Order>
     requires lifters { (1 ≤ lifters) × (lifters ≤ 64) }
-    requires predecessors { predecessors.now ≡ vertices order }
+    requires predecessors { predecessors.now.vertices ≡ vertices order }
     ensures swept { IfOk result (λ found. IsSweptOrder order sweeps found.harvest) }
     ensures settled { IfOk result (λ found. IsSettledHarvest found.harvest) }
     ensures some { IfOk result (λ found. 0 < found.sweeps) }
@@ -152,7 +152,7 @@ fn by_sweeps<G: Gate + Sync, T: Threads + Wait + Sync>(
     predecessors: &Predecessors,
 ) -> SweptHarvest
     requires lifters { (1 ≤ lifters) × (lifters ≤ 64) }
-    requires predecessors { predecessors.now ≡ vertices order }
+    requires predecessors { predecessors.now.vertices ≡ vertices order }
     ensures swept { IsSweptOrder order sweeps result.harvest }
     ensures few { result.sweeps ≤ sweeps }
     ensures made { AreSweeps lifters result.sweeps order result.harvest }
@@ -226,7 +226,7 @@ fn by_sweeps_to<G: Gate + Sync, T: Threads + Wait + Sync>(
     predecessors: &Predecessors,
 ) -> SweptHarvest
     requires lifters { (1 ≤ lifters) × (lifters ≤ 64) }
-    requires predecessors { predecessors.now ≡ vertices order }
+    requires predecessors { predecessors.now.vertices ≡ vertices order }
     ensures swept { IsSweptTo order sweeps (Some goal) result.harvest }
     ensures few { result.sweeps ≤ sweeps }
     ensures made { AreSweeps lifters result.sweeps order result.harvest }

@@ -1,0 +1,9 @@
+use Rattle.vpg_measure.specs.declared.which.Which.TheVariants.{Hopeful, Dual}
+use Rattle.vpg_board.proofs.Kept.{order_edges}
+use Rattle.vpg_board.proofs.predecessors.Predecessors.of.Goals as goal
+
+pub of-requires : goal.of-requires
+of-requires c = order_edges c.args.order.now Hopeful c.arena.result.now c.game.ensures.order c.arena.ensures
+
+pub of-requires-2 : goal.of-requires-2
+of-requires-2 c = order_edges c.args.order.now Dual c.arena-2.result.now c.game.ensures.order c.arena-2.ensures
