@@ -120,7 +120,7 @@ fn swept<G: Gate + Sync, T: Threads + Wait + Sync>(
     predecessors: &Predecessors,
 ) -> Result<(Harvest, u64)>
     requires lifters { (1 ≤ lifters) × (lifters ≤ 64) }
-    requires predecessors { predecessors.now ≡ vertices order }
+    requires predecessors { predecessors.now.vertices ≡ vertices order }
 {
     let mut order = order;
     for done in 0..most {
@@ -145,7 +145,7 @@ fn swept_on<T: Threads + Wait + Sync>(
     predecessors: &Predecessors,
 ) -> Result<Reached>
     requires lifters { (1 ≤ lifters) × (lifters ≤ 64) }
-    requires predecessors { predecessors.now ≡ vertices order }
+    requires predecessors { predecessors.now.vertices ≡ vertices order }
 {
     let mut order = order;
     for _ in 0..most {
@@ -171,7 +171,7 @@ fn uncounted<T: Threads + Wait + Sync>(
     predecessors: &Predecessors,
 ) -> Result<Reached>
     requires lifters { (1 ≤ lifters) × (lifters ≤ 64) }
-    requires predecessors { predecessors.now ≡ vertices order }
+    requires predecessors { predecessors.now.vertices ≡ vertices order }
 {
     let (harvest, sweeps) = swept(rt, alloc, order, most, lifters, &OpenGate, predecessors)?;
     Ok(Reached {
