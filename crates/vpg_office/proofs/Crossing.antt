@@ -59,7 +59,7 @@ module _ (L : RattleType) (t : terms.Ghosts L.Denot) (l : ledger.Ghosts L.Denot)
   share_sends = search (share_send, sendable, crosses) depth 20
 
   fields_send : AllSend (fields (Inside.the_type L t l))
-  fields_send = (chronicle_field, (search (front_sends, sendable) depth 12, (search (desk_send, sendable) depth 12, (search (book_sends, sendable) depth 12, (search (share_sends, sendable) depth 12, (search sendable depth 12, (search sendable depth 12, (search (press_send, front_sends, front_syncs, sendable, crosses) depth 40, tt))))))))
+  fields_send = (chronicle_field, (search (front_sends, sendable) depth 12, (search (desk_send, sendable) depth 12, (search (book_sends, sendable) depth 12, (search (share_sends, sendable) depth 12, (search sendable depth 12, (search sendable depth 12, (search sendable depth 12, (search (press_send, front_sends, front_syncs, sendable, crosses) depth 40, tt)))))))))
 
   inside_send : IsSend (Inside.the_row L t l)
   inside_send = recorded_send (Inside.the_field L t l).row _ _ (Inside.the_type L t l).to_one (struct_send (shape (Inside.the_type L t l)) fields_send)

@@ -90,6 +90,7 @@ impl<L: Terms> Log<L> {
             rest: _,
             sessions: _,
             room: _,
+            watched: _,
             press,
         } = self;
         keep_all(&mut desk, &mut book, undos);
@@ -109,6 +110,7 @@ impl<L: Terms> Log<L> {
             rest: _,
             sessions: _,
             room: _,
+            watched: _,
             press,
         } = self;
         let_go(rt, desk, press);

@@ -35,6 +35,8 @@ pub struct Log<L: Terms> {
     pub(crate) rest: Share<L>,
     pub(crate) sessions: u32,
     pub(crate) room: usize,
+    // whether there was a watch yet
+    pub(crate) watched: bool,
     pub(crate) press: Press<Front<L>>,
 }
 
@@ -188,6 +190,7 @@ impl<L: Terms> Log<L> {
             rest,
             sessions: 0,
             room,
+            watched: false,
             press,
         }
     }

@@ -26,7 +26,7 @@ use thiserror::Error;
 use vpg_desk::{Desk, OpenFault, OpenRefused};
 use vpg_diagram::Diagram;
 use vpg_game::GuardedGame;
-use vpg_watch::{NoPlace, Press, Watch};
+use vpg_watch::{Press, Watch};
 
 /// A row of calls, by its name.
 pub trait Rowed {
@@ -60,6 +60,17 @@ pub type Office<L> = Shared<Row, L, Log<L>>;
 #[derive(Clone, Copy, Debug, PartialEq, Eq, Error)]
 #[error("TooManySessions")]
 pub struct TooManySessions;
+
+/// Why there is no watch.
+#[derive(Clone, Copy, Debug, PartialEq, Eq, Error)]
+pub enum NoWatch {
+    /// There is no place for a further watch: all 64 are in use.
+    #[error("NoPlace")]
+    NoPlace,
+    /// The sheet for the first watch finds no memory.
+    #[error("Memory")]
+    Memory,
+}
 
 /// Tokens of the office are out.
 pub struct TokensOut<L: Terms> {
@@ -184,14 +195,16 @@ impl<L: Terms> Shared<Row, L, Log<L>> {
         }
     }
 
-    /// A watch of the sheets that the office publishes: one as it opens, and one with each accepted decide, retract, undo, redo and
-    /// commit, but for those that find no memory. Its first read gives the sheet that is shown now or a later one. The one refusal is
-    /// `NoPlace`: there may be 64 watches at once.
-    pub fn watch<R: Wait>(&self, rt: &R) -> Result<Watch<Front<L>>, NoPlace>
+    /// A watch of the sheets that the office publishes: one as it opens, one of the log so far for the first watch, and from then on one
+    /// with each accepted decide, retract, undo, redo and commit, but for those that find no memory. Its first read gives the sheet
+    /// that is shown now or a later one.
+    ///
+    /// Refused: `Memory`, where there was no watch yet and its sheet finds none; `NoPlace`, where there are 64 watches.
+    pub fn watch<R: Wait>(&self, rt: &R, alloc: Global) -> Result<Watch<Front<L>>, NoWatch>
         ensures history { IfOk result (IsHistory (family_between L.game L.diagram)) }
     {
         let mut log = self.log.lock(rt);
-        let watch = log.watch();
+        let watch = log.watch(rt, alloc);
         MutexGuard::unlock(log);
         watch
     }

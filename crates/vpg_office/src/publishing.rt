@@ -1,6 +1,6 @@
 //! Sheets: what is published of the log, and how a watch reads it.
 ghost use Rattle.std.specs.Arc.{arc_value};
-ghost use Rattle.std.specs.Prelude.{◌≡◌, ◌≤◌, ◌⊎◌, [], length, IfOk};
+ghost use Rattle.std.specs.Prelude.{◌≡◌, ◌≤◌, [], length, IfOk, OnOk, OnErr};
 ghost use mathlib.Core.List.{IsPrefix};
 ghost use Rattle.vpg_watch.specs.Rule.{Belongs};
 ghost use Rattle.vpg_desk.specs.Book.{opened};
@@ -12,11 +12,12 @@ ghost use Rattle.vpg_office.specs.Sheets.{AreSaid, IsSheetOf};
 
 use crate::front::Front;
 use crate::log::Log;
+use crate::office::NoWatch;
 use crate::terms::Terms;
 use std::alloc::{AllocError, Global};
 use std::sync::{Arc, Wait};
 use vpg_desk::Desk;
-use vpg_watch::{NoPlace, Press, Sheet, Verdicts, Watch, WatchFault};
+use vpg_watch::{Press, Sheet, Verdicts, Watch, WatchFault};
 
 /// What the desk says of each vertex.
 fn verdicts_of(alloc: Global, desk: &Desk) -> Result<Verdicts, AllocError>
@@ -68,45 +69,66 @@ pub(crate) fn opening_press<L: Terms, R: Wait>(
     }
 }
 
-/// Publishes the sheet of the front at whose end the desk is. One that finds no memory is left out.
+/// Publishes the sheet of the front at whose end the desk is. Where it finds no memory the sheet shown before stays.
 fn publish<L: Terms, R: Wait>(
     rt: &R,
     alloc: Global,
     press: &mut Press<Front<L>>,
     desk: &Desk,
     newest: &Front<L>,
-)
+) -> Result<(), AllocError>
     requires of { (desk.now.game ≡ L.game) × (desk.now.diagram ≡ L.diagram) }
     requires replay { desk.now.book ≡ book_after (family_between L.game L.diagram) opened newest.now }
     requires few { L.limit ≤ 1048576 }
     requires grows { IsPrefix press.old.front newest.now }
-    ensures shown { (press.new ≡ press.old) ⊎ (press.new.front ≡ newest.now) }
+    ensures shown { OnOk result (press.new.front ≡ newest.now) }
+    ensures same { OnErr result (press.new ≡ press.old) }
+    ensures begins { IsPrefix press.new.front newest.now }
 {
-    let Ok(sheet) = sheet_of(alloc, desk, newest.copy()) else {
-        return;
-    };
+    let sheet = sheet_of(alloc, desk, newest.copy())?;
     match press.publish(rt, sheet) {
-        Ok(()) => {}
-        Err(_left_out) => {}
+        Ok(()) => Ok(()),
+        Err(_left_out) => Err(AllocError),
     }
 }
 
 impl<L: Terms> Log<L> {
-    /// Publishes the sheet of the log, where the call just made changed the page.
+    /// Publishes the sheet of the log.
+    fn show<R: Wait>(&mut self, rt: &R, alloc: Global) -> Result<(), AllocError>
+        ensures { self.new ≡ self.old }
+    {
+        publish(rt, alloc, &mut self.press, &self.desk, &self.newest)
+    }
+
+    /// Publishes the sheet of the log, where the call just made changed the page and there was a watch. One that finds no memory is
+    /// left out.
     pub(crate) fn publish<R: Wait>(&mut self, rt: &R, alloc: Global, changed: bool)
         ensures { self.new ≡ self.old }
     {
-        if changed {
-            publish(rt, alloc, &mut self.press, &self.desk, &self.newest);
+        if changed && self.watched {
+            let _left_out = self.show(rt, alloc);
         }
     }
 
-    /// A watch of what is published.
-    pub(crate) fn watch(&mut self) -> Result<Watch<Front<L>>, NoPlace>
+    /// A watch of what is published. Before the first one the sheet of the log is.
+    pub(crate) fn watch<R: Wait>(
+        &mut self,
+        rt: &R,
+        alloc: Global,
+    ) -> Result<Watch<Front<L>>, NoWatch>
         ensures same { self.new ≡ self.old }
         ensures history { IfOk result (IsHistory (family_between L.game L.diagram)) }
     {
-        self.press.watch()
+        if !self.watched && self.newest.len() > 0 && self.show(rt, alloc).is_err() {
+            return Err(NoWatch::Memory);
+        }
+        match self.press.watch() {
+            Ok(watch) => {
+                self.watched = true;
+                Ok(watch)
+            }
+            Err(_) => Err(NoWatch::NoPlace),
+        }
     }
 }
 

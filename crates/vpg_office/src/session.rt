@@ -364,7 +364,36 @@ impl<L: Terms> Session<L> {
         'again: for _ in rt.forever() {
             let mut log = office.log.lock(rt);
             if log.has(&office.row, front) {
-                let answer = log.commit(rt, alloc, &office.row, number, front, harvest);
+                let answer = log.commit(rt, alloc, &office.row, number, front, harvest, false);
+                log.publish(rt, alloc, answer.is_ok());
+                MutexGuard::unlock(log);
+                return answer;
+            }
+            MutexGuard::unlock(log);
+        }
+        unreachable!()
+    }
+
+    /// As `commit`, of a harvest whose order has the office's game and diagram, as those of `order` have: the two are not compared.
+    pub fn commit_own<R: Wait>(
+        &mut self,
+        rt: &R,
+        alloc: Global,
+        office: &Office<L>,
+        front: &mut Front<L>,
+        harvest: Harvest,
+    ) -> Result<u32, Returned<L, CommitFault, Harvest>>
+        requires ours { IsOf L.game L.diagram harvest.order }
+        ensures done { IfOk result (λ added. Extends (family_between L.game L.diagram) front.old self.old (book.Commit (handed_in true harvest)) (book.Added added) front.new) }
+        ensures fault { IfErr result (λ b. CommitTells L.game L.diagram L.limit harvest self.old front.old front.new b.fault) }
+        ensures back { IfErr result (λ b. b.value ≡ harvest) }
+        ensures same { self.new ≡ self.old }
+    {
+        let number = self.number;
+        'again: for _ in rt.forever() {
+            let mut log = office.log.lock(rt);
+            if log.has(&office.row, front) {
+                let answer = log.commit(rt, alloc, &office.row, number, front, harvest, true);
                 log.publish(rt, alloc, answer.is_ok());
                 MutexGuard::unlock(log);
                 return answer;
