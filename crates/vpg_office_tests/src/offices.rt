@@ -4,7 +4,7 @@ ghost use Rattle.std.specs.Arc.{arc_value};
 ghost use Rattle.std.specs.Prelude.{◌≡◌, ◌≤◌};
 ghost use Rattle.vpg_diagram.specs.FeatureDiagram.{feature_count};
 
-use crate::{changes, logs};
+use crate::{changes, logs, watchers};
 use std::process::Abort;
 use std::sync::{Arc, Wait};
 use std::test::*;
@@ -35,6 +35,11 @@ pub enum Run {
     Tokens,
     Fill,
     Join,
+    WatchTwo,
+    WatchEach,
+    WatchClosing,
+    WatchEnding,
+    WatchOften,
 }
 
 impl<R: Wait + Abort + AllocGlobal> Work<R> for Run {
@@ -61,6 +66,11 @@ impl<R: Wait + Abort + AllocGlobal> Work<R> for Run {
             Run::Tokens => changes::tokens_meet(rt, office),
             Run::Fill => logs::fill(rt, office),
             Run::Join => logs::join_often(rt, office),
+            Run::WatchTwo => watchers::watch_two_sessions(rt, office),
+            Run::WatchEach => watchers::watch_each_call(rt, office),
+            Run::WatchClosing => watchers::watch_closing(rt, office),
+            Run::WatchEnding => watchers::watch_ending(rt, office),
+            Run::WatchOften => watchers::watch_often(rt, office),
         }
     }
 }

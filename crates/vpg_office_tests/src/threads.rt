@@ -9,6 +9,7 @@ ghost use Rattle.vpg_diagram.specs.FeatureDiagram.{feature_count};
 use crate::calls::{Seat, close, commit, decide, joined, keep, order, retract};
 use crate::offices::{DIAGRAM, F, G, GAME, family};
 use crate::pages::page_text;
+use crate::watchers::watch_at_once;
 use std::marker::Brand;
 use std::process::Abort;
 use std::sync::atomic::{AtomicU64, Ordering};
@@ -29,11 +30,12 @@ optional r c\noptional r d\noptional r e\noptional r h\n";
 
 /// What is done on an office.
 #[derive(Clone, Copy)]
-enum Run {
+pub enum Run {
     Rounds,
     Race,
     Late,
     Eight,
+    Watch,
 }
 
 /// Opens an office, and does it.
@@ -58,11 +60,12 @@ fn open_and_run<L: Terms + Send + Sync, R: Threads + Wait + Abort + AllocGlobal 
         Run::Race => race(rt, office),
         Run::Late => commit_late(rt, office),
         Run::Eight => eight_at_once(rt, office),
+        Run::Watch => watch_at_once(rt, office),
     }
 }
 
 /// Does it on an office on this diagram, whose log takes so many calls.
-fn on_shared_office<R: Threads + Wait + Abort + AllocGlobal + Sync>(
+pub fn on_shared_office<R: Threads + Wait + Abort + AllocGlobal + Sync>(
     rt: &R,
     diagram: &[u8],
     room: u32,
@@ -78,7 +81,7 @@ fn on_shared_office<R: Threads + Wait + Abort + AllocGlobal + Sync>(
 }
 
 /// A feature is decided and retracted so many times.
-fn rounds<L: Terms, R: Wait + Abort + AllocGlobal>(
+pub fn rounds<L: Terms, R: Wait + Abort + AllocGlobal>(
     rt: &R,
     office: &Office<L>,
     seat: Seat<L>,

@@ -1,14 +1,18 @@
-//! Two sessions of one office, each in a thread of its own: one lifts while the other decides. Then the decision is taken back by
-//! its token, and the office is ended.
+//! Two sessions of one office, each in a thread of its own: one lifts while the other decides. Then the page is settled, the decision
+//! is taken back by its token, and the office is ended. Meanwhile a watcher in a third thread prints what is said of a vertex.
 #![tactic(auto)]
+
+mod watcher;
 
 ghost use Rattle.std.specs.Arc.{arc_value};
 ghost use Rattle.std.specs.Prelude.{◌≡◌, ◌≤◌, vec_len, vec_capacity};
 ghost use Rattle.vpg_diagram.specs.FeatureDiagram.{feature_count};
 
+use crate::watcher::{follow, wait_for_watcher};
 use anyhow::bail;
 use std::alloc::Global;
 use std::marker::Brand;
+use std::sync::atomic::AtomicU64;
 use std::sync::{Arc, Wait};
 use std::thread::{Threads, join};
 use vpg_desk::OpenFault;
@@ -126,6 +130,22 @@ fn undoes<L: Terms, R: Wait>(
     }
 }
 
+/// Settles the page, and takes the decision back once the watcher has read what is said then.
+fn settles_and_undoes<L: Terms, R: Wait>(
+    rt: &R,
+    alloc: Global,
+    office: &Office<L>,
+    seat: Seat<L>,
+    undo: Undo<L>,
+    seen: &AtomicU64,
+) -> (Option<Undo<L>>, Option<Redo<L>>) {
+    let (mut seat, _added) = lifts(rt, alloc, office, seat);
+    wait_for_watcher(seen, seat.front.len());
+    let tokens = undoes(rt, alloc, office, &mut seat, undo);
+    wait_for_watcher(seen, seat.front.len());
+    tokens
+}
+
 /// Ends the office with the tokens that are left.
 fn ends<L: Terms, R: Wait>(
     rt: &R,
@@ -156,7 +176,9 @@ fn spend_day<L: Terms + Send + Sync, R: Threads + Wait + Sync>(
     alloc: Global,
     office: Office<L>,
     front: Front<L>,
+    seen: &AtomicU64,
 ) -> Option<Day> {
+    wait_for_watcher(seen, 0);
     let mut front = front;
     let Ok(undos) = Vec::with_capacity(alloc, 1) else {
         let _further = office.end(rt, &mut front, Vec::new(alloc), Vec::new(alloc));
@@ -178,9 +200,9 @@ fn spend_day<L: Terms + Send + Sync, R: Threads + Wait + Sync>(
         session: two,
         front: second,
     };
-    let (added, mut decider, undo) = works(rt, alloc, &office, lifter, decider);
+    let (added, decider, undo) = works(rt, alloc, &office, lifter, decider);
     let (undo, redo) = match undo {
-        Some(undo) => undoes(rt, alloc, &office, &mut decider, undo),
+        Some(undo) => settles_and_undoes(rt, alloc, &office, decider, undo, seen),
         None => (None, None),
     };
     let undone = redo.is_some();
@@ -193,8 +215,45 @@ fn spend_day<L: Terms + Send + Sync, R: Threads + Wait + Sync>(
     })
 }
 
+/// Takes the office, and spends a day there. A closure can't hold an office, since it might let it go.
+fn spend_day_on<L: Terms + Send + Sync, R: Threads + Wait + Sync>(
+    rt: &R,
+    alloc: Global,
+    lent: &mut Option<Office<L>>,
+    front: Front<L>,
+    seen: &AtomicU64,
+) -> Option<Day> {
+    let office = lent.take()?;
+    spend_day(rt, alloc, office, front, seen)
+}
+
+/// Spends a day that a watcher follows.
+fn spend_watched_day<L: Terms + Send + Sync, R: Threads + Wait + Sync + Print>(
+    rt: &R,
+    alloc: Global,
+    office: Office<L>,
+    front: Front<L>,
+) -> Option<Day> {
+    let mut last = front.copy();
+    let Ok(watch) = office.watch(rt, alloc) else {
+        let _further = office.end(rt, &mut last, Vec::new(alloc), Vec::new(alloc));
+        return None;
+    };
+    let seen = AtomicU64::new(0);
+    let mut lent = Some(office);
+    let (_printed, day) = join(
+        rt,
+        || follow(rt, watch, &seen),
+        || spend_day_on(rt, alloc, &mut lent, front, &seen),
+    );
+    if let Some(office) = lent {
+        let _further = office.end(rt, &mut last, Vec::new(alloc), Vec::new(alloc));
+    }
+    day
+}
+
 /// Opens an office whose log takes so many calls, and spends a day there. `L` says which row of calls and which ledger it has.
-fn open_and_work<L: Terms + Send + Sync, R: Threads + Wait + Sync>(
+fn open_and_work<L: Terms + Send + Sync, R: Threads + Wait + Sync + Print>(
     rt: &R,
     alloc: Global,
     site: Site,
@@ -208,7 +267,7 @@ fn open_and_work<L: Terms + Send + Sync, R: Threads + Wait + Sync>(
     requires room { (room ≡ L.limit) × (1 ≤ room) × (room ≤ 1048576) }
 {
     match Office::<L>::open(rt, alloc, site, game, diagram, room) {
-        Ok(office) => Ok(spend_day(rt, alloc, office, Front::empty())),
+        Ok(office) => Ok(spend_watched_day(rt, alloc, office, Front::empty())),
         Err(refused) => Err(refused.fault),
     }
 }
