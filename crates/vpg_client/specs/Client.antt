@@ -1,0 +1,34 @@
+-- What a client of an office is: the desk that it serves, and how many calls it has made. This project's own.
+use Rattle.std.specs.Prelude.{◌≡◌, ℕ, ◌+◌, ◌<◌, List, length}
+use Rattle.vpg_diagram.specs.DiagramText.{NamedDiagram}
+use Rattle.vpg_game.specs.Game.{NamedGame}
+use Rattle.vpg_trail.specs.Page.{Entry}
+use Rattle.vpg_desk.specs.Book.{Call, Reply, opened}
+use Rattle.vpg_desk.specs.History.{Event, book_after, page_after}
+use Rattle.vpg_desk.specs.State.{DeskState, IsStep}
+use Rattle.vpg_office.specs.Fronts.{before_last, family_between}
+use Rattle.vpg_office.specs.Token.{Held}
+
+pub record ClientState : Type 0 where
+  pub desk : DeskState
+  -- how many calls stand in the log
+  pub calls : ℕ
+
+-- a client of a desk that was opened, before its first call
+abbrev pub client_of : NamedGame → NamedDiagram → ClientState
+client_of game diagram = record { desk = record { game = game; diagram = diagram; book = opened }; calls = 0 }
+
+-- the client that has made these calls
+abbrev pub client_after : NamedGame → NamedDiagram → List Event → ClientState
+client_after game diagram events =
+    record { desk = record { game = game; diagram = diagram; book = book_after (family_between game diagram) opened events }; calls = length events }
+
+-- The log, which takes so many calls, had room for the call. It is one step of the desk under the label, and is counted.
+pub record IsLogged (room : ℕ) (old : ClientState) (label : ℕ) (call : Call) (reply : Reply) (new : ClientState) : Type 0 where
+  pub had_room : old.calls < room
+  pub step : IsStep old.desk label call reply new.desk
+  pub counted : new.calls ≡ old.calls + 1
+
+-- the present page just before the call that gave the token
+abbrev pub page_of : DeskState → Held → List Entry
+page_of desk token = page_after (family_between desk.game desk.diagram) (before_last token.history)
