@@ -18,7 +18,7 @@ mod reading;
 mod working;
 
 ghost use Rattle.std.specs.Arc.{arc_value};
-ghost use Rattle.std.specs.Prelude.{◌≡◌, ◌≤◌};
+ghost use Rattle.std.specs.Prelude.{◌≡◌, ◌≤◌, vec_len, vec_capacity};
 ghost use Rattle.vpg_diagram.specs.FeatureDiagram.{feature_count};
 
 use crate::reading::{change_and_show, look_all, read_all, watches};
