@@ -18,7 +18,7 @@ mod reading;
 mod working;
 
 ghost use Rattle.std.specs.Arc.{arc_value};
-ghost use Rattle.std.specs.Prelude.{◌≡◌, ◌≤◌, vec_len, vec_capacity};
+ghost use Rattle.std.specs.Prelude.{◌≡◌, ◌≤◌, IfOk, vec_len, vec_capacity};
 ghost use Rattle.vpg_diagram.specs.FeatureDiagram.{feature_count};
 
 use crate::reading::{change_and_show, look_all, read_all, watches};
@@ -301,7 +301,9 @@ fn told_of<R: Threads + Wait + Sync>(
 }
 
 /// The number that a word spells, up to a most.
-fn number_of(word: &str, most: u32) -> Result<u32> {
+fn number_of(word: &str, most: u32) -> Result<u32>
+    ensures { IfOk result (λ number. number ≤ most) }
+{
     match word.parse::<u32>() {
         Ok(number) if number <= most => Ok(number),
         _ => bail!("{word} is no number up to {most}"),

@@ -7,8 +7,8 @@ use Rattle.vpg_office_bench.proofs.working.Seat.TheSendSync.{the_send as seat_se
 use Rattle.vpg_office_bench.proofs.change_and_look.Goals as goal
 
 -- what each captured value may do stands beside the goal, since a search through all of it takes too many steps
-pub join-_changed-requires-send-F : goal.join-_changed-requires-send-F
-join-_changed-requires-send-F g c κs within =
+pub join-changed-requires-send-F : goal.join-changed-requires-send-F
+join-changed-requires-send-F g c κs within =
     let l : IsSend (param 0 g.row.L) = search (rules, sendable) depth 20 in
     let y : IsSync (param 0 g.row.L) = search (rules, sendable) depth 20 in
     let r : IsSync g.row.R = search rules parts 8 in
