@@ -167,12 +167,12 @@ fn change_and_look<L: Terms + Send + Sync, R: Threads + Wait + Sync>(
     let mut watch = office.watch(rt, alloc).ok()?;
     let shown = Mutex::new(read(&mut watch).ok()?);
     let ended = AtomicU64::new(0);
-    let (_changed, reads) = join(
+    let (reads, _changed) = join(
         rt,
+        || look_all(rt, alloc, &shown, readers, &ended),
         || change_and_show(
             rt, alloc, office, seat, feature, rounds, watch, &shown, &ended,
         ),
-        || look_all(rt, alloc, &shown, readers, &ended),
     );
     reads.ok()
 }
