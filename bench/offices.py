@@ -87,19 +87,28 @@ def slope(program, game, rounds, how, readers):
     return seconds / rounds, (two.reads() - one.reads()) / seconds
 
 
-def tell_reads(program, name, game, rounds, runs):
+def rounds_of_a_second(program, game, how, readers):
+    """So many rounds that a run takes a second or more, and twice as many fit into a log."""
+    rounds = 25
+    while rounds < 150000 and changed(program, game, rounds, how, readers).seconds < 1:
+        rounds = min(rounds * 2, 150000)
+    return rounds
+
+
+def tell_reads(program, name, game, runs):
     for readers in (1, 4, 16):
-        taken = [[slope(program, game, rounds, how, readers) for how in ("watches", "mutex")] for _ in range(runs)]
+        hows = [(how, rounds_of_a_second(program, game, how, readers)) for how in ("watches", "mutex")]
+        taken = [[slope(program, game, rounds, how, readers) for how, rounds in hows] for _ in range(runs)]
         print(f"{name:12} {readers:3} readers", end="")
-        for how, figures in zip(("watches", "mutex"), zip(*taken)):
+        for (how, _), figures in zip(hows, zip(*taken)):
             rate, round_time = median(reads for _, reads in figures) / 1e6, median(seconds for seconds, _ in figures) * 1e3
             print(f"   {how} {rate:8.3f} million a second, {round_time:8.3f} ms a round", end="")
         print(flush=True)
 
 
-def tell_changes(program, name, game, rounds, runs):
-    hows = (("alone", 0), ("idle", 1), ("watches", 1))
-    taken = [[slope(program, game, rounds, how, readers)[0] for how, readers in hows] for _ in range(runs)]
+def tell_changes(program, name, game, runs):
+    hows = [(how, readers, rounds_of_a_second(program, game, how, readers)) for how, readers in (("alone", 0), ("idle", 1), ("watches", 1))]
+    taken = [[slope(program, game, rounds, how, readers)[0] for how, readers, rounds in hows] for _ in range(runs)]
     figures = [median(seconds) * 1e6 for seconds in zip(*taken)]
     print(f"{name:12} no watch {figures[0]:10.1f} us   idle {figures[1]:10.1f} us   read {figures[2]:10.1f} us", flush=True)
 
@@ -112,13 +121,13 @@ def main():
         os.mkdir(f"{folder}/edges")
         decisions.write_family(f"{folder}/edges", 65536, 200)
         subprocess.run([sys.executable, f"{HERE}/families.py", "pump", "65536", f"{folder}/pump"], check=True)
-        # each with the number of a feature that may be decided in by itself, and rounds that take a second or more
-        games = [("mine pump", (EXAMPLE, 4), 150000), ("16 edges", (f"{folder}/edges", 1), 100), ("pump", (f"{folder}/pump", 1), 200)]
+        # each with the number of a feature that may be decided in by itself
+        games = [("mine pump", (EXAMPLE, 4)), ("16 edges", (f"{folder}/edges", 1)), ("pump", (f"{folder}/pump", 1))]
         tell_calls(program, runs)
-        for name, game, rounds in games:
-            tell_changes(program, name, game, rounds, runs)
-        for name, game, rounds in games:
-            tell_reads(program, name, game, rounds, runs)
+        for name, game in games:
+            tell_changes(program, name, game, runs)
+        for name, game in games:
+            tell_reads(program, name, game, runs)
 
 
 if __name__ == "__main__":
