@@ -33,15 +33,16 @@ class Run:
     """Seconds by the clock, peak memory in bytes, and what a run of the program printed."""
 
     def __init__(self, program, *words):
-        started = time.monotonic()
-        child = subprocess.Popen([program, *map(str, words)], stdout=subprocess.PIPE, text=True)
-        self.lines = child.stdout.read().split("\n")
-        _, status, usage = os.wait4(child.pid, 0)
-        self.seconds = time.monotonic() - started
-        child.returncode = os.waitstatus_to_exitcode(status)
-        if child.returncode:
-            sys.exit(f"{' '.join(map(str, words))} ended with {child.returncode}")
-        self.memory = usage.ru_maxrss * 1024
+        # a program's peak memory includes what this script had as it started it: so `time` starts it
+        with tempfile.NamedTemporaryFile("r") as peak:
+            command = ["/usr/bin/env", "time", "-f", "%M", "-o", peak.name, program, *map(str, words)]
+            started = time.monotonic()
+            ended = subprocess.run(command, stdout=subprocess.PIPE, text=True)
+            self.seconds = time.monotonic() - started
+            if ended.returncode:
+                sys.exit(f"{' '.join(map(str, words))} ended with {ended.returncode}")
+            self.memory = int(peak.read()) * 1024
+        self.lines = ended.stdout.split("\n")
 
     def reads(self):
         return int(self.lines[0].removeprefix("reads "))
