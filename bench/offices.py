@@ -11,7 +11,8 @@ reading the files and starting threads is not counted. All that is compared take
   reads    millions of reads a second of 1, 4 and 16 watchers, each in a thread of its own, beside a session that decides a feature and undoes that
            without pause; and of as many threads that read the same sheet behind a mutex, where that session puts it. Beside both, how many
            milliseconds a round of that session takes: a decision, its undo, and that the token is forgotten
-  changes  microseconds a round where no watch was ever opened, with one watch that nobody reads, and with one that is read without pause
+  changes  microseconds of the processor and by the clock a round where no watch was ever opened, and with one watch that nobody reads; and by the clock
+           with one that is read without pause
 
 The games: examples/mine_pump, the family of `decisions.py` with 65,536 vertices of sixteen edges, and the pump of `families.py` with as many vertices.
 """
@@ -30,18 +31,19 @@ EXAMPLE = os.path.join(HERE, "..", "examples", "mine_pump")
 
 
 class Run:
-    """Seconds by the clock, peak memory in bytes, and what a run of the program printed."""
+    """Seconds by the clock and of processors, peak memory in bytes, and what a run of the program printed."""
 
     def __init__(self, program, *words):
         # a program's peak memory includes what this script had as it started it: so `time` starts it
         with tempfile.NamedTemporaryFile("r") as peak:
-            command = ["/usr/bin/env", "time", "-f", "%M", "-o", peak.name, program, *map(str, words)]
+            command = ["/usr/bin/env", "time", "-f", "%M %U %S", "-o", peak.name, program, *map(str, words)]
             started = time.monotonic()
             ended = subprocess.run(command, stdout=subprocess.PIPE, text=True)
             self.seconds = time.monotonic() - started
             if ended.returncode:
                 sys.exit(f"{' '.join(map(str, words))} ended with {ended.returncode}")
-            self.memory = int(peak.read()) * 1024
+            memory, user, system = peak.read().split()
+            self.memory, self.spent = int(memory) * 1024, float(user) + float(system)
         self.lines = ended.stdout.split("\n")
 
     def reads(self):
@@ -81,11 +83,11 @@ def changed(program, game, rounds, how, readers):
 
 
 def slope(program, game, rounds, how, readers):
-    """Seconds a round, and reads a second, of the further rounds."""
+    """Of the further rounds: seconds a round, reads a second, and processor seconds a round."""
     one = changed(program, game, rounds, how, readers)
     two = changed(program, game, rounds * 2, how, readers)
     seconds = two.seconds - one.seconds
-    return seconds / rounds, (two.reads() - one.reads()) / seconds
+    return seconds / rounds, (two.reads() - one.reads()) / seconds, (two.spent - one.spent) / rounds
 
 
 def rounds_of_a_second(program, game, how, readers):
@@ -102,16 +104,17 @@ def tell_reads(program, name, game, runs):
         taken = [[slope(program, game, rounds, how, readers) for how, rounds in hows] for _ in range(runs)]
         print(f"{name:12} {readers:3} readers", end="")
         for (how, _), figures in zip(hows, zip(*taken)):
-            rate, round_time = median(reads for _, reads in figures) / 1e6, median(seconds for seconds, _ in figures) * 1e3
+            rate, round_time = median(reads for _, reads, _ in figures) / 1e6, median(seconds for seconds, _, _ in figures) * 1e3
             print(f"   {how} {rate:8.3f} million a second, {round_time:8.3f} ms a round", end="")
         print(flush=True)
 
 
 def tell_changes(program, name, game, runs):
     hows = [(how, readers, rounds_of_a_second(program, game, how, readers)) for how, readers in (("alone", 0), ("idle", 1), ("watches", 1))]
-    taken = [[slope(program, game, rounds, how, readers)[0] for how, readers, rounds in hows] for _ in range(runs)]
-    figures = [median(seconds) * 1e6 for seconds in zip(*taken)]
-    print(f"{name:12} no watch {figures[0]:10.1f} us   idle {figures[1]:10.1f} us   read {figures[2]:10.1f} us", flush=True)
+    taken = [[slope(program, game, rounds, how, readers) for how, readers, rounds in hows] for _ in range(runs)]
+    alone, idle, read = [[median(figures) * 1e6 for figures in zip(*of_one)] for of_one in zip(*taken)]
+    print(f"{name:12} no watch {alone[2]:10.1f} us of processor, {alone[0]:10.1f} by the clock", end="")
+    print(f"   idle {idle[2]:10.1f}, {idle[0]:10.1f}   read by the clock {read[0]:10.1f}", flush=True)
 
 
 def main():
