@@ -97,7 +97,7 @@ module _ (game : NamedGame) (diagram : NamedDiagram) (room : ℕ) (front new : L
       tells {T} {G} refusal call fault (Refused other) fits (is, more) said =
           let now = subst (λ (f : Fault T G). OfficeTells F room refusal call number front new f) is said in
           (now.0, (now.1.0, accepted call (book.Refused now.0) fits (more ∙ ap (λ (n : ℕ). n + 1) calls_is) now.1.1))
-      tells refusal call fault Stray fits sorts said = tt
+      tells refusal call fault Stray fits sorts said = subst (λ (s : ClientState). ((here new).desk.game ≡ s.desk.game) × ((here new).desk.diagram ≡ s.desk.diagram)) view (refl, refl)
       tells {T} {G} refusal call fault Memory fits is said =
           ap here (subst (λ (f : Fault T G). OfficeTells F room refusal call number front new f) is said) ∙ view
 
@@ -110,7 +110,7 @@ module _ (game : NamedGame) (diagram : NamedDiagram) (room : ℕ) (front new : L
           let now = subst (λ (f : Fault T CommitFault). OfficeCommitTells game diagram room harvest number front new f) is said in
           let logs = accepted (Commit (handed_in now.0 harvest)) (book.Refused now.1.1.0) fits (more ∙ ap (λ (n : ℕ). n + 1) calls_is) now.1.1.1.1 in
           (now.0, (subst (λ (s : ClientState). Decides now.0 (IsOrderOf s.desk harvest.order)) view now.1.0, (now.1.1.0, (now.1.1.1.0, logs))))
-      commit_tells harvest fault Stray fits sorts said = tt
+      commit_tells harvest fault Stray fits sorts said = subst (λ (s : ClientState). ((here new).desk.game ≡ s.desk.game) × ((here new).desk.diagram ≡ s.desk.diagram)) view (refl, refl)
       commit_tells {T} harvest fault Memory fits is said =
           ap here (subst (λ (f : Fault T CommitFault). OfficeCommitTells game diagram room harvest number front new f) is said) ∙ view
 
@@ -120,5 +120,5 @@ pub own_tells : (room : ℕ) (old new : ClientState) (label : ℕ) (harvest : Ha
 own_tells room old new label harvest LogFull ours tells = tells
 own_tells room old new label harvest (Refused fault) ours (b, (decides, tells)) =
     subst (λ (x : Bool). Tells room commit_refusal old label (Commit (handed_in x harvest)) new (Refused fault)) (decides.1 ours) tells
-own_tells room old new label harvest Stray ours tells = tt
+own_tells room old new label harvest Stray ours tells = tells
 own_tells room old new label harvest Memory ours tells = tells

@@ -1,23 +1,27 @@
 -- A request's calls, its answer, and what is held then.
-use Rattle.std.proofs.Common.{◌≡◌, ℕ, Bool, true, false, List, [], ◌∷◌, ◌++◌, ◌+◌, Option, Some, None, Result, Ok, Err, refl, sym, ap, ◌∙◌, subst}
-use Rattle.std.specs.Prelude.{length, codes, IfSome, OnOk}
+use Rattle.std.proofs.Common.{◌≡◌, ℕ, ◌+◌, ◌<◌, Bool, true, false, List, [], ◌∷◌, ◌++◌, Option, Some, None, Result, Ok, Err, refl, sym, ap, ◌∙◌, subst, inl, inr, arith}
+use Rattle.std.specs.Prelude.{length, codes, OnOk}
 use Rattle.vpg_guards.specs.Names.{index_of}
 use Rattle.vpg_diagram.specs.DiagramText.{NamedDiagram}
 use Rattle.vpg_game.specs.Game.{NamedGame}
 use Rattle.vpg_trail.specs.Page.{Which, Decision, Entry}
-use Rattle.vpg_desk.specs.Book.{Book, Harvest, Call, Reply, Decide, Order, Commit, Settled, Page, Changed, Ordered, Added, IsSettled, PageIs, Refused, Refusal, IsReply}
+use Rattle.vpg_desk.specs.Book.{Book, Harvest, Call, Reply, Decide, Order, Commit, Settled, Page, Changed, Ordered, Added, IsSettled, PageIs, Refused, Refusal, IsReply, next}
 use Rattle.vpg_desk.specs.Desk.{family_of}
-use Rattle.vpg_desk.specs.History.{Event}
-use Rattle.vpg_desk.specs.State.{DeskState, setting_between, setting_of, IsStep, Replies}
+use Rattle.vpg_desk.specs.History.{Event, IsLegalFrom, book_after}
+use Rattle.vpg_desk.specs.State.{DeskState, setting_between, setting_of}
+use Rattle.vpg_client.specs.Client.{ClientState, IsLogged}
+use Rattle.vpg_client.specs.Faults.{Tells, UnlessStray}
+use Rattle.vpg_client.specs.declared.fault.ClientFault.{ClientFault}
+use Rattle.vpg_client.specs.declared.fault.ClientFault.TheVariants as faults
 use Rattle.vpg_script.specs.Script as script
 use Rattle.vpg_script.specs.Script.{Request}
 use Rattle.vpg_report.specs.Held.{Held, with_harvest}
 use Rattle.vpg_texts.specs.Scene.{Scene}
-use Rattle.vpg_report.specs.Answers.{Own, NoFeature, NoVertex, own_text, refused_line, refusal_text, numbered, settled_text, call_or, vertex_of, first_call, IsSwept, IsLifted, most_sweeps, sweeps_of, Follows, Continues, Begins}
+use Rattle.vpg_report.specs.Answers.{Own, NoFeature, NoVertex, own_text, full_line, refused_line, refusal_text, numbered, settled_text, room, call_or, vertex_of, first_call, IsSwept, IsLifted, most_sweeps, sweeps_of, Follows, Continues, Begins, Serves}
 use Rattle.vpg_report.specs.Run.{calling, answering}
 use Rattle.vpg_report.specs.Made.{IsMadeBy, AreMadeBy}
 use Rattle.vpg_report.specs.Setting.{setting_in}
-use Rattle.vpg_report.specs.Engine.{EngineState, scene_at, between_of, deciding, TellsRefusal, AnswersTo, SweepsTo}
+use Rattle.vpg_report.specs.Engine.{EngineState, scene_at, between_of, deciding, TellsRefusal, TellsFault, AnswersTo, SweepsTo}
 
 -- ---- what the code shows
 
@@ -39,6 +43,11 @@ pub on_view_by : {E : Type 0} (r : Result (Unit {0}) E) (P : Type 0) (seen old n
 on_view_by (Ok done) P seen old new lifters request before after same f p = subst (λ (e : EngineState). SweepsTo e lifters request before after new) same (f p)
 on_view_by (Err e) P seen old new lifters request before after same f p = tt
 
+-- what is said of an answer by two clauses
+pub both_on : {E : Type 0} (r : Result (Unit {0}) E) (P Q : Type 0) → OnOk r P → OnOk r Q → OnOk r (P × Q)
+both_on (Ok done) P Q p q = (p, q)
+both_on (Err e) P Q p q = tt
+
 -- the answer to a request is one to the same request as it is shown
 pub served : {E : Type 0} (r : Result (Unit {0}) E) (old new : EngineState) (lifters : ℕ) (request shown : Request) (before after : List ℕ) → request ≡ shown →
     ((calls : List Event) (held : Held) → AreMadeBy (setting_in (scene_at old)) lifters request.command calls held) → OnOk r (AnswersTo old request before after new) →
@@ -55,48 +64,216 @@ served_by (Ok done) old new lifters request shown before after same so =
     (so.answers.text, (subst (λ (q : Request). answering (scene_at old) lifters (between_of old) q so.answers.text (between_of new)) same (so.answers.answer, so.made), so.answers.appended))
 served_by (Err e) old new lifters request shown before after same so = tt
 
+-- ---- calls of a client
+
+abbrev event : ℕ → Call → Reply → Event
+event label call reply = record { session = label; call = call; reply = reply }
+
+-- the desk replies so to these calls, and is left so
+record Calls (old : ClientState) (calls : List Event) (new : ClientState) : Type 0 where
+  legal : IsLegalFrom (family_of (setting_of old.desk)) old.desk.book calls
+  left : new.desk.book ≡ book_after (family_of (setting_of old.desk)) old.desk.book calls
+  counted : new.calls ≡ old.calls + length calls
+  game : new.desk.game ≡ old.desk.game
+  diagram : new.desk.diagram ≡ old.desk.diagram
+
+none : (old new : ClientState) → new ≡ old → Calls old [] new
+none old new is = record {
+  legal = tt;
+  left = ap (λ (c : ClientState). c.desk.book) is;
+  counted = omega (arith, ap (λ (c : ClientState). c.calls) is);
+  game = ap (λ (c : ClientState). c.desk.game) is;
+  diagram = ap (λ (c : ClientState). c.desk.diagram) is;
+}
+
+then : (limit : ℕ) (old mid new : ClientState) (label : ℕ) (call : Call) (reply : Reply) (calls : List Event) → IsLogged limit old label call reply mid → Calls mid calls new → Calls old (event label call reply ∷ calls) new
+then limit old mid new label call reply calls first rest = record {
+  legal = (first.step.step.0, coe 0 1 (i. IsLegalFrom (family_of (setting_between (first.step.game i) (first.step.diagram i))) (first.step.step.1 i) calls) rest.legal);
+  left = coe 0 1 (i. new.desk.book ≡ book_after (family_of (setting_between (first.step.game i) (first.step.diagram i))) (first.step.step.1 i) calls) rest.left;
+  counted = omega (arith, first.counted, rest.counted);
+  game = rest.game ∙ first.step.game;
+  diagram = rest.diagram ∙ first.step.diagram;
+}
+
+one : (limit : ℕ) (old new : ClientState) (label : ℕ) (call : Call) (reply : Reply) → IsLogged limit old label call reply new → Calls old (event label call reply ∷ []) new
+one limit old new label call reply first = then limit old new new label call reply [] first (none new new refl)
+
+-- a request is served by them
+abbrev answers : (old new : EngineState) (label : ℕ) (command : script.Command) (calls : List Event) (text before after : List ℕ) →
+    Serves (scene_at old) old.held old.client.calls (record { label = label; command = command }) calls text new.held → Calls old.client calls new.client →
+    after ≡ before ++ text → AnswersTo old (record { label = label; command = command }) before after new
+answers old new label command calls text before after serves made appended = record {
+  text = text;
+  answer = (calls, (serves, made.legal, made.left, made.counted));
+  appended = appended;
+  game = made.game;
+  diagram = made.diagram;
+}
+
 -- ---- no call
 
 pub unasked : (old : EngineState) (label : ℕ) (command : script.Command) (own : Own) (before after : List ℕ) → first_call (scene_at old) old.held command ≡ Err own →
     after ≡ before ++ refused_line (own_text own) → AnswersTo old (record { label = label; command = command }) before after old
-unasked old label command own before after is appended = record {
-  text = refused_line (own_text own);
-  answer = ([], (subst (λ call. Begins (scene_at old) old.held label command call [] (refused_line (own_text own)) old.held) (sym is) (refl, refl, refl), tt, refl));
-  appended = appended;
-  game = refl;
-  diagram = refl;
-}
+unasked old label command own before after is appended =
+    answers old old label command [] (refused_line (own_text own)) before after
+    (subst (λ call. Begins (scene_at old) old.held old.client.calls label command call [] (refused_line (own_text own)) old.held) (sym is) (refl, refl, refl)) (none old.client old.client refl) appended
 
--- ---- one call
+-- where the log has room, or has none
+module _ (limit : ℕ) (limit_is : limit ≡ room) (label : ℕ) where
+  had_room : (made old : ℕ) → made ≡ old → old < limit → made < room
+  had_room made old same less = omega (arith, same, less, limit_is)
 
-pub asked : (old new : EngineState) (label : ℕ) (command : script.Command) (call : Call) (reply : Reply) (text before after : List ℕ) → first_call (scene_at old) old.held command ≡ Ok call →
-    IsStep old.desk label call reply new.desk → Follows (scene_at old) old.held (Continues (scene_at old) old.held label command) reply [] text new.held →
-    after ≡ before ++ text → AnswersTo old (record { label = label; command = command }) before after new
-asked old new label command call reply text before after first step follows appended = record {
-  text = text;
-  answer = (
-    record { session = label; call = call; reply = reply } ∷ [],
-    (
-      subst (λ c. Begins (scene_at old) old.held label command c (record { session = label; call = call; reply = reply } ∷ []) text new.held) (sym first) (refl, refl, follows),
-      (step.step.0, tt),
-      step.step.1,
-    ),
-  );
-  appended = appended;
-  game = step.game;
-  diagram = step.diagram;
-}
+  -- ---- one call
 
--- a refusal leaves the engine as it was
-pub refused : (old new : EngineState) (label : ℕ) (command : script.Command) (call : Call) (refusal : Option Refusal) (names : List (List ℕ)) (before after : List ℕ) →
-    first_call (scene_at old) old.held command ≡ Ok call → IfSome refusal (λ r. Replies old.desk call (Refused r)) → new.desk ≡ old.desk → new.held ≡ old.held →
-    names ≡ new.desk.diagram.names → TellsRefusal names refusal before after → AnswersTo old (record { label = label; command = command }) before after new
-refused old new label command call None names before after first reply desk held names_are told = absurd told
-refused old new label command call (Some r) names before after first reply desk held names_are told =
-    asked old new label command call (Refused r) (refused_line (refusal_text old.desk.diagram.names r)) before after first
-    (record { step = (reply, ap (λ (d : DeskState). d.book) desk); game = ap (λ (d : DeskState). d.game) desk; diagram = ap (λ (d : DeskState). d.diagram) desk })
-    (refl, refl, held)
-    (told ∙ ap (λ (ns : List (List ℕ)). before ++ refused_line (refusal_text ns r)) (names_are ∙ ap (λ (d : DeskState). d.diagram.names) desk))
+  pub asked : (old new : EngineState) (command : script.Command) (call : Call) (reply : Reply) (text before after : List ℕ) → first_call (scene_at old) old.held command ≡ Ok call →
+      IsLogged limit old.client label call reply new.client → Follows (scene_at old) old.held (Continues (scene_at old) old.held (old.client.calls + 1) label command) reply [] text new.held →
+      after ≡ before ++ text → AnswersTo old (record { label = label; command = command }) before after new
+  asked old new command call reply text before after first logged follows appended =
+      answers old new label command (event label call reply ∷ []) text before after
+      (subst (λ c. Begins (scene_at old) old.held old.client.calls label command c (event label call reply ∷ []) text new.held) (sym first)
+      (inl (had_room old.client.calls old.client.calls refl logged.had_room, (refl, refl, follows)))) (one limit old.client new.client label call reply logged) appended
+
+  -- a full log leaves the engine as it was
+  pub full : (old new : EngineState) (command : script.Command) (call : Call) (before after : List ℕ) → first_call (scene_at old) old.held command ≡ Ok call → old.client.calls ≡ limit →
+      new.client ≡ old.client → new.held ≡ old.held → after ≡ before ++ full_line → AnswersTo old (record { label = label; command = command }) before after new
+  full old new command call before after first is client held appended =
+      answers old new label command [] full_line before after
+      (subst (λ c. Begins (scene_at old) old.held old.client.calls label command c [] full_line new.held) (sym first) (inr (omega (arith, is, limit_is), (refl, refl, held))))
+      (none old.client new.client client) appended
+
+  -- the desk's refusal leaves what is held
+  pub refused : (old new : EngineState) (command : script.Command) (call : Call) (r : Refusal) (names : List (List ℕ)) (before after : List ℕ) → first_call (scene_at old) old.held command ≡ Ok call →
+      IsLogged limit old.client label call (Refused r) new.client → new.held ≡ old.held → names ≡ new.client.desk.diagram.names →
+      after ≡ before ++ refused_line (refusal_text names r) → AnswersTo old (record { label = label; command = command }) before after new
+  refused old new command call r names before after first logged held names_are told =
+      asked old new command call (Refused r) (refused_line (refusal_text old.client.desk.diagram.names r)) before after first logged (refl, refl, held)
+      (told ∙ ap (λ (ns : List (List ℕ)). before ++ refused_line (refusal_text ns r)) (names_are ∙ ap (λ (d : NamedDiagram). d.names) logged.step.diagram))
+
+  -- what the client tells of a call that it doesn't make
+  pub unanswered : {F : Type 0} (refusal : F → Option Refusal) (old new : EngineState) (command : script.Command) (call : Call) (fault : ClientFault F) (names : List (List ℕ)) (before after : List ℕ) →
+      first_call (scene_at old) old.held command ≡ Ok call → Tells limit refusal old.client label call new.client fault → UnlessStray fault (new.held ≡ old.held) →
+      names ≡ new.client.desk.diagram.names → TellsFault names refusal fault before after → AnswersTo old (record { label = label; command = command }) before after new
+  unanswered refusal old new command call faults.LogFull names before after first tells held names_are told = full old new command call before after first tells.0 tells.1 held told
+  unanswered refusal old new command call (faults.Refused fault) names before after first tells held names_are told =
+      refused old new command call tells.0 names before after first tells.1.1 held names_are (subst (λ (x : Option Refusal). TellsRefusal names x before after) tells.1.0 told)
+  unanswered refusal old new command call faults.Stray names before after first tells held names_are told = absurd told
+  unanswered refusal old new command call faults.Memory names before after first tells held names_are told = absurd told
+
+  -- the same of a call that the desk never refuses
+  pub log_full : {F : Type 0} (refusal : F → Option Refusal) (old new : EngineState) (command : script.Command) (call : Call) (fault : ClientFault F) (before after : List ℕ) →
+      first_call (scene_at old) old.held command ≡ Ok call → Tells limit refusal old.client label call new.client fault → UnlessStray fault (new.held ≡ old.held) →
+      fault ≡ faults.LogFull → after ≡ before ++ full_line → AnswersTo old (record { label = label; command = command }) before after new
+  log_full {F} refusal old new command call fault before after first tells held is told =
+      let so : Tells limit refusal old.client label call new.client faults.LogFull = subst (λ (f : ClientFault F). Tells limit refusal old.client label call new.client f) is tells in
+      let stays : new.held ≡ old.held = subst (λ (f : ClientFault F). UnlessStray f (new.held ≡ old.held)) is held in
+      full old new command call before after first so.0 so.1 stays told
+
+  -- ---- an order, and what is made of it
+
+  module _ (old new : EngineState) (first : ClientState) (lifters : ℕ) (decisions : List Decision) (hopeful dual : List ℕ) (made : Harvest) (before after : List ℕ)
+      (order : IsLogged limit old.client label Order (Ordered decisions hopeful dual) first) where
+    ordered : Event
+    ordered = event label Order (Ordered decisions hopeful dual)
+
+    order_room : old.client.calls < room
+    order_room = had_room old.client.calls old.client.calls refl order.had_room
+
+    module _ (sweeps : Option ℕ) (swept : IsSwept (family_of (setting_of old.client.desk)) (sweeps_of sweeps) decisions hopeful dual made)
+        (by : IsMadeBy (setting_of old.client.desk) lifters (sweeps_of sweeps) decisions hopeful dual made) where
+      -- it is swept, and the log is full
+      pub settle_full : first.calls ≡ limit → new.client ≡ first → new.held ≡ old.held → after ≡ before ++ full_line → SweepsTo old lifters (record { label = label; command = script.Settle sweeps }) before after new
+      settle_full is client held appended = record {
+        answers = answers old new label (script.Settle sweeps) (event label Order (Ordered decisions hopeful dual) ∷ []) full_line before after
+            (inl (order_room, (refl, refl, (made, swept, inr (omega (arith, is, limit_is, order.counted), (refl, refl, held))))))
+            (then limit old.client first new.client label Order (Ordered decisions hopeful dual) [] order (none first new.client client)) appended;
+        made = tt;
+      }
+
+      module _ (second : ClientState) (n : ℕ) (commit : IsLogged limit first label (Commit made) (Added n) second) where
+        commit_room : old.client.calls + 1 < room
+        commit_room = had_room (old.client.calls + 1) first.calls (sym order.counted) commit.had_room
+
+        -- it is swept and committed, and the log is full
+        pub commit_full : second.calls ≡ limit → new.client ≡ second → new.held ≡ old.held → after ≡ before ++ full_line → SweepsTo old lifters (record { label = label; command = script.Settle sweeps }) before after new
+        commit_full is client held appended = record {
+          answers = answers old new label (script.Settle sweeps) (event label Order (Ordered decisions hopeful dual) ∷ event label (Commit made) (Added n) ∷ []) full_line before after
+              (inl (order_room, (refl, refl, (made, swept, inl (commit_room, (refl, refl, inr (omega (arith, is, limit_is, order.counted, commit.counted), (refl, refl, held))))))))
+              (then limit old.client first new.client label Order (Ordered decisions hopeful dual) (event label (Commit made) (Added n) ∷ []) order
+              (then limit first second new.client label (Commit made) (Added n) [] commit (none second new.client client))) appended;
+          made = by;
+        }
+
+        -- it is swept and committed, and the page is told to be settled or not
+        pub settles : (b : Bool) → IsLogged limit second label Settled (IsSettled b) new.client → new.held ≡ old.held → after ≡ before ++ settled_text b n →
+            SweepsTo old lifters (record { label = label; command = script.Settle sweeps }) before after new
+        settles b settled held appended = record {
+          answers = answers old new label (script.Settle sweeps) (event label Order (Ordered decisions hopeful dual) ∷ event label (Commit made) (Added n) ∷ event label Settled (IsSettled b) ∷ []) (settled_text b n) before after
+              (inl (order_room, (refl, refl, (made, swept, inl (commit_room, (refl, refl, inl (had_room (old.client.calls + 1 + 1) second.calls (omega (arith, order.counted, commit.counted)) settled.had_room, (refl, refl, (refl, refl, held)))))))))
+              (then limit old.client first new.client label Order (Ordered decisions hopeful dual) (event label (Commit made) (Added n) ∷ event label Settled (IsSettled b) ∷ []) order
+              (then limit first second new.client label (Commit made) (Added n) (event label Settled (IsSettled b) ∷ []) commit (one limit second new.client label Settled (IsSettled b) settled))) appended;
+          made = by;
+        }
+
+    module _ (table : Which) (identifier v : ℕ) (vertex : vertex_of (scene_at old) identifier ≡ Some v) (lifted : IsLifted (setting_of old.client.desk) table v decisions hopeful dual made) where
+      lift_first : first_call (scene_at old) old.held (script.Lift table identifier) ≡ Ok Order
+      lift_first = ap (λ (x : Option ℕ). call_or NoVertex (λ v. Order) x) vertex
+
+      -- it is lifted once, and the log is full
+      pub lift_full : first.calls ≡ limit → new.client ≡ first → new.held ≡ old.held → after ≡ before ++ full_line → AnswersTo old (record { label = label; command = script.Lift table identifier }) before after new
+      lift_full is client held appended =
+          answers old new label (script.Lift table identifier) (event label Order (Ordered decisions hopeful dual) ∷ []) full_line before after
+          (subst (λ found. Begins (scene_at old) old.held old.client.calls label (script.Lift table identifier) found (event label Order (Ordered decisions hopeful dual) ∷ []) full_line new.held) (sym lift_first)
+          (inl (order_room, (refl, refl, (v, made, vertex, lifted, inr (omega (arith, is, limit_is, order.counted), (refl, refl, held)))))))
+          (then limit old.client first new.client label Order (Ordered decisions hopeful dual) [] order (none first new.client client)) appended
+
+      -- it is lifted once and committed
+      pub lifts : (n : ℕ) → IsLogged limit first label (Commit made) (Added n) new.client → new.held ≡ old.held → after ≡ before ++ numbered (codes "added") n →
+          AnswersTo old (record { label = label; command = script.Lift table identifier }) before after new
+      lifts n commit held appended =
+          answers old new label (script.Lift table identifier) (event label Order (Ordered decisions hopeful dual) ∷ event label (Commit made) (Added n) ∷ []) (numbered (codes "added") n) before after
+          (subst (λ found. Begins (scene_at old) old.held old.client.calls label (script.Lift table identifier) found (event label Order (Ordered decisions hopeful dual) ∷ event label (Commit made) (Added n) ∷ []) (numbered (codes "added") n) new.held) (sym lift_first)
+          (inl (order_room, (refl, refl, (v, made, vertex, lifted, inl (had_room (old.client.calls + 1) first.calls (sym order.counted) commit.had_room, (refl, refl, (refl, refl, held))))))))
+          (then limit old.client first new.client label Order (Ordered decisions hopeful dual) (event label (Commit made) (Added n) ∷ []) order
+          (one limit first new.client label (Commit made) (Added n) commit)) appended
+
+    -- it is swept and kept
+    pub keeps : (n : ℕ) → IsSwept (family_of (setting_of old.client.desk)) most_sweeps decisions hopeful dual made → IsMadeBy (setting_of old.client.desk) lifters most_sweeps decisions hopeful dual made →
+        new.client ≡ first → new.held ≡ with_harvest old.held made → n ≡ length old.held.harvests + 1 → after ≡ before ++ numbered (codes "harvest") n →
+        SweepsTo old lifters (record { label = label; command = script.Harvest }) before after new
+    keeps n swept by client held counted appended = record {
+      answers = answers old new label script.Harvest (event label Order (Ordered decisions hopeful dual) ∷ []) (numbered (codes "harvest") n) before after
+          (inl (order_room, (refl, refl, (made, swept, (refl, ap (λ (k : ℕ). numbered (codes "harvest") k) counted, held)))))
+          (then limit old.client first new.client label Order (Ordered decisions hopeful dual) [] order (none first new.client client)) appended;
+      made = (old.held.harvests, made, (ap (λ (h : Held). h.harvests) held, by));
+    }
+
+  -- a sweep that isn't begun, since the log is full
+  pub first_full : {F : Type 0} (refusal : F → Option Refusal) (old new : EngineState) (lifters : ℕ) (sweeps : Option ℕ) (fault : ClientFault F) (before after : List ℕ) →
+      Tells limit refusal old.client label Order new.client fault → new.held ≡ old.held → fault ≡ faults.LogFull → after ≡ before ++ full_line →
+      SweepsTo old lifters (record { label = label; command = script.Settle sweeps }) before after new
+  first_full {F} refusal old new lifters sweeps fault before after tells held is told =
+      let so : Tells limit refusal old.client label Order new.client faults.LogFull = subst (λ (f : ClientFault F). Tells limit refusal old.client label Order new.client f) is tells in
+      record {
+        answers = answers old new label (script.Settle sweeps) [] full_line before after (inr (omega (arith, so.0, limit_is), (refl, refl, held))) (none old.client new.client so.1) told;
+        made = tt;
+      }
+
+  pub harvest_none : {F : Type 0} (refusal : F → Option Refusal) (old new : EngineState) (lifters : ℕ) (fault : ClientFault F) (before after : List ℕ) →
+      Tells limit refusal old.client label Order new.client fault → new.held ≡ old.held → fault ≡ faults.LogFull → after ≡ before ++ full_line →
+      SweepsTo old lifters (record { label = label; command = script.Harvest }) before after new
+  harvest_none {F} refusal old new lifters fault before after tells held is told =
+      let so : Tells limit refusal old.client label Order new.client faults.LogFull = subst (λ (f : ClientFault F). Tells limit refusal old.client label Order new.client f) is tells in
+      record {
+        answers = answers old new label script.Harvest [] full_line before after (inr (omega (arith, so.0, limit_is), (refl, refl, held))) (none old.client new.client so.1) told;
+        made = tt;
+      }
+
+  -- ---- a page
+
+  pub page_told : (old new : EngineState) (command : script.Command) (page : List Entry) (text before after : List ℕ) → first_call (scene_at old) old.held command ≡ Ok Page →
+      IsLogged limit old.client label Page (PageIs page) new.client → Continues (scene_at old) old.held (old.client.calls + 1) label command (PageIs page) [] text new.held →
+      after ≡ before ++ text → AnswersTo old (record { label = label; command = command }) before after new
+  page_told old new command page text before after first logged so appended = asked old new command Page (PageIs page) text before after first logged so appended
 
 -- ---- a name
 
@@ -104,87 +281,7 @@ pub named_first : (scene : Scene) (held : Held) (value : Bool) (name : List ℕ)
 named_first scene held true name = refl
 named_first scene held false name = refl
 
-pub continues_decided : (scene : Scene) (held new : Held) (label s : ℕ) (value : Bool) (name : List ℕ) → new ≡ record held { undos = held.undos ++ s ∷ [] } →
-    Continues scene held label (deciding value name) (Changed s) [] (numbered (codes "done") s) new
-continues_decided scene held new label s true name is = (refl, refl, is)
-continues_decided scene held new label s false name is = (refl, refl, is)
-
--- ---- an order, and what is made of it
-
--- it is swept and committed, and the page is told to be settled or not
-pub settles : (old new : EngineState) (lifters label n : ℕ) (sweeps : Option ℕ) (decisions : List Decision) (hopeful dual : List ℕ) (made : Harvest) (b : Bool) (before after : List ℕ) →
-    Replies old.desk Order (Ordered decisions hopeful dual) → IsSwept (family_of (setting_of old.desk)) (sweeps_of sweeps) decisions hopeful dual made →
-    IsMadeBy (setting_of old.desk) lifters (sweeps_of sweeps) decisions hopeful dual made → IsStep old.desk label (Commit made) (Added n) new.desk → Replies new.desk Settled (IsSettled b) → new.held ≡ old.held → after ≡ before ++ settled_text b n →
-    SweepsTo old lifters (record { label = label; command = script.Settle sweeps }) before after new
-settles old new lifters label n sweeps decisions hopeful dual made b before after order swept by commit settled held appended =
-    let told = subst (λ (g : NamedGame). IsReply (family_of (setting_between g old.desk.diagram)) new.desk.book Settled (IsSettled b)) commit.game
-    (subst (λ (d : NamedDiagram). IsReply (family_of (setting_between new.desk.game d)) new.desk.book Settled (IsSettled b)) commit.diagram settled) in
-    record {
-      answers = record {
-        text = settled_text b n;
-        answer = (
-          record { session = label; call = Order; reply = Ordered decisions hopeful dual } ∷ record { session = label; call = Commit made; reply = Added n }
-              ∷ record { session = label; call = Settled; reply = IsSettled b } ∷ [],
-          (
-            (refl, refl, (made, swept, (refl, refl, (refl, refl, (refl, refl, held))))),
-            (order, (commit.step.0, (subst (λ (book : Book). IsReply (family_of (setting_of old.desk)) book Settled (IsSettled b)) commit.step.1 told, tt))),
-            commit.step.1,
-          ),
-        );
-        appended = appended;
-        game = commit.game;
-        diagram = commit.diagram;
-      };
-      made = by;
-    }
-
--- it is lifted once and committed
-pub lifts : (old new : EngineState) (label n : ℕ) (table : Which) (identifier v : ℕ) (decisions : List Decision) (hopeful dual : List ℕ) (made : Harvest) (before after : List ℕ) →
-    vertex_of (scene_at old) identifier ≡ Some v → Replies old.desk Order (Ordered decisions hopeful dual) → IsLifted (setting_of old.desk) table v decisions hopeful dual made →
-    IsStep old.desk label (Commit made) (Added n) new.desk → new.held ≡ old.held → after ≡ before ++ numbered (codes "added") n →
-    AnswersTo old (record { label = label; command = script.Lift table identifier }) before after new
-lifts old new label n table identifier v decisions hopeful dual made before after vertex order lifted commit held appended =
-    let calls = record { session = label; call = Order; reply = Ordered decisions hopeful dual } ∷ record { session = label; call = Commit made; reply = Added n } ∷ [] in
-    record {
-      text = numbered (codes "added") n;
-      answer = (
-        calls,
-        (
-          subst (λ found. Begins (scene_at old) old.held label (script.Lift table identifier) found calls (numbered (codes "added") n) new.held)
-              (sym (ap (λ (x : Option ℕ). call_or NoVertex (λ v. Order) x) vertex)) (refl, refl, (v, made, vertex, lifted, (refl, refl, (refl, refl, held)))),
-          (order, (commit.step.0, tt)),
-          commit.step.1,
-        ),
-      );
-      appended = appended;
-      game = commit.game;
-      diagram = commit.diagram;
-    }
-
--- it is swept and kept
-pub keeps : (old new : EngineState) (lifters label n : ℕ) (decisions : List Decision) (hopeful dual : List ℕ) (made : Harvest) (before after : List ℕ) →
-    Replies old.desk Order (Ordered decisions hopeful dual) → IsSwept (family_of (setting_of old.desk)) most_sweeps decisions hopeful dual made →
-    IsMadeBy (setting_of old.desk) lifters most_sweeps decisions hopeful dual made → new.desk ≡ old.desk →
-    new.held ≡ with_harvest old.held made → n ≡ length old.held.harvests + 1 → after ≡ before ++ numbered (codes "harvest") n →
-    SweepsTo old lifters (record { label = label; command = script.Harvest }) before after new
-keeps old new lifters label n decisions hopeful dual made before after order swept by desk held counted appended = record {
-  answers = record {
-    text = numbered (codes "harvest") n;
-    answer = (
-      record { session = label; call = Order; reply = Ordered decisions hopeful dual } ∷ [],
-      ((refl, refl, (made, swept, (refl, ap (λ (k : ℕ). numbered (codes "harvest") k) counted, held))), (order, tt), ap (λ (d : DeskState). d.book) desk),
-    );
-    appended = appended;
-    game = ap (λ (d : DeskState). d.game) desk;
-    diagram = ap (λ (d : DeskState). d.diagram) desk;
-  };
-  made = (old.held.harvests, made, (ap (λ (h : Held). h.harvests) held, by));
-}
-
--- ---- a page
-
-pub page_told : (old : EngineState) (label : ℕ) (command : script.Command) (page : List Entry) (text before after : List ℕ) → first_call (scene_at old) old.held command ≡ Ok Page →
-    Replies old.desk Page (PageIs page) → Continues (scene_at old) old.held label command (PageIs page) [] text old.held →
-    after ≡ before ++ text → AnswersTo old (record { label = label; command = command }) before after old
-page_told old label command page text before after first reply so appended =
-    asked old old label command Page (PageIs page) text before after first (record { step = (reply, refl); game = refl; diagram = refl }) so appended
+pub continues_decided : (scene : Scene) (held new : Held) (made label s : ℕ) (value : Bool) (name : List ℕ) → new ≡ record held { undos = held.undos ++ s ∷ [] } →
+    Continues scene held made label (deciding value name) (Changed s) [] (numbered (codes "done") s) new
+continues_decided scene held new made label s true name is = (refl, refl, is)
+continues_decided scene held new made label s false name is = (refl, refl, is)

@@ -4,13 +4,17 @@ use Rattle.std.specs.Prelude.{codes, if◌then◌else◌, slice_index_or}
 use Rattle.std.specs.List.{remove, insert}
 use Rattle.vpg_desk.specs.Book.{Family, Book, Undo, Redo, Keep, Forget, Undone, Redone, Spent, IsReply, has_serial}
 use Rattle.vpg_desk.specs.Desk.{family_of}
-use Rattle.vpg_desk.specs.State.{setting_of, IsStep}
+use Rattle.vpg_desk.specs.State.{setting_of}
+use Rattle.vpg_client.specs.Client.{IsLogged}
 use Rattle.vpg_script.specs.Script as script
 use Rattle.vpg_report.specs.Held.{if_among, undo_meant, redo_meant, without}
-use Rattle.vpg_report.specs.Answers.{NoToken, call_or, numbered}
+use Rattle.vpg_report.specs.Answers.{NoToken, call_or, numbered, room}
 use Rattle.vpg_report.specs.Engine.{EngineState, AnswersTo}
 use Rattle.vpg_report.proofs.Asked.{asked}
+use Rattle.vpg_office.specs.Token.{Held as Token}
+use Rattle.vpg_report.specs.Serials.{serials}
 use Rattle.vpg_report.proofs.Places.{Stands}
+use Rattle.vpg_report.proofs.Serials.{serials_inserted, serials_removed, serial_at}
 
 -- the other token is of the same serial
 undone_same : (family : Family) (book : Book) (token redo : ℕ) → IsReply family book (Undo token) (Undone redo) → redo ≡ token
@@ -25,33 +29,36 @@ pub restored : (s place token back : ℕ) (serials : List ℕ) → Stands s plac
 restored s place token back serials at is same =
     ap₂ (λ (ns : List ℕ) (t : ℕ). insert ns place t) at.removed (same ∙ is ∙ at.serial token) ∙ at.put_back
 
--- how many are left
-pub fewer : (s place : ℕ) (serials : List ℕ) → Stands s place serials → length (remove serials place) + 1 ≡ length serials
-fewer s place serials at = ap (λ (ns : List ℕ). length ns + 1) at.removed ∙ at.shorter
+-- a token that is put back where it was
+pub put_again : (tokens : List Token) (place : ℕ) (token : Token) (s : ℕ) (removed new : List Token) → Stands s place (serials tokens) → token ≡ slice_index_or tokens place token → removed ≡ remove tokens place →
+    new ≡ insert removed place token → serials new ≡ serials tokens
+put_again tokens place token s removed new here value items again =
+    ap serials again ∙ serials_inserted removed place token ∙ ap (λ (ns : List ℕ). insert ns place token.serial) (ap serials items ∙ serials_removed tokens place)
+    ∙ restored s place token.serial token.serial (serials tokens) here (serial_at tokens place token token value token.serial refl) refl
 
-module _ (old new : EngineState) (session s place token : ℕ) (before after : List ℕ) where
+module _ (limit : ℕ) (limit_is : limit ≡ room) (old new : EngineState) (session s place token : ℕ) (before after : List ℕ) where
   module _ (serial : Option ℕ) where
     pub undone : (redo : ℕ) → undo_meant old.held.undos serial ≡ Some s → Stands s place old.held.undos → token ≡ slice_index_or old.held.undos place token →
-        IsStep old.desk session (Undo token) (Undone redo) new.desk →
+        IsLogged limit old.client session (Undo token) (Undone redo) new.client →
         new.held ≡ record { undos = remove old.held.undos place; redos = old.held.redos ++ redo ∷ []; harvests = old.held.harvests } →
         after ≡ before ++ numbered (codes "undone") redo → AnswersTo old (record { label = session; command = script.Undo serial }) before after new
-    undone redo meant at is step held appended =
+    undone redo meant at is logged held appended =
         let token_is : token ≡ s = is ∙ at.serial token in
-        let redo_is : redo ≡ s = undone_same (family_of (setting_of old.desk)) old.desk.book token redo step.step.0 ∙ token_is in
-        asked old new session (script.Undo serial) (Undo s) (Undone s) (numbered (codes "undone") s) before after (ap (λ (x : Option ℕ). call_or NoToken Undo x) meant)
-        (subst (λ (r : ℕ). IsStep old.desk session (Undo s) (Undone r) new.desk) redo_is (subst (λ (t : ℕ). IsStep old.desk session (Undo t) (Undone redo) new.desk) token_is step))
+        let redo_is : redo ≡ s = undone_same (family_of (setting_of old.client.desk)) old.client.desk.book token redo logged.step.step.0 ∙ token_is in
+        asked limit limit_is session old new (script.Undo serial) (Undo s) (Undone s) (numbered (codes "undone") s) before after (ap (λ (x : Option ℕ). call_or NoToken Undo x) meant)
+        (subst (λ (r : ℕ). IsLogged limit old.client session (Undo s) (Undone r) new.client) redo_is (subst (λ (t : ℕ). IsLogged limit old.client session (Undo t) (Undone redo) new.client) token_is logged))
         (refl, refl, held ∙ ap₂ (λ (ns : List ℕ) (r : ℕ). record { undos = ns; redos = old.held.redos ++ r ∷ []; harvests = old.held.harvests }) at.removed redo_is)
         (appended ∙ ap (λ (r : ℕ). before ++ numbered (codes "undone") r) redo_is)
 
     pub redone : (undo : ℕ) → redo_meant old.held.redos serial ≡ Some s → Stands s place old.held.redos → token ≡ slice_index_or old.held.redos place token →
-        IsStep old.desk session (Redo token) (Redone undo) new.desk →
+        IsLogged limit old.client session (Redo token) (Redone undo) new.client →
         new.held ≡ record { undos = old.held.undos ++ undo ∷ []; redos = remove old.held.redos place; harvests = old.held.harvests } →
         after ≡ before ++ numbered (codes "redone") undo → AnswersTo old (record { label = session; command = script.Redo serial }) before after new
-    redone undo meant at is step held appended =
+    redone undo meant at is logged held appended =
         let token_is : token ≡ s = is ∙ at.serial token in
-        let undo_is : undo ≡ s = redone_same (family_of (setting_of old.desk)) old.desk.book token undo step.step.0 ∙ token_is in
-        asked old new session (script.Redo serial) (Redo s) (Redone s) (numbered (codes "redone") s) before after (ap (λ (x : Option ℕ). call_or NoToken Redo x) meant)
-        (subst (λ (r : ℕ). IsStep old.desk session (Redo s) (Redone r) new.desk) undo_is (subst (λ (t : ℕ). IsStep old.desk session (Redo t) (Redone undo) new.desk) token_is step))
+        let undo_is : undo ≡ s = redone_same (family_of (setting_of old.client.desk)) old.client.desk.book token undo logged.step.step.0 ∙ token_is in
+        asked limit limit_is session old new (script.Redo serial) (Redo s) (Redone s) (numbered (codes "redone") s) before after (ap (λ (x : Option ℕ). call_or NoToken Redo x) meant)
+        (subst (λ (r : ℕ). IsLogged limit old.client session (Redo s) (Redone r) new.client) undo_is (subst (λ (t : ℕ). IsLogged limit old.client session (Redo t) (Redone undo) new.client) token_is logged))
         (refl, refl, held ∙ ap₂ (λ (ns : List ℕ) (r : ℕ). record { undos = old.held.undos ++ r ∷ []; redos = ns; harvests = old.held.harvests }) at.removed undo_is)
         (appended ∙ ap (λ (r : ℕ). before ++ numbered (codes "redone") r) undo_is)
 
@@ -65,23 +72,23 @@ module _ (old new : EngineState) (session s place token : ℕ) (before after : L
 
   module _ (serial : ℕ) where
     pub kept : undo_meant old.held.undos (Some serial) ≡ Some s → Stands s place old.held.undos → token ≡ slice_index_or old.held.undos place token →
-        IsStep old.desk session (Keep token) Spent new.desk → new.held ≡ record { undos = remove old.held.undos place; redos = old.held.redos; harvests = old.held.harvests } →
+        IsLogged limit old.client session (Keep token) Spent new.client → new.held ≡ record { undos = remove old.held.undos place; redos = old.held.redos; harvests = old.held.harvests } →
         after ≡ before ++ numbered (codes "kept") serial → AnswersTo old (record { label = session; command = script.Keep serial }) before after new
-    kept meant at is step held appended =
+    kept meant at is logged held appended =
         let token_is : token ≡ s = is ∙ at.serial token in
         let s_is : s ≡ serial = same_named serial old.held.undos meant in
-        asked old new session (script.Keep serial) (Keep s) Spent (numbered (codes "kept") serial) before after (ap (λ (x : Option ℕ). call_or NoToken Keep x) meant)
-        (subst (λ (t : ℕ). IsStep old.desk session (Keep t) Spent new.desk) token_is step)
+        asked limit limit_is session old new (script.Keep serial) (Keep s) Spent (numbered (codes "kept") serial) before after (ap (λ (x : Option ℕ). call_or NoToken Keep x) meant)
+        (subst (λ (t : ℕ). IsLogged limit old.client session (Keep t) Spent new.client) token_is logged)
         (refl, refl, held ∙ ap (λ (ns : List ℕ). record { undos = ns; redos = old.held.redos; harvests = old.held.harvests }) (at.removed ∙ ap (λ (t : ℕ). without t old.held.undos) s_is))
         appended
 
     pub forgotten : redo_meant old.held.redos (Some serial) ≡ Some s → Stands s place old.held.redos → token ≡ slice_index_or old.held.redos place token →
-        IsStep old.desk session (Forget token) Spent new.desk → new.held ≡ record { undos = old.held.undos; redos = remove old.held.redos place; harvests = old.held.harvests } →
+        IsLogged limit old.client session (Forget token) Spent new.client → new.held ≡ record { undos = old.held.undos; redos = remove old.held.redos place; harvests = old.held.harvests } →
         after ≡ before ++ numbered (codes "forgotten") serial → AnswersTo old (record { label = session; command = script.Forget serial }) before after new
-    forgotten meant at is step held appended =
+    forgotten meant at is logged held appended =
         let token_is : token ≡ s = is ∙ at.serial token in
         let s_is : s ≡ serial = same_named serial old.held.redos meant in
-        asked old new session (script.Forget serial) (Forget s) Spent (numbered (codes "forgotten") serial) before after (ap (λ (x : Option ℕ). call_or NoToken Forget x) meant)
-        (subst (λ (t : ℕ). IsStep old.desk session (Forget t) Spent new.desk) token_is step)
+        asked limit limit_is session old new (script.Forget serial) (Forget s) Spent (numbered (codes "forgotten") serial) before after (ap (λ (x : Option ℕ). call_or NoToken Forget x) meant)
+        (subst (λ (t : ℕ). IsLogged limit old.client session (Forget t) Spent new.client) token_is logged)
         (refl, refl, held ∙ ap (λ (ns : List ℕ). record { undos = old.held.undos; redos = ns; harvests = old.held.harvests }) (at.removed ∙ ap (λ (t : ℕ). without t old.held.redos) s_is))
         appended

@@ -1,5 +1,5 @@
 -- The calls of answered lines make a history.
-use Rattle.std.proofs.Common.{◌≡◌, ℕ, zero, suc, ◌-◌, Bool, List, [], ◌∷◌, ◌++◌, Option, Some, None, Ok, Err, refl, sym, ap, ◌∙◌, append_assoc, append-nil, subst}
+use Rattle.std.proofs.Common.{◌≡◌, ℕ, zero, suc, ◌+◌, ◌-◌, Bool, List, [], ◌∷◌, ◌++◌, length, Option, Some, None, Ok, Err, refl, sym, ap, ◌∙◌, inl, inr, arith, append_assoc, append-nil, length-append, subst}
 use Rattle.std.specs.Prelude.{IfSome, slice_set}
 use Rattle.std.specs.List.{AllByRecursion}
 use Rattle.vpg_guards.specs.Names.{index_of}
@@ -13,7 +13,7 @@ use Rattle.vpg_script.specs.Script.{Said, Request, said}
 use Rattle.vpg_script.specs.Output.{Speaks, Answered}
 use Rattle.vpg_report.specs.Held.{Held, undo_meant, redo_meant, harvest_kept, after_change, after_undo, after_redo, after_keep, after_forget, with_harvest, without_harvest}
 use Rattle.vpg_texts.specs.Scene.{Scene}
-use Rattle.vpg_report.specs.Answers.{Own, NoFeature, NoToken, NoHarvest, NoVertex, vertex_of, call_or, first_call, Rest, Ends, Follows, Asks, TellsSettled, AsksSettled, TellsAdded, Sweeps, Keeps, Lifts, TellsChanged, TellsUndone, TellsRedone, TellsSpent, ShowsPage, TellsEntries, TellsProducts, TellsPlan, TellsPage, Continues, Begins}
+use Rattle.vpg_report.specs.Answers.{Own, NoFeature, NoToken, NoHarvest, NoVertex, vertex_of, call_or, first_call, full_line, Rest, Ends, Follows, Makes, Asks, TellsSettled, AsksSettled, TellsAdded, Sweeps, Keeps, Lifts, TellsChanged, TellsUndone, TellsRedone, TellsSpent, ShowsPage, TellsEntries, TellsProducts, TellsPlan, TellsPage, Continues, Begins, Serves}
 use Rattle.vpg_report.specs.Run.{Between, begun, calling, answering, Asked, asking, AnswersAreHistories}
 use Rattle.vpg_report.specs.Setting.{setting_in}
 
@@ -70,11 +70,15 @@ module _ (L : Harvest → Type 0) where
     follows P fine (VerdictIs a b) calls text new so = fine (VerdictIs a b) calls text new so
     follows P fine (PageIs page) calls text new so = fine (PageIs page) calls text new so
 
-    asks : (label : ℕ) (call : Call) (P : Reply → Rest) → HandsIn L call → ((reply : Reply) → IsFine (P reply)) → IsFine (Asks scene held label call P)
-    asks label call P hands fine [] text new so = absurd so
-    asks label call P hands fine (e ∷ calls) text new so =
+    makes : (label : ℕ) (call : Call) (P : Reply → Rest) → HandsIn L call → ((reply : Reply) → IsFine (P reply)) → IsFine (Makes scene held label call P)
+    makes label call P hands fine [] text new so = absurd so
+    makes label call P hands fine (e ∷ calls) text new so =
         let rest : AllHandIn L calls × AreLawful new.harvests = follows P fine e.reply calls text new so.2 in
         ((subst (λ (c : Call). HandsIn L c) (sym so.1) hands, rest.0), rest.1)
+
+    asks : (made label : ℕ) (call : Call) (P : Reply → Rest) → HandsIn L call → ((reply : Reply) → IsFine (P reply)) → IsFine (Asks scene held made label call P)
+    asks made label call P hands fine calls text new (inl (less, so)) = makes label call P hands fine calls text new so
+    asks made label call P hands fine calls text new (inr (full, so)) = ends full_line held all calls text new so
 
   -- ---- after a line's replies
 
@@ -107,71 +111,71 @@ module _ (L : Harvest → Type 0) where
     tells_page Tells (PageIs page) calls text new so = ends text held all calls text new (so.1, refl, so.2)
     tells_page Tells _ calls text new so = absurd so
 
-    asks_settled : (scene : Scene) (label : ℕ) (reply : Reply) → IsFine (AsksSettled scene held label reply)
-    asks_settled scene label (Added n) calls text new so = asks scene held all label Settled (TellsSettled held n) tt (tells_settled n) calls text new so
-    asks_settled scene label _ calls text new so = absurd so
+    asks_settled : (scene : Scene) (made label : ℕ) (reply : Reply) → IsFine (AsksSettled scene held made label reply)
+    asks_settled scene made label (Added n) calls text new so = asks scene held all made label Settled (TellsSettled held n) tt (tells_settled n) calls text new so
+    asks_settled scene made label _ calls text new so = absurd so
 
 module _ (scene : Scene) (held : Held) where
   abbrev L : Harvest → Type 0
   L = IsLawful (family_of (setting_in scene))
 
   module _ (all : AreLawful L held.harvests) where
-    sweeps : (label n : ℕ) (reply : Reply) → IsFine L (Sweeps scene held label n reply)
-    sweeps label n (Ordered d h u) calls text new so =
-        asks L scene held all label (Commit so.0) (AsksSettled scene held label) (λ _. so.1.of_order.lawful) (asks_settled L held all scene label) calls text new so.2
-    sweeps label n _ calls text new so = absurd so
+    sweeps : (made label n : ℕ) (reply : Reply) → IsFine L (Sweeps scene held made label n reply)
+    sweeps made label n (Ordered d h u) calls text new so =
+        asks L scene held all made label (Commit so.0) (AsksSettled scene held (made + 1) label) (λ _. so.1.of_order.lawful) (asks_settled L held all scene (made + 1) label) calls text new so.2
+    sweeps made label n _ calls text new so = absurd so
 
     keeps : (reply : Reply) → IsFine L (Keeps scene held reply)
     keeps (Ordered d h u) calls text new so =
         ends L _ (with_harvest held so.0) (all_more (λ h. IfSome h L) held.harvests (Some so.0 ∷ []) all (so.1.of_order.lawful, tt)) calls text new so.2
     keeps _ calls text new so = absurd so
 
-    lifts : (label : ℕ) (table : Which) (identifier : ℕ) (reply : Reply) → IsFine L (Lifts scene held label table identifier reply)
-    lifts label table identifier (Ordered d h u) calls text new so =
-        asks L scene held all label (Commit so.1) (TellsAdded held) (λ _. so.3.of_order.lawful) (tells_added L held all) calls text new so.4
-    lifts label table identifier _ calls text new so = absurd so
+    lifts : (made label : ℕ) (table : Which) (identifier : ℕ) (reply : Reply) → IsFine L (Lifts scene held made label table identifier reply)
+    lifts made label table identifier (Ordered d h u) calls text new so =
+        asks L scene held all made label (Commit so.1) (TellsAdded held) (λ _. so.3.of_order.lawful) (tells_added L held all) calls text new so.4
+    lifts made label table identifier _ calls text new so = absurd so
 
-    continues : (label : ℕ) (command : script.Command) (reply : Reply) → IsFine L (Continues scene held label command reply)
-    continues label (script.Select name) reply calls text new so = tells_changed L held all reply calls text new so
-    continues label (script.Exclude name) reply calls text new so = tells_changed L held all reply calls text new so
-    continues label (script.Retract name) reply calls text new so = tells_changed L held all reply calls text new so
-    continues label (script.Undo s) reply calls text new so = tells_undone L held all reply calls text new so
-    continues label (script.Redo s) reply calls text new so = tells_redone L held all reply calls text new so
-    continues label (script.Keep s) reply calls text new so = tells_spent L (after_keep held s) all _ reply calls text new so
-    continues label (script.Forget s) reply calls text new so = tells_spent L (after_forget held s) all _ reply calls text new so
-    continues label (script.Lift table identifier) reply calls text new so = lifts label table identifier reply calls text new so
-    continues label script.Harvest reply calls text new so = keeps reply calls text new so
-    continues label (script.Commit k) reply calls text new so = tells_added L (without_harvest held k) (gone_lawful L held.harvests (k - 1) all) reply calls text new so
-    continues label (script.Settle n) reply calls text new so = sweeps label _ reply calls text new so
-    continues label script.Show reply calls text new so = tells_page L held all (ShowsPage scene) reply calls text new so
-    continues label script.Trail reply calls text new so = tells_page L held all (TellsEntries scene) reply calls text new so
-    continues label script.Products reply calls text new so = tells_page L held all (TellsProducts scene) reply calls text new so
-    continues label script.Plan reply calls text new so = tells_page L held all (TellsPlan scene) reply calls text new so
+    continues : (made label : ℕ) (command : script.Command) (reply : Reply) → IsFine L (Continues scene held made label command reply)
+    continues made label (script.Select name) reply calls text new so = tells_changed L held all reply calls text new so
+    continues made label (script.Exclude name) reply calls text new so = tells_changed L held all reply calls text new so
+    continues made label (script.Retract name) reply calls text new so = tells_changed L held all reply calls text new so
+    continues made label (script.Undo s) reply calls text new so = tells_undone L held all reply calls text new so
+    continues made label (script.Redo s) reply calls text new so = tells_redone L held all reply calls text new so
+    continues made label (script.Keep s) reply calls text new so = tells_spent L (after_keep held s) all _ reply calls text new so
+    continues made label (script.Forget s) reply calls text new so = tells_spent L (after_forget held s) all _ reply calls text new so
+    continues made label (script.Lift table identifier) reply calls text new so = lifts made label table identifier reply calls text new so
+    continues made label script.Harvest reply calls text new so = keeps reply calls text new so
+    continues made label (script.Commit k) reply calls text new so = tells_added L (without_harvest held k) (gone_lawful L held.harvests (k - 1) all) reply calls text new so
+    continues made label (script.Settle n) reply calls text new so = sweeps made label _ reply calls text new so
+    continues made label script.Show reply calls text new so = tells_page L held all (ShowsPage scene) reply calls text new so
+    continues made label script.Trail reply calls text new so = tells_page L held all (TellsEntries scene) reply calls text new so
+    continues made label script.Products reply calls text new so = tells_page L held all (TellsProducts scene) reply calls text new so
+    continues made label script.Plan reply calls text new so = tells_page L held all (TellsPlan scene) reply calls text new so
 
-    begins : (label : ℕ) (command : script.Command) (call : Call) → HandsIn L call → IsFine L (Begins scene held label command (Ok call))
-    begins label command call hands = asks L scene held all label call (Continues scene held label command) hands (continues label command)
+    begins : (made label : ℕ) (command : script.Command) (call : Call) → HandsIn L call → IsFine L (Begins scene held made label command (Ok call))
+    begins made label command call hands = asks L scene held all made label call (Continues scene held (made + 1) label command) hands (continues (made + 1) label command)
 
-    begins_or : {X : Type 0} (label : ℕ) (command : script.Command) (own : Own) (call : X → Call) (found : Option X) → ((x : X) → found ≡ Some x → HandsIn L (call x)) →
-        IsFine L (Begins scene held label command (call_or own call found))
-    begins_or label command own call None hands calls text new so = ends L _ held all calls text new so
-    begins_or label command own call (Some x) hands calls text new so = begins label command (call x) (hands x refl) calls text new so
+    begins_or : {X : Type 0} (made label : ℕ) (command : script.Command) (own : Own) (call : X → Call) (found : Option X) → ((x : X) → found ≡ Some x → HandsIn L (call x)) →
+        IsFine L (Begins scene held made label command (call_or own call found))
+    begins_or made label command own call None hands calls text new so = ends L _ held all calls text new so
+    begins_or made label command own call (Some x) hands calls text new so = begins made label command (call x) (hands x refl) calls text new so
 
-    serves : (label : ℕ) (command : script.Command) → IsFine L (Begins scene held label command (first_call scene held command))
-    serves label (script.Select name) = begins_or label (script.Select name) NoFeature (λ f. Decide f Bool.true) (index_of scene.names name) (λ _ _. tt)
-    serves label (script.Exclude name) = begins_or label (script.Exclude name) NoFeature (λ f. Decide f Bool.false) (index_of scene.names name) (λ _ _. tt)
-    serves label (script.Retract name) = begins_or label (script.Retract name) NoFeature Retract (index_of scene.names name) (λ _ _. tt)
-    serves label (script.Undo s) = begins_or label (script.Undo s) NoToken Undo (undo_meant held.undos s) (λ _ _. tt)
-    serves label (script.Redo s) = begins_or label (script.Redo s) NoToken Redo (redo_meant held.redos s) (λ _ _. tt)
-    serves label (script.Keep s) = begins_or label (script.Keep s) NoToken Keep (undo_meant held.undos (Some s)) (λ _ _. tt)
-    serves label (script.Forget s) = begins_or label (script.Forget s) NoToken Forget (redo_meant held.redos (Some s)) (λ _ _. tt)
-    serves label (script.Lift table identifier) = begins_or label (script.Lift table identifier) NoVertex (λ v. Order) (vertex_of scene identifier) (λ _ _. tt)
-    serves label script.Harvest = begins label script.Harvest Order tt
-    serves label (script.Commit k) = begins_or label (script.Commit k) NoHarvest Commit (harvest_kept held.harvests k) (λ made is _. kept_lawful L held.harvests k made all is)
-    serves label (script.Settle n) = begins label (script.Settle n) Order tt
-    serves label script.Show = begins label script.Show Page tt
-    serves label script.Trail = begins label script.Trail Page tt
-    serves label script.Products = begins label script.Products Page tt
-    serves label script.Plan = begins label script.Plan Page tt
+    serves : (made label : ℕ) (command : script.Command) → IsFine L (Begins scene held made label command (first_call scene held command))
+    serves made label (script.Select name) = begins_or made label (script.Select name) NoFeature (λ f. Decide f Bool.true) (index_of scene.names name) (λ _ _. tt)
+    serves made label (script.Exclude name) = begins_or made label (script.Exclude name) NoFeature (λ f. Decide f Bool.false) (index_of scene.names name) (λ _ _. tt)
+    serves made label (script.Retract name) = begins_or made label (script.Retract name) NoFeature Retract (index_of scene.names name) (λ _ _. tt)
+    serves made label (script.Undo s) = begins_or made label (script.Undo s) NoToken Undo (undo_meant held.undos s) (λ _ _. tt)
+    serves made label (script.Redo s) = begins_or made label (script.Redo s) NoToken Redo (redo_meant held.redos s) (λ _ _. tt)
+    serves made label (script.Keep s) = begins_or made label (script.Keep s) NoToken Keep (undo_meant held.undos (Some s)) (λ _ _. tt)
+    serves made label (script.Forget s) = begins_or made label (script.Forget s) NoToken Forget (redo_meant held.redos (Some s)) (λ _ _. tt)
+    serves made label (script.Lift table identifier) = begins_or made label (script.Lift table identifier) NoVertex (λ v. Order) (vertex_of scene identifier) (λ _ _. tt)
+    serves made label script.Harvest = begins made label script.Harvest Order tt
+    serves made label (script.Commit k) = begins_or made label (script.Commit k) NoHarvest Commit (harvest_kept held.harvests k) (λ made is _. kept_lawful L held.harvests k made all is)
+    serves made label (script.Settle n) = begins made label (script.Settle n) Order tt
+    serves made label script.Show = begins made label script.Show Page tt
+    serves made label script.Trail = begins made label script.Trail Page tt
+    serves made label script.Products = begins made label script.Products Page tt
+    serves made label script.Plan = begins made label script.Plan Page tt
 
 -- ---- lines
 
@@ -187,36 +191,50 @@ module _ (scene : Scene) where
     kept : AreLawful (IsLawful family) new.held.harvests
     asked : Asks (record { calls = before; held = old.held }) (record { calls = before ++ calls; held = new.held })
     left : new.book ≡ book_after family old.book calls
+    counted : new.calls ≡ length (before ++ calls)
 
-  line_of : (old : Between) (before : List Event) (s : Said) (text : List ℕ) (new : Between) → AreLawful (IsLawful family) old.held.harvests → Speaks (calling scene) old s text new →
+  none_more : (old new : Between) (before : List Event) → old.calls ≡ length before → new ≡ old → new.calls ≡ length (before ++ [])
+  none_more old new before counted same = omega (arith, ap (λ (b : Between). b.calls) same, counted, length-append before [])
+
+  line_of : (old : Between) (before : List Event) (s : Said) (text : List ℕ) (new : Between) → old.calls ≡ length before → AreLawful (IsLawful family) old.held.harvests → Speaks (calling scene) old s text new →
       Calls (λ a b. Speaks (asking scene) a s text b) old before new
-  line_of old before (Ok None) text new all speaks = record {
+  line_of old before (Ok None) text new counted all speaks = record {
     calls = [];
     legal = tt;
     lawful = tt;
     kept = subst (λ (b : Between). AreLawful (IsLawful family) b.held.harvests) (sym speaks.1) all;
     asked = (speaks.0, λ i. record { calls = append-nil before i; held = (speaks.1 i).held });
     left = ap (λ (b : Between). b.book) speaks.1;
+    counted = none_more old new before counted speaks.1;
   }
-  line_of old before (Ok (Some request)) text new all speaks =
-      let fine = serves scene old.held all request.label request.command speaks.0 text new.held speaks.1.0 in
-      record { calls = speaks.0; legal = speaks.1.1; lawful = fine.0; kept = fine.1; asked = (speaks.0, (speaks.1.0, refl)); left = speaks.1.2 }
-  line_of old before (Err fault) text new all speaks = absurd speaks
+  line_of old before (Ok (Some request)) text new counted all speaks =
+      let fine = serves scene old.held all old.calls request.label request.command speaks.0 text new.held speaks.1.0 in
+      record {
+        calls = speaks.0;
+        legal = speaks.1.1;
+        lawful = fine.0;
+        kept = fine.1;
+        asked = (speaks.0, (subst (λ (n : ℕ). Serves scene old.held n request speaks.0 text new.held) counted speaks.1.0, refl));
+        left = speaks.1.2;
+        counted = omega (arith, speaks.1.3, counted, length-append before speaks.0);
+      }
+  line_of old before (Err fault) text new counted all speaks = absurd speaks
 
-  lines_of : (old : Between) (before : List Event) (lines : List (List ℕ)) (text : List ℕ) (new : Between) → AreLawful (IsLawful family) old.held.harvests → Answered (calling scene) old lines text new →
+  lines_of : (old : Between) (before : List Event) (lines : List (List ℕ)) (text : List ℕ) (new : Between) → old.calls ≡ length before → AreLawful (IsLawful family) old.held.harvests → Answered (calling scene) old lines text new →
       Calls (λ a b. Answered (asking scene) a lines text b) old before new
-  lines_of old before [] text new all answered = record {
+  lines_of old before [] text new counted all answered = record {
     calls = [];
     legal = tt;
     lawful = tt;
     kept = subst (λ (b : Between). AreLawful (IsLawful family) b.held.harvests) (sym answered.1) all;
     asked = (answered.0, λ i. record { calls = append-nil before i; held = (answered.1 i).held });
     left = ap (λ (b : Between). b.book) answered.1;
+    counted = none_more old new before counted answered.1;
   }
-  lines_of old before (line ∷ lines) text new all answered =
+  lines_of old before (line ∷ lines) text new counted all answered =
       let mid = answered.0 in
-      let first : Calls (λ a b. Speaks (asking scene) a (said line) answered.1 b) old before mid = line_of old before (said line) answered.1 mid all answered.3 in
-      let rest : Calls (λ a b. Answered (asking scene) a lines answered.2 b) mid (before ++ first.calls) new = lines_of mid (before ++ first.calls) lines answered.2 new first.kept answered.5 in
+      let first : Calls (λ a b. Speaks (asking scene) a (said line) answered.1 b) old before mid = line_of old before (said line) answered.1 mid counted all answered.3 in
+      let rest : Calls (λ a b. Answered (asking scene) a lines answered.2 b) mid (before ++ first.calls) new = lines_of mid (before ++ first.calls) lines answered.2 new first.counted first.kept answered.5 in
       record {
         calls = first.calls ++ rest.calls;
         legal = legal_more family old.book first.calls rest.calls first.legal (subst (λ (b : Book). IsLegalFrom family b rest.calls) first.left rest.legal);
@@ -232,6 +250,7 @@ module _ (scene : Scene) where
               (append_assoc before first.calls rest.calls) rest.asked,
         );
         left = rest.left ∙ ap (λ (b : Book). book_after family b rest.calls) first.left ∙ sym (after_more family old.book first.calls rest.calls);
+        counted = rest.counted ∙ ap (λ (events : List Event). length events) (append_assoc before first.calls rest.calls);
       }
 
 -- what sweeps made is no part of a history
@@ -248,5 +267,5 @@ module _ (scene : Scene) (lifters : ℕ) where
 
 pub answers_are_histories : AnswersAreHistories
 answers_are_histories scene lifters lines text new answered =
-    let all = lines_of scene begun [] lines text new tt (answered_calls scene lifters begun lines text new answered) in
+    let all = lines_of scene begun [] lines text new refl tt (answered_calls scene lifters begun lines text new answered) in
     (all.calls, (record { legal = all.legal; lawful = all.lawful; leaves = sym all.left }, all.asked))

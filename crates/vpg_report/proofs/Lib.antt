@@ -2,7 +2,7 @@ pub mod Histories
 pub mod Asked
 pub mod Deciding
 pub mod Paged
-pub mod Counted
+pub mod Serials
 pub mod KeptHarvests
 pub mod Places
 pub mod Exchanging

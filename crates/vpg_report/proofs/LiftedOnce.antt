@@ -14,16 +14,21 @@ use Rattle.vpg_measure.specs.TwoGames.{IsTableBelow}
 use Rattle.vpg_measure.proofs.OrderLemmas.{IsLawfulTable, own_lawful, raised_lawful}
 use Rattle.vpg_measure.proofs.TwoGames.{arena_length}
 use Rattle.vpg_desk.specs.Book.{Order, Ordered, Commit, Added}
-use Rattle.vpg_desk.specs.Commit.{handed_in}
+use Rattle.vpg_desk.specs.Commit.{IsOrderOf, commit_refusal, handed_in}
+use Rattle.vpg_desk.specs.declared.fault.CommitFault.{CommitFault}
 use Rattle.vpg_desk.specs.Desk.{family_of}
 use Rattle.vpg_desk.specs.Lawful.{harvested}
-use Rattle.vpg_desk.specs.State.{DeskState, setting_between, setting_of, Replies, IsStep}
+use Rattle.vpg_desk.specs.State.{DeskState, setting_between, setting_of}
+use Rattle.vpg_client.specs.Client.{ClientState, IsLogged}
+use Rattle.vpg_client.specs.Faults.{Tells}
+use Rattle.vpg_client.specs.declared.fault.ClientFault.{ClientFault}
+use Rattle.vpg_client.specs.declared.fault.ClientFault.TheVariants.{LogFull}
 use Rattle.vpg_desk.proofs.Lawful.{harvests_are_lawful}
 use Rattle.vpg_script.specs.Script as script
 use Rattle.vpg_texts.specs.Scene.{table_in}
-use Rattle.vpg_report.specs.Answers.{IsOf, IsLifted, vertex_of, numbered}
+use Rattle.vpg_report.specs.Answers.{IsOf, IsLifted, full_line, room, vertex_of, numbered}
 use Rattle.vpg_report.specs.Engine.{EngineState, scene_at, AnswersTo}
-use Rattle.vpg_report.proofs.Asked.{lifts}
+use Rattle.vpg_report.proofs.Asked.{lifts, lift_full}
 use Rattle.vpg_report.proofs.Settling.{order_setting}
 
 -- the harvest's tables are those that the book sees
@@ -84,10 +89,17 @@ module _ (order : OrderView) (harvest : HarvestView) (is_order : IsOrder order) 
   lifted desk game diagram =
       coe 0 1 (i. IsLifted (setting_between (game i) (diagram i)) table v order.decisions order.hopeful order.dual (handed_in true harvest)) lifted_in
 
-  -- an order of the desk is lifted once, and its harvest is committed
-  pub lift_answers : (old new : EngineState) (session added identifier : ℕ) (before after : List ℕ) →
-      vertex_of (scene_at old) identifier ≡ Some v → Replies old.desk Order (Ordered order.decisions order.hopeful order.dual) → order.game ≡ old.desk.game → order.diagram ≡ old.desk.diagram →
-      IsStep old.desk session (Commit (handed_in true harvest)) (Added added) new.desk → new.held ≡ old.held → after ≡ before ++ numbered (codes "added") added →
-      AnswersTo old (record { label = session; command = script.Lift table identifier }) before after new
-  lift_answers old new session added identifier before after vertex ordered game diagram step held appended =
-      lifts old new session added table identifier v order.decisions order.hopeful order.dual (handed_in true harvest) before after vertex ordered (lifted old.desk game diagram) step held appended
+  module _ (limit : ℕ) (limit_is : limit ≡ room) (session : ℕ) (old new : EngineState) (first : ClientState) (identifier : ℕ) (before after : List ℕ) (vertex : vertex_of (scene_at old) identifier ≡ Some v)
+      (ordered : IsLogged limit old.client session Order (Ordered order.decisions order.hopeful order.dual) first) (ours : IsOrderOf old.client.desk order) (held : new.held ≡ old.held) where
+    -- an order of the desk is lifted once, and its harvest is committed
+    pub lift_answers : (added : ℕ) → IsLogged limit first session (Commit (handed_in true harvest)) (Added added) new.client → after ≡ before ++ numbered (codes "added") added →
+        AnswersTo old (record { label = session; command = script.Lift table identifier }) before after new
+    lift_answers added commit appended =
+        lifts limit limit_is session old new first 0 order.decisions order.hopeful order.dual (handed_in true harvest) before after ordered table identifier v vertex (lifted old.client.desk ours.0 ours.1) added commit held appended
+
+    -- the log is full before it is committed
+    pub lifted_full : (fault : ClientFault CommitFault) → fault ≡ LogFull → Tells limit commit_refusal first session (Commit (handed_in true harvest)) new.client fault → after ≡ before ++ full_line →
+        AnswersTo old (record { label = session; command = script.Lift table identifier }) before after new
+    lifted_full fault is tells appended =
+        let full = subst (λ (f : ClientFault CommitFault). Tells limit commit_refusal first session (Commit (handed_in true harvest)) new.client f) is tells in
+        lift_full limit limit_is session old new first 0 order.decisions order.hopeful order.dual (handed_in true harvest) before after ordered table identifier v vertex (lifted old.client.desk ours.0 ours.1) full.0 full.1 held appended

@@ -185,6 +185,7 @@ module _ (scene : Scene) (script before after : List â„•) (left : Option (List â
   through (Err stops.Write) is outcome = absurd is
   through (Err (stops.Open fault)) is outcome = absurd is
   through (Err stops.Memory) is outcome = absurd is
+  through (Err stops.Stray) is outcome = absurd is
 
 pub settled_runs_are_one : SettledRunsAreOne
 settled_runs_are_one scene script before after later left rest result other whole ends all full =

@@ -1,6 +1,6 @@
 -- Settled answers are one text.
-use Rattle.std.proofs.Common.{◌≡◌, ◌≢◌, ℕ, ◌<◌, Bool, true, false, List, [], ◌∷◌, ◌++◌, length, get_or, Option, Some, None, Ok, Err, refl, sym, ap, ap₂, ◌∙◌, subst, inl, inr}
-use Rattle.std.specs.Prelude.{IfSome, map, not, if◌then◌else◌}
+use Rattle.std.proofs.Common.{◌≡◌, ℕ, ◌+◌, ◌<◌, ◌≤◌, Bool, true, false, List, [], ◌∷◌, ◌++◌, length, get_or, Option, Some, None, Ok, Err, refl, sym, ap, ap₂, ◌∙◌, subst, inl, inr, arith}
+use Rattle.std.specs.Prelude.{IfSome, map, not, if◌then◌else◌, ⊤}
 use Rattle.std.specs.Bool.{one_answer}
 use Rattle.std.proofs.lemmas.List.{same_lists}
 use Rattle.std.proofs.lemmas.Option.{get_or_from_slice_get}
@@ -23,9 +23,9 @@ use Rattle.vpg_texts.specs.Plan.{PlansUnder}
 use Rattle.vpg_texts.specs.Text.{plan_text, show_text}
 use Rattle.vpg_report.specs.Held.{Held, undo_meant, redo_meant, harvest_kept, after_change, after_undo, after_redo, after_keep, after_forget, with_harvest, without_harvest}
 use Rattle.vpg_texts.specs.Scene.{Scene, UnderKnown, IsShown, TellsKnown, table_in}
-use Rattle.vpg_report.specs.Answers.{Own, NoFeature, NoToken, NoHarvest, NoVertex, Checks, IsOf, IsLifted, IsPlanAnswer, vertex_of, call_or, first_call, Rest, Ends, Follows, Asks, TellsSettled, AsksSettled, TellsAdded, Sweeps, Keeps, Lifts, TellsChanged, TellsUndone, TellsRedone, TellsSpent, ShowsPage, TellsEntries, TellsProducts, TellsPlan, TellsPage, Continues, Begins}
+use Rattle.vpg_report.specs.Answers.{Own, NoFeature, NoToken, NoHarvest, NoVertex, Checks, IsOf, IsLifted, IsPlanAnswer, vertex_of, call_or, first_call, full_line, settled_text, Rest, Ends, Follows, Makes, Asks, TellsSettled, AsksSettled, TellsAdded, Sweeps, Keeps, Lifts, TellsChanged, TellsUndone, TellsRedone, TellsSpent, ShowsPage, TellsEntries, TellsProducts, TellsPlan, TellsPage, Continues, Begins}
 use Rattle.vpg_report.specs.Run.{Between, begun}
-use Rattle.vpg_report.specs.Settling.{settling, AreSettled, AreChecked, SettledAnswersAreOne}
+use Rattle.vpg_report.specs.Settling.{settling, TellsSettle, AreChecked, SettledAnswersAreOne}
 use Rattle.vpg_texts.proofs.Planned.{known_is_one}
 use Rattle.vpg_report.proofs.Replies.{reply_one}
 use Rattle.vpg_report.proofs.LeastHarvests.{same_harvests, checked_are_one, settling_are_one}
@@ -88,20 +88,33 @@ module _ (scene : Scene) (decisions : List Decision) (hopeful dual : List ℕ) w
       both Dual first second Hopeful = second
       both Dual first second Dual = first
 
+-- ---- what a settle is answered
+
+abbrev first_byte : List ℕ → ℕ
+first_byte [] = 0
+first_byte (b ∷ text) = b
+
+not_full : (n : ℕ) → full_line ≡ settled_text true n → ⊥
+not_full n e = let same : 114 ≡ 115 = ap first_byte e in absurd (omega (arith, same))
+
+not_unsettled : (m n : ℕ) → settled_text false m ≡ settled_text true n → ⊥
+not_unsettled m n e = let same : 117 ≡ 115 = ap first_byte e in absurd (omega (arith, same))
+
 -- ---- calls from one book
 
-module _ (scene : Scene) (held : Held) where
+-- with what is told of the line's text
+module _ (scene : Scene) (held : Held) (Told : List ℕ → Type 0) where
   abbrev all : Family
   all = family_of (setting_in scene)
 
   -- what the machine asks of calls
-  record Fits (book : Book) (calls : List Event) (new : Held) : Type 0 where
+  record Fits (book : Book) (calls : List Event) (text : List ℕ) (new : Held) : Type 0 where
     legal : IsLegalFrom all book calls
-    settled : AreSettled calls
+    told : Told text
     checked : AreChecked scene new
 
   abbrev IsOne : Book → Rest → Type 0
-  IsOne book P = (calls more : List Event) (text other : List ℕ) (new newer : Held) → P calls text new → P more other newer → Fits book calls new → Fits book more newer →
+  IsOne book P = (calls more : List Event) (text other : List ℕ) (new newer : Held) → P calls text new → P more other newer → Fits book calls text new → Fits book more other newer →
       (calls ≡ more) × (text ≡ other) × (new ≡ newer)
 
   ends : (book : Book) (answer : List ℕ) (after : Held) → IsOne book (Ends answer after)
@@ -128,12 +141,11 @@ module _ (scene : Scene) (held : Held) where
     rest : List Event
     is : calls ≡ event label call reply ∷ rest
     told : IsReply all book call reply
-    settled : reply ≢ IsSettled false
     goes : Follows scene held P reply rest text new
-    fits : Fits (next all book label call reply) rest new
+    fits : Fits (next all book label call reply) rest text new
 
   first : (book : Book) (label : ℕ) (call : Call) (P : Reply → Rest) (calls : List Event) (text : List ℕ) (new : Held) →
-      Asks scene held label call P calls text new → Fits book calls new → First book label call P calls text new
+      Makes scene held label call P calls text new → Fits book calls text new → First book label call P calls text new
   first book label call P [] text new a fit = absurd a
   first book label call P (e ∷ calls) text new a fit =
       let same : e ≡ event label call e.reply = λ i. record { session = a.0 i; call = a.1 i; reply = e.reply } in
@@ -142,20 +154,25 @@ module _ (scene : Scene) (held : Held) where
         rest = calls;
         is = ap (λ (x : Event). x ∷ calls) same;
         told = subst (λ (c : Call). IsReply all book c e.reply) a.1 fit.legal.0;
-        settled = fit.settled.0;
         goes = a.2;
-        fits = record { legal = subst (λ (x : Event). IsLegalFrom all (next all book x.session x.call x.reply) calls) same fit.legal.1; settled = fit.settled.1; checked = fit.checked };
+        fits = record { legal = subst (λ (x : Event). IsLegalFrom all (next all book x.session x.call x.reply) calls) same fit.legal.1; told = fit.told; checked = fit.checked };
       }
 
-  asks : (book : Book) (label : ℕ) (call : Call) (P : Reply → Rest) → ((reply : Reply) → IsReply all book call reply → IsOne (next all book label call reply) (P reply)) → IsOne book (Asks scene held label call P)
-  asks book label call P one calls more text other new newer a b fit fits =
+  makes : (book : Book) (label : ℕ) (call : Call) (P : Reply → Rest) → ((reply : Reply) → IsReply all book call reply → IsOne (next all book label call reply) (P reply)) → IsOne book (Makes scene held label call P)
+  makes book label call P one calls more text other new newer a b fit fits =
       let f : First book label call P calls text new = first book label call P calls text new a fit in
       let g : First book label call P more other newer = first book label call P more other newer b fits in
       let same : g.reply ≡ f.reply = reply_one all book call g.reply f.reply g.told f.told in
       let rest : (f.rest ≡ g.rest) × (text ≡ other) × (new ≡ newer) =
       follows (next all book label call f.reply) P f.reply (one f.reply f.told) f.rest g.rest text other new newer f.goes
-      (subst (λ (r : Reply). Follows scene held P r g.rest other newer) same g.goes) f.fits (subst (λ (r : Reply). Fits (next all book label call r) g.rest newer) same g.fits) in
+      (subst (λ (r : Reply). Follows scene held P r g.rest other newer) same g.goes) f.fits (subst (λ (r : Reply). Fits (next all book label call r) g.rest other newer) same g.fits) in
       (f.is ∙ ap₂ (λ (r : Reply) (es : List Event). event label call r ∷ es) (sym same) rest.0 ∙ sym g.is, rest.1, rest.2)
+
+  asks : (book : Book) (made label : ℕ) (call : Call) (P : Reply → Rest) → ((reply : Reply) → IsReply all book call reply → IsOne (next all book label call reply) (P reply)) → IsOne book (Asks scene held made label call P)
+  asks book made label call P one calls more text other new newer (inl (less, a)) (inl (also, b)) fit fits = makes book label call P one calls more text other new newer a b fit fits
+  asks book made label call P one calls more text other new newer (inl (less, a)) (inr (full, b)) fit fits = absurd (omega (arith, less, full))
+  asks book made label call P one calls more text other new newer (inr (full, a)) (inl (less, b)) fit fits = absurd (omega (arith, less, full))
+  asks book made label call P one calls more text other new newer (inr (full, a)) (inr (also, b)) fit fits = ends book full_line held calls more text other new newer a b fit fits
 
   -- ---- after a line's replies
 
@@ -188,9 +205,9 @@ module _ (scene : Scene) (held : Held) where
     tells_page Tells one (PageIs page) = λ calls more text other new newer a b fit fits. (a.1 ∙ sym b.1, one page text other a.0 b.0, a.2 ∙ sym b.2)
     tells_page Tells one _ = λ calls more text other new newer a. absurd a
 
-  asks_settled : (book : Book) (label : ℕ) (reply : Reply) → IsOne book (AsksSettled scene held label reply)
-  asks_settled book label (Added n) = asks book label Settled (TellsSettled held n) (λ reply told. tells_settled (next all book label Settled reply) n reply)
-  asks_settled book label _ = λ calls more text other new newer a. absurd a
+  asks_settled : (book : Book) (made label : ℕ) (reply : Reply) → IsOne book (AsksSettled scene held made label reply)
+  asks_settled book made label (Added n) = asks book made label Settled (TellsSettled held n) (λ reply told. tells_settled (next all book label Settled reply) n reply)
+  asks_settled book made label _ = λ calls more text other new newer a. absurd a
 
   -- ---- harvests
 
@@ -216,40 +233,45 @@ module _ (scene : Scene) (held : Held) where
         fine = ap₂ (λ (x : Bool) (ds : List Decision). if not x then Some OtherGame else outdated_at (first_missing (choices_of book.present) (map literal_of ds))) of.of_this_desk (of.same_decisions ∙ order.decisions_are)
             ∙ ap outdated_at (none_missing (choices_of book.present))
 
-    told_settled : (after : Book) (label n : ℕ) (calls : List Event) (text : List ℕ) (new : Held) → Asks scene held label Settled (TellsSettled held n) calls text new → Fits after calls new → IsSettledPage all after.present
-    told_settled after label n calls text new a fit = go f.reply f.told f.settled f.goes
+    told_settled : (after : Book) (made label n m : ℕ) (calls : List Event) (text : List ℕ) (new : Held) → text ≡ settled_text true m → Asks scene held made label Settled (TellsSettled held n) calls text new →
+        Fits after calls text new → IsSettledPage all after.present
+    told_settled after made label n m calls text new is (inr (full, a)) fit = absurd (not_full m (sym a.1 ∙ is))
+    told_settled after made label n m calls text new is (inl (less, a)) fit = go f.reply f.told f.goes
       where
         f : First after label Settled (TellsSettled held n) calls text new
         f = first after label Settled (TellsSettled held n) calls text new a fit
 
-        go : (reply : Reply) → IsReply all after Settled reply → reply ≢ IsSettled false → Follows scene held (TellsSettled held n) reply f.rest text new → IsSettledPage all after.present
-        go (IsSettled true) (None, (refuses, told)) settled goes = told.1.0.0 (cc told.1.1)
-        go (IsSettled true) (Some r, (refuses, told)) settled goes = absurd (cc told)
-        go (IsSettled false) told settled goes = absurd (settled refl)
-        go (Refused r) (None, (refuses, told)) settled goes = absurd (cc told.1.1)
-        go (Refused r) (Some s, (refuses, told)) settled goes = absurd (cc refuses)
-        go _ told settled goes = absurd goes
+        go : (reply : Reply) → IsReply all after Settled reply → Follows scene held (TellsSettled held n) reply f.rest text new → IsSettledPage all after.present
+        go (IsSettled true) (None, (refuses, told)) goes = told.1.0.0 (cc told.1.1)
+        go (IsSettled true) (Some r, (refuses, told)) goes = absurd (cc told)
+        go (IsSettled false) told goes = absurd (not_unsettled n m (sym goes.1 ∙ is))
+        go (Refused r) (None, (refuses, told)) goes = absurd (cc told.1.1)
+        go (Refused r) (Some s, (refuses, told)) goes = absurd (cc refuses)
+        go _ told goes = absurd goes
 
     -- where the commit of a harvest is followed by `settled`, it settles the page
-    settles : (made : Harvest) → Of made → (label : ℕ) (calls : List Event) (text : List ℕ) (new : Held) → Asks scene held label (Commit made) (AsksSettled scene held label) calls text new → Fits book calls new →
-        IsSettledPage all (book.present ++ raises_of all made book.present)
-    settles made of label calls text new a fit = go f.reply f.told f.goes f.fits
+    settles : (harvest : Harvest) → Of harvest → (made label m : ℕ) (calls : List Event) (text : List ℕ) (new : Held) → text ≡ settled_text true m →
+        Asks scene held made label (Commit harvest) (AsksSettled scene held (made + 1) label) calls text new → Fits book calls text new → IsSettledPage all (book.present ++ raises_of all harvest book.present)
+    settles harvest of made label m calls text new is (inr (full, a)) fit = absurd (not_full m (sym a.1 ∙ is))
+    settles harvest of made label m calls text new is (inl (less, a)) fit = go f.reply f.told f.goes f.fits
       where
-        f : First book label (Commit made) (AsksSettled scene held label) calls text new
-        f = first book label (Commit made) (AsksSettled scene held label) calls text new a fit
+        f : First book label (Commit harvest) (AsksSettled scene held (made + 1) label) calls text new
+        f = first book label (Commit harvest) (AsksSettled scene held (made + 1) label) calls text new a fit
 
-        go : (reply : Reply) → IsReply all book (Commit made) reply → Follows scene held (AsksSettled scene held label) reply f.rest text new → Fits (next all book label (Commit made) reply) f.rest new →
-            IsSettledPage all (book.present ++ raises_of all made book.present)
-        go (Refused r) told goes fits = absurd (not_refused made of r told)
-        go (Added n) told goes fits = told_settled (next all book label (Commit made) (Added n)) label n f.rest text new goes fits
+        go : (reply : Reply) → IsReply all book (Commit harvest) reply → Follows scene held (AsksSettled scene held (made + 1) label) reply f.rest text new → Fits (next all book label (Commit harvest) reply) f.rest text new →
+            IsSettledPage all (book.present ++ raises_of all harvest book.present)
+        go (Refused r) told goes fits = absurd (not_refused harvest of r told)
+        go (Added n) told goes fits = told_settled (next all book label (Commit harvest) (Added n)) (made + 1) label n m f.rest text new is goes fits
         go _ told goes fits = absurd goes
 
-    swept : (label n : ℕ) → IsOne book (Sweeps scene held label n (Ordered decisions hopeful dual))
-    swept label n calls more text other new newer a b fit fits =
+    swept : (made label n : ℕ) → ((text : List ℕ) → Told text → (m : ℕ) × (text ≡ settled_text true m)) → IsOne book (Sweeps scene held made label n (Ordered decisions hopeful dual))
+    swept made label n is calls more text other new newer a b fit fits =
+        let t : (m : ℕ) × (text ≡ settled_text true m) = is text fit.told in
+        let u : (m : ℕ) × (other ≡ settled_text true m) = is other fits.told in
         let same : b.0 ≡ a.0 = settling_are_one all decisions hopeful dual book.present (ap (map literal_of) order.decisions_are) order.hopeful_is order.dual_is b.0 a.0 b.1.of_order a.1.of_order
-        (settles b.0 b.1.of_order label more other newer b.2 fits) (settles a.0 a.1.of_order label calls text new a.2 fit) in
-        asks book label (Commit a.0) (AsksSettled scene held label) (λ reply told. asks_settled (next all book label (Commit a.0) reply) label reply) calls more text other new newer a.2
-        (subst (λ (m : Harvest). Asks scene held label (Commit m) (AsksSettled scene held label) more other newer) same b.2) fit fits
+        (settles b.0 b.1.of_order made label u.0 more other newer u.1 b.2 fits) (settles a.0 a.1.of_order made label t.0 calls text new t.1 a.2 fit) in
+        asks book made label (Commit a.0) (AsksSettled scene held (made + 1) label) (λ reply told. asks_settled (next all book label (Commit a.0) reply) (made + 1) label reply) calls more text other new newer a.2
+        (subst (λ (h : Harvest). Asks scene held made label (Commit h) (AsksSettled scene held (made + 1) label) more other newer) same b.2) fit fits
 
     checks_last : (made : Harvest) (new : Held) → new ≡ with_harvest held made → AreChecked scene new → Checks all made
     checks_last made new is checked =
@@ -260,66 +282,89 @@ module _ (scene : Scene) (held : Held) where
         let same : a.0 ≡ b.0 = checked_are_one all decisions hopeful dual a.0 b.0 a.1.of_order b.1.of_order (checks_last a.0 new a.2.2 fit.checked) (checks_last b.0 newer b.2.2 fits.checked) in
         (a.2.0 ∙ sym b.2.0, a.2.1 ∙ sym b.2.1, a.2.2 ∙ ap (with_harvest held) same ∙ sym b.2.2)
 
-    lifted : (label : ℕ) (table : Which) (identifier : ℕ) → IsOne book (Lifts scene held label table identifier (Ordered decisions hopeful dual))
-    lifted label table identifier calls more text other new newer a b fit fits =
+    lifted : (made label : ℕ) (table : Which) (identifier : ℕ) → IsOne book (Lifts scene held made label table identifier (Ordered decisions hopeful dual))
+    lifted made label table identifier calls more text other new newer a b fit fits =
         let here : b.0 ≡ a.0 = cc (a.2, b.2) in
         let same : b.1 ≡ a.1 = lifted_one scene decisions hopeful dual table a.0 b.1 a.1 (subst (λ (v : ℕ). IsLifted (setting_in scene) table v decisions hopeful dual b.1) here b.3) a.3 in
-        asks book label (Commit a.1) (TellsAdded held) (λ reply told. tells_added (next all book label (Commit a.1) reply) held reply) calls more text other new newer a.4
-        (subst (λ (m : Harvest). Asks scene held label (Commit m) (TellsAdded held) more other newer) same b.4) fit fits
+        asks book made label (Commit a.1) (TellsAdded held) (λ reply told. tells_added (next all book label (Commit a.1) reply) held reply) calls more text other new newer a.4
+        (subst (λ (h : Harvest). Asks scene held made label (Commit h) (TellsAdded held) more other newer) same b.4) fit fits
 
   -- ---- a line
 
-  module _ (book : Book) (label : ℕ) where
-    sweeps : (n : ℕ) (reply : Reply) → IsReply all book Order reply → IsOne (next all book label Order reply) (Sweeps scene held label n reply)
-    sweeps n (Ordered d h u) told = swept book d h u (ordered book d h u told) label n
-    sweeps n _ told = λ calls more text other new newer a. absurd a
+  module _ (book : Book) (made label : ℕ) where
+    sweeps : (n : ℕ) → ((text : List ℕ) → Told text → (m : ℕ) × (text ≡ settled_text true m)) → (reply : Reply) → IsReply all book Order reply → IsOne (next all book label Order reply) (Sweeps scene held (made + 1) label n reply)
+    sweeps n is (Ordered d h u) told = swept book d h u (ordered book d h u told) (made + 1) label n is
+    sweeps n is _ told = λ calls more text other new newer a. absurd a
 
     keeps : (reply : Reply) → IsReply all book Order reply → IsOne (next all book label Order reply) (Keeps scene held reply)
     keeps (Ordered d h u) told = kept book d h u (ordered book d h u told)
     keeps _ told = λ calls more text other new newer a. absurd a
 
-    lifts : (table : Which) (identifier : ℕ) (reply : Reply) → IsReply all book Order reply → IsOne (next all book label Order reply) (Lifts scene held label table identifier reply)
-    lifts table identifier (Ordered d h u) told = lifted book d h u (ordered book d h u told) label table identifier
+    lifts : (table : Which) (identifier : ℕ) (reply : Reply) → IsReply all book Order reply → IsOne (next all book label Order reply) (Lifts scene held (made + 1) label table identifier reply)
+    lifts table identifier (Ordered d h u) told = lifted book d h u (ordered book d h u told) (made + 1) label table identifier
     lifts table identifier _ told = λ calls more text other new newer a. absurd a
 
-    begins : (command : script.Command) (call : Call) → ((reply : Reply) → IsReply all book call reply → IsOne (next all book label call reply) (Continues scene held label command reply)) →
-        IsOne book (Begins scene held label command (Ok call))
-    begins command call = asks book label call (Continues scene held label command)
+    begins : (command : script.Command) (call : Call) → ((reply : Reply) → IsReply all book call reply → IsOne (next all book label call reply) (Continues scene held (made + 1) label command reply)) →
+        IsOne book (Begins scene held made label command (Ok call))
+    begins command call = asks book made label call (Continues scene held (made + 1) label command)
 
     begins_or : {X : Type 0} (command : script.Command) (own : Own) (call : X → Call) (found : Option X) →
-        ((x : X) (reply : Reply) → IsReply all book (call x) reply → IsOne (next all book label (call x) reply) (Continues scene held label command reply)) →
-        IsOne book (Begins scene held label command (call_or own call found))
+        ((x : X) (reply : Reply) → IsReply all book (call x) reply → IsOne (next all book label (call x) reply) (Continues scene held (made + 1) label command reply)) →
+        IsOne book (Begins scene held made label command (call_or own call found))
     begins_or command own call None one = ends book _ held
     begins_or command own call (Some x) one = begins command (call x) (one x)
 
-    serves : (command : script.Command) → IsOne book (Begins scene held label command (first_call scene held command))
-    serves (script.Select name) = begins_or (script.Select name) NoFeature (λ f. Decide f true) (index_of scene.names name) (λ f reply told. tells_changed _ reply)
-    serves (script.Exclude name) = begins_or (script.Exclude name) NoFeature (λ f. Decide f false) (index_of scene.names name) (λ f reply told. tells_changed _ reply)
-    serves (script.Retract name) = begins_or (script.Retract name) NoFeature Retract (index_of scene.names name) (λ f reply told. tells_changed _ reply)
-    serves (script.Undo s) = begins_or (script.Undo s) NoToken Undo (undo_meant held.undos s) (λ n reply told. tells_undone _ reply)
-    serves (script.Redo s) = begins_or (script.Redo s) NoToken Redo (redo_meant held.redos s) (λ n reply told. tells_redone _ reply)
-    serves (script.Keep s) = begins_or (script.Keep s) NoToken Keep (undo_meant held.undos (Some s)) (λ n reply told. tells_spent _ _ (after_keep held s) reply)
-    serves (script.Forget s) = begins_or (script.Forget s) NoToken Forget (redo_meant held.redos (Some s)) (λ n reply told. tells_spent _ _ (after_forget held s) reply)
-    serves (script.Lift table identifier) = begins_or (script.Lift table identifier) NoVertex (λ v. Order) (vertex_of scene identifier) (λ v. lifts table identifier)
-    serves script.Harvest = begins script.Harvest Order keeps
-    serves (script.Commit k) = begins_or (script.Commit k) NoHarvest Commit (harvest_kept held.harvests k) (λ made reply told. tells_added _ (without_harvest held k) reply)
-    serves (script.Settle n) = begins (script.Settle n) Order (sweeps _)
-    serves script.Show = begins script.Show Page (λ reply told. tells_page _ (ShowsPage scene) (λ page one other. shown_one scene (decisions_of page) _ _ one other) reply)
-    serves script.Trail = begins script.Trail Page (λ reply told. tells_page _ (TellsEntries scene) (λ page one other a b. a ∙ sym b) reply)
-    serves script.Products = begins script.Products Page (λ reply told. tells_page _ (TellsProducts scene) (λ page one other. products_one scene (decisions_of page) one other) reply)
-    serves script.Plan = begins script.Plan Page (λ reply told. tells_page _ (TellsPlan scene) (λ page one other. planned_one scene (decisions_of page) _ _ one other) reply)
+    -- where a settle is told to be one that was answered `settled`
+    abbrev SettleIsTold : script.Command → Type 0
+    SettleIsTold (script.Settle n) = (text : List ℕ) → Told text → (m : ℕ) × (text ≡ settled_text true m)
+    SettleIsTold _ = ⊤
+
+    serves : (command : script.Command) → SettleIsTold command → IsOne book (Begins scene held made label command (first_call scene held command))
+    serves (script.Select name) is = begins_or (script.Select name) NoFeature (λ f. Decide f true) (index_of scene.names name) (λ f reply told. tells_changed _ reply)
+    serves (script.Exclude name) is = begins_or (script.Exclude name) NoFeature (λ f. Decide f false) (index_of scene.names name) (λ f reply told. tells_changed _ reply)
+    serves (script.Retract name) is = begins_or (script.Retract name) NoFeature Retract (index_of scene.names name) (λ f reply told. tells_changed _ reply)
+    serves (script.Undo s) is = begins_or (script.Undo s) NoToken Undo (undo_meant held.undos s) (λ n reply told. tells_undone _ reply)
+    serves (script.Redo s) is = begins_or (script.Redo s) NoToken Redo (redo_meant held.redos s) (λ n reply told. tells_redone _ reply)
+    serves (script.Keep s) is = begins_or (script.Keep s) NoToken Keep (undo_meant held.undos (Some s)) (λ n reply told. tells_spent _ _ (after_keep held s) reply)
+    serves (script.Forget s) is = begins_or (script.Forget s) NoToken Forget (redo_meant held.redos (Some s)) (λ n reply told. tells_spent _ _ (after_forget held s) reply)
+    serves (script.Lift table identifier) is = begins_or (script.Lift table identifier) NoVertex (λ v. Order) (vertex_of scene identifier) (λ v. lifts table identifier)
+    serves script.Harvest is = begins script.Harvest Order keeps
+    serves (script.Commit k) is = begins_or (script.Commit k) NoHarvest Commit (harvest_kept held.harvests k) (λ made reply told. tells_added _ (without_harvest held k) reply)
+    serves (script.Settle n) is = begins (script.Settle n) Order (sweeps _ is)
+    serves script.Show is = begins script.Show Page (λ reply told. tells_page _ (ShowsPage scene) (λ page one other. shown_one scene (decisions_of page) _ _ one other) reply)
+    serves script.Trail is = begins script.Trail Page (λ reply told. tells_page _ (TellsEntries scene) (λ page one other a b. a ∙ sym b) reply)
+    serves script.Products is = begins script.Products Page (λ reply told. tells_page _ (TellsProducts scene) (λ page one other. products_one scene (decisions_of page) one other) reply)
+    serves script.Plan is = begins script.Plan Page (λ reply told. tells_page _ (TellsPlan scene) (λ page one other. planned_one scene (decisions_of page) _ _ one other) reply)
 
 -- ---- lines
+
+settle_is_told : (scene : Scene) (held : Held) (book : Book) (made label : ℕ) (command : script.Command) → SettleIsTold scene held (TellsSettle command) book made label command
+settle_is_told scene held book made label (script.Settle n) = λ text told. told
+settle_is_told scene held book made label (script.Select name) = tt
+settle_is_told scene held book made label (script.Exclude name) = tt
+settle_is_told scene held book made label (script.Retract name) = tt
+settle_is_told scene held book made label (script.Undo s) = tt
+settle_is_told scene held book made label (script.Redo s) = tt
+settle_is_told scene held book made label (script.Keep s) = tt
+settle_is_told scene held book made label (script.Forget s) = tt
+settle_is_told scene held book made label (script.Lift table identifier) = tt
+settle_is_told scene held book made label script.Harvest = tt
+settle_is_told scene held book made label (script.Commit k) = tt
+settle_is_told scene held book made label script.Show = tt
+settle_is_told scene held book made label script.Trail = tt
+settle_is_told scene held book made label script.Products = tt
+settle_is_told scene held book made label script.Plan = tt
 
 module _ (scene : Scene) where
   line_one : (old : Between) (s : Said) (text other : List ℕ) (new newer : Between) → Speaks (settling scene) old s text new → Speaks (settling scene) old s other newer → (text ≡ other) × (new ≡ newer)
   line_one old (Ok None) text other new newer a b = (a.0 ∙ sym b.0, a.1 ∙ sym b.1)
   line_one old (Ok (Some request)) text other new newer a b =
-      let one : (a.0 ≡ b.0) × (text ≡ other) × (new.held ≡ newer.held) =
-      serves scene old.held old.book request.label request.command a.0 b.0 text other new.held newer.held a.1.0 b.1.0
-      (record { legal = a.1.1; settled = a.1.3; checked = a.1.4 }) (record { legal = b.1.1; settled = b.1.3; checked = b.1.4 }) in
-      let book : new.book ≡ newer.book = a.1.2 ∙ ap (λ (es : List Event). book_after (family_of (setting_in scene)) old.book es) one.0 ∙ sym b.1.2 in
-      (one.1, λ i. record { book = book i; held = one.2 i })
+      let one : (a.0.0 ≡ b.0.0) × (text ≡ other) × (new.held ≡ newer.held) =
+      serves scene old.held (TellsSettle request.command) old.book old.calls request.label request.command (settle_is_told scene old.held old.book old.calls request.label request.command) a.0.0 b.0.0 text other new.held newer.held a.0.1.0 b.0.1.0
+      (record { legal = a.0.1.1; told = a.1; checked = a.2 }) (record { legal = b.0.1.1; told = b.1; checked = b.2 }) in
+      let book : new.book ≡ newer.book = a.0.1.2 ∙ ap (λ (es : List Event). book_after (family_of (setting_in scene)) old.book es) one.0 ∙ sym b.0.1.2 in
+      let calls : new.calls ≡ newer.calls = a.0.1.3 ∙ ap (λ (es : List Event). old.calls + length es) one.0 ∙ sym b.0.1.3 in
+      (one.1, λ i. record { book = book i; calls = calls i; held = one.2 i })
   line_one old (Err fault) text other new newer a b = absurd a
 
   pub lines_one : (old : Between) (lines : List (List ℕ)) (text other : List ℕ) (new newer : Between) → Answered (settling scene) old lines text new → Answered (settling scene) old lines other newer → (text ≡ other) × (new ≡ newer)

@@ -1,5 +1,5 @@
 -- A desk's present page as it is shown.
-use Rattle.std.proofs.Common.{◌≡◌, ℕ, ◌≤◌, ◌++◌, List, length, All, Some, None, refl, sym, ap₂, ◌∙◌, subst, inl, inr}
+use Rattle.std.proofs.Common.{◌≡◌, ℕ, ◌≤◌, ◌++◌, List, length, All, Some, None, refl, sym, ap, ap₂, ◌∙◌, subst, inl, inr}
 use Rattle.std.specs.Prelude.{map, codes}
 use Rattle.std.proofs.lemmas.List.{length-map}
 use Rattle.vpg_guards.specs.Formula.{Formula}
@@ -19,6 +19,7 @@ use Rattle.vpg_desk.specs.Book.{Page as AsksPage, PageIs}
 use Rattle.vpg_desk.specs.Headline.{Tells}
 use Rattle.vpg_desk.specs.Setting.{IsSetting}
 use Rattle.vpg_desk.specs.State.{DeskState, setting_of, IsReached, Replies}
+use Rattle.vpg_client.specs.Client.{IsLogged}
 use Rattle.vpg_desk.proofs.Deciding.{choices_inside}
 use Rattle.vpg_desk.proofs.Reaching.{reached_well_formed}
 use Rattle.vpg_script.specs.Script as script
@@ -26,10 +27,15 @@ use Rattle.vpg_texts.specs.Plan.{IsPlanned, IsPlanFault}
 use Rattle.vpg_texts.specs.declared.showing.plans.PlanFault.TheVariants.{NotFull, NotSettled}
 use Rattle.vpg_texts.specs.Scene.{EntryIsWithin, IsShown, TellsKnown, scene_of}
 use Rattle.vpg_texts.specs.Text.{trail_text}
-use Rattle.vpg_report.specs.Answers.{IsPlanAnswer, refused_line}
+use Rattle.vpg_report.specs.Answers.{IsPlanAnswer, refused_line, room}
 use Rattle.vpg_report.specs.Engine.{EngineState, AnswersTo}
 use Rattle.vpg_report.proofs.Asked.{page_told}
 use Rattle.vpg_report.proofs.Within.{entries_within}
+
+-- the entries are those of the page
+entries_are : (desk : DeskState) (entries : List Entry) → Replies desk AsksPage (PageIs entries) → entries ≡ desk.book.present
+entries_are desk entries (None, (refuses, told)) = cc told
+entries_are desk entries (Some r, (refuses, told)) = absurd (cc told)
 
 module _ (desk : DeskState) (tells : Tells (setting_of desk) desk.book.present) where
   pub named : (diagram : NamedDiagram) (decisions : List Decision) → diagram ≡ desk.diagram → decisions ≡ decisions_of desk.book.present →
@@ -67,11 +73,6 @@ module _ (desk : DeskState) (tells : Tells (setting_of desk) desk.book.present) 
         subst (λ (g : NamedGame). All (λ n. n ≤ top_for which (graph_of g)) table) (sym same)
         (subst (λ (t : List ℕ). All (λ n. n ≤ top_for which (graph_of desk.game)) t) (sym is) (below which).is_table.within)
 
-  -- the entries are those of the page
-  pub entries_are : (entries : List Entry) → Replies desk AsksPage (PageIs entries) → entries ≡ desk.book.present
-  entries_are entries (None, (refuses, told)) = cc told
-  entries_are entries (Some r, (refuses, told)) = absurd (cc told)
-
   pub entries_are_within : IsSetting (setting_of desk) → IsReached (setting_of desk) desk.book → (game : NamedGame) (diagram : NamedDiagram) (entries : List Entry) → game ≡ desk.game → diagram ≡ desk.diagram →
       Replies desk AsksPage (PageIs entries) → All (EntryIsWithin (feature_count diagram.lines) (length game.vertices)) entries
   entries_are_within setting reached game diagram entries game_is diagram_is reply =
@@ -79,38 +80,48 @@ module _ (desk : DeskState) (tells : Tells (setting_of desk) desk.book.present) 
       let formed : IsWellFormed page = (reached_well_formed (setting_of desk) desk.book reached).present in
       let within : All (EntryIsWithin (feature_count desk.diagram.lines) (length (graph_of desk.game))) page = entries_within (setting_of desk) setting page tells formed in
       let counted = subst (λ (n : ℕ). All (EntryIsWithin (feature_count desk.diagram.lines) n) page) (length-map desk.game.vertices unnamed) within in
-      coe 0 1 (i. All (EntryIsWithin (feature_count (sym diagram_is i).lines) (length (sym game_is i).vertices)) (sym (entries_are entries reply) i)) counted
+      coe 0 1 (i. All (EntryIsWithin (feature_count (sym diagram_is i).lines) (length (sym game_is i).vertices)) (sym (entries_are desk entries reply) i)) counted
 
 -- what is told of a page, with the game, the diagram, the decisions and the tables as the code has them
-module _ (old : EngineState) (session : ℕ) (game : NamedGame) (diagram : NamedDiagram) (before after : List ℕ) (game_is : game ≡ old.desk.game) (diagram_is : diagram ≡ old.desk.diagram) where
-  pub trail_answers : (entries : List Entry) → Replies old.desk AsksPage (PageIs entries) → after ≡ before ++ trail_text diagram.names (vertex_ids game.vertices) entries →
-      AnswersTo old (record { label = session; command = script.Trail }) before after old
-  trail_answers entries reply appended =
-      page_told old session script.Trail entries (trail_text old.desk.diagram.names (vertex_ids old.desk.game.vertices) entries) before after refl reply (refl, refl, refl)
+module _ (limit : ℕ) (limit_is : limit ≡ room) (old new : EngineState) (session : ℕ) (game : NamedGame) (diagram : NamedDiagram) (before after : List ℕ) (game_is : game ≡ old.client.desk.game) (diagram_is : diagram ≡ old.client.desk.diagram)
+    (entries : List Entry) (logged : IsLogged limit old.client session AsksPage (PageIs entries) new.client) (held : new.held ≡ old.held) where
+  present : entries ≡ old.client.desk.book.present
+  present = entries_are old.client.desk entries logged.step.step.0
+
+  pub trail_answers : after ≡ before ++ trail_text diagram.names (vertex_ids game.vertices) entries → AnswersTo old (record { label = session; command = script.Trail }) before after new
+  trail_answers appended =
+      page_told limit limit_is session old new script.Trail entries (trail_text old.client.desk.diagram.names (vertex_ids old.client.desk.game.vertices) entries) before after refl logged (refl, refl, held)
       (appended ∙ ap₂ (λ (d : NamedDiagram) (g : NamedGame). before ++ trail_text d.names (vertex_ids g.vertices) entries) diagram_is game_is)
 
-  module _ (decisions : List Decision) (decisions_are : decisions ≡ decisions_of old.desk.book.present) where
-    pub products_answers : (text : List ℕ) × (TellsKnown (scene_of game diagram) decisions text × (after ≡ before ++ text)) → AnswersTo old (record { label = session; command = script.Products }) before after old
+  module _ (decisions : List Decision) (decisions_are : decisions ≡ decisions_of old.client.desk.book.present) where
+    decisions_here : decisions ≡ decisions_of entries
+    decisions_here = decisions_are ∙ ap decisions_of (sym present)
+
+    pub products_answers : (text : List ℕ) × (TellsKnown (scene_of game diagram) decisions text × (after ≡ before ++ text)) → AnswersTo old (record { label = session; command = script.Products }) before after new
     products_answers (text, (known, appended)) =
-        page_told old session script.Products old.desk.book.present text before after refl (None, (refl, refl))
-        (coe 0 1 (k. TellsKnown (scene_of (game_is k) (diagram_is k)) (decisions_are k) text) known, refl, refl) appended
+        page_told limit limit_is session old new script.Products entries text before after refl logged
+        (coe 0 1 (k. TellsKnown (scene_of (game_is k) (diagram_is k)) (decisions_here k) text) known, refl, held) appended
 
-    module _ (hopeful dual : List ℕ) (hopeful_is : hopeful ≡ table_of Hopeful old.desk.book.present (length (graph_of old.desk.game))) (dual_is : dual ≡ table_of Dual old.desk.book.present (length (graph_of old.desk.game))) where
-      pub show_answers : (text : List ℕ) × (IsShown (scene_of game diagram) decisions hopeful dual text × (after ≡ before ++ text)) → AnswersTo old (record { label = session; command = script.Show }) before after old
+    module _ (hopeful dual : List ℕ) (hopeful_is : hopeful ≡ table_of Hopeful old.client.desk.book.present (length (graph_of old.client.desk.game)))
+        (dual_is : dual ≡ table_of Dual old.client.desk.book.present (length (graph_of old.client.desk.game))) where
+      table_here : (which : Which) (table : List ℕ) → table ≡ table_of which old.client.desk.book.present (length (graph_of old.client.desk.game)) → table ≡ table_of which entries (length (graph_of old.client.desk.game))
+      table_here which table is = is ∙ ap (λ (page : List Entry). table_of which page (length (graph_of old.client.desk.game))) (sym present)
+
+      pub show_answers : (text : List ℕ) × (IsShown (scene_of game diagram) decisions hopeful dual text × (after ≡ before ++ text)) → AnswersTo old (record { label = session; command = script.Show }) before after new
       show_answers (text, (shown, appended)) =
-          page_told old session script.Show old.desk.book.present text before after refl (None, (refl, refl))
-          (coe 0 1 (k. IsShown (scene_of (game_is k) (diagram_is k)) (decisions_are k) (hopeful_is k) (dual_is k) text) shown, refl, refl) appended
+          page_told limit limit_is session old new script.Show entries text before after refl logged
+          (coe 0 1 (k. IsShown (scene_of (game_is k) (diagram_is k)) (decisions_here k) (table_here Hopeful hopeful hopeful_is k) (table_here Dual dual dual_is k) text) shown, refl, held) appended
 
-      planned : (text : List ℕ) → IsPlanAnswer (scene_of game diagram) decisions hopeful dual text → after ≡ before ++ text → AnswersTo old (record { label = session; command = script.Plan }) before after old
+      planned : (text : List ℕ) → IsPlanAnswer (scene_of game diagram) decisions hopeful dual text → after ≡ before ++ text → AnswersTo old (record { label = session; command = script.Plan }) before after new
       planned text plan appended =
-          page_told old session script.Plan old.desk.book.present text before after refl (None, (refl, refl))
-          (coe 0 1 (k. IsPlanAnswer (scene_of (game_is k) (diagram_is k)) (decisions_are k) (hopeful_is k) (dual_is k) text) plan, refl, refl) appended
+          page_told limit limit_is session old new script.Plan entries text before after refl logged
+          (coe 0 1 (k. IsPlanAnswer (scene_of (game_is k) (diagram_is k)) (decisions_here k) (table_here Hopeful hopeful hopeful_is k) (table_here Dual dual dual_is k) text) plan, refl, held) appended
 
-      pub plan_answers : (text : List ℕ) × (IsPlanned (scene_of game diagram) decisions hopeful dual text × (after ≡ before ++ text)) → AnswersTo old (record { label = session; command = script.Plan }) before after old
+      pub plan_answers : (text : List ℕ) × (IsPlanned (scene_of game diagram) decisions hopeful dual text × (after ≡ before ++ text)) → AnswersTo old (record { label = session; command = script.Plan }) before after new
       plan_answers (text, (plan, appended)) = planned text (inl plan) appended
 
-      pub not_full : IsPlanFault (scene_of game diagram) decisions hopeful dual NotFull → after ≡ before ++ refused_line (codes "NotFull") → AnswersTo old (record { label = session; command = script.Plan }) before after old
+      pub not_full : IsPlanFault (scene_of game diagram) decisions hopeful dual NotFull → after ≡ before ++ refused_line (codes "NotFull") → AnswersTo old (record { label = session; command = script.Plan }) before after new
       not_full fault appended = planned (refused_line (codes "NotFull")) (inr (inl (fault, refl))) appended
 
-      pub not_settled : IsPlanFault (scene_of game diagram) decisions hopeful dual NotSettled → after ≡ before ++ refused_line (codes "NotSettled") → AnswersTo old (record { label = session; command = script.Plan }) before after old
+      pub not_settled : IsPlanFault (scene_of game diagram) decisions hopeful dual NotSettled → after ≡ before ++ refused_line (codes "NotSettled") → AnswersTo old (record { label = session; command = script.Plan }) before after new
       not_settled fault appended = planned (refused_line (codes "NotSettled")) (inr (inr (fault, refl))) appended

@@ -18,6 +18,7 @@ opens (Err stops.Read) P p = p
 opens (Err stops.Write) P p = p
 opens (Err (stops.Open fault)) P p = tt
 opens (Err stops.Memory) P p = tt
+opens (Err stops.Stray) P p = p
 
 pub outcome : {S : Type 0} (serves : Machine S) (Refuses : OpenFault → Type 0) (old : S) (input left before after : Option (List ℕ)) (result : Result (Unit {0}) ScriptFault) →
     ScriptOutcome serves old input left before after result → Outcome serves Refuses old input left before after (ended result)
@@ -26,6 +27,7 @@ outcome serves Refuses old input left before after (Err (ends.Line n fault)) so 
 outcome serves Refuses old input left before after (Err ends.Read) so = so
 outcome serves Refuses old input left before after (Err ends.Write) so = so
 outcome serves Refuses old input left before after (Err ends.Memory) so = so
+outcome serves Refuses old input left before after (Err ends.Stray) so = so
 
 pub read_ended : (result : Result (Unit {0}) ScriptFault) (P : Type 0) → (IsErrOf result ends.Read → P) → IsErrOf (ended result) stops.Read → P
 read_ended (Ok done) P so is = absurd (cc is)
@@ -33,6 +35,7 @@ read_ended (Err (ends.Line n fault)) P so is = absurd (cc is)
 read_ended (Err ends.Read) P so is = so (cc)
 read_ended (Err ends.Write) P so is = absurd (cc is)
 read_ended (Err ends.Memory) P so is = absurd (cc is)
+read_ended (Err ends.Stray) P so is = absurd (cc is)
 
 pub write_ended : (result : Result (Unit {0}) ScriptFault) (P : Type 0) → (IsErrOf result ends.Write → P) → IsErrOf (ended result) stops.Write → P
 write_ended (Ok done) P so is = absurd (cc is)
@@ -40,6 +43,7 @@ write_ended (Err (ends.Line n fault)) P so is = absurd (cc is)
 write_ended (Err ends.Read) P so is = absurd (cc is)
 write_ended (Err ends.Write) P so is = so (cc)
 write_ended (Err ends.Memory) P so is = absurd (cc is)
+write_ended (Err ends.Stray) P so is = absurd (cc is)
 
 pub unless_read : (result : Result (Unit {0}) ScriptFault) (P : Type 0) → UnlessReaderFails result P → UnlessRead (ended result) P
 unless_read (Ok done) P p = p
@@ -47,6 +51,7 @@ unless_read (Err (ends.Line n fault)) P p = p
 unless_read (Err ends.Read) P p = tt
 unless_read (Err ends.Write) P p = p
 unless_read (Err ends.Memory) P p = p
+unless_read (Err ends.Stray) P p = p
 
 pub unless_write : (result : Result (Unit {0}) ScriptFault) (P : Type 0) → UnlessWriterFails result P → UnlessWrite (ended result) P
 unless_write (Ok done) P p = p
@@ -54,3 +59,4 @@ unless_write (Err (ends.Line n fault)) P p = p
 unless_write (Err ends.Read) P p = p
 unless_write (Err ends.Write) P p = tt
 unless_write (Err ends.Memory) P p = p
+unless_write (Err ends.Stray) P p = p

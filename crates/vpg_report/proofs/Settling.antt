@@ -16,23 +16,26 @@ use Rattle.vpg_measure.specs.Orders.{OrderView, HarvestView, IsOrder, IsSettledH
 use Rattle.vpg_measure.specs.TwoGames.{IsTableBelow}
 use Rattle.vpg_measure.proofs.TwoGames.{arena_length}
 use Rattle.vpg_guards.specs.Formula.{Formula}
-use Rattle.vpg_desk.specs.Book.{Family, Harvest, Order, Ordered, Commit, Added, Settled, IsSettled, Refused, Refusal, first_missing, outdated_at, refuses_commit}
+use Rattle.vpg_desk.specs.Book.{Family, Harvest, Order, Ordered, Commit, Added, Settled, IsSettled, Refusal, first_missing}
 use Rattle.vpg_desk.specs.Setting.{IsSetting}
 use Rattle.vpg_desk.specs.Desk.{family_of}
 use Rattle.vpg_desk.specs.Lawful.{harvested}
 use Rattle.vpg_desk.proofs.Lawful.{harvests_are_lawful}
 use Rattle.vpg_desk.proofs.Deciding.{setting_stands, known_is_consistent}
-use Rattle.vpg_desk.specs.State.{DeskState, setting_between, setting_of, Replies, IsStep}
+use Rattle.vpg_desk.specs.State.{DeskState, setting_between, setting_of}
 use Rattle.vpg_script.specs.Script as script
 use Rattle.vpg_report.specs.Held.{with_harvest}
 use Rattle.vpg_report.specs.Engine.{EngineState, SweepsTo}
 use Rattle.vpg_report.specs.Made.{IsMadeBy}
-use Rattle.vpg_report.proofs.Asked.{settles, keeps}
-use Rattle.vpg_desk.specs.Commit.{commit_refusal, handed_in}
+use Rattle.vpg_report.proofs.Asked.{settle_full, commit_full, settles, keeps}
+use Rattle.vpg_desk.specs.Commit.{IsOrderOf, commit_refusal, handed_in}
 use Rattle.vpg_desk.specs.declared.fault.CommitFault.{CommitFault}
-use Rattle.vpg_desk.specs.declared.fault.CommitFault.TheVariants.{OtherGame, Outdated, Memory}
-use Rattle.vpg_trail.specs.Page.{Literal, Decision, same_literal, stands, decisions_of, choices_of}
-use Rattle.vpg_report.specs.Answers.{IsSwept, Checks, most_sweeps, sweeps_of, numbered, settled_text}
+use Rattle.vpg_client.specs.Client.{ClientState, IsLogged}
+use Rattle.vpg_client.specs.Faults.{Tells}
+use Rattle.vpg_client.specs.declared.fault.ClientFault.{ClientFault}
+use Rattle.vpg_client.specs.declared.fault.ClientFault.TheVariants.{LogFull}
+use Rattle.vpg_trail.specs.Page.{Literal, Decision, same_literal, stands}
+use Rattle.vpg_report.specs.Answers.{IsSwept, Checks, full_line, most_sweeps, room, sweeps_of, numbered, settled_text}
 use Rattle.vpg_settle.specs.Sweeping.{IsSweptOrder, Settles}
 use Rattle.vpg_settle.proofs.Repeated.{progress_moves}
 
@@ -114,25 +117,46 @@ made_seen desk lifters most n order harvest game diagram few settles none = reco
   none = none;
 }
 
--- an order of the desk is swept, its harvest is committed, and the page is told to be settled or not
-pub settle_answers : (old new : EngineState) (lifters times session added : ℕ) (sweeps : Option ℕ) (order : OrderView) (harvest : HarvestView) (b : Bool) (before after : List ℕ) →
-    Replies old.desk Order (Ordered order.decisions order.hopeful order.dual) → order.game ≡ old.desk.game → order.diagram ≡ old.desk.diagram → IsOrder order → IsSweptOrder order (sweeps_of sweeps) harvest →
-    times ≤ sweeps_of sweeps → Settles lifters times order harvest → (sweeps_of sweeps ≡ 0 → (which : Which) → harvest_table which harvest ≡ order_table which order) →
-    IsStep old.desk session (Commit (handed_in true harvest)) (Added added) new.desk → Replies new.desk Settled (IsSettled b) → new.held ≡ old.held → after ≡ before ++ settled_text b added →
-    SweepsTo old lifters (record { label = session; command = script.Settle sweeps }) before after new
-settle_answers old new lifters times session added sweeps order harvest b before after ordered game diagram is_order swept_order few made none step told held appended =
-    settles old new lifters session added sweeps order.decisions order.hopeful order.dual (handed_in true harvest) b before after ordered
-    (swept_seen old.desk order harvest (sweeps_of sweeps) game diagram is_order swept_order) (made_seen old.desk lifters (sweeps_of sweeps) times order harvest game diagram few made none) step told held appended
+module _ (limit : ℕ) (limit_is : limit ≡ room) (session : ℕ) (old new : EngineState) (first : ClientState) (lifters times : ℕ) (order : OrderView) (harvest : HarvestView) (before after : List ℕ)
+    (ordered : IsLogged limit old.client session Order (Ordered order.decisions order.hopeful order.dual) first) (held : new.held ≡ old.held) where
+  module _ (sweeps : Option ℕ) (ours : IsOrderOf old.client.desk order) (is_order : IsOrder order) (swept_order : IsSweptOrder order (sweeps_of sweeps) harvest) (few : times ≤ sweeps_of sweeps)
+      (made : Settles lifters times order harvest) (none : sweeps_of sweeps ≡ 0 → (which : Which) → harvest_table which harvest ≡ order_table which order) where
+    seen : IsSwept (family_of (setting_of old.client.desk)) (sweeps_of sweeps) order.decisions order.hopeful order.dual (handed_in true harvest)
+    seen = swept_seen old.client.desk order harvest (sweeps_of sweeps) ours.0 ours.1 is_order swept_order
+
+    by : IsMadeBy (setting_of old.client.desk) lifters (sweeps_of sweeps) order.decisions order.hopeful order.dual (handed_in true harvest)
+    by = made_seen old.client.desk lifters (sweeps_of sweeps) times order harvest ours.0 ours.1 few made none
+
+    -- its harvest finds the log full
+    pub sweep_answers : (fault : ClientFault CommitFault) → fault ≡ LogFull → Tells limit commit_refusal first session (Commit (handed_in true harvest)) new.client fault → after ≡ before ++ full_line →
+        SweepsTo old lifters (record { label = session; command = script.Settle sweeps }) before after new
+    sweep_answers fault is tells appended =
+        let full = subst (λ (f : ClientFault CommitFault). Tells limit commit_refusal first session (Commit (handed_in true harvest)) new.client f) is tells in
+        settle_full limit limit_is session old new first lifters order.decisions order.hopeful order.dual (handed_in true harvest) before after ordered sweeps seen by full.0 full.1 held appended
+
+    module _ (second : ClientState) (added : ℕ) (commit : IsLogged limit first session (Commit (handed_in true harvest)) (Added added) second) where
+      -- it is committed, and the log is full
+      pub commit_answers : {F : Type 0} (refusal : F → Option Refusal) (fault : ClientFault F) → fault ≡ LogFull → Tells limit refusal second session Settled new.client fault → after ≡ before ++ full_line →
+          SweepsTo old lifters (record { label = session; command = script.Settle sweeps }) before after new
+      commit_answers {F} refusal fault is tells appended =
+          let full = subst (λ (f : ClientFault F). Tells limit refusal second session Settled new.client f) is tells in
+          commit_full limit limit_is session old new first lifters order.decisions order.hopeful order.dual (handed_in true harvest) before after ordered sweeps seen by second added commit full.0 full.1 held appended
+
+      -- it is committed, and the page is told to be settled or not
+      pub settle_answers : (b : Bool) → IsLogged limit second session Settled (IsSettled b) new.client → after ≡ before ++ settled_text b added →
+          SweepsTo old lifters (record { label = session; command = script.Settle sweeps }) before after new
+      settle_answers b settled appended =
+          settles limit limit_is session old new first lifters order.decisions order.hopeful order.dual (handed_in true harvest) before after ordered sweeps seen by second added commit b settled held appended
 
 -- an order of the desk is swept, and its harvest is kept
-pub harvest_answers : (old new : EngineState) (lifters times session n : ℕ) (order : OrderView) (harvest : HarvestView) (before after : List ℕ) →
-    Replies old.desk Order (Ordered order.decisions order.hopeful order.dual) → order.game ≡ old.desk.game → order.diagram ≡ old.desk.diagram → IsOrder order → IsSweptOrder order most_sweeps harvest →
+pub harvest_answers : (limit : ℕ) → limit ≡ room → (session : ℕ) (old new : EngineState) (first : ClientState) (lifters times n : ℕ) (order : OrderView) (harvest : HarvestView) (before after : List ℕ) →
+    IsLogged limit old.client session Order (Ordered order.decisions order.hopeful order.dual) first → IsOrderOf old.client.desk order → IsOrder order → IsSweptOrder order most_sweeps harvest →
     times ≤ most_sweeps → Settles lifters times order harvest → (most_sweeps ≡ 0 → (which : Which) → harvest_table which harvest ≡ order_table which order) →
-    new.desk ≡ old.desk → new.held ≡ with_harvest old.held (handed_in true harvest) → n ≡ length old.held.harvests + 1 → after ≡ before ++ numbered (codes "harvest") n →
+    new.client ≡ first → new.held ≡ with_harvest old.held (handed_in true harvest) → n ≡ length old.held.harvests + 1 → after ≡ before ++ numbered (codes "harvest") n →
     SweepsTo old lifters (record { label = session; command = script.Harvest }) before after new
-harvest_answers old new lifters times session n order harvest before after ordered game diagram is_order swept_order few made none desk held counted appended =
-    keeps old new lifters session n order.decisions order.hopeful order.dual (handed_in true harvest) before after ordered
-    (swept_seen old.desk order harvest most_sweeps game diagram is_order swept_order) (made_seen old.desk lifters most_sweeps times order harvest game diagram few made none) desk held counted appended
+harvest_answers limit limit_is session old new first lifters times n order harvest before after ordered ours is_order swept_order few made none client held counted appended =
+    keeps limit limit_is session old new first lifters order.decisions order.hopeful order.dual (handed_in true harvest) before after ordered n
+    (swept_seen old.client.desk order harvest most_sweeps ours.0 ours.1 is_order swept_order) (made_seen old.client.desk lifters most_sweeps times order harvest ours.0 ours.1 few made none) client held counted appended
 
 -- ---- what a harvest of the present page is not refused for
 
@@ -155,23 +179,6 @@ all_stand present (c ∷ choices) h =
 -- no choice of a list is missing in itself
 pub none_missing : (choices : List Literal) → first_missing choices choices ≡ None
 none_missing choices = all_stand choices choices (λ c s. s)
-
-never_refused : (desk : DeskState) (harvest : HarvestView) (b : Bool) (r : Refusal) → harvest.order.decisions ≡ decisions_of desk.book.present → b ≡ true →
-    Replies desk (Commit (handed_in b harvest)) (Refused r) → ⊥
-never_refused desk harvest b r decisions is (None, (refuses, told)) = absurd (cc told)
-never_refused desk harvest b r decisions is (Some other, (refuses, told)) =
-    absurd (cc (refuses, fine))
-  where
-    fine : refuses_commit desk.book (handed_in b harvest) ≡ None
-    fine = ap (λ (x : Bool). refuses_commit desk.book (handed_in x harvest)) is
-        ∙ ap (λ (ds : List Decision). outdated_at (first_missing (choices_of desk.book.present) (map literal_of ds))) decisions
-        ∙ ap outdated_at (none_missing (choices_of desk.book.present))
-
-pub memory_alone : (desk : DeskState) (harvest : HarvestView) (fault : CommitFault) → harvest.order.decisions ≡ decisions_of desk.book.present →
-    IfSome (commit_refusal fault) (λ refusal. Replies desk (Commit (handed_in true harvest)) (Refused refusal)) → fault ≡ Memory
-memory_alone desk harvest Memory decisions refused = refl
-memory_alone desk harvest OtherGame decisions refused = absurd (never_refused desk harvest true _ decisions refl refused)
-memory_alone desk harvest (Outdated f) decisions refused = absurd (never_refused desk harvest true _ decisions refl refused)
 
 -- the sweeps of a settle
 pub rounds_given : (sweeps : Option ℕ) → unwrap_or sweeps 1000000 ≡ sweeps_of sweeps

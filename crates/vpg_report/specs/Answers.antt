@@ -34,6 +34,10 @@ numbered word n = line_of (word ++ blank_number n)
 abbrev pub refused_line : List ℕ → List ℕ
 refused_line why = codes "refused " ++ line_of why
 
+-- the answer to a line with a call that a full log doesn't take
+abbrev pub full_line : List ℕ
+full_line = refused_line (codes "LogFull")
+
 abbrev pub refusal_text : List (List ℕ) → Refusal → List ℕ
 refusal_text names UnknownFeature = codes "UnknownFeature"
 refusal_text names (AlreadyDecided s) = codes "AlreadyDecided" ++ blank_number s
@@ -129,6 +133,10 @@ sweeps_of (Some n) = n
 
 -- ---- a line
 
+-- how many calls the log of a run's office takes
+abbrev pub room : ℕ
+room = 1048576
+
 -- what may come after a reply: further calls, the line's answer, and what is held then
 abbrev pub Rest : Type 1
 Rest = List Event → List ℕ → Held → Type 0
@@ -143,9 +151,14 @@ Follows scene held P (Refused r) calls text new = Ends (refused_line (refusal_te
 Follows scene held P reply calls text new = P reply calls text new
 
 -- one call more under the label, and what follows its reply
-abbrev pub Asks : Scene → Held → ℕ → Call → (Reply → Rest) → Rest
-Asks scene held label call P [] text new = ⊥
-Asks scene held label call P (e ∷ calls) text new = (e.session ≡ label) × (e.call ≡ call) × Follows scene held P e.reply calls text new
+abbrev pub Makes : Scene → Held → ℕ → Call → (Reply → Rest) → Rest
+Makes scene held label call P [] text new = ⊥
+Makes scene held label call P (e ∷ calls) text new = (e.session ≡ label) × (e.call ≡ call) × Follows scene held P e.reply calls text new
+
+-- So many calls were made before. While there are fewer than the room the call is made; a full log takes none: that answers the line, and leaves what is held as it was.
+abbrev pub Asks : Scene → Held → (made : ℕ) → ℕ → Call → (Reply → Rest) → Rest
+Asks scene held made label call P calls text new =
+    ((made < room) × Makes scene held label call P calls text new) ⊎ ((room ≤ made) × Ends full_line held calls text new)
 
 -- ---- after a line's replies
 
@@ -154,9 +167,9 @@ TellsSettled held n (IsSettled b) calls text new = Ends (settled_text b n) held 
 TellsSettled held n _ calls text new = ⊥
 
 -- after the commit of a settle
-abbrev pub AsksSettled : Scene → Held → ℕ → Reply → Rest
-AsksSettled scene held label (Added n) calls text new = Asks scene held label Settled (TellsSettled held n) calls text new
-AsksSettled scene held label _ calls text new = ⊥
+abbrev pub AsksSettled : Scene → Held → (made : ℕ) → ℕ → Reply → Rest
+AsksSettled scene held made label (Added n) calls text new = Asks scene held made label Settled (TellsSettled held n) calls text new
+AsksSettled scene held made label _ calls text new = ⊥
 
 -- after another commit
 abbrev pub TellsAdded : Held → Reply → Rest
@@ -164,10 +177,11 @@ TellsAdded held (Added n) calls text new = Ends (numbered (codes "added") n) hel
 TellsAdded held _ calls text new = ⊥
 
 -- an order is swept, and what was made is committed
-abbrev pub Sweeps : Scene → Held → ℕ → ℕ → Reply → Rest
-Sweeps scene held label sweeps (Ordered decisions hopeful dual) calls text new =
-    (made : Harvest) × IsSwept (family_of (setting_in scene)) sweeps decisions hopeful dual made × Asks scene held label (Commit made) (AsksSettled scene held label) calls text new
-Sweeps scene held label sweeps _ calls text new = ⊥
+abbrev pub Sweeps : Scene → Held → (made : ℕ) → ℕ → ℕ → Reply → Rest
+Sweeps scene held made label sweeps (Ordered decisions hopeful dual) calls text new =
+    (harvest : Harvest) × IsSwept (family_of (setting_in scene)) sweeps decisions hopeful dual harvest
+    × Asks scene held made label (Commit harvest) (AsksSettled scene held (made + 1) label) calls text new
+Sweeps scene held made label sweeps _ calls text new = ⊥
 
 -- an order is swept, and what was made is kept
 abbrev pub Keeps : Scene → Held → Reply → Rest
@@ -177,11 +191,11 @@ Keeps scene held (Ordered decisions hopeful dual) calls text new =
 Keeps scene held _ calls text new = ⊥
 
 -- a vertex of an order is lifted, and what was made is committed
-abbrev pub Lifts : Scene → Held → ℕ → Which → ℕ → Reply → Rest
-Lifts scene held label table identifier (Ordered decisions hopeful dual) calls text new =
-    (v : ℕ) × (made : Harvest) × (vertex_of scene identifier ≡ Some v) × IsLifted (setting_in scene) table v decisions hopeful dual made
-    × Asks scene held label (Commit made) (TellsAdded held) calls text new
-Lifts scene held label table identifier _ calls text new = ⊥
+abbrev pub Lifts : Scene → Held → (made : ℕ) → ℕ → Which → ℕ → Reply → Rest
+Lifts scene held made label table identifier (Ordered decisions hopeful dual) calls text new =
+    (v : ℕ) × (harvest : Harvest) × (vertex_of scene identifier ≡ Some v) × IsLifted (setting_in scene) table v decisions hopeful dual harvest
+    × Asks scene held made label (Commit harvest) (TellsAdded held) calls text new
+Lifts scene held made label table identifier _ calls text new = ⊥
 
 abbrev pub TellsChanged : Held → Reply → Rest
 TellsChanged held (Changed s) calls text new = Ends (numbered (codes "done") s) (after_change held s) calls text new
@@ -226,28 +240,28 @@ abbrev pub TellsPage : (List Entry → List ℕ → Type 0) → Held → Reply �
 TellsPage Tells held (PageIs page) calls text new = Tells page text × (calls ≡ []) × (new ≡ held)
 TellsPage Tells held _ calls text new = ⊥
 
--- after the reply to a command's first call
-abbrev pub Continues : Scene → Held → ℕ → script.Command → Reply → Rest
-Continues scene held label (script.Select name) reply calls text new = TellsChanged held reply calls text new
-Continues scene held label (script.Exclude name) reply calls text new = TellsChanged held reply calls text new
-Continues scene held label (script.Retract name) reply calls text new = TellsChanged held reply calls text new
-Continues scene held label (script.Undo s) reply calls text new = TellsUndone held reply calls text new
-Continues scene held label (script.Redo s) reply calls text new = TellsRedone held reply calls text new
-Continues scene held label (script.Keep s) reply calls text new = TellsSpent (numbered (codes "kept") s) (after_keep held s) reply calls text new
-Continues scene held label (script.Forget s) reply calls text new = TellsSpent (numbered (codes "forgotten") s) (after_forget held s) reply calls text new
-Continues scene held label (script.Lift table identifier) reply calls text new = Lifts scene held label table identifier reply calls text new
-Continues scene held label script.Harvest reply calls text new = Keeps scene held reply calls text new
-Continues scene held label (script.Commit k) reply calls text new = TellsAdded (without_harvest held k) reply calls text new
-Continues scene held label (script.Settle n) reply calls text new = Sweeps scene held label (sweeps_of n) reply calls text new
-Continues scene held label script.Show reply calls text new = TellsPage (ShowsPage scene) held reply calls text new
-Continues scene held label script.Trail reply calls text new = TellsPage (TellsEntries scene) held reply calls text new
-Continues scene held label script.Products reply calls text new = TellsPage (TellsProducts scene) held reply calls text new
-Continues scene held label script.Plan reply calls text new = TellsPage (TellsPlan scene) held reply calls text new
+-- after the reply to a command's first call; so many calls were made then
+abbrev pub Continues : Scene → Held → (made : ℕ) → ℕ → script.Command → Reply → Rest
+Continues scene held made label (script.Select name) reply calls text new = TellsChanged held reply calls text new
+Continues scene held made label (script.Exclude name) reply calls text new = TellsChanged held reply calls text new
+Continues scene held made label (script.Retract name) reply calls text new = TellsChanged held reply calls text new
+Continues scene held made label (script.Undo s) reply calls text new = TellsUndone held reply calls text new
+Continues scene held made label (script.Redo s) reply calls text new = TellsRedone held reply calls text new
+Continues scene held made label (script.Keep s) reply calls text new = TellsSpent (numbered (codes "kept") s) (after_keep held s) reply calls text new
+Continues scene held made label (script.Forget s) reply calls text new = TellsSpent (numbered (codes "forgotten") s) (after_forget held s) reply calls text new
+Continues scene held made label (script.Lift table identifier) reply calls text new = Lifts scene held made label table identifier reply calls text new
+Continues scene held made label script.Harvest reply calls text new = Keeps scene held reply calls text new
+Continues scene held made label (script.Commit k) reply calls text new = TellsAdded (without_harvest held k) reply calls text new
+Continues scene held made label (script.Settle n) reply calls text new = Sweeps scene held made label (sweeps_of n) reply calls text new
+Continues scene held made label script.Show reply calls text new = TellsPage (ShowsPage scene) held reply calls text new
+Continues scene held made label script.Trail reply calls text new = TellsPage (TellsEntries scene) held reply calls text new
+Continues scene held made label script.Products reply calls text new = TellsPage (TellsProducts scene) held reply calls text new
+Continues scene held made label script.Plan reply calls text new = TellsPage (TellsPlan scene) held reply calls text new
 
-abbrev pub Begins : Scene → Held → ℕ → script.Command → Result Call Own → Rest
-Begins scene held label command (Err own) calls text new = Ends (refused_line (own_text own)) held calls text new
-Begins scene held label command (Ok call) calls text new = Asks scene held label call (Continues scene held label command) calls text new
+abbrev pub Begins : Scene → Held → (made : ℕ) → ℕ → script.Command → Result Call Own → Rest
+Begins scene held made label command (Err own) calls text new = Ends (refused_line (own_text own)) held calls text new
+Begins scene held made label command (Ok call) calls text new = Asks scene held made label call (Continues scene held (made + 1) label command) calls text new
 
--- While this is held, a request makes these calls with these replies, gives this answer, and leaves so much held.
-abbrev pub Serves : Scene → Held → Request → Rest
-Serves scene held request calls text new = Begins scene held request.label request.command (first_call scene held request.command) calls text new
+-- While this is held, and so many calls were made before, a request makes these calls with these replies, gives this answer, and leaves so much held.
+abbrev pub Serves : Scene → Held → (made : ℕ) → Request → Rest
+Serves scene held made request calls text new = Begins scene held made request.label request.command (first_call scene held request.command) calls text new

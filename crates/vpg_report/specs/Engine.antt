@@ -3,11 +3,13 @@ use Rattle.std.specs.Prelude.{◌≡◌, ℕ, List, [], ◌++◌, ⊤, ◌==◌,
 use Rattle.vpg_diagram.specs.DiagramText.{NamedDiagram}
 use Rattle.vpg_game.specs.Game.{NamedGame, IsAtLimit}
 use Rattle.vpg_partial.specs.KnownLaws.{HasConflictOf}
-use Rattle.vpg_desk.specs.Book.{Refusal, opened}
-use Rattle.vpg_desk.specs.State.{DeskState}
+use Rattle.vpg_client.specs.Client.{ClientState, client_of}
+use Rattle.vpg_client.specs.declared.fault.ClientFault.{ClientFault}
+use Rattle.vpg_client.specs.declared.fault.ClientFault.TheVariants.{LogFull, Refused}
+use Rattle.vpg_desk.specs.Book.{Refusal}
 use Rattle.vpg_desk.specs.declared.fault.OpenFault.{OpenFault}
 use Rattle.vpg_desk.specs.declared.fault.OpenFault.TheVariants.{AtLimit, Conflict, Memory}
-use Rattle.vpg_report.specs.Answers.{refused_line, refusal_text}
+use Rattle.vpg_report.specs.Answers.{full_line, refused_line, refusal_text}
 use Rattle.vpg_report.specs.Held.{Held, nothing_held}
 use Rattle.vpg_report.specs.Run.{Between, calling}
 use Rattle.vpg_report.specs.Made.{AreMadeBy}
@@ -16,28 +18,28 @@ use Rattle.vpg_texts.specs.Scene.{Scene, scene_of}
 use Rattle.vpg_script.specs.Script as script
 use Rattle.vpg_script.specs.Script.{Request}
 
--- a desk, and what is held beside it
+-- the client of an office, and what is held beside it
 pub record EngineState : Type 0 where
-  pub desk : DeskState
+  pub client : ClientState
   pub held : Held
 
 abbrev pub scene_at : EngineState → Scene
-scene_at state = scene_of state.desk.game state.desk.diagram
+scene_at state = scene_of state.client.desk.game state.client.desk.diagram
 
 abbrev pub between_of : EngineState → Between
-between_of state = record { book = state.desk.book; held = state.held }
+between_of state = record { book = state.client.desk.book; calls = state.client.calls; held = state.held }
 
--- an engine whose desk was opened
+-- an engine whose office was opened
 abbrev pub engine_of : NamedGame → NamedDiagram → EngineState
-engine_of game diagram = record { desk = record { game = game; diagram = diagram; book = opened }; held = nothing_held }
+engine_of game diagram = record { client = client_of game diagram; held = nothing_held }
 
 -- A text is appended with which the engine answers the request; game and diagram stay.
 pub record AnswersTo (old : EngineState) (request : Request) (before after : List ℕ) (new : EngineState) : Type 0 where
   pub text : List ℕ
   pub answer : calling (scene_at old) (between_of old) request text (between_of new)
   pub appended : after ≡ before ++ text
-  pub game : new.desk.game ≡ old.desk.game
-  pub diagram : new.desk.diagram ≡ old.desk.diagram
+  pub game : new.client.desk.game ≡ old.client.desk.game
+  pub diagram : new.client.desk.diagram ≡ old.client.desk.diagram
 
 -- The same, where what is committed or kept was made by sweeps of this many lifters.
 pub record SweepsTo (old : EngineState) (lifters : ℕ) (request : Request) (before after : List ℕ) (new : EngineState) : Type 0 where
@@ -59,7 +61,13 @@ abbrev pub TellsRefusal : List (List ℕ) → Option Refusal → List ℕ → Li
 TellsRefusal names None before after = ⊥
 TellsRefusal names (Some refusal) before after = after ≡ before ++ refused_line (refusal_text names refusal)
 
--- why a desk isn't opened
+-- The answer to a call that the client doesn't make: that the log is full, or the desk's refusal; a stray and want of memory have none.
+abbrev pub TellsFault : {F : Type 0} → List (List ℕ) → (F → Option Refusal) → ClientFault F → List ℕ → List ℕ → Type 0
+TellsFault names refusal LogFull before after = after ≡ before ++ full_line
+TellsFault names refusal (Refused fault) before after = TellsRefusal names (refusal fault) before after
+TellsFault names refusal _ before after = ⊥
+
+-- why an office isn't opened
 abbrev pub IsOpenFault : NamedGame → NamedDiagram → OpenFault → Type 0
 IsOpenFault game diagram AtLimit = IsAtLimit game
 IsOpenFault game diagram (Conflict f) = (¬ IsAtLimit game) × HasConflictOf diagram.lines [] × (f ≡ 0)

@@ -6,5 +6,6 @@ pub mod Made
 pub mod Output
 pub mod Results
 pub mod Run
+pub mod Serials
 pub mod Setting
 pub mod Settling

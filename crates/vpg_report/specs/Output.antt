@@ -7,13 +7,14 @@ use Rattle.vpg_script.specs.declared.serving.ScriptFault.TheVariants as ends
 use Rattle.vpg_report.specs.declared.runs.RunFault.{RunFault}
 use Rattle.vpg_report.specs.declared.runs.RunFault.TheVariants as stops
 
--- how a run ends that opened a desk, and carried its script out to this end
+-- how a run ends that opened an office, and carried its script out to this end
 abbrev pub ended : Result (Unit {0}) ScriptFault → Result (Unit {0}) RunFault
 ended (Ok done) = Ok done
 ended (Err (ends.Line n fault)) = Err (stops.Line n fault)
 ended (Err ends.Read) = Err stops.Read
 ended (Err ends.Write) = Err stops.Write
 ended (Err ends.Memory) = Err stops.Memory
+ended (Err ends.Stray) = Err stops.Stray
 
 -- what a run's result says of what was read and written: what its script's does; a refused opening comes before any line
 abbrev pub Outcome : {S : Type 0} → Machine S → (OpenFault → Type 0) → S → Option (List ℕ) → Option (List ℕ) → Option (List ℕ) → Option (List ℕ) → Result (Unit {0}) RunFault → Type 0
@@ -22,4 +23,5 @@ Outcome {S} serves Refuses old input left before after (Err (stops.Line n fault)
 Outcome {S} serves Refuses old input left before after (Err stops.Read) = ScriptOutcome serves old input left before after (Err ends.Read)
 Outcome {S} serves Refuses old input left before after (Err stops.Write) = ScriptOutcome serves old input left before after (Err ends.Write)
 Outcome {S} serves Refuses old input left before after (Err stops.Memory) = ScriptOutcome serves old input left before after (Err ends.Memory)
+Outcome {S} serves Refuses old input left before after (Err stops.Stray) = ScriptOutcome serves old input left before after (Err ends.Stray)
 Outcome {S} serves Refuses old input left before after (Err (stops.Open fault)) = Refuses fault × (left ≡ input) × (after ≡ before)

@@ -1,5 +1,5 @@
--- What a run of a script does to a desk's book, what the engine holds, and what it writes.
-use Rattle.std.specs.Prelude.{◌≡◌, ℕ, List, [], ◌++◌}
+-- What a run of a script does to the book of an office's desk, what the engine holds, and what it writes.
+use Rattle.std.specs.Prelude.{◌≡◌, ℕ, ◌+◌, List, [], ◌++◌, length}
 use Rattle.vpg_desk.specs.Book.{Book, opened}
 use Rattle.vpg_desk.specs.History.{Event, IsLegalFrom, book_after}
 use Rattle.vpg_desk.specs.Desk.{family_of}
@@ -11,19 +11,21 @@ use Rattle.vpg_report.specs.Answers.{Serves}
 use Rattle.vpg_report.specs.Made.{AreMadeBy}
 use Rattle.vpg_report.specs.Setting.{setting_in}
 
--- between two lines: the book of the desk, and what the engine holds
+-- between two lines: the book of the desk, how many calls were made on it, and what the engine holds
 pub record Between : Type 0 where
   pub book : Book
+  pub calls : ℕ
   pub held : Held
 
 -- before the first line
 abbrev pub begun : Between
-begun = record { book = opened; held = nothing_held }
+begun = record { book = opened; calls = 0; held = nothing_held }
 
 -- A request makes calls, each with the reply that the book gives at that point, is answered with this text, and leaves the book after them.
 abbrev pub calling : Scene → Machine Between
 calling scene old request text new =
-    (calls : List Event) × (Serves scene old.held request calls text new.held × IsLegalFrom (family_of (setting_in scene)) old.book calls × (new.book ≡ book_after (family_of (setting_in scene)) old.book calls))
+    (calls : List Event) × (Serves scene old.held old.calls request calls text new.held × IsLegalFrom (family_of (setting_in scene)) old.book calls
+    × (new.book ≡ book_after (family_of (setting_in scene)) old.book calls) × (new.calls ≡ old.calls + length calls))
 
 -- The same, and what is committed or kept was made by at most the line's number of sweeps, each by this many lifters.
 abbrev pub answering : Scene → ℕ → Machine Between
@@ -37,9 +39,9 @@ pub record Asked : Type 0 where
 abbrev pub unasked : Asked
 unasked = record { calls = []; held = nothing_held }
 
--- each request adds its calls to those before
+-- Each request adds its calls to those before; a full log takes no more.
 abbrev pub asking : Scene → Machine Asked
-asking scene old request text new = (calls : List Event) × (Serves scene old.held request calls text new.held × (new.calls ≡ old.calls ++ calls))
+asking scene old request text new = (calls : List Event) × (Serves scene old.held (length old.calls) request calls text new.held × (new.calls ≡ old.calls ++ calls))
 
 -- What is written for lines without a fault are the answers to the calls of a legal history, into which lawful harvests alone were
 -- handed, which are exactly the calls of these lines in their order, and which leaves the book.

@@ -1,22 +1,22 @@
 -- Runs in which each settle is answered `settled`, and each harvest that a line keeps passes `check`.
-use Rattle.std.specs.Prelude.{◌≡◌, ◌≢◌, ℕ, List, IfSome, Option, Some, Result, false, ⊤}
+use Rattle.std.specs.Prelude.{◌≡◌, ℕ, List, IfSome, Option, Some, Result, true, ⊤}
 use Rattle.std.specs.List.{AllByRecursion}
-use Rattle.vpg_desk.specs.Book.{IsSettled}
-use Rattle.vpg_desk.specs.History.{Event, IsLegalFrom, book_after}
 use Rattle.vpg_desk.specs.Desk.{family_of}
-use Rattle.vpg_report.specs.Answers.{Serves, Checks}
+use Rattle.vpg_report.specs.Answers.{Checks, settled_text}
 use Rattle.vpg_report.specs.Held.{Held}
 use Rattle.vpg_script.specs.Output.{Machine, Answered}
 use Rattle.vpg_report.specs.Output.{Outcome}
 use Rattle.vpg_report.specs.Results.{IsThrough}
-use Rattle.vpg_report.specs.Run.{Between, begun}
+use Rattle.vpg_report.specs.Run.{Between, begun, calling}
+use Rattle.vpg_script.specs.Script as script
 use Rattle.vpg_texts.specs.Scene.{Scene}
 use Rattle.vpg_report.specs.declared.runs.RunFault.{RunFault}
 use Rattle.vpg_report.specs.Setting.{setting_in}
 
--- no page is told to be unsettled
-abbrev pub AreSettled : List Event → Type 0
-AreSettled calls = AllByRecursion (λ e. e.reply ≢ IsSettled false) calls
+-- a settle is answered `settled`
+abbrev pub TellsSettle : script.Command → List ℕ → Type 0
+TellsSettle (script.Settle sweeps) text = (n : ℕ) × (text ≡ settled_text true n)
+TellsSettle _ text = ⊤
 
 -- each harvest that is held passes `check`
 abbrev pub AreChecked : Scene → Held → Type 0
@@ -24,11 +24,9 @@ AreChecked scene held = AllByRecursion (λ h. IfSome h (Checks (family_of (setti
 
 -- It answers, and so far each settle was answered `settled`, and each harvest that a line keeps passes `check`.
 abbrev pub settling : Scene → Machine Between
-settling scene old request text new =
-    (calls : List Event) × (Serves scene old.held request calls text new.held × IsLegalFrom (family_of (setting_in scene)) old.book calls × (new.book ≡ book_after (family_of (setting_in scene)) old.book calls)
-    × AreSettled calls × AreChecked scene new.held)
+settling scene old request text new = calling scene old request text new × TellsSettle request.command text × AreChecked scene new.held
 
--- Then the text, the book and what is held are one function of the scene and the lines, whichever lawful harvests the lines made.
+-- Then the text, the book, the number of calls and what is held are one function of the scene and the lines, whichever lawful harvests the lines made.
 abbrev pub SettledAnswersAreOne : Type 0
 SettledAnswersAreOne = (scene : Scene) (lines : List (List ℕ)) (text other : List ℕ) (new newer : Between) →
     Answered (settling scene) begun lines text new → Answered (settling scene) begun lines other newer → (text ≡ other) × (new ≡ newer)

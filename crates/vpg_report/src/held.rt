@@ -1,18 +1,24 @@
 //! The tokens and harvests that the engine holds.
-ghost use Rattle.std.specs.Prelude.{◌≡◌, ◌+◌, ◌-◌, ◌<◌, ◌≤◌, ◌==◌, ◌++◌, ◌∷◌, [], ℕ, length, max, position, slice_get, vec_len, vec_capacity, insert, slice_set, Some, None, OnOk, IfSome, IfNone};
-ghost use Rattle.std.specs.List.{reduce};
+ghost use Rattle.std.specs.Prelude.{◌≡◌, ◌+◌, ◌-◌, ◌<◌, ◌≤◌, ◌==◌, ◌++◌, ◌∷◌, [], ℕ, length, max, position, slice_get, slice_index_or, vec_len, vec_capacity, slice_set, Some, None, OnOk, IfSome, IfNone};
+ghost use Rattle.std.specs.List.{reduce, remove, insert};
+ghost use Rattle.vpg_client.specs.Faults.{UnlessStray};
+ghost use Rattle.vpg_office.specs.Token.{Held};
 ghost use Rattle.vpg_report.specs.Answers.{numbered};
 ghost use Rattle.vpg_report.specs.Engine.{IsPlaceOf};
 ghost use Rattle.vpg_report.specs.Held.{undo_meant, redo_meant, harvest_kept};
+ghost use Rattle.vpg_report.specs.Serials.{serials};
 
 use crate::answer;
 use std::alloc::AllocError;
-use vpg_desk::{Desk, Redo, Undo};
+use vpg_client::{ClientFault, Token};
+use vpg_desk::CommitFault;
 use vpg_measure::Harvest;
+use vpg_office::{Redo, Terms, Undo};
+use vpg_script::ServeFault;
 
 /// The place of the undo that a command means: that of the serial, or without one that of the greatest.
-pub(crate) fn undo_place(undos: &[Undo], serial: Option<u64>) -> Option<usize>
-    ensures { IsPlaceOf (undo_meant undos.now serial) undos.now result }
+pub(crate) fn undo_place<L: Terms>(undos: &[Undo<L>], serial: Option<u64>) -> Option<usize>
+    ensures { IsPlaceOf (undo_meant (serials undos.now) serial) (serials undos.now) result }
 {
     match serial {
         Some(serial) => place_of_undo(undos, serial),
@@ -20,21 +26,21 @@ pub(crate) fn undo_place(undos: &[Undo], serial: Option<u64>) -> Option<usize>
     }
 }
 
-fn place_of_undo(undos: &[Undo], serial: u64) -> Option<usize>
-    ensures { result ≡ position (λ n. n == serial) undos.now }
+fn place_of_undo<L: Terms>(undos: &[Undo<L>], serial: u64) -> Option<usize>
+    ensures { result ≡ position (λ t. t.serial == serial) undos.now }
 {
     undos.iter().position(|undo| undo.serial() == serial)
 }
 
-fn greatest(undos: &[Undo]) -> Option<u64>
-    ensures { result ≡ reduce max undos.now }
+fn greatest<L: Terms>(undos: &[Undo<L>]) -> Option<u64>
+    ensures { result ≡ reduce max (serials undos.now) }
 {
     undos.iter().map(|undo| undo.serial()).max()
 }
 
 /// The place of the redo that a command means: that of the serial, or without one the latest.
-pub(crate) fn redo_place(redos: &[Redo], serial: Option<u64>) -> Option<usize>
-    ensures { IsPlaceOf (redo_meant redos.now serial) redos.now result }
+pub(crate) fn redo_place<L: Terms>(redos: &[Redo<L>], serial: Option<u64>) -> Option<usize>
+    ensures { IsPlaceOf (redo_meant (serials redos.now) serial) (serials redos.now) result }
 {
     match serial {
         Some(serial) => place_of_redo(redos, serial),
@@ -42,22 +48,22 @@ pub(crate) fn redo_place(redos: &[Redo], serial: Option<u64>) -> Option<usize>
     }
 }
 
-fn place_of_redo(redos: &[Redo], serial: u64) -> Option<usize>
-    ensures { result ≡ position (λ n. n == serial) redos.now }
+fn place_of_redo<L: Terms>(redos: &[Redo<L>], serial: u64) -> Option<usize>
+    ensures { result ≡ position (λ t. t.serial == serial) redos.now }
 {
     redos.iter().position(|redo| redo.serial() == serial)
 }
 
 /// Holds an undo, and tells its serial.
-pub(crate) fn hold_undo(
-    undos: &mut Vec<Undo>,
-    undo: Undo,
+pub(crate) fn hold_undo<L: Terms>(
+    undos: &mut Vec<Undo<L>>,
+    undo: Undo<L>,
     word: &[u8],
     out: &mut Vec<u8>,
-) -> Result<(), AllocError>
+) -> Result<(), ServeFault>
     requires { vec_len undos.old < vec_capacity undos.old }
-    ensures held { undos.new.items ≡ undos.old.items ++ undo ∷ [] }
-    ensures told { OnOk result (out.new.items ≡ out.old.items ++ numbered word.now undo) }
+    ensures held { serials undos.new.items ≡ serials undos.old.items ++ undo.serial ∷ [] }
+    ensures told { OnOk result (out.new.items ≡ out.old.items ++ numbered word.now undo.serial) }
 {
     let serial = undo.serial();
     undos.push_reserved(undo);
@@ -65,23 +71,33 @@ pub(crate) fn hold_undo(
 }
 
 /// Holds a redo, and tells its serial.
-pub(crate) fn hold_redo(
-    redos: &mut Vec<Redo>,
-    redo: Redo,
+pub(crate) fn hold_redo<L: Terms>(
+    redos: &mut Vec<Redo<L>>,
+    redo: Redo<L>,
     word: &[u8],
     out: &mut Vec<u8>,
-) -> Result<(), AllocError>
+) -> Result<(), ServeFault>
     requires { vec_len redos.old < vec_capacity redos.old }
-    ensures held { redos.new.items ≡ redos.old.items ++ redo ∷ [] }
-    ensures told { OnOk result (out.new.items ≡ out.old.items ++ numbered word.now redo) }
+    ensures held { serials redos.new.items ≡ serials redos.old.items ++ redo.serial ∷ [] }
+    ensures told { OnOk result (out.new.items ≡ out.old.items ++ numbered word.now redo.serial) }
 {
     let serial = redo.serial();
     redos.push_reserved(redo);
     answer::numbered(word, serial, out)
 }
 
+/// Holds the undo of a change that strayed, where there is one.
+pub(crate) fn hold_strayed<L: Terms>(undos: &mut Vec<Undo<L>>, undo: Option<Undo<L>>)
+    requires { vec_len undos.old < vec_capacity undos.old }
+    ensures { IfNone undo (undos.new.items ≡ undos.old.items) }
+{
+    if let Some(undo) = undo {
+        undos.push_reserved(undo);
+    }
+}
+
 /// Puts a token back where it was.
-pub(crate) fn put_back<T>(tokens: &mut Vec<T>, place: usize, token: T)
+fn put_back<T>(tokens: &mut Vec<T>, place: usize, token: T)
     requires place { place ≤ vec_len tokens.old }
     requires room { vec_len tokens.old < vec_capacity tokens.old }
     ensures { tokens.new.items ≡ insert tokens.old.items place token }
@@ -89,6 +105,53 @@ pub(crate) fn put_back<T>(tokens: &mut Vec<T>, place: usize, token: T)
     match tokens.insert(place, token) {
         Ok(()) => {}
         Err(_full) => unreachable!(),
+    }
+}
+
+/// Puts a token back where it was, unless it was spent.
+pub(crate) fn put_back_unspent<T>(tokens: &mut Vec<T>, place: usize, token: Option<T>)
+    requires place { place ≤ vec_len tokens.old }
+    requires room { vec_len tokens.old < vec_capacity tokens.old }
+    ensures { IfSome token (λ t. tokens.new.items ≡ insert tokens.old.items place t) }
+{
+    if let Some(token) = token {
+        put_back(tokens, place, token);
+    }
+}
+
+/// Holds what an undo gave back: its own token where it was, or the redo of an undo that strayed.
+pub(crate) fn hold_undone<L: Terms>(
+    undos: &mut Vec<Undo<L>>,
+    redos: &mut Vec<Redo<L>>,
+    place: usize,
+    token: Token<L>,
+)
+    requires place { place ≤ vec_len undos.old }
+    requires room { vec_len undos.old < vec_capacity undos.old }
+    requires redo_room { vec_len redos.old < vec_capacity redos.old }
+    ensures { (undo : Held) → token ≡ Token.Undo undo → (undos.new.items ≡ insert undos.old.items place undo) × (redos.new.items ≡ redos.old.items) }
+{
+    match token {
+        Token::Undo(undo) => put_back(undos, place, undo),
+        Token::Redo(redo) => redos.push_reserved(redo),
+    }
+}
+
+/// Holds what a redo gave back: its own token where it was, or the undo of a redo that strayed.
+pub(crate) fn hold_redone<L: Terms>(
+    undos: &mut Vec<Undo<L>>,
+    redos: &mut Vec<Redo<L>>,
+    place: usize,
+    token: Token<L>,
+)
+    requires place { place ≤ vec_len redos.old }
+    requires room { vec_len redos.old < vec_capacity redos.old }
+    requires undo_room { vec_len undos.old < vec_capacity undos.old }
+    ensures { (redo : Held) → token ≡ Token.Redo redo → (redos.new.items ≡ insert redos.old.items place redo) × (undos.new.items ≡ undos.old.items) }
+{
+    match token {
+        Token::Redo(redo) => put_back(redos, place, redo),
+        Token::Undo(undo) => undos.push_reserved(undo),
     }
 }
 
@@ -113,35 +176,19 @@ pub(crate) fn take_harvest(harvests: &mut Vec<Option<Harvest>>, number: u64) -> 
     harvests[place].take()
 }
 
-/// Puts harvest K back.
-pub(crate) fn return_harvest(harvests: &mut Vec<Option<Harvest>>, number: u64, harvest: Harvest)
+/// Puts harvest K back, unless its commit strayed.
+pub(crate) fn return_harvest(
+    harvests: &mut Vec<Option<Harvest>>,
+    number: u64,
+    fault: &ClientFault<CommitFault>,
+    harvest: Option<Harvest>,
+)
     requires some { 0 < number }
     requires within { number ≤ vec_len harvests.old }
-    ensures { harvests.new.items ≡ slice_set harvests.old.items (number - 1) (Some harvest) }
+    ensures strayed { fault.now ≡ ClientFault.Stray → harvests.new.items ≡ harvests.old.items }
+    ensures back { UnlessStray fault.now (harvests.new.items ≡ slice_set harvests.old.items (number - 1) harvest) }
 {
-    harvests[(number - 1) as usize] = Some(harvest);
-}
-
-/// Spends undos, until none is left.
-pub(crate) fn keep_all(desk: &mut Desk, undos: Vec<Undo>)
-    requires { length undos.items ≤ desk.old.book.tokens }
-    ensures { desk.new.book.tokens + length undos.items ≡ desk.old.book.tokens }
-{
-    let mut undos = undos;
-    while let Some(undo) = undos.pop() {
-        desk.keep(undo);
+    if !matches!(fault, ClientFault::Stray) {
+        harvests[(number - 1) as usize] = harvest;
     }
-    undos.destroy_empty();
-}
-
-/// Spends redos, until none is left.
-pub(crate) fn forget_all(desk: &mut Desk, redos: Vec<Redo>)
-    requires { length redos.items ≤ desk.old.book.tokens }
-    ensures { desk.new.book.tokens + length redos.items ≡ desk.old.book.tokens }
-{
-    let mut redos = redos;
-    while let Some(redo) = redos.pop() {
-        desk.forget(redo);
-    }
-    redos.destroy_empty();
 }

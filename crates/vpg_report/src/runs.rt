@@ -11,12 +11,14 @@ ghost use Rattle.vpg_texts.specs.Scene.{scene_of};
 
 use crate::engine::Engine;
 use std::alloc::Global;
+use std::marker::Brand;
 use std::sync::{Arc, Wait};
 use std::thread::Threads;
 use thiserror::Error;
 use vpg_desk::OpenFault;
 use vpg_diagram::Diagram;
 use vpg_game::GuardedGame;
+use vpg_office::{Site, Terms};
 use vpg_script::{LineFault, ScriptFault, Sink, Source, answer_script};
 
 /// Why a run ends before the script does.
@@ -31,11 +33,14 @@ pub enum RunFault {
     /// The writer failed.
     #[error("Write")]
     Write,
-    /// No desk was opened.
+    /// No office was opened.
     #[error("{fault}")]
     Open { fault: OpenFault },
     #[error("Memory")]
     Memory,
+    /// The office had a call that no line of this run made.
+    #[error("Stray")]
+    Stray,
 }
 
 /// How the run ends of which the script was carried out to this end.
@@ -48,14 +53,16 @@ fn ended(answered: Result<(), ScriptFault>) -> Result<(), RunFault>
         Err(ScriptFault::Read) => Err(RunFault::Read),
         Err(ScriptFault::Write) => Err(RunFault::Write),
         Err(ScriptFault::Memory) => Err(RunFault::Memory),
+        Err(ScriptFault::Stray) => Err(RunFault::Stray),
     }
 }
 
-/// Opens a desk on the game and the diagram, reads a script, and answers its lines in order, each before the next is read. 1 to
-/// 64 lifters sweep at once, in threads of their own.
+/// Opens an office on the game and the diagram, reads a script, and answers its lines in order, each before the next is read. A label
+/// is a session of the office. 1 to 64 lifters sweep at once, in threads of their own.
 ///
-/// `Open` comes before any line is read; `Line`, `Read` and `Write` as the run meets them, and `Memory` only where a growth was refused.
-/// What earlier lines wrote stays written. At the script's end, and after each fault, all tokens are spent and the desk is closed.
+/// `Open` comes before any line is read; `Line`, `Read` and `Write` as the run meets them, `Memory` only where a growth was refused, and
+/// `Stray` where the office has a call that no line made. What earlier lines wrote stays written. At the script's end, and after each
+/// fault, all tokens are spent and the office is ended.
 pub fn run<T: Threads + Wait + Sync, R: Source, W: Sink>(
     rt: &T,
     alloc: Global,
@@ -69,11 +76,11 @@ pub fn run<T: Threads + Wait + Sync, R: Source, W: Sink>(
     requires lifters { (1 ≤ lifters) × (lifters ≤ 64) }
     requires features { (arc_value game).features ≡ feature_count (arc_value diagram).lines }
 
-    // What is written are the answers to the lines read, each by calls on the desk's book with the replies that it gives. What a line
-    // commits or keeps was made by at most its number of sweeps, each by this many lifters.
+    // What is written are the answers to the lines read, each by calls on the office's desk with the replies that it gives, while its log
+    // has room for them. What a line commits or keeps was made by at most its number of sweeps, each by this many lifters.
     ensures output { Outcome (answering (scene_of (arc_value game) (arc_value diagram)) lifters) (IsOpenRefusal (arc_value game) (arc_value diagram)) begun (R.remaining reader.old) (R.remaining reader.new) (W.contents writer.old) (W.contents writer.new) result }
 
-    // Unless it ends in Open, or in Memory, a desk was opened: game and diagram are a setting, of which the laws of `vpg_desk` speak.
+    // Unless it ends in Open, or in Memory, an office was opened: game and diagram are a setting, of which the laws of `vpg_desk` speak.
     ensures opened { Opens result (IsOpened (arc_value game) (arc_value diagram)) }
 
     // Read and Write come only where the device failed, or the reads were used up.
@@ -84,12 +91,42 @@ pub fn run<T: Threads + Wait + Sync, R: Source, W: Sink>(
     ensures readable { UnlessRead result (R.has_failed reader.new ≡ R.has_failed reader.old) }
     ensures writable { UnlessWrite result (W.has_failed writer.new ≡ W.has_failed writer.old) }
 {
-    let mut engine = match Engine::open(alloc, game, diagram) {
+    let Ok(site) = Site::new(alloc) else {
+        return Err(RunFault::Memory);
+    };
+    run_there::<Brand, T, R, W>(rt, alloc, site, game, diagram, reader, writer, lifters)
+}
+
+/// Runs a script at an office with this row and this ledger. `L` says which they are.
+fn run_there<L: Terms, T: Threads + Wait + Sync, R: Source, W: Sink>(
+    rt: &T,
+    alloc: Global,
+    site: Site,
+    game: Arc<GuardedGame>,
+    diagram: Arc<Diagram>,
+    reader: &mut R,
+    writer: &mut W,
+    lifters: u32,
+) -> Result<(), RunFault>
+    requires unread { R.calls reader.old ≡ 0 }
+    requires lifters { (1 ≤ lifters) × (lifters ≤ 64) }
+    requires features { (arc_value game).features ≡ feature_count (arc_value diagram).lines }
+    requires site { (site.row ≡ L.shelves) × (site.name ≡ L.name) × (site.parts ≡ L.parts) }
+    requires of { (arc_value game ≡ L.game) × (arc_value diagram ≡ L.diagram) }
+    requires room { L.limit ≡ 1048576 }
+    ensures output { Outcome (answering (scene_of (arc_value game) (arc_value diagram)) lifters) (IsOpenRefusal (arc_value game) (arc_value diagram)) begun (R.remaining reader.old) (R.remaining reader.new) (W.contents writer.old) (W.contents writer.new) result }
+    ensures opened { Opens result (IsOpened (arc_value game) (arc_value diagram)) }
+    ensures read { IsErrOf result RunFault.Read → (R.has_failed reader.new ≡ true) ⊎ (R.calls reader.new ≡ 16777216) }
+    ensures write { IsErrOf result RunFault.Write → W.has_failed writer.new ≡ true }
+    ensures readable { UnlessRead result (R.has_failed reader.new ≡ R.has_failed reader.old) }
+    ensures writable { UnlessWrite result (W.has_failed writer.new ≡ W.has_failed writer.old) }
+{
+    let mut engine = match Engine::<L>::open(rt, alloc, site, game, diagram) {
         Ok(engine) => engine,
         Err(OpenFault::Memory) => return Err(RunFault::Memory),
         Err(fault) => return Err(RunFault::Open { fault }),
     };
     let answered = answer_script(rt, alloc, lifters, &mut engine, reader, writer);
-    engine.end();
+    engine.end(rt);
     ended(answered)
 }

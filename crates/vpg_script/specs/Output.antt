@@ -89,6 +89,8 @@ ScriptOutcome {S} serves old input left before after (Err stops.Read) =
 -- some first lines were answered; where a write failed, a front of the answer to the line after them was written
 ScriptOutcome {S} serves old input left before after (Err stops.Memory) =
     (lines : List (List ℕ)) × (new : S) × (rest : Option (List ℕ)) × Wrote serves old new input rest before after lines
+ScriptOutcome {S} serves old input left before after (Err stops.Stray) =
+    (lines : List (List ℕ)) × (new : S) × (rest : Option (List ℕ)) × Wrote serves old new input rest before after lines
 ScriptOutcome {S} serves old input left before after (Err stops.Write) =
     (lines : List (List ℕ)) × (new : S) × (rest : Option (List ℕ)) × (mid : Option (List ℕ)) × (text : List ℕ)
     × (Wrote serves old new input rest before mid lines × (last : S) × (line : List ℕ) × (NextKnown rest line × Speaks serves new (said line) text last × AppendsSome mid after text))

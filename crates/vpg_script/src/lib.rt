@@ -19,4 +19,4 @@ mod serving;
 pub use command::{Command, LONGEST_LINE, LineFault, ReadFault, Request, read_line};
 pub use device::{Device, Failed, Sink, Source};
 pub use lines::{MOST_READS, Next, NextFault, next_line};
-pub use serving::{ScriptFault, Server, answer_script};
+pub use serving::{ScriptFault, ServeFault, Server, answer_script};

@@ -17,6 +17,26 @@ use std::sync::Wait;
 use std::thread::Threads;
 use thiserror::Error;
 
+/// Why a server doesn't carry a request out.
+#[derive(Clone, Copy, Debug, PartialEq, Eq, Error)]
+pub enum ServeFault {
+    #[error("Memory")]
+    Memory,
+    /// What the server serves was used by others.
+    #[error("Stray")]
+    Stray,
+}
+
+impl From<AllocError> for ServeFault {
+    ghost use Rattle.vpg_script.specs.declared.serving.ServeFault.TheVariants.{Memory};
+
+    ghost from_gives = { λ _ fault. fault ≡ Memory };
+
+    fn from(_e: AllocError) -> ServeFault {
+        ServeFault::Memory
+    }
+}
+
 /// What carries requests out.
 pub trait Server {
     // What no request changes.
@@ -40,7 +60,7 @@ pub trait Server {
         lifters: u32,
         request: &Request<'_>,
         out: &mut Vec<u8>,
-    ) -> Result<(), AllocError>
+    ) -> Result<(), ServeFault>
         requires sync { IsSync T.row }
         requires lifters { (1 ≤ lifters) × (lifters ≤ 64) }
         ensures answer { OnOk result ((text : List ℕ) × (answering (scene self.old) lifters (state self.old) (request_shown request.now) text (state self.new) × (out.new.items ≡ out.old.items ++ text))) }
@@ -61,6 +81,9 @@ pub enum ScriptFault {
     Write,
     #[error("Memory")]
     Memory,
+    /// What the server serves was used by others.
+    #[error("Stray")]
+    Stray,
 }
 
 /// Why a line ends the run.
@@ -69,6 +92,7 @@ pub enum LineStop {
     Fault(LineFault),
     Write,
     Memory,
+    Stray,
 }
 
 /// Carries a line out, and writes its answer.
@@ -85,6 +109,7 @@ fn answer_line<T: Threads + Wait + Sync, V: Server, W: Sink>(
     ensures scene { OnOk result (V.scene server.new ≡ V.scene server.old) }
     ensures fault { (f : Fault) → IsErrOf result (LineStop.Fault f) → (said line.now ≡ Err f) × (server.new ≡ server.old) × (writer.new ≡ writer.old) }
     ensures memory { IsErrOf result LineStop.Memory → writer.new ≡ writer.old }
+    ensures stray { IsErrOf result LineStop.Stray → writer.new ≡ writer.old }
     ensures write { IsErrOf result LineStop.Write → (text : List ℕ) × (Speaks (V.answering (V.scene server.old) lifters) (V.state server.old) (said line.now) text (V.state server.new) × AppendsSome (W.contents writer.old) (W.contents writer.new) text) }
     ensures write_failed { IsErrOf result LineStop.Write → W.has_failed writer.new ≡ true }
     ensures writable { UnlessUnwritten result (W.has_failed writer.new ≡ W.has_failed writer.old) }
@@ -96,11 +121,10 @@ fn answer_line<T: Threads + Wait + Sync, V: Server, W: Sink>(
         Err(ReadFault::Memory) => return Err(LineStop::Memory),
     };
     let mut text = Vec::new(alloc);
-    if server
-        .serve(rt, alloc, lifters, &request, &mut text)
-        .is_err()
-    {
-        return Err(LineStop::Memory);
+    match server.serve(rt, alloc, lifters, &request, &mut text) {
+        Ok(()) => {}
+        Err(ServeFault::Memory) => return Err(LineStop::Memory),
+        Err(ServeFault::Stray) => return Err(LineStop::Stray),
     }
     match writer.put(&text) {
         Ok(()) => Ok(()),
@@ -110,7 +134,8 @@ fn answer_line<T: Threads + Wait + Sync, V: Server, W: Sink>(
 
 /// Reads a script, and answers its lines in order, each before the next is read.
 ///
-/// `Line`, `Read` and `Write` come as the script meets them, and `Memory` only where a growth was refused.
+/// `Line`, `Read` and `Write` come as the script meets them, `Memory` only where a growth was refused, and `Stray` where the server
+/// answers so.
 pub fn answer_script<T: Threads + Wait + Sync, V: Server, R: Source, W: Sink>(
     rt: &T,
     alloc: Global,
@@ -157,6 +182,7 @@ pub fn answer_script<T: Threads + Wait + Sync, V: Server, R: Source, W: Sink>(
             }),
             Err(LineStop::Write) => return Err(ScriptFault::Write),
             Err(LineStop::Memory) => return Err(ScriptFault::Memory),
+            Err(LineStop::Stray) => return Err(ScriptFault::Stray),
         }
         number += 1;
     }

@@ -4,13 +4,15 @@ mod devices;
 mod order;
 mod rows;
 
-use std::alloc::{AllocError, Global};
+use std::alloc::Global;
 use std::io;
 use std::io::{Read, Write};
 use std::sync::Wait;
 use std::test::*;
 use std::thread::Threads;
-use vpg_script::{Command, Device, LineFault, Request, ScriptFault, Server, answer_script};
+use vpg_script::{
+    Command, Device, LineFault, Request, ScriptFault, ServeFault, Server, answer_script,
+};
 
 // Refuses what asks for a token or a harvest; it has no desk for the rest.
 #[derive(Drop)]
@@ -38,14 +40,16 @@ impl Server for Refuser {
         _lifters: u32,
         request: &Request<'_>,
         out: &mut Vec<u8>,
-    ) -> Result<(), AllocError> {
+    ) -> Result<(), ServeFault> {
         match request.command {
             Command::Undo(_) | Command::Redo(_) | Command::Keep(_) | Command::Forget(_) => {
-                out.extend_from_slice(b"refused NoToken\n")
+                out.extend_from_slice(b"refused NoToken\n")?
             }
-            Command::Commit(_) => out.extend_from_slice(b"refused NoHarvest\n"),
-            _ => Err(AllocError),
+            Command::Commit(_) => out.extend_from_slice(b"refused NoHarvest\n")?,
+            Command::Show => return Err(ServeFault::Stray),
+            _ => return Err(ServeFault::Memory),
         }
+        Ok(())
     }
 }
 

@@ -22,13 +22,13 @@ TellsConflict names f (told.Conflict name) = slice_get names f ≡ Some (string_
 TellsConflict names f told.Memory = ⊤
 TellsConflict names f fault = ⊥
 
--- what is told of a desk that isn't opened
+-- what is told of an office that isn't opened
 abbrev pub TellsOpening : List (List ℕ) → OpenFault → Fault → Type 0
 TellsOpening names opens.AtLimit fault = fault ≡ told.AtLimit
 TellsOpening names (opens.Conflict f) fault = TellsConflict names f fault
 TellsOpening names opens.Memory fault = fault ≡ told.Memory
 
--- A desk on the family answered the lines that were read, sweeping with this many lifters, and ended so; what was read, and what was written, is known where the devices tell.
+-- An office on the family answered the lines that were read, sweeping with this many lifters, and ended so; what was read, and what was written, is known where the devices tell.
 pub record Ends (diagram : NamedDiagram) (game : NamedGame) (lifters : ℕ) (script rest before after : Option (List ℕ)) (ended : Result (Unit {0}) RunFault) : Type 0 where
   pub answered : Outcome (answering (scene_of game diagram) lifters) (IsOpenRefusal game diagram) begun script rest before after ended
   pub opened : Opens ended (IsOpened game diagram)
@@ -44,6 +44,7 @@ IsRun diagram game lifters script rest before after (Err told.AtLimit) = Ends di
 IsRun diagram game lifters script rest before after (Err (told.Conflict name)) =
     Ends diagram game lifters script rest before after (Err (stops.Open (opens.Conflict 0))) × (slice_get diagram.names 0 ≡ Some (string_bytes name))
 IsRun diagram game lifters script rest before after (Err told.Memory) = Ends diagram game lifters script rest before after (Err stops.Memory)
+IsRun diagram game lifters script rest before after (Err told.Stray) = Ends diagram game lifters script rest before after (Err stops.Stray)
 IsRun diagram game lifters script rest before after (Err fault) = ⊥
 
 -- This holds of each run but one whose script could not be read to its end.

@@ -128,7 +128,7 @@ impl Family {
         Ok(Family { game, diagram })
     }
 
-    /// Carries a script out on a desk of the family.
+    /// Carries a script out at an office of the family.
     pub(crate) fn run<T: Threads + Wait + Sync, R: Source, W: Sink>(
         self,
         rt: &T,
@@ -141,7 +141,7 @@ impl Family {
         requires lifters { (1 ≤ lifters) × (lifters ≤ 64) }
         requires features { (arc_value self.game).features ≡ feature_count (arc_value self.diagram).lines }
 
-        // What is written are the answers to the script's lines by a desk on the family, and the result tells how they end.
+        // What is written are the answers to the script's lines by an office on the family, and the result tells how they end.
         ensures output { IsRun (arc_value self.diagram) (arc_value self.game) lifters (R.remaining reader.old) (R.remaining reader.new) (W.contents writer.old) (W.contents writer.new) result }
 
         // Read and Write come only where the device failed, or the script was read 16,777,216 times.
@@ -160,6 +160,7 @@ impl Family {
             Err(RunFault::Write) => Err(Fault::Write),
             Err(RunFault::Open { fault }) => Err(not_opened(alloc, &diagram, fault)),
             Err(RunFault::Memory) => Err(Fault::Memory),
+            Err(RunFault::Stray) => Err(Fault::Stray),
         }
     }
 

@@ -33,6 +33,8 @@ pub(crate) enum Fault {
     /// The features that were named are no product.
     NotAProduct,
     Memory,
+    /// The office of a run had a call that no line of its script made.
+    Stray,
 }
 
 impl From<AllocError> for Fault {

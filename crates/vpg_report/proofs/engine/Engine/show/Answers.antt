@@ -1,36 +1,54 @@
-use Rattle.std.proofs.Common.{◌∙◌}
+use Rattle.std.proofs.Common.{ℕ, List, ◌++◌, Ok, refl, sym, ap, ◌∙◌, subst}
+use Rattle.std.specs.Prelude.{codes}
+use Rattle.vpg_script.specs.declared.serving.ServeFault.{ServeFault}
+use Rattle.vpg_texts.specs.declared.showing.plans.PlanFault.{PlanFault}
+use Rattle.vpg_texts.specs.Plan.{IsPlanFault}
+use Rattle.vpg_texts.specs.Scene.{scene_of}
+use Rattle.vpg_report.specs.Answers.{refused_line}
 use Rattle.vpg_trail.specs.Page.{Hopeful, Dual}
+use Rattle.vpg_office.specs.Faults.{never_refused}
+use Rattle.vpg_desk.specs.Book.{Page}
+use Rattle.vpg_script.specs.Script as script
 use Rattle.vpg_report.specs.EngineFields.{engine_in}
-use Rattle.vpg_report.proofs.Asked.{on_same_view}
-use Rattle.vpg_report.proofs.Paged.{named, consistent, table_length, table_within, show_answers}
+use Rattle.vpg_report.proofs.Asked.{on_view, both_on, log_full}
+use Rattle.vpg_report.proofs.Enduring.{endures, stays, unless_stray_any}
+use Rattle.vpg_report.proofs.Paged.{named, consistent, table_length, table_within, entries_are_within, show_answers, trail_answers, products_answers, plan_answers, not_full, not_settled}
 use Rattle.vpg_report.proofs.engine.Engine.show.Goals as goal
 
 pub show-requires-clause-named : goal.show-requires-clause-named
-show-requires-clause-named c =
-    named c.self.inside.desk c.in_ok-page.ensures.tells c.deref-2.result.now c.in_ok-page.page.decisions (c.deref-2.ensures ∙ c.self.invariant.diagram) c.in_ok-page.ensures.decisions
+show-requires-clause-named g c =
+    named c.self.inside.client.desk c.in-Ok.ensures.tells c.deref-2.result.now c.in-Ok.page.decisions (c.deref-2.ensures ∙ c.self.invariant.diagram) c.in-Ok.ensures.decisions
 
 pub show-requires-clause-consistent : goal.show-requires-clause-consistent
-show-requires-clause-consistent c =
-    consistent c.self.inside.desk c.in_ok-page.ensures.tells c.deref-2.result.now c.in_ok-page.page.decisions (c.deref-2.ensures ∙ c.self.invariant.diagram) c.in_ok-page.ensures.decisions
+show-requires-clause-consistent g c =
+    consistent c.self.inside.client.desk c.in-Ok.ensures.tells c.deref-2.result.now c.in-Ok.page.decisions (c.deref-2.ensures ∙ c.self.invariant.diagram) c.in-Ok.ensures.decisions
 
 pub show-requires-clause-hopeful : goal.show-requires-clause-hopeful
-show-requires-clause-hopeful c =
-    table_length c.self.inside.desk c.in_ok-page.ensures.tells c.in_ok-page.ensures.setting c.deref.result.now Hopeful c.in_ok-page.page.hopeful (c.deref.ensures ∙ c.self.invariant.game) c.in_ok-page.ensures.hopeful
+show-requires-clause-hopeful g c =
+    table_length c.self.inside.client.desk c.in-Ok.ensures.tells c.in-Ok.ensures.setting c.deref.result.now Hopeful c.in-Ok.page.hopeful (c.deref.ensures ∙ c.self.invariant.game) c.in-Ok.ensures.hopeful
 
 pub show-requires-clause-dual : goal.show-requires-clause-dual
-show-requires-clause-dual c =
-    table_length c.self.inside.desk c.in_ok-page.ensures.tells c.in_ok-page.ensures.setting c.deref.result.now Dual c.in_ok-page.page.dual (c.deref.ensures ∙ c.self.invariant.game) c.in_ok-page.ensures.dual
+show-requires-clause-dual g c =
+    table_length c.self.inside.client.desk c.in-Ok.ensures.tells c.in-Ok.ensures.setting c.deref.result.now Dual c.in-Ok.page.dual (c.deref.ensures ∙ c.self.invariant.game) c.in-Ok.ensures.dual
 
 pub show-requires-clause-hopeful_within : goal.show-requires-clause-hopeful_within
-show-requires-clause-hopeful_within c =
-    table_within c.self.inside.desk c.in_ok-page.ensures.tells c.in_ok-page.ensures.setting c.deref.result.now Hopeful c.in_ok-page.page.hopeful (c.deref.ensures ∙ c.self.invariant.game) c.in_ok-page.ensures.hopeful
+show-requires-clause-hopeful_within g c =
+    table_within c.self.inside.client.desk c.in-Ok.ensures.tells c.in-Ok.ensures.setting c.deref.result.now Hopeful c.in-Ok.page.hopeful (c.deref.ensures ∙ c.self.invariant.game) c.in-Ok.ensures.hopeful
 
 pub show-requires-clause-dual_within : goal.show-requires-clause-dual_within
-show-requires-clause-dual_within c =
-    table_within c.self.inside.desk c.in_ok-page.ensures.tells c.in_ok-page.ensures.setting c.deref.result.now Dual c.in_ok-page.page.dual (c.deref.ensures ∙ c.self.invariant.game) c.in_ok-page.ensures.dual
+show-requires-clause-dual_within g c =
+    table_within c.self.inside.client.desk c.in-Ok.ensures.tells c.in-Ok.ensures.setting c.deref.result.now Dual c.in-Ok.page.dual (c.deref.ensures ∙ c.self.invariant.game) c.in-Ok.ensures.dual
 
 pub returns : goal.returns
-returns c =
-    on_same_view c.show.result _ (engine_in c.self.inside) _ _ _ _ c.self.view_is
-    (λ shown. show_answers (engine_in c.self.inside) c.args.session c.deref.result.now c.deref-2.result.now c.args.out.now.items c.show.new.out.items (c.deref.ensures ∙ c.self.invariant.game) (c.deref-2.ensures ∙ c.self.invariant.diagram)
-    c.in_ok-page.page.decisions c.in_ok-page.ensures.decisions c.in_ok-page.page.hopeful c.in_ok-page.page.dual c.in_ok-page.ensures.hopeful c.in_ok-page.ensures.dual shown) c.show.ensures.shown
+returns g c =
+    let e = c.self.inside in
+    let old = engine_in e.client e.undos.items e.redos.items e.harvests.items in
+    on_view {E = ServeFault} (Ok tt) _ old _ _ _ _ _ c.self.view_is (λ told. show_answers g.L.Terms.limit c.self.invariant.room_is old _ c.args.session c.deref.result.now c.deref-2.result.now c.args.out.now.items _ (c.deref.ensures ∙ c.self.invariant.game) (c.deref-2.ensures ∙ c.self.invariant.diagram) c.in-Ok.page.entries c.in-Ok.ensures.accepted refl c.in-Ok.page.decisions c.in-Ok.ensures.decisions c.in-Ok.page.hopeful c.in-Ok.page.dual c.in-Ok.ensures.hopeful c.in-Ok.ensures.dual told) c.in_ok-show.ensures.shown
+
+pub returns-in-Err : goal.returns-in-Err
+returns-in-Err g c =
+    let e = c.self.inside in
+    let old = engine_in e.client e.undos.items e.redos.items e.harvests.items in
+    on_view c.unanswered.result _ old _ _ _ _ _ c.self.view_is
+    (λ told. log_full g.L.Terms.limit c.self.invariant.room_is c.args.session never_refused old _ script.Show Page c.in-Err.fault c.args.out.now.items _ refl c.in-Err.ensures.fault (unless_stray_any c.in-Err.fault _ refl) told.0 told.1)
+    (both_on c.unanswered.result _ _ c.unanswered.ensures.full c.unanswered.ensures.told)
