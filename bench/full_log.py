@@ -1,5 +1,5 @@
 #!/usr/bin/env python3
-"""Scripts that fill the log of a run: where `refused LogFull` begins.
+"""Scripts that fill the log of a run: where `refused LogFull` begins, and what memory the log takes.
 
     python3 bench/full_log.py VPGDESK
 
@@ -7,6 +7,7 @@ Each script begins with commands of the built-in family, fills the log up to som
 """
 import subprocess
 import sys
+import tempfile
 
 ROOM = 1_048_576
 FULL = "refused LogFull"
@@ -54,9 +55,23 @@ def tried(program, first, left, last):
     return True
 
 
+def peak(program, lines):
+    """Peak memory of a run, in bytes."""
+    with tempfile.NamedTemporaryFile("w") as script:
+        script.writelines(line + "\n" for line in lines)
+        script.flush()
+        words = ["/usr/bin/env", "time", "-f", "%M", program, "run", "examples/mine_pump/game", "examples/mine_pump/diagram", script.name]
+        ran = subprocess.run(words, stdout=subprocess.DEVNULL, stderr=subprocess.PIPE, text=True, check=True)
+    return int(ran.stderr) * 1024
+
+
 def main(words):
     if len(words) != 1:
         sys.exit(__doc__)
+    for lines in (["products"], ["lift hopeful 1000"], ["settle"], ["select start", "undo"]):
+        number = ROOM // sum(map(calls_of, lines))
+        more = peak(words[0], lines * number) - peak(words[0], lines)
+        print(f"a log of `{', '.join(lines)}`: {more / (number * sum(map(calls_of, lines))):.0f} bytes a call")
     return 0 if all([tried(words[0], *script) for script in SCRIPTS]) else 1
 
 
