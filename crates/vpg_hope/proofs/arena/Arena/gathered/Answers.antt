@@ -1,4 +1,4 @@
-use Rattle.std.proofs.Common.{◌≡◌, ℕ, ◌+◌, ◌<◌, false, List, ◌++◌, length, length-append, refl, sym, ap, ◌∙◌, arith}
+use Rattle.std.proofs.Common.{◌≡◌, ℕ, [], ◌+◌, ◌<◌, false, List, ◌++◌, length, length-append, refl, sym, ap, ◌∙◌, arith}
 use Rattle.std.proofs.lemmas.List.{length_push}
 use Rattle.std.proofs.lemmas.List.Elements.{All-push}
 use Rattle.vpg_guards.specs.Formula.{Formula}
@@ -8,14 +8,16 @@ use Rattle.vpg_game.specs.Guarded.{GuardedEdge}
 use Rattle.vpg_game.specs.Game.{graph_of, vertex_in}
 use Rattle.vpg_game.proofs.Graphs.{same_count, graph_at}
 use Rattle.vpg_hope.specs.Selection.{kept_under, owner_under, priority_under}
-use Rattle.vpg_hope.proofs.Rows.{InRange, ranges_grow}
+use Rattle.vpg_hope.specs.Arena.{Vertex, InLists}
+use Rattle.vpg_hope.proofs.Rows.{ranges_in_shared}
 use Rattle.vpg_hope.proofs.Selected.{priority_fits, few_more, kept_closed, vertex_made}
-use Rattle.vpg_hope.proofs.arena.Arena.reselected.Goals as goal
+use Rattle.vpg_hope.proofs.arena.Arena.gathered.Goals as goal
 
 pub push_held-requires-clause-held : goal.push_held-requires-clause-held
 push_held-requires-clause-held c =
     let within : c.loop-v.v < length c.args.marks.now = omega (arith, c.loop-v-test.true, c.vertices-count.ensures.graph, c.requires.marks) in
-    λ unmarked. c.requires.held c.loop-v.v (any_default c.args.marks.now c.loop-v.v false _ within ∙ unmarked)
+    λ unmarked. ap (λ (x : Vertex). x.successors)
+    (c.requires.held c.loop-v.v (omega (arith, c.loop-v-test.true, c.vertices-count.ensures.graph)) (any_default c.args.marks.now c.loop-v.v false _ within ∙ unmarked))
 
 pub priority-requires-in-loop-v : goal.priority-requires-in-loop-v
 priority-requires-in-loop-v c =
@@ -54,8 +56,7 @@ loop-v-preserved c =
           (c.owner-in-loop-v.ensures ∙ ap (λ (owner : Player). owner_under c.args.selection owner) c.owner.ensures.graph)
           (c.priority-in-loop-v.ensures ∙ ap (λ (priority : ℕ). priority_under c.args.selection priority) c.priority.ensures.graph)
           refl start last);
-      ranges = rw pushed (All-push (InRange (length c.push_held.new.successors.items)) c.loop-v.rows.items _
-          (ranges_grow c.loop-v.rows.items (length ss) _ (omega (arith, whole)) c.loop-v.invariant.ranges) (omega arith, omega (arith, whole)));
+      ranges = rw (pushed, extended) (All-push (InLists (ss ++ more) []) c.loop-v.rows.items _ (ranges_in_shared c.loop-v.rows.items ss more [] c.loop-v.invariant.ranges) (omega arith, omega (arith, length-append ss more)));
       closed = rw extended (kept_closed c.args.selection vertex_owner game ss v c.vertices-count.ensures.game less c.loop-v.invariant.closed);
       few = rw extended (few_more c.args.selection vertex_owner game.vertices ss more v less
           (ap (λ (es : List (GuardedEdge Formula)). kept_under c.args.selection vertex_owner es) (ap (λ x. x.edges) (graph_at game.vertices v))) c.loop-v.invariant.few);
