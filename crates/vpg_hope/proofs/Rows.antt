@@ -90,19 +90,30 @@ row_replaced rows ss own more v owner priority s e ranges hs he =
 
 -- ---- a list that becomes another, from its head on
 
+next_set : {X : Type 0} (news olds : List X) (v : ℕ) (x : X) → v < length news → length olds ≡ length news → x ≡ get_or news v x →
+    set (take v news ++ drop v olds) v x ≡ take (suc v) news ++ drop (suc v) olds
+next_set [] olds v x less same is = absurd (omega arith)
+next_set (y ∷ news) [] v x less same is = absurd (omega arith)
+next_set (y ∷ news) (z ∷ olds) zero x less same is = ap (λ w. w ∷ olds) is
+next_set (y ∷ news) (z ∷ olds) (suc v) x less same is = ap (λ ws. y ∷ ws) (next_set news olds v x (omega arith) (omega arith) is)
+
+next_same : {X : Type 0} (news olds : List X) (v : ℕ) (d : X) → v < length news → length olds ≡ length news → get_or olds v d ≡ get_or news v d →
+    take v news ++ drop v olds ≡ take (suc v) news ++ drop (suc v) olds
+next_same [] olds v d less same is = absurd (omega arith)
+next_same (y ∷ news) [] v d less same is = absurd (omega arith)
+next_same (y ∷ news) (z ∷ olds) zero d less same is = ap (λ w. w ∷ olds) is
+next_same (y ∷ news) (z ∷ olds) (suc v) d less same is = ap (λ ws. y ∷ ws) (next_same news olds v d (omega arith) (omega arith) is)
+
+one_more : (v : ℕ) → suc v ≡ v + 1
+one_more v = omega arith
+
 pub next_replaced : {X : Type 0} (news olds : List X) (v : ℕ) (x : X) → v < length news → length olds ≡ length news → x ≡ get_or news v x →
     set (take v news ++ drop v olds) v x ≡ take (v + 1) news ++ drop (v + 1) olds
-next_replaced [] olds v x less same is = absurd (omega arith)
-next_replaced (y ∷ news) [] v x less same is = absurd (omega arith)
-next_replaced (y ∷ news) (z ∷ olds) zero x less same is = ap (λ w. w ∷ olds) is
-next_replaced (y ∷ news) (z ∷ olds) (suc v) x less same is = ap (λ ws. y ∷ ws) (next_replaced news olds v x (omega arith) (omega arith) is)
+next_replaced news olds v x less same is = next_set news olds v x less same is ∙ ap (λ (n : ℕ). take n news ++ drop n olds) (one_more v)
 
 pub next_kept : {X : Type 0} (news olds : List X) (v : ℕ) (d : X) → v < length news → length olds ≡ length news → get_or olds v d ≡ get_or news v d →
     take v news ++ drop v olds ≡ take (v + 1) news ++ drop (v + 1) olds
-next_kept [] olds v d less same is = absurd (omega arith)
-next_kept (y ∷ news) [] v d less same is = absurd (omega arith)
-next_kept (y ∷ news) (z ∷ olds) zero d less same is = ap (λ w. w ∷ olds) is
-next_kept (y ∷ news) (z ∷ olds) (suc v) d less same is = ap (λ ws. y ∷ ws) (next_kept news olds v d (omega arith) (omega arith) is)
+next_kept news olds v d less same is = next_same news olds v d less same is ∙ ap (λ (n : ℕ). take n news ++ drop n olds) (one_more v)
 
 pub all_replaced : {X : Type 0} (news olds : List X) (v : ℕ) → length news ≤ v → length olds ≡ length news → take v news ++ drop v olds ≡ news
 all_replaced news olds v past same =

@@ -39,7 +39,7 @@ priority_fits game v is less = priority_at (length game.vertices) game.features 
 
 -- ---- the edges that stay
 
-kept_few : (selection : Selection) (owner : Player) (edges : List (GuardedEdge Formula)) → length (kept_under selection owner edges) ≤ length edges
+pub kept_few : (selection : Selection) (owner : Player) (edges : List (GuardedEdge Formula)) → length (kept_under selection owner edges) ≤ length edges
 kept_few selection owner edges = few (λ edge. is_kept selection owner edge.guard)
   where
     few : (test : GuardedEdge Formula → Bool) → length (map (λ edge. edge.to) (filter test edges)) ≤ length edges
