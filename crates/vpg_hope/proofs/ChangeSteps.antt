@@ -1,8 +1,8 @@
 -- What a change of what is known concerns.
-use Rattle.std.proofs.Common.{Bor, ◌≡◌, ◌≢◌, ℕ, zero, suc, ◌+◌, ◌<◌, ◌≤◌, Bool, true, false, cond, List, [], ◌∷◌, ◌++◌, length, get_or, set, take, map, filter, Contains, All, ◌⊎◌, ◌↔◌, inl, inr, refl, sym, ap, ap₂, ◌∙◌, subst, arith}
+use Rattle.std.proofs.Common.{Bor, ◌≡◌, ◌≢◌, ℕ, zero, suc, ◌+◌, ◌<◌, ◌≤◌, Bool, true, false, cond, List, [], ◌∷◌, length, get_or, set, take, map, filter, Contains, All, ◌⊎◌, ◌↔◌, inl, inr, refl, sym, ap, ap₂, ◌∙◌, subst, arith}
 use Rattle.std.proofs.lemmas.Bool.{cases_eq, cases_lt}
-use Rattle.std.proofs.lemmas.List.{length-set, get_or-set_same, get_or-set_other, take_more, take_all}
-use Rattle.std.proofs.lemmas.List.Elements.{All-contains, All-contains_itself, All-weaker, Contains-append_left, Contains-append_right, Contains-append_cases}
+use Rattle.std.proofs.lemmas.List.{length-set, get_or-set_same, get_or-set_other, take_more}
+use Rattle.std.proofs.lemmas.List.Elements.{All-contains_itself, All-weaker, Contains-append_left, Contains-append_right, Contains-append_cases}
 use Rattle.vpg_guards.specs.declared.tri.Tri.{Tri}
 use Rattle.vpg_guards.specs.declared.tri.Tri.TheVariants.{No, Unknown, Yes}
 use Rattle.vpg_guards.specs.Formula.{Formula, named}
@@ -12,9 +12,9 @@ use Rattle.vpg_guards.proofs.Noted.{Contains-none, Contains-one}
 use Rattle.vpg_game.specs.declared.player.Player.{Player}
 use Rattle.vpg_game.specs.Players.{opponent}
 use Rattle.vpg_game.specs.Guarded.{GuardedEdge, GuardedGame, dual}
-use Rattle.vpg_game.specs.Game.{NamedGame, graph_of, vertex_in, unnamed, no_vertex}
+use Rattle.vpg_game.specs.Game.{vertex_in}
 use Rattle.vpg_game.specs.Naming.{features_named}
-use Rattle.vpg_hope.specs.Games.{Game, Vertex, isolated}
+use Rattle.vpg_hope.specs.Games.{Game, isolated}
 use Rattle.vpg_hope.specs.Hope.{keeps_in_hope, hopeful_game}
 use Rattle.vpg_hope.specs.Selection.{AreStill, IsHeldUnmarked}
 use Rattle.vpg_hope.specs.declared.selection.Selection.TheVariants.{Hopeful, HopefulOfDual}

@@ -1,4 +1,4 @@
-use Rattle.std.proofs.Common.{◌≡◌, ℕ, List, All, length, length-append, sym, ap, ◌∙◌, subst, arith}
+use Rattle.std.proofs.Common.{List, All, length, length-append, sym, ap, subst, arith}
 use Rattle.vpg_guards.specs.Formula.{Formula, IsBelow}
 use Rattle.vpg_game.specs.Guarded.{GuardedEdge}
 use Rattle.vpg_hope.specs.Selection.{features_under, kept_under}
