@@ -46,7 +46,7 @@ impl GuessGround {
         self.graph.size().saturating_mul(each)
     }
 
-    /// The looks of a turn behind a guess of so many values.
+    /// The looks at edges and vertices in a turn behind a guess of so many values.
     pub(crate) fn next_looks(&self, guessed: usize) -> u64 {
         (guessed as u64)
             .saturating_mul(16)

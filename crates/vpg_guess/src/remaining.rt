@@ -1,4 +1,5 @@
-//! Lifts of what remains: each vertex of which a successor rose, first come, first served.
+//! Lifts of what remains: each vertex of which a successor rose, in the order of the vertices where they are many, and else first come,
+//! first served.
 ghost use Rattle.vpg_guess.specs.Kept.{IsRaisedFrom};
 ghost use Rattle.vpg_measure.specs.Lifts.{IsTableOf};
 
