@@ -1,5 +1,5 @@
 -- The texts of a page.
-use Rattle.std.specs.Prelude.{ℕ, zero, suc, Bool, true, false, ◌==◌, if◌then◌else◌, List, [], ◌∷◌, ◌++◌, length, Option, Some, None, flat_map, count_by, is_some, slice_index, slice_index_or, codes, decimal}
+use Rattle.std.specs.Prelude.{ℕ, zero, suc, Bool, true, false, not, ◌==◌, if◌then◌else◌, List, [], ◌∷◌, ◌++◌, length, Option, Some, None, flat_map, count_by, is_some, slice_index, slice_index_or, codes, decimal}
 use Rattle.vpg_diagram.specs.declared.clause.Literal.{Literal}
 use Rattle.vpg_guards.specs.declared.tri.Tri.{Tri}
 use Rattle.vpg_guards.specs.declared.tri.Tri.TheVariants.{No, Unknown, Yes}
@@ -56,6 +56,22 @@ show_text names identifiers hopeful_top dual_top choices full settled hopeful du
     ++ codes "full" ++ answer_line full
     ++ codes "settled" ++ answer_line settled
     ++ vertex_lines hopeful_top dual_top identifiers hopeful dual (length identifiers)
+
+-- ---- count
+
+-- a word and a number
+abbrev pub count_line : List ℕ → ℕ → List ℕ
+count_line word n = word ++ blank_number n ++ 10 ∷ []
+
+-- how many vertices have the top in each table, and how many have not
+abbrev pub count_text : ℕ → ℕ → Bool → Bool → List ℕ → List ℕ → List ℕ
+count_text hopeful_top dual_top full settled hopeful dual =
+    count_line (codes "hopeless") (count_by (λ n. n == hopeful_top) hopeful)
+    ++ count_line (codes "possible") (count_by (λ n. not (n == hopeful_top)) hopeful)
+    ++ count_line (codes "sure") (count_by (λ n. n == dual_top) dual)
+    ++ count_line (codes "unsure") (count_by (λ n. not (n == dual_top)) dual)
+    ++ codes "settled" ++ answer_line settled
+    ++ codes "full" ++ answer_line full
 
 -- ---- trail
 
