@@ -22,7 +22,7 @@ use Rattle.vpg_script.specs.Output.{Speaks, Answered}
 use Rattle.vpg_texts.specs.Plan.{PlansUnder}
 use Rattle.vpg_texts.specs.Text.{plan_text}
 use Rattle.vpg_report.specs.Held.{Held, undo_meant, redo_meant, harvest_kept, after_change, after_undo, after_redo, after_keep, after_forget, with_harvest, without_harvest}
-use Rattle.vpg_texts.specs.Scene.{Scene, UnderKnown, TellsUnder, IsShown, shown_lines, IsCounted, count_lines, TellsKnown, table_in}
+use Rattle.vpg_texts.specs.Scene.{Scene, UnderKnown, TellsUnder, IsShown, shown_lines, IsCounted, counted_lines, TellsKnown, table_in}
 use Rattle.vpg_report.specs.Answers.{Own, NoFeature, NoToken, NoHarvest, NoVertex, Checks, IsOf, IsLifted, IsPlanAnswer, vertex_of, call_or, first_call, full_line, settled_text, Rest, Ends, Follows, Makes, Asks, TellsSettled, AsksSettled, TellsAdded, Sweeps, Keeps, Lifts, TellsChanged, TellsUndone, TellsRedone, TellsSpent, ShowsPage, TellsEntries, TellsProducts, TellsPlan, CountsPage, TellsPage, Continues, Begins}
 use Rattle.vpg_report.specs.Run.{Between, begun}
 use Rattle.vpg_report.specs.Settling.{settling, TellsSettle, AreChecked, SettledAnswersAreOne}
@@ -49,7 +49,7 @@ module _ (scene : Scene) (decisions : List Decision) where
   shown_one hopeful dual = tells_one hopeful dual (shown_lines scene decisions hopeful dual)
 
   counted_one : (hopeful dual one other : List ℕ) → IsCounted scene decisions hopeful dual one → IsCounted scene decisions hopeful dual other → one ≡ other
-  counted_one hopeful dual = tells_one hopeful dual (count_lines scene hopeful dual)
+  counted_one hopeful dual = tells_one hopeful dual (counted_lines scene hopeful dual)
 
   products_one : (one other : List ℕ) → TellsKnown scene decisions one → TellsKnown scene decisions other → one ≡ other
   products_one one other = under_one _ _ (λ known a b. a ∙ sym b)

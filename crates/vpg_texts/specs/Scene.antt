@@ -74,13 +74,13 @@ IsShown scene decisions hopeful dual text =
     UnderKnown scene decisions (λ known. TellsUnder scene known hopeful dual (shown_lines scene decisions hopeful dual) text)
 
 -- how many vertices have which verdict by these tables
-abbrev pub count_lines : Scene → (hopeful dual : List ℕ) → (full settled : Bool) → List ℕ
-count_lines scene hopeful dual full settled = count_text (top_for Hopeful scene.game) (top_for Dual scene.game) full settled hopeful dual
+abbrev pub counted_lines : Scene → (hopeful dual : List ℕ) → (full settled : Bool) → List ℕ
+counted_lines scene hopeful dual full settled = count_text (top_for Hopeful scene.game) (top_for Dual scene.game) full settled hopeful dual
 
 -- The text counts the verdicts by these tables, under what the decisions make known.
 abbrev pub IsCounted : Scene → List Decision → (hopeful dual text : List ℕ) → Type 0
 IsCounted scene decisions hopeful dual text =
-    UnderKnown scene decisions (λ known. TellsUnder scene known hopeful dual (count_lines scene hopeful dual) text)
+    UnderKnown scene decisions (λ known. TellsUnder scene known hopeful dual (counted_lines scene hopeful dual) text)
 
 -- The text tells of each feature whether the decisions make it known.
 abbrev pub TellsKnown : Scene → List Decision → List ℕ → Type 0

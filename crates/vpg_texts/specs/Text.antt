@@ -63,15 +63,19 @@ show_text names identifiers hopeful_top dual_top choices full settled hopeful du
 abbrev pub count_line : List ℕ → ℕ → List ℕ
 count_line word n = word ++ blank_number n ++ 10 ∷ []
 
--- how many vertices have the top in each table, and how many have not
+-- how many vertices have the top in a table, and how many have not
+abbrev pub count_lines : List ℕ → List ℕ → ℕ → List ℕ → List ℕ
+count_lines at_top below top table = count_line at_top (count_by (λ n. n == top) table) ++ count_line below (count_by (λ n. not (n == top)) table)
+
+-- whether the page is settled, and whether each feature is known
+abbrev pub state_lines : Bool → Bool → List ℕ
+state_lines settled full = codes "settled" ++ answer_line settled ++ codes "full" ++ answer_line full
+
 abbrev pub count_text : ℕ → ℕ → Bool → Bool → List ℕ → List ℕ → List ℕ
 count_text hopeful_top dual_top full settled hopeful dual =
-    count_line (codes "hopeless") (count_by (λ n. n == hopeful_top) hopeful)
-    ++ count_line (codes "possible") (count_by (λ n. not (n == hopeful_top)) hopeful)
-    ++ count_line (codes "sure") (count_by (λ n. n == dual_top) dual)
-    ++ count_line (codes "unsure") (count_by (λ n. not (n == dual_top)) dual)
-    ++ codes "settled" ++ answer_line settled
-    ++ codes "full" ++ answer_line full
+    count_lines (codes "hopeless") (codes "possible") hopeful_top hopeful
+    ++ count_lines (codes "sure") (codes "unsure") dual_top dual
+    ++ state_lines settled full
 
 -- ---- trail
 

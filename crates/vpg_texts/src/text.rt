@@ -2,7 +2,7 @@
 ghost use Rattle.std.specs.Prelude.{◌≡◌, ◌<◌, ◌≤◌, Some, ◌==◌, ◌++◌, ◌∷◌, [], codes, count_by, decimal, is_some, length, not, map, IfSome, OnOk, OnErr, All, slice_index, suc};
 ghost use Rattle.vpg_texts.specs.Scene.{EntryIsWithin};
 ghost use Rattle.vpg_texts.specs.Text.{blank_number, name_of, blank_name, choice_text, choices_text, decisions_line, answer_line, hopeless_text, sure_text, vertex_line, vertex_lines, show_text};
-ghost use Rattle.vpg_texts.specs.Text.{count_line, count_text, deciding_text, table_text, entry_line, trail_text, names_known, products_line, products_text, plan_line, plan_text};
+ghost use Rattle.vpg_texts.specs.Text.{count_line, count_lines, state_lines, count_text, deciding_text, table_text, entry_line, trail_text, names_known, products_line, products_text, plan_line, plan_text};
 ghost use Rattle.vpg_trail.specs.Page.{literal_of};
 ghost use Rattle.vpg_trail.specs.Shown.{entry_of};
 ghost use Rattle.vpg_game.specs.Game.{vertex_ids};
@@ -228,6 +228,30 @@ fn others(table: &Table, top: u64) -> usize
     table.values().iter().filter(|n| **n != top).count()
 }
 
+/// How many vertices have the top, and how many have not.
+fn count_lines(
+    at_top: &[u8],
+    below: &[u8],
+    table: &Table,
+    top: u64,
+    out: &mut Vec<u8>,
+) -> Result<(), AllocError>
+    ensures { OnOk result (out.new.items ≡ out.old.items ++ count_lines at_top.now below.now top table.now) }
+{
+    count_line(at_top, tops(table, top), out)?;
+    count_line(below, others(table, top), out)
+}
+
+/// Whether the page is settled, and whether each feature is known.
+fn state_lines(settled: bool, full: bool, out: &mut Vec<u8>) -> Result<(), AllocError>
+    ensures { OnOk result (out.new.items ≡ out.old.items ++ state_lines settled full) }
+{
+    out.extend_from_slice(b"settled")?;
+    answer(settled, out)?;
+    out.extend_from_slice(b"full")?;
+    answer(full, out)
+}
+
 /// How many vertices have which verdict, and whether the page is settled and full.
 pub(crate) fn count(
     games: &PageGames,
@@ -241,14 +265,9 @@ pub(crate) fn count(
 {
     let hopeful_top = games.shape(Which::Hopeful).top();
     let dual_top = games.shape(Which::Dual).top();
-    count_line(b"hopeless", tops(hopeful, hopeful_top), out)?;
-    count_line(b"possible", others(hopeful, hopeful_top), out)?;
-    count_line(b"sure", tops(dual, dual_top), out)?;
-    count_line(b"unsure", others(dual, dual_top), out)?;
-    out.extend_from_slice(b"settled")?;
-    answer(settled, out)?;
-    out.extend_from_slice(b"full")?;
-    answer(full, out)
+    count_lines(b"hopeless", b"possible", hopeful, hopeful_top, out)?;
+    count_lines(b"sure", b"unsure", dual, dual_top, out)?;
+    state_lines(settled, full, out)
 }
 
 fn table(which: Which, out: &mut Vec<u8>) -> Result<(), AllocError>
