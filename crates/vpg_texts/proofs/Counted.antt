@@ -12,10 +12,9 @@ use Rattle.vpg_texts.proofs.Settled.{settled_tells}
 use Rattle.vpg_texts.proofs.Shown.{tells}
 
 -- three parts, written one behind another
-pub three_parts : (before one two three x y z : List ℕ) → one ≡ before ++ x → two ≡ one ++ y → three ≡ two ++ z → three ≡ before ++ x ++ y ++ z
+pub three_parts : (before one two three x y z : List ℕ) → one ≡ before ++ x → two ≡ one ++ y → three ≡ two ++ z → three ≡ before ++ (x ++ y ++ z)
 three_parts before one two three x y z first second third =
-    third ∙ ap (λ (bytes : List ℕ). bytes ++ z) (second ∙ ap (λ (bytes : List ℕ). bytes ++ y) first)
-    ∙ append_assoc (before ++ x) y z ∙ append_assoc before x (y ++ z)
+    third ∙ ap (λ (bytes : List ℕ). bytes ++ z) (second ∙ ap (λ (bytes : List ℕ). bytes ++ y) first ∙ append_assoc before x y) ∙ append_assoc before (x ++ y) z
 
 pub counts : (game : NamedGame) (diagram : NamedDiagram) (decisions : List Decision) (games : GamesView) → ArePageGames game diagram (map literal_of decisions) games →
     (hopeful dual text : List ℕ) → length hopeful ≡ length game.vertices → length dual ≡ length game.vertices →

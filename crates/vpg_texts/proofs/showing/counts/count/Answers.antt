@@ -23,5 +23,11 @@ pub returns-clause-counted : goal.returns-clause-counted
 returns-clause-counted c =
     let page = c.args.page.now in
     let are = rw c.as_slice.ensures at c.in_ok-games.ensures in
-    on_ok c.count_over.result _ _ (λ told. (told.0, (counts c.args.game.now c.args.diagram.now page.decisions c.in_ok-games.games are page.hopeful page.dual told.0
-    c.requires.hopeful c.requires.dual c.requires.hopeful_within c.requires.dual_within told.1.0, told.1.1))) c.count_over.ensures.counted
+    on_ok c.count_over.result _ _ (λ told. (
+      told.0,
+      (
+        counts c.args.game.now c.args.diagram.now page.decisions c.in_ok-games.games are page.hopeful page.dual told.0
+            c.requires.hopeful c.requires.dual c.requires.hopeful_within c.requires.dual_within told.1.0,
+        told.1.1,
+      ),
+    )) c.count_over.ensures.counted
