@@ -255,15 +255,18 @@ pub(crate) fn top_certificate(
     }
 }
 
-// Bounds and ranks for a guess at a part, and the table elsewhere.
+// Bounds and ranks for a guess at the part that moves, and the table elsewhere.
 fn ranked_part(
     alloc: Global,
     ground: &GuessGround,
-    part: &Part,
+    moving: &[u32],
     table: &[u64],
     budget: &mut Budget,
 ) -> Result<Option<RankedBounds>, AllocError> {
-    let values = part.guess(alloc, budget)?;
+    let part = Part::of(alloc, ground, table, moving)?;
+    let mut share = budget.take_half();
+    let values = part.guess(alloc, &mut share)?;
+    budget.give_back(share);
     let Some(found) = ranked(alloc, &part.ground, &values, &part.table, 1, budget)? else {
         return Ok(None);
     };
@@ -278,21 +281,21 @@ fn ranked_part(
     Ok(Some(RankedBounds { bounds, ranks }))
 }
 
-/// Bounds and ranks for a guess at a part, or nothing where it exceeds the table nowhere.
+/// Bounds and ranks for a guess at the part that moves, or nothing where it exceeds the table nowhere.
 pub(crate) fn part_certificate(
     alloc: Global,
     shape: &Shape,
     dual_shape: &Shape,
     arena: &Arena,
     ground: &GuessGround,
-    part: &Part,
+    moving: &[u32],
     table: &Table,
     budget: &mut Budget,
 ) -> Result<Option<Certificate>, AllocError>
     ensures bounds { IfOk result (λ found. IfSome found (λ certificate. IsTableOf shape.now arena.now certificate.bounds)) }
     ensures ranks { IfOk result (λ found. IfSome found (λ certificate. IsTableOf dual_shape.now arena.now certificate.ranks)) }
 {
-    match ranked_part(alloc, ground, part, table.values(), budget)? {
+    match ranked_part(alloc, ground, moving, table.values(), budget)? {
         Some(ranked) => Ok(Some(certificate_of(alloc, shape, dual_shape, arena, &ranked)?)),
         None => Ok(None),
     }
