@@ -1,7 +1,7 @@
 #!/usr/bin/env python3
 """The gate, told task by task: which crate's proof, tests and wrong bodies begin when, and what each takes.
 
-    python3 bench/gate_times.py        at the top of the repository
+    python3 bench/gate_times.py --anew        at the top of the repository; from nothing, where the machine keeps what an earlier run passed
 
 It is `rt ci` itself, with lines that begin with `##`; the verdict and the status are its own. Minutes count from the start.
 """
@@ -30,12 +30,12 @@ def told(key, call):
     """The call of a task, with a line before and behind it."""
 
     def timed(given, jobs):
-        began = time.time()
-        tell(f"begin {' '.join(key)}, {jobs} at once")
+        began, name = time.time(), " ".join(map(str, key))
+        tell(f"begin {name}, {jobs} at once")
         try:
             return call(given, jobs)
         finally:
-            tell(f"end {' '.join(key)}, {(time.time() - began) / 60:.2f} minutes")
+            tell(f"end {name}, {(time.time() - began) / 60:.2f} minutes")
 
     return timed
 
@@ -52,4 +52,4 @@ def must_fail(crate, edit, flags, kept=None):
 
 
 RT.in_lanes, RT.must_fail = in_lanes, must_fail
-sys.exit(RT.ci())
+sys.exit(RT.ci("--anew" in sys.argv[1:]))

@@ -3,6 +3,7 @@ ghost use Rattle.std.specs.Prelude.{IfOk, IfSome};
 ghost use Rattle.vpg_measure.specs.Lifts.{IsTableOf};
 
 use crate::ground::{GuessGround, value_in};
+use crate::part::Part;
 use crate::subgame::{Solved, Subgame};
 use crate::values::Evaluation;
 use std::alloc::{AllocError, Global};
@@ -85,7 +86,9 @@ fn raises_to(
 
 // Whether the bound of v follows from that of w.
 fn follows(ground: &GuessGround, bounds: &PerVertex<u64>, v: u32, w: u32) -> bool {
-    bounds.get(v) <= ground.even.prog(&ground.graph, v, bounds.get(w))
+    ground
+        .even
+        .reaches(&ground.graph, v, bounds.get(v), bounds.get(w))
 }
 
 // The game of the vertices to be raised: Odd has the edges over which the bound follows.
@@ -247,6 +250,52 @@ pub(crate) fn top_certificate(
     ensures ranks { IfOk result (λ found. IfSome found (λ certificate. IsTableOf dual_shape.now arena.now certificate.ranks)) }
 {
     match ranked_top(alloc, ground, regions, table.values(), budget)? {
+        Some(ranked) => Ok(Some(certificate_of(alloc, shape, dual_shape, arena, &ranked)?)),
+        None => Ok(None),
+    }
+}
+
+// Bounds and ranks for a guess at the part that moves, and the table elsewhere.
+fn ranked_part(
+    alloc: Global,
+    ground: &GuessGround,
+    moving: &[u32],
+    table: &[u64],
+    budget: &mut Budget,
+) -> Result<Option<RankedBounds>, AllocError> {
+    let part = Part::of(alloc, ground, table, moving)?;
+    let mut share = budget.take_half();
+    let values = part.guess(alloc, &mut share)?;
+    budget.give_back(share);
+    let Some(found) = ranked(alloc, &part.ground, &values, &part.table, 1, budget)? else {
+        return Ok(None);
+    };
+    let vertices = ground.graph.vertices();
+    let mut bounds = PerVertex::of(alloc, vertices, 0)?;
+    for v in 0..vertices {
+        bounds.set(v, value_in(table, v));
+    }
+    part.write(&found.bounds, &mut bounds);
+    let mut ranks = PerVertex::of(alloc, vertices, 0)?;
+    part.write(&found.ranks, &mut ranks);
+    Ok(Some(RankedBounds { bounds, ranks }))
+}
+
+/// Bounds and ranks for a guess at the part that moves, or nothing where it exceeds the table nowhere.
+pub(crate) fn part_certificate(
+    alloc: Global,
+    shape: &Shape,
+    dual_shape: &Shape,
+    arena: &Arena,
+    ground: &GuessGround,
+    moving: &[u32],
+    table: &Table,
+    budget: &mut Budget,
+) -> Result<Option<Certificate>, AllocError>
+    ensures bounds { IfOk result (λ found. IfSome found (λ certificate. IsTableOf shape.now arena.now certificate.bounds)) }
+    ensures ranks { IfOk result (λ found. IfSome found (λ certificate. IsTableOf dual_shape.now arena.now certificate.ranks)) }
+{
+    match ranked_part(alloc, ground, moving, table.values(), budget)? {
         Some(ranked) => Ok(Some(certificate_of(alloc, shape, dual_shape, arena, &ranked)?)),
         None => Ok(None),
     }

@@ -41,15 +41,15 @@ impl GuessGround {
         Ok(lost)
     }
 
-    /// So many looks at each vertex.
+    /// So many looks at each edge and vertex.
     pub(crate) fn looks(&self, each: u64) -> u64 {
-        u64::from(self.graph.vertices()).saturating_mul(each)
+        self.graph.size().saturating_mul(each)
     }
 
-    /// The looks of a turn behind a guess of so many values.
+    /// The looks at edges and vertices in a turn behind a guess of so many values.
     pub(crate) fn next_looks(&self, guessed: usize) -> u64 {
         (guessed as u64)
-            .saturating_mul(4)
+            .saturating_mul(16)
             .saturating_add(self.looks(1) / 2)
     }
 

@@ -154,9 +154,9 @@ impl<'a> Improvement<'a> {
         };
         let mut better = None;
         for w in self.graph.successors(v) {
-            let value = self.scale.cut(self.values.get(*w), weight);
+            let value = self.values.get(*w);
             if value < least {
-                least = value;
+                least = self.scale.cut(value, weight);
                 better = Some(*w);
             }
         }

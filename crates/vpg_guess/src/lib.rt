@@ -14,6 +14,7 @@ mod certificates;
 mod even_cycles;
 mod ground;
 mod improve;
+mod part;
 mod raising;
 mod remaining;
 mod scale;

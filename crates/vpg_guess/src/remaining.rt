@@ -1,4 +1,5 @@
-//! Lifts of what remains: each vertex of which a successor rose, first come, first served.
+//! Lifts of what remains: each vertex of which a successor rose, in the order of the vertices where they are many, and else first come,
+//! first served.
 ghost use Rattle.vpg_guess.specs.Kept.{IsRaisedFrom};
 ghost use Rattle.vpg_measure.specs.Lifts.{IsTableOf};
 
@@ -9,6 +10,9 @@ use vpg_hope::Arena;
 use vpg_measure::lifts::raise;
 use vpg_measure::{Shape, Table};
 use vpg_regions::{Budget, PerVertex};
+
+/// Where more than one in so many of the vertices wait, they are looked at in the order of the vertices.
+const DENSE: usize = 64;
 
 /// How often a vertex rises in one turn before it is taken to climb.
 const CLIMBS: u32 = 4;
@@ -47,12 +51,18 @@ impl Waiting {
         Ok(())
     }
 
-    fn next(&mut self) -> Option<u32> {
-        let next = self.queue.pop_front();
-        if let Some(v) = next {
+    // Whether v waited; it waits no more.
+    fn takes(&mut self, v: u32) -> bool {
+        let waited = self.waits.get(v);
+        if waited {
             self.waits.set(v, false);
         }
-        next
+        waited
+    }
+
+    // Whether so many wait that they are looked at faster in the order of the vertices.
+    fn is_dense(&self) -> bool {
+        self.waits.count() as usize / DENSE < self.queue.len()
     }
 
     // Those that move to v, which rose, are to be looked at again.
@@ -115,27 +125,20 @@ fn lift_vertex(shape: &Shape, arena: &Arena, table: &mut Table, v: u32) -> bool
     }
 }
 
-// Lifts what waits, at so many looks and within the budget.
-#[tactic(auto, using(crate::proofs::Kept::kept_then))]
-fn lift_waiting(
+// Lifts a vertex once, if it waits.
+fn look(
     shape: &Shape,
     arena: &Arena,
     ground: &GuessGround,
     waiting: &mut Waiting,
     table: &mut Table,
-    looks: u64,
+    v: u32,
     budget: &mut Budget,
 ) -> Result<(), AllocError>
     requires { IsTableOf shape.now arena.now table.old }
     ensures { IsRaisedFrom shape.now arena.now table.old table.new }
 {
-    for looked in 0..looks {
-        if budget.is_spent() {
-            break;
-        }
-        let Some(v) = waiting.next() else {
-            break;
-        };
+    if waiting.takes(v) {
         budget.spend(ground.graph.successors(v).len().saturating_add(1));
         if lift_vertex(shape, arena, table, v) {
             waiting.wake(ground, table.values(), v)?;
@@ -144,7 +147,56 @@ fn lift_waiting(
     Ok(())
 }
 
-/// Lifts until nothing waits, or so many were looked at, or the budget is spent.
+// Lifts what waits in the order of the vertices, once round.
+#[tactic(auto, using(crate::proofs::Kept::kept_then))]
+fn look_round(
+    shape: &Shape,
+    arena: &Arena,
+    ground: &GuessGround,
+    waiting: &mut Waiting,
+    table: &mut Table,
+    budget: &mut Budget,
+) -> Result<(), AllocError>
+    requires { IsTableOf shape.now arena.now table.old }
+    ensures { IsRaisedFrom shape.now arena.now table.old table.new }
+{
+    waiting.queue.clear();
+    for v in 0..arena.vertices() {
+        look(shape, arena, ground, waiting, table, v, budget)?;
+    }
+    Ok(())
+}
+
+// Lifts what waits, until nothing does or the budget is spent.
+#[tactic(auto, using(crate::proofs::Kept::kept_then))]
+fn lift_waiting(
+    shape: &Shape,
+    arena: &Arena,
+    ground: &GuessGround,
+    waiting: &mut Waiting,
+    table: &mut Table,
+    budget: &mut Budget,
+) -> Result<(), AllocError>
+    requires { IsTableOf shape.now arena.now table.old }
+    ensures { IsRaisedFrom shape.now arena.now table.old table.new }
+{
+    for _ in 0..u64::MAX {
+        if budget.is_spent() {
+            break;
+        }
+        if waiting.is_dense() {
+            look_round(shape, arena, ground, waiting, table, budget)?;
+        } else {
+            let Some(v) = waiting.queue.pop_front() else {
+                break;
+            };
+            look(shape, arena, ground, waiting, table, v, budget)?;
+        }
+    }
+    Ok(())
+}
+
+/// Lifts until nothing waits, or so many edges and vertices were looked at, or the budget is spent.
 pub(crate) fn lift_remaining(
     shape: &Shape,
     arena: &Arena,
@@ -158,5 +210,8 @@ pub(crate) fn lift_remaining(
     ensures { IsRaisedFrom shape.now arena.now table.old table.new }
 {
     waiting.begin_turn();
-    lift_waiting(shape, arena, ground, waiting, table, looks, budget)
+    let mut turn = budget.take(looks);
+    lift_waiting(shape, arena, ground, waiting, table, &mut turn)?;
+    budget.give_back(turn);
+    Ok(())
 }

@@ -37,6 +37,22 @@ impl Scale {
         })
     }
 
+    /// The scale of a game that has these vertices, in this order.
+    pub(crate) fn at(&self, alloc: Global, vertices: &[u32]) -> Result<Scale, AllocError> {
+        let count = u32::try_from(vertices.len()).unwrap_or(u32::MAX);
+        let mut weights = PerVertex::of(alloc, count, 1)?;
+        let mut place = 0u32;
+        for v in vertices {
+            weights.set(place, self.weights.get(*v));
+            place = place.saturating_add(1);
+        }
+        Ok(Scale {
+            player: self.player,
+            top: self.top,
+            weights,
+        })
+    }
+
     pub(crate) fn weight(&self, v: u32) -> u64 {
         self.weights.get(v)
     }
@@ -62,6 +78,12 @@ impl Scale {
         } else {
             cut
         }
+    }
+
+    /// Whether the least number over an edge from this vertex to one of this value is at least a bound, itself such a number.
+    pub(crate) fn reaches(&self, graph: &Graph, v: u32, bound: u64, value: u64) -> bool {
+        bound <= value
+            || bound <= value.saturating_add(self.weights.get(v)) && self.is_strict(graph, v)
     }
 
     /// The value without what stands below a weight; the top stays.

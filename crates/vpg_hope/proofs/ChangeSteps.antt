@@ -1,8 +1,8 @@
 -- What a change of what is known concerns.
-use Rattle.std.proofs.Common.{Bor, ◌≡◌, ◌≢◌, ℕ, zero, suc, ◌+◌, ◌<◌, ◌≤◌, Bool, true, false, cond, List, [], ◌∷◌, ◌++◌, length, get_or, set, take, map, filter, Contains, All, ◌⊎◌, ◌↔◌, inl, inr, refl, sym, ap, ap₂, ◌∙◌, subst, arith}
+use Rattle.std.proofs.Common.{Bor, ◌≡◌, ◌≢◌, ℕ, zero, suc, ◌+◌, ◌<◌, ◌≤◌, Bool, true, false, cond, List, [], ◌∷◌, length, get_or, set, take, map, filter, Contains, All, ◌⊎◌, ◌↔◌, inl, inr, refl, sym, ap, ap₂, ◌∙◌, subst, arith}
 use Rattle.std.proofs.lemmas.Bool.{cases_eq, cases_lt}
-use Rattle.std.proofs.lemmas.List.{length-set, get_or-set_same, get_or-set_other, take_more, take_all}
-use Rattle.std.proofs.lemmas.List.Elements.{All-contains, All-contains_itself, All-weaker, Contains-append_left, Contains-append_right, Contains-append_cases}
+use Rattle.std.proofs.lemmas.List.{length-set, get_or-set_same, get_or-set_other, take_more}
+use Rattle.std.proofs.lemmas.List.Elements.{All-contains_itself, All-weaker, Contains-append_left, Contains-append_right, Contains-append_cases}
 use Rattle.vpg_guards.specs.declared.tri.Tri.{Tri}
 use Rattle.vpg_guards.specs.declared.tri.Tri.TheVariants.{No, Unknown, Yes}
 use Rattle.vpg_guards.specs.Formula.{Formula, named}
@@ -12,9 +12,9 @@ use Rattle.vpg_guards.proofs.Noted.{Contains-none, Contains-one}
 use Rattle.vpg_game.specs.declared.player.Player.{Player}
 use Rattle.vpg_game.specs.Players.{opponent}
 use Rattle.vpg_game.specs.Guarded.{GuardedEdge, GuardedGame, dual}
-use Rattle.vpg_game.specs.Game.{NamedGame, graph_of, vertex_in, unnamed, no_vertex}
+use Rattle.vpg_game.specs.Game.{vertex_in}
 use Rattle.vpg_game.specs.Naming.{features_named}
-use Rattle.vpg_hope.specs.Games.{Game, Vertex, successors_of}
+use Rattle.vpg_hope.specs.Games.{Game, isolated}
 use Rattle.vpg_hope.specs.Hope.{keeps_in_hope, hopeful_game}
 use Rattle.vpg_hope.specs.Selection.{AreStill, IsHeldUnmarked}
 use Rattle.vpg_hope.specs.declared.selection.Selection.TheVariants.{Hopeful, HopefulOfDual}
@@ -127,18 +127,23 @@ kept_same mover before now (e ∷ es) still =
     ap₂ (λ (b : Bool) (rest : List (GuardedEdge Formula)). cond b (e ∷ rest) rest) (ap (keeps_in_hope mover) (still 0 e (omega arith)))
     (kept_same mover before now es (λ k d l. still (suc k) d (omega arith)))
 
-pub held_hopeful : (known : List Tri) (graph : GuardedGame Formula) (v : ℕ) →
-    successors_of (hopeful_game (kleene known) graph) v ≡ map (λ edge. edge.to) (filter (λ edge. keeps_in_hope (vertex_in graph v).owner (kleene known edge.guard)) (vertex_in graph v).edges)
-held_hopeful known [] v = refl
-held_hopeful known (x ∷ graph) zero = refl
-held_hopeful known (x ∷ graph) (suc v) = held_hopeful known graph v
+held_hopeful : (known : List Tri) (graph : GuardedGame Formula) (v : ℕ) → v < length graph → get_or (hopeful_game (kleene known) graph) v isolated ≡ record {
+  owner = (vertex_in graph v).owner;
+  priority = (vertex_in graph v).priority;
+  successors = map (λ edge. edge.to) (filter (λ edge. keeps_in_hope (vertex_in graph v).owner (kleene known edge.guard)) (vertex_in graph v).edges);
+}
+held_hopeful known [] v less = absurd (omega arith)
+held_hopeful known (x ∷ graph) zero less = refl
+held_hopeful known (x ∷ graph) (suc v) less = held_hopeful known graph v (omega arith)
 
-pub held_of_dual : (known : List Tri) (graph : GuardedGame Formula) (v : ℕ) →
-    successors_of (hopeful_game (kleene known) (dual graph)) v
-    ≡ map (λ edge. edge.to) (filter (λ edge. keeps_in_hope (opponent (vertex_in graph v).owner) (kleene known edge.guard)) (vertex_in graph v).edges)
-held_of_dual known [] v = refl
-held_of_dual known (x ∷ graph) zero = refl
-held_of_dual known (x ∷ graph) (suc v) = held_of_dual known graph v
+held_of_dual : (known : List Tri) (graph : GuardedGame Formula) (v : ℕ) → v < length graph → get_or (hopeful_game (kleene known) (dual graph)) v isolated ≡ record {
+  owner = opponent (vertex_in graph v).owner;
+  priority = suc (vertex_in graph v).priority;
+  successors = map (λ edge. edge.to) (filter (λ edge. keeps_in_hope (opponent (vertex_in graph v).owner) (kleene known edge.guard)) (vertex_in graph v).edges);
+}
+held_of_dual known [] v less = absurd (omega arith)
+held_of_dual known (x ∷ graph) zero less = refl
+held_of_dual known (x ∷ graph) (suc v) less = held_of_dual known graph v (omega arith)
 
 module _ (before now : List Tri) (graph : GuardedGame Formula) where
   still_at : (first second : Bor (List Tri)) (items slice : List Bool) → first.now ≡ before → second.now ≡ now → slice ≡ items →
@@ -151,22 +156,30 @@ module _ (before now : List Tri) (graph : GuardedGame Formula) where
   pub hopeful_held : (known first second : Bor (List Tri)) (arena : Game) (items slice : List Bool) → known.now ≡ now → first.now ≡ before → second.now ≡ now → slice ≡ items →
       arena ≡ hopeful_game (kleene before) graph → ((v : ℕ) → get_or items v false ≡ false → AreStill first.now second.now (vertex_in graph v).edges) →
       IsHeldUnmarked (Hopeful known) slice graph arena
-  hopeful_held known first second arena items slice ek eb en es held still v unmarked =
-      ap (λ (g : Game). successors_of g v) held
-      ∙ held_hopeful before graph v
-      ∙ ap (λ (xs : List (GuardedEdge Formula)). map (λ edge. edge.to) xs)
+  hopeful_held known first second arena items slice ek eb en es held still v less unmarked =
+      ap (λ (g : Game). get_or g v isolated) held
+      ∙ held_hopeful before graph v less
+      ∙ ap (λ (xs : List (GuardedEdge Formula)). record { owner = (vertex_in graph v).owner; priority = (vertex_in graph v).priority; successors = map (λ edge. edge.to) xs })
       (kept_same (vertex_in graph v).owner before now (vertex_in graph v).edges (still_at first second items slice eb en es still v unmarked))
-      ∙ ap (λ (k : List Tri). map (λ (edge : GuardedEdge Formula). edge.to) (filter (λ edge. keeps_in_hope (vertex_in graph v).owner (kleene k edge.guard)) (vertex_in graph v).edges)) (sym ek)
+      ∙ ap (λ (k : List Tri). record {
+        owner = (vertex_in graph v).owner;
+        priority = (vertex_in graph v).priority;
+        successors = map (λ (edge : GuardedEdge Formula). edge.to) (filter (λ edge. keeps_in_hope (vertex_in graph v).owner (kleene k edge.guard)) (vertex_in graph v).edges);
+      }) (sym ek)
 
   pub dual_held : (known first second : Bor (List Tri)) (arena : Game) (items slice : List Bool) → known.now ≡ now → first.now ≡ before → second.now ≡ now → slice ≡ items →
       arena ≡ hopeful_game (kleene before) (dual graph) → ((v : ℕ) → get_or items v false ≡ false → AreStill first.now second.now (vertex_in graph v).edges) →
       IsHeldUnmarked (HopefulOfDual known) slice graph arena
-  dual_held known first second arena items slice ek eb en es held still v unmarked =
-      ap (λ (g : Game). successors_of g v) held
-      ∙ held_of_dual before graph v
-      ∙ ap (λ (xs : List (GuardedEdge Formula)). map (λ edge. edge.to) xs)
+  dual_held known first second arena items slice ek eb en es held still v less unmarked =
+      ap (λ (g : Game). get_or g v isolated) held
+      ∙ held_of_dual before graph v less
+      ∙ ap (λ (xs : List (GuardedEdge Formula)). record { owner = opponent (vertex_in graph v).owner; priority = suc (vertex_in graph v).priority; successors = map (λ edge. edge.to) xs })
       (kept_same (opponent (vertex_in graph v).owner) before now (vertex_in graph v).edges (still_at first second items slice eb en es still v unmarked))
-      ∙ ap (λ (k : List Tri). map (λ (edge : GuardedEdge Formula). edge.to) (filter (λ edge. keeps_in_hope (opponent (vertex_in graph v).owner) (kleene k edge.guard)) (vertex_in graph v).edges)) (sym ek)
+      ∙ ap (λ (k : List Tri). record {
+        owner = opponent (vertex_in graph v).owner;
+        priority = suc (vertex_in graph v).priority;
+        successors = map (λ (edge : GuardedEdge Formula). edge.to) (filter (λ edge. keeps_in_hope (opponent (vertex_in graph v).owner) (kleene k edge.guard)) (vertex_in graph v).edges);
+      }) (sym ek)
 
 pub hopeful_count : (known : List Tri) (graph : GuardedGame Formula) → length (hopeful_game (kleene known) graph) ≡ length graph
 hopeful_count known [] = refl

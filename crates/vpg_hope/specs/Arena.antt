@@ -1,5 +1,5 @@
 -- An arena as its vertices, in file order.
-use Rattle.std.specs.Prelude.{ℕ, ◌<◌, ◌≤◌, ◌^◌, List, length, map, slice_index_or, slice_range}
+use Rattle.std.specs.Prelude.{ℕ, ◌<◌, ◌≤◌, ◌^◌, List, length, map, if◌then◌else◌, slice_index_or, slice_range}
 use Rattle.std.specs.List.{All}
 pub use Rattle.vpg_hope.specs.Games.{Vertex, IsClosed}
 use Rattle.vpg_hope.specs.Games.{isolated}
@@ -10,14 +10,23 @@ vertex_at arena v = slice_index_or arena v isolated
 
 -- ---- how an arena is kept
 
-abbrev pub row_vertex : List ℕ → Row → Vertex
-row_vertex successors row =
-    record { owner = row.owner; priority = row.priority; successors = slice_range successors row.start row.end }
+-- a row names one of two lists: that which the arena may share with others, and its own
+abbrev pub list_of : List ℕ → List ℕ → Row → List ℕ
+list_of shared own row = if row.is_own then own else shared
 
-abbrev pub row_vertices : List Row → List ℕ → List Vertex
-row_vertices rows successors = map (row_vertex successors) rows
+abbrev pub row_vertex : List ℕ → List ℕ → Row → Vertex
+row_vertex shared own row =
+    record { owner = row.owner; priority = row.priority; successors = slice_range (list_of shared own row) row.start row.end }
 
-pub record AreRows (rows : List Row) (successors : List ℕ) : Type 0 where
+abbrev pub row_vertices : List Row → List ℕ → List ℕ → List Vertex
+row_vertices rows shared own = map (row_vertex shared own) rows
+
+abbrev pub InLists : List ℕ → List ℕ → Row → Type 0
+InLists shared own row = (row.start ≤ row.end) × (row.end ≤ length (list_of shared own row))
+
+pub record AreRows (rows : List Row) (shared own : List ℕ) : Type 0 where
   pub count : length rows < 2 ^ 32
-  pub ranges : All (λ row. (row.start ≤ row.end) × (row.end ≤ length successors)) rows
-  pub closed : All (λ w. w < length rows) successors
+  pub few : length shared ≤ 1048576
+  pub ranges : All (InLists shared own) rows
+  pub closed : All (λ w. w < length rows) shared
+  pub own_closed : All (λ w. w < length rows) own

@@ -1,5 +1,5 @@
 -- What an arena takes over from a guarded game, vertex by vertex.
-use Rattle.std.specs.Prelude.{◌≡◌, ℕ, suc, List, length, map, filter, Bool, false, slice_index_or, All}
+use Rattle.std.specs.Prelude.{◌≡◌, ℕ, suc, ◌<◌, List, length, map, filter, Bool, false, slice_index_or, All}
 use Rattle.vpg_guards.specs.Formula.{Formula, truth}
 use Rattle.vpg_guards.specs.Known.{kleene}
 use Rattle.vpg_guards.specs.declared.tri.Tri.{Tri}
@@ -7,7 +7,7 @@ use Rattle.vpg_game.specs.Game.{vertex_in}
 use Rattle.vpg_game.specs.declared.player.Player.{Player}
 use Rattle.vpg_game.specs.Players.{opponent}
 use Rattle.vpg_game.specs.Guarded.{GuardedEdge, GuardedVertex, GuardedGame}
-use Rattle.vpg_hope.specs.Games.{Vertex, Game, successors_of}
+use Rattle.vpg_hope.specs.Games.{Vertex, Game, isolated}
 use Rattle.vpg_hope.specs.Hope.{keeps_in_hope}
 use Rattle.vpg_hope.specs.declared.selection.Selection.{Selection}
 use Rattle.vpg_hope.specs.declared.selection.Selection.TheVariants.{Hopeful, HopefulOfDual, Product}
@@ -50,7 +50,7 @@ vertex_under selection vertex = record {
 abbrev pub AreStill : List Tri → List Tri → List (GuardedEdge Formula) → Type 0
 AreStill before now edges = All (λ edge. kleene before edge.guard ≡ kleene now edge.guard) edges
 
--- a vertex without a mark has what is selected
+-- a vertex without a mark is as it is selected
 abbrev pub IsHeldUnmarked : Selection → List Bool → GuardedGame Formula → Game → Type 0
 IsHeldUnmarked selection marks graph arena =
-    (v : ℕ) → slice_index_or marks v false ≡ false → successors_of arena v ≡ kept_under selection (vertex_in graph v).owner (vertex_in graph v).edges
+    (v : ℕ) → v < length graph → slice_index_or marks v false ≡ false → slice_index_or arena v isolated ≡ vertex_under selection (vertex_in graph v)

@@ -1,24 +1,25 @@
 //! Plain games kept for look-ups: what measures are lifted over.
-ghost use Rattle.std.specs.Prelude.{◌≡◌, ℕ, ◌<◌, ◌++◌, length, map, IfOk, OnOk, All, false};
+ghost use Rattle.std.specs.Prelude.{◌≡◌, ℕ, ◌<◌, ◌+◌, ◌^◌, ◌++◌, [], length, map, IfOk, OnOk, All, true, false};
 ghost use Rattle.vpg_guards.specs.Known.{kleene};
 ghost use Rattle.vpg_game.specs.Game.{IsGame, graph_of, vertex_in};
 ghost use Rattle.vpg_game.specs.Guarded.{dual};
-ghost use Rattle.vpg_hope.specs.Arena.{vertex_at};
-ghost use Rattle.vpg_hope.specs.Games.{successors_of};
+ghost use Rattle.vpg_hope.specs.Arena.{vertex_at, row_vertices, AreRows};
 ghost use Rattle.vpg_hope.specs.Hope.{hopeful_game};
-ghost use Rattle.vpg_hope.specs.Selection.{features_under, vertex_under, kept_under, IsHeldUnmarked};
+ghost use Rattle.vpg_hope.specs.Selection.{features_under, owner_under, priority_under, vertex_under, kept_under, IsHeldUnmarked};
 
 use crate::changes::concerned;
 use crate::selection::Selection;
 use std::alloc::{AllocError, Global};
 use std::marker::Model;
+use std::sync::ArcSlice;
 use vpg_game::{GuardedGame, Player};
 use vpg_partial::Partial;
 
-/// A vertex: its successors are those from `start` up to `end` in the arena's one list.
+/// A vertex: its successors are those from `start` up to `end` in the arena's own list, or in the one that it shares.
 #[derive(Clone, Copy, Debug)]
 struct Row {
     owner: Player,
+    is_own: bool,
     priority: u32,
     start: u32,
     end: u32,
@@ -30,19 +31,54 @@ struct Row {
 #[derive(Drop)]
 pub struct Arena {
     rows: Vec<Row>,
-    // of all vertices, one after another
-    successors: Vec<u32>,
+    // of all vertices, one after another: shared with the arenas made from this one
+    shared: ArcSlice<u32>,
+    // of the vertices that have others than there, and what they had before
+    own: Vec<u32>,
 }
 
 impl Model for Arena {
     ghost use Rattle.std.specs.Prelude.{List};
+    ghost use Rattle.std.specs.Arc.{arc_slice_items};
     ghost use Rattle.vpg_hope.specs.Arena.{Vertex, row_vertices, AreRows};
 
     ghost Value = { List Vertex };
 
-    ghost view = { λ a. row_vertices a.rows.items a.successors.items };
+    ghost view = { λ a. row_vertices a.rows.items (arc_slice_items a.shared) a.own.items };
 
-    ghost invariant = { λ a. AreRows a.rows.items a.successors.items };
+    ghost invariant = { λ a. AreRows a.rows.items (arc_slice_items a.shared) a.own.items };
+}
+
+/// Adds the kept successors of a vertex to an arena's own list, and gives its row.
+fn push_row(
+    own: &mut Vec<u32>,
+    game: &GuardedGame,
+    selection: Selection<'_>,
+    v: u32,
+) -> Result<Row, AllocError>
+    requires game { IsGame game.now }
+    requires vertex { v < length game.now.vertices }
+    requires features { features_under selection ≡ game.now.features }
+    requires room { length own.old.items + length (vertex_in (graph_of game.now) v).edges < 2 ^ 32 }
+    ensures own { OnOk result (own.new.items ≡ own.old.items ++ kept_under selection.entry (vertex_in (graph_of game.now) v).owner (vertex_in (graph_of game.now) v).edges) }
+    ensures row { IfOk result (λ row. row ≡ record {
+      owner = owner_under selection.entry (vertex_in (graph_of game.now) v).owner;
+      is_own = true;
+      priority = priority_under selection.entry (vertex_in (graph_of game.now) v).priority;
+      start = length own.old.items;
+      end = length own.new.items;
+    }) }
+{
+    let owner = game.owner(v);
+    let start = own.len() as u32;
+    selection.push_kept(own, owner, game.edges(v))?;
+    Ok(Row {
+        owner: selection.owner(owner),
+        is_own: true,
+        priority: selection.priority(game.priority(v)),
+        start,
+        end: own.len() as u32,
+    })
 }
 
 impl Arena {
@@ -109,7 +145,8 @@ impl Arena {
         )
     }
 
-    /// What is selected of a game, where only marked vertices are looked at: the others keep what they have here.
+    /// What is selected of a game, where only marked vertices are looked at: the others keep what they have here. What marked
+    /// vertices keep stands behind the arena's own list; once that is long, one new list is made.
     fn reselected(
         &self,
         alloc: Global,
@@ -123,8 +160,37 @@ impl Arena {
         requires held { IsHeldUnmarked selection marks.now (graph_of game.now) self.now }
         ensures { IfOk result (λ arena. arena ≡ map (vertex_under selection.entry) (graph_of game.now)) }
     {
+        if self.own.len() > self.shared.len() / 4 {
+            return self.gathered(alloc, game, selection, marks);
+        }
+        let shared = self.shared.clone()?;
+        let mut rows = Vec::from_slice(alloc, &self.rows)?;
+        let mut own = Vec::with_capacity(alloc, self.own.len() + self.shared.len() / 16)?;
+        own.extend_from_slice(&self.own)?;
+        for v in 0..game.vertices() as u32 {
+            if marks[v as usize] {
+                rows[v as usize] = push_row(&mut own, game, selection, v)?;
+            }
+        }
+        Ok(Arena { rows, shared, own })
+    }
+
+    /// The same, with the successors of all vertices in one new list.
+    fn gathered(
+        &self,
+        alloc: Global,
+        game: &GuardedGame,
+        selection: Selection<'_>,
+        marks: &[bool],
+    ) -> Result<Arena, AllocError>
+        requires features { features_under selection ≡ game.now.features }
+        requires count { length self.now ≡ length (graph_of game.now) }
+        requires marks { length marks.now ≡ length (graph_of game.now) }
+        requires held { IsHeldUnmarked selection marks.now (graph_of game.now) self.now }
+        ensures { IfOk result (λ arena. arena ≡ map (vertex_under selection.entry) (graph_of game.now)) }
+    {
         let count = game.vertices();
-        let room = self.successors.len();
+        let room = self.shared.len();
         let mut rows = Vec::with_capacity(alloc, count)?;
         let mut successors = Vec::with_capacity(alloc, room)?;
         for v in 0..count as u32 {
@@ -132,12 +198,26 @@ impl Arena {
             self.push_held(&mut successors, game, selection, v, marks[v as usize])?;
             rows.push(Row {
                 owner: selection.owner(game.owner(v)),
+                is_own: false,
                 priority: selection.priority(game.priority(v)),
                 start,
                 end: successors.len() as u32,
             })?;
         }
-        Ok(Arena { rows, successors })
+        Arena::over(alloc, rows, successors)
+    }
+
+    /// An arena whose vertices have all their successors in one list.
+    fn over(alloc: Global, rows: Vec<Row>, successors: Vec<u32>) -> Result<Arena, AllocError>
+        requires { AreRows rows.items successors.items [] }
+        ensures { IfOk result (λ arena. arena ≡ row_vertices rows.items successors.items []) }
+    {
+        let shared = ArcSlice::from_vec(successors)?;
+        Ok(Arena {
+            rows,
+            shared,
+            own: Vec::new(alloc),
+        })
     }
 
     /// Adds the kept successors of a vertex. Without a mark they are those that it has here.
@@ -153,7 +233,7 @@ impl Arena {
         requires vertex { v < length game.now.vertices }
         requires features { features_under selection ≡ game.now.features }
         requires count { length self.now ≡ length (graph_of game.now) }
-        requires held { is_marked ≡ false → successors_of self.now v ≡ kept_under selection (vertex_in (graph_of game.now) v).owner (vertex_in (graph_of game.now) v).edges }
+        requires held { is_marked ≡ false → (vertex_at self.now v).successors ≡ kept_under selection (vertex_in (graph_of game.now) v).owner (vertex_in (graph_of game.now) v).edges }
         ensures { OnOk result (successors.new.items ≡ successors.old.items ++ kept_under selection.entry (vertex_in (graph_of game.now) v).owner (vertex_in (graph_of game.now) v).edges) }
     {
         if is_marked {
@@ -182,12 +262,13 @@ impl Arena {
             selection.push_kept(&mut successors, owner, game.edges(v))?;
             rows.push(Row {
                 owner: selection.owner(owner),
+                is_own: false,
                 priority: selection.priority(game.priority(v)),
                 start,
                 end: successors.len() as u32,
             })?;
         }
-        Ok(Arena { rows, successors })
+        Arena::over(alloc, rows, successors)
     }
 
     /// How many vertices it has.
@@ -220,6 +301,7 @@ impl Arena {
         ensures closed { All (λ w. w < length self.now) result.now }
     {
         let row = self.rows[v as usize];
-        &self.successors[row.start as usize..row.end as usize]
+        let list: &[u32] = if row.is_own { &self.own } else { &self.shared };
+        &list[row.start as usize..row.end as usize]
     }
 }

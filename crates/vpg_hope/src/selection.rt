@@ -1,6 +1,7 @@
 //! What an arena takes over from a guarded game.
-ghost use Rattle.std.specs.Prelude.{◌≡◌, ◌+◌, ◌<◌, ◌^◌, ◌++◌, All, OnOk};
+ghost use Rattle.std.specs.Prelude.{◌≡◌, ◌+◌, ◌<◌, ◌^◌, ◌++◌, length, All, OnOk};
 ghost use Rattle.vpg_guards.specs.Formula.{IsBelow};
+ghost use Rattle.vpg_guards.specs.Known.{kleene};
 ghost use Rattle.vpg_guards.specs.View.{formula_of};
 ghost use Rattle.vpg_hope.specs.Hope.{keeps_in_hope};
 ghost use Rattle.vpg_hope.specs.Selection.{features_under, owner_under, priority_under, is_kept, kept_under};
@@ -27,6 +28,17 @@ fn keeps_in_hope(owner: Player, value: Tri) -> bool
     match owner {
         Player::Even => value != Tri::No,
         Player::Odd => value == Tri::Yes,
+    }
+}
+
+/// The value of a guard, by what is known: most edges have the guard that is always true.
+fn value(guard: &Guard, known: &[Tri]) -> Tri
+    requires { IsBelow (length known.now) (formula_of guard.now) }
+    ensures { result ≡ kleene known.now (formula_of guard.now) }
+{
+    match guard {
+        Guard::Always => Tri::Yes,
+        _ => guard.kleene(known),
     }
 }
 
@@ -58,8 +70,8 @@ impl Selection<'_> {
         ensures { result ≡ is_kept self.entry owner (formula_of guard.now) }
     {
         match self {
-            Selection::Hopeful(known) => keeps_in_hope(owner, guard.kleene(known)),
-            Selection::HopefulOfDual(known) => keeps_in_hope(owner.opponent(), guard.kleene(known)),
+            Selection::Hopeful(known) => keeps_in_hope(owner, value(guard, known)),
+            Selection::HopefulOfDual(known) => keeps_in_hope(owner.opponent(), value(guard, known)),
             Selection::Product(set) => guard.eval(set),
         }
     }

@@ -113,6 +113,18 @@ impl Draft {
 
     /// The game, with as few priorities as have the same winners.
     pub fn finish(self, alloc: Global) -> Result<Graph, AllocError> {
+        let mut draft = self;
+        let merged = merged(alloc, &occurring(alloc, &draft.priorities)?)?;
+        let mut least = Vec::with_capacity(alloc, draft.priorities.len())?;
+        for priority in &draft.priorities {
+            least.push(merged.get(*priority))?;
+        }
+        draft.priorities = least;
+        draft.as_written(alloc)
+    }
+
+    /// The game with its priorities as they are.
+    pub fn as_written(self, alloc: Global) -> Result<Graph, AllocError> {
         let Draft {
             count,
             owners,
@@ -120,15 +132,10 @@ impl Draft {
             successors,
         } = self;
         let predecessors = successors.reversed(alloc, count)?;
-        let merged = merged(alloc, &occurring(alloc, &priorities)?)?;
-        let mut least = Vec::with_capacity(alloc, priorities.len())?;
-        for priority in &priorities {
-            least.push(merged.get(*priority))?;
-        }
         Ok(Graph {
             count,
             owners,
-            priorities: least,
+            priorities,
             successors,
             predecessors,
         })

@@ -12,10 +12,7 @@ pub struct PerVertex<T> {
 impl<T: Copy> PerVertex<T> {
     /// This value at each of so many vertices.
     pub fn of(alloc: Global, vertices: u32, rest: T) -> Result<PerVertex<T>, AllocError> {
-        let mut values = Vec::with_capacity(alloc, vertices as usize)?;
-        for _ in 0..vertices {
-            values.push(rest)?;
-        }
+        let values = vec![in alloc; rest; vertices as usize]?;
         Ok(PerVertex {
             values,
             rest,

@@ -20,10 +20,10 @@ use Rattle.vpg_script.specs.Script as script
 use Rattle.vpg_script.specs.Script.{Said, Request, said}
 use Rattle.vpg_script.specs.Output.{Speaks, Answered}
 use Rattle.vpg_texts.specs.Plan.{PlansUnder}
-use Rattle.vpg_texts.specs.Text.{plan_text, show_text}
+use Rattle.vpg_texts.specs.Text.{plan_text}
 use Rattle.vpg_report.specs.Held.{Held, undo_meant, redo_meant, harvest_kept, after_change, after_undo, after_redo, after_keep, after_forget, with_harvest, without_harvest}
-use Rattle.vpg_texts.specs.Scene.{Scene, UnderKnown, IsShown, TellsKnown, table_in}
-use Rattle.vpg_report.specs.Answers.{Own, NoFeature, NoToken, NoHarvest, NoVertex, Checks, IsOf, IsLifted, IsPlanAnswer, vertex_of, call_or, first_call, full_line, settled_text, Rest, Ends, Follows, Makes, Asks, TellsSettled, AsksSettled, TellsAdded, Sweeps, Keeps, Lifts, TellsChanged, TellsUndone, TellsRedone, TellsSpent, ShowsPage, TellsEntries, TellsProducts, TellsPlan, TellsPage, Continues, Begins}
+use Rattle.vpg_texts.specs.Scene.{Scene, UnderKnown, TellsUnder, IsShown, shown_lines, IsCounted, counted_lines, TellsKnown, table_in}
+use Rattle.vpg_report.specs.Answers.{Own, NoFeature, NoToken, NoHarvest, NoVertex, Checks, IsOf, IsLifted, IsPlanAnswer, vertex_of, call_or, first_call, full_line, settled_text, Rest, Ends, Follows, Makes, Asks, TellsSettled, AsksSettled, TellsAdded, Sweeps, Keeps, Lifts, TellsChanged, TellsUndone, TellsRedone, TellsSpent, ShowsPage, TellsEntries, TellsProducts, TellsPlan, CountsPage, TellsPage, Continues, Begins}
 use Rattle.vpg_report.specs.Run.{Between, begun}
 use Rattle.vpg_report.specs.Settling.{settling, TellsSettle, AreChecked, SettledAnswersAreOne}
 use Rattle.vpg_texts.proofs.Planned.{known_is_one}
@@ -39,11 +39,17 @@ module _ (scene : Scene) (decisions : List Decision) where
   under_one P Q k a b =
       k a.0 a.1.1 (subst Q (known_is_one scene.lines (map literal_of decisions) b.0 a.0 b.1.0 a.1.0) b.1.1)
 
-  shown_one : (hopeful dual one other : List ℕ) → IsShown scene decisions hopeful dual one → IsShown scene decisions hopeful dual other → one ≡ other
-  shown_one hopeful dual one other =
+  tells_one : (hopeful dual : List ℕ) (text_of : Bool → Bool → List ℕ) (one other : List ℕ) → UnderKnown scene decisions (λ known. TellsUnder scene known hopeful dual text_of one) →
+      UnderKnown scene decisions (λ known. TellsUnder scene known hopeful dual text_of other) → one ≡ other
+  tells_one hopeful dual text_of one other =
       under_one _ _ (λ known a b.
-      a.text_is ∙ ap₂ (λ (full settled : Bool). show_text scene.names scene.identifiers _ _ (map literal_of decisions) full settled hopeful dual)
-      (one_answer a.full b.full a.full_is b.full_is) (one_answer a.settled b.settled a.settled_is b.settled_is) ∙ sym b.text_is)
+      a.text_is ∙ ap₂ text_of (one_answer a.full b.full a.full_is b.full_is) (one_answer a.settled b.settled a.settled_is b.settled_is) ∙ sym b.text_is)
+
+  shown_one : (hopeful dual one other : List ℕ) → IsShown scene decisions hopeful dual one → IsShown scene decisions hopeful dual other → one ≡ other
+  shown_one hopeful dual = tells_one hopeful dual (shown_lines scene decisions hopeful dual)
+
+  counted_one : (hopeful dual one other : List ℕ) → IsCounted scene decisions hopeful dual one → IsCounted scene decisions hopeful dual other → one ≡ other
+  counted_one hopeful dual = tells_one hopeful dual (counted_lines scene hopeful dual)
 
   products_one : (one other : List ℕ) → TellsKnown scene decisions one → TellsKnown scene decisions other → one ≡ other
   products_one one other = under_one _ _ (λ known a b. a ∙ sym b)
@@ -335,6 +341,7 @@ module _ (scene : Scene) (held : Held) (Told : List ℕ → Type 0) where
     serves script.Trail is = begins script.Trail Page (λ reply told. tells_page _ (TellsEntries scene) (λ page one other a b. a ∙ sym b) reply)
     serves script.Products is = begins script.Products Page (λ reply told. tells_page _ (TellsProducts scene) (λ page one other. products_one scene (decisions_of page) one other) reply)
     serves script.Plan is = begins script.Plan Page (λ reply told. tells_page _ (TellsPlan scene) (λ page one other. planned_one scene (decisions_of page) _ _ one other) reply)
+    serves script.Count is = begins script.Count Page (λ reply told. tells_page _ (CountsPage scene) (λ page one other. counted_one scene (decisions_of page) _ _ one other) reply)
 
 -- ---- lines
 
@@ -354,6 +361,7 @@ settle_is_told scene held book made label script.Show = tt
 settle_is_told scene held book made label script.Trail = tt
 settle_is_told scene held book made label script.Products = tt
 settle_is_told scene held book made label script.Plan = tt
+settle_is_told scene held book made label script.Count = tt
 
 module _ (scene : Scene) where
   line_one : (old : Between) (s : Said) (text other : List ℕ) (new newer : Between) → Speaks (settling scene) old s text new → Speaks (settling scene) old s other newer → (text ≡ other) × (new ≡ newer)

@@ -25,7 +25,7 @@ use Rattle.vpg_desk.proofs.Reaching.{reached_well_formed}
 use Rattle.vpg_script.specs.Script as script
 use Rattle.vpg_texts.specs.Plan.{IsPlanned, IsPlanFault}
 use Rattle.vpg_texts.specs.declared.showing.plans.PlanFault.TheVariants.{NotFull, NotSettled}
-use Rattle.vpg_texts.specs.Scene.{EntryIsWithin, IsShown, TellsKnown, scene_of}
+use Rattle.vpg_texts.specs.Scene.{EntryIsWithin, IsShown, IsCounted, TellsKnown, scene_of}
 use Rattle.vpg_texts.specs.Text.{trail_text}
 use Rattle.vpg_report.specs.Answers.{IsPlanAnswer, refused_line, room}
 use Rattle.vpg_report.specs.Engine.{EngineState, AnswersTo}
@@ -111,6 +111,11 @@ module _ (limit : ℕ) (limit_is : limit ≡ room) (old new : EngineState) (sess
       show_answers (text, (shown, appended)) =
           page_told limit limit_is session old new script.Show entries text before after refl logged
           (coe 0 1 (k. IsShown (scene_of (game_is k) (diagram_is k)) (decisions_here k) (table_here Hopeful hopeful hopeful_is k) (table_here Dual dual dual_is k) text) shown, refl, held) appended
+
+      pub count_answers : (text : List ℕ) × (IsCounted (scene_of game diagram) decisions hopeful dual text × (after ≡ before ++ text)) → AnswersTo old (record { label = session; command = script.Count }) before after new
+      count_answers (text, (counted, appended)) =
+          page_told limit limit_is session old new script.Count entries text before after refl logged
+          (coe 0 1 (k. IsCounted (scene_of (game_is k) (diagram_is k)) (decisions_here k) (table_here Hopeful hopeful hopeful_is k) (table_here Dual dual dual_is k) text) counted, refl, held) appended
 
       planned : (text : List ℕ) → IsPlanAnswer (scene_of game diagram) decisions hopeful dual text → after ≡ before ++ text → AnswersTo old (record { label = session; command = script.Plan }) before after new
       planned text plan appended =

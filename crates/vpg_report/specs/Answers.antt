@@ -19,7 +19,7 @@ use Rattle.vpg_script.specs.Script.{Request}
 use Rattle.vpg_texts.specs.Plan.{IsPlanned, IsPlanFault}
 use Rattle.vpg_texts.specs.declared.showing.plans.PlanFault.TheVariants.{NotFull, NotSettled}
 use Rattle.vpg_texts.specs.Text.{blank_number, blank_name, trail_text}
-use Rattle.vpg_texts.specs.Scene.{Scene, table_in, IsShown, TellsKnown}
+use Rattle.vpg_texts.specs.Scene.{Scene, table_in, IsShown, IsCounted, TellsKnown}
 use Rattle.vpg_report.specs.Setting.{setting_in}
 
 -- ---- the texts of replies
@@ -94,6 +94,7 @@ first_call scene held script.Show = Ok Page
 first_call scene held script.Trail = Ok Page
 first_call scene held script.Products = Ok Page
 first_call scene held script.Plan = Ok Page
+first_call scene held script.Count = Ok Page
 
 -- ---- harvests that lines make
 
@@ -235,6 +236,9 @@ IsPlanAnswer scene decisions hopeful dual text =
 abbrev pub TellsPlan : Scene → List Entry → List ℕ → Type 0
 TellsPlan scene page text = IsPlanAnswer scene (decisions_of page) (table_of Hopeful page (length scene.game)) (table_of Dual page (length scene.game)) text
 
+abbrev pub CountsPage : Scene → List Entry → List ℕ → Type 0
+CountsPage scene page text = IsCounted scene (decisions_of page) (table_of Hopeful page (length scene.game)) (table_of Dual page (length scene.game)) text
+
 -- one of these is told of the page
 abbrev pub TellsPage : (List Entry → List ℕ → Type 0) → Held → Reply → Rest
 TellsPage Tells held (PageIs page) calls text new = Tells page text × (calls ≡ []) × (new ≡ held)
@@ -257,6 +261,7 @@ Continues scene held made label script.Show reply calls text new = TellsPage (Sh
 Continues scene held made label script.Trail reply calls text new = TellsPage (TellsEntries scene) held reply calls text new
 Continues scene held made label script.Products reply calls text new = TellsPage (TellsProducts scene) held reply calls text new
 Continues scene held made label script.Plan reply calls text new = TellsPage (TellsPlan scene) held reply calls text new
+Continues scene held made label script.Count reply calls text new = TellsPage (CountsPage scene) held reply calls text new
 
 abbrev pub Begins : Scene → Held → (made : ℕ) → ℕ → script.Command → Result Call Own → Rest
 Begins scene held made label command (Err own) calls text new = Ends (refused_line (own_text own)) held calls text new

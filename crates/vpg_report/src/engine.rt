@@ -6,7 +6,7 @@ ghost use Rattle.vpg_guards.specs.Names.{index_of};
 ghost use Rattle.vpg_desk.specs.State.{IsOpened};
 ghost use Rattle.vpg_report.specs.Engine.{AnswersTo, SweepsTo, IsOpenFault, deciding, between_of, engine_of, scene_at};
 ghost use Rattle.vpg_report.specs.Run.{answering};
-ghost use Rattle.vpg_script.specs.Script.{Retract, Undo as Undoes, Redo as Redoes, Keep, Forget, Lift, Harvest as Harvests, Commit, Settle, Show, Trail, Products, Plan};
+ghost use Rattle.vpg_script.specs.Script.{Retract, Undo as Undoes, Redo as Redoes, Keep, Forget, Lift, Harvest as Harvests, Commit, Settle, Show, Trail, Products, Plan, Count};
 ghost use Rattle.vpg_script.specs.View.{request_shown};
 
 use crate::answer;
@@ -28,7 +28,7 @@ use vpg_measure::{Harvest, Which};
 use vpg_office::{NotOpened, Redo, Site, Terms, Undo};
 use vpg_script::{Command, Request, ServeFault, Server};
 use vpg_settle::swept;
-use vpg_texts::{PlanFault, plan, products, show, trail};
+use vpg_texts::{PlanFault, count, plan, products, show, trail};
 
 /// How many calls the log of a run's office takes.
 pub(crate) const ROOM: u32 = 1_048_576;
@@ -413,6 +413,24 @@ impl<L: Terms> Engine<L> {
         }
     }
 
+    /// Counts the verdicts of the present page.
+    fn count<R: Wait>(
+        &mut self,
+        rt: &R,
+        alloc: Global,
+        session: u32,
+        out: &mut Vec<u8>,
+    ) -> Result<(), ServeFault>
+        ensures { OnOk result (AnswersTo self.old (record { label = session; command = Count }) out.old.items out.new.items self.new) }
+    {
+        let page = match self.client.page(rt, alloc, session) {
+            Ok(page) => page,
+            Err(fault) => return answer::unanswered(fault, out),
+        };
+        count(alloc, &page, &self.game, &self.diagram, out)?;
+        Ok(())
+    }
+
     /// An engine whose office was opened; nothing is held.
     pub(crate) fn open<R: Wait>(
         rt: &R,
@@ -500,6 +518,7 @@ impl<L: Terms> Server for Engine<L> {
             Command::Trail => self.trail(rt, alloc, session, out),
             Command::Products => self.products(rt, alloc, session, out),
             Command::Plan => self.plan(rt, alloc, session, out),
+            Command::Count => self.count(rt, alloc, session, out),
         }
     }
 }

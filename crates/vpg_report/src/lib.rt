@@ -1,10 +1,11 @@
 //! Runs: a script is carried out on a desk, and each of its lines answered.
 //!
 //! The program above uses `run`, which opens a desk and carries a script out on it. The texts of a page are `show` (its decisions, tables
-//! and verdicts), `trail` (its entries), `products` (what is known of each feature) and `plan` (what Even does where everything is known
-//! and settled). How a script is read stands in the crate of scripts, the texts in the crate of texts, and how an order is swept in the
-//! crate of settling; this one knows what each command asks of a desk. The tokens and harvests that lines leave are held until later lines
-//! use them up; at the end of a run, also after a fault, all tokens are spent and the desk is closed.
+//! and verdicts), `trail` (its entries), `products` (what is known of each feature), `plan` (what Even does where everything is known
+//! and settled) and `count` (how many vertices have which verdict). How a script is read stands in the crate of scripts, the texts in the
+//! crate of texts, and how an order is swept in the crate of settling; this one knows what each command asks of a desk. The tokens and
+//! harvests that lines leave are held until later lines use them up; at the end of a run, also after a fault, all tokens are spent and the
+//! desk is closed.
 //!
 //! What lines leave held is defined in `specs/Held`, the calls on a desk's book and their answers in `specs/Answers` and `specs/Run`, what a
 //! run's result says in `specs/Output`. All are this project's own.
@@ -17,4 +18,4 @@ pub mod laws;
 mod runs;
 
 pub use runs::{RunFault, run};
-pub use vpg_texts::{PlanFault, plan, products, show, trail};
+pub use vpg_texts::{PlanFault, count, plan, products, show, trail};

@@ -62,6 +62,7 @@ pub data Command : Type 0 where
   Trail : Command
   Products : Command
   Plan : Command
+  Count : Command
 
 -- the command that a word names
 abbrev pub verb_of : List ℕ → Option Verb
@@ -81,6 +82,7 @@ verb_of w =
     else if bytes_eq w (codes "trail") then Some verbs.Trail
     else if bytes_eq w (codes "products") then Some verbs.Products
     else if bytes_eq w (codes "plan") then Some verbs.Plan
+    else if bytes_eq w (codes "count") then Some verbs.Count
     else None
 
 -- a command without arguments
@@ -93,6 +95,7 @@ bare_command verbs.Show = Some Show
 bare_command verbs.Trail = Some Trail
 bare_command verbs.Products = Some Products
 bare_command verbs.Plan = Some Plan
+bare_command verbs.Count = Some Count
 bare_command _ = None
 
 abbrev pub if_name : (List ℕ → Command) → List ℕ → Option Command

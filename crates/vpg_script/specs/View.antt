@@ -24,6 +24,7 @@ command_shown commands.Show = script.Show
 command_shown commands.Trail = script.Trail
 command_shown commands.Products = script.Products
 command_shown commands.Plan = script.Plan
+command_shown commands.Count = script.Count
 
 abbrev pub texts : List (Bor (List ℕ)) → List (List ℕ)
 texts words = map (λ w. w.now) words

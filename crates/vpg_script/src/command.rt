@@ -41,6 +41,7 @@ pub enum Verb {
     Trail,
     Products,
     Plan,
+    Count,
 }
 
 /// A command. Names stand in the line that was read.
@@ -62,6 +63,7 @@ pub enum Command<'t> {
     Trail,
     Products,
     Plan,
+    Count,
 }
 
 /// What is wrong with a line.
@@ -197,6 +199,8 @@ fn verb_named(word: &[u8]) -> Option<Verb>
         Some(Verb::Products)
     } else if same(word, b"plan") {
         Some(Verb::Plan)
+    } else if same(word, b"count") {
+        Some(Verb::Count)
     } else {
         None
     }
@@ -215,6 +219,7 @@ fn bare_command<'t>(verb: Verb) -> Option<Command<'t>>
         Verb::Trail => Some(Command::Trail),
         Verb::Products => Some(Command::Products),
         Verb::Plan => Some(Command::Plan),
+        Verb::Count => Some(Command::Count),
         Verb::Select
         | Verb::Exclude
         | Verb::Retract

@@ -158,6 +158,7 @@ fn names_the_faulty_line(rt: HostRuntime) -> Result<(), Fail> {
         ("keep 18446744073709551616", LineFault::Args),
         ("undo -1", LineFault::Args),
         ("show 1", LineFault::Args),
+        ("count 1", LineFault::Args),
         ("select", LineFault::Args),
         ("select 9", LineFault::Args),
         ("65: undo", LineFault::Word),

@@ -1,4 +1,5 @@
 pub mod Settled
 pub mod Shown
+pub mod Counted
 pub mod Planned
 pub mod Reading

@@ -7,13 +7,14 @@ use Rattle.vpg_guards.specs.Known.{kleene, AreAllKnown}
 use Rattle.vpg_diagram.specs.FeatureDiagram.{Line}
 use Rattle.vpg_diagram.specs.DiagramText.{NamedDiagram}
 use Rattle.vpg_game.specs.Game.{NamedGame, graph_of, vertex_ids}
+use Rattle.vpg_game.specs.Levels.{top_of}
 use Rattle.vpg_partial.specs.TableLaws.{IsKnownTable}
 use Rattle.vpg_game.specs.Guarded.{GuardedGame}
 use Rattle.vpg_measure.specs.Games.{GamesView, games_levels, games_arena}
 use Rattle.vpg_measure.specs.Lifts.{IsProgressTable}
 use Rattle.vpg_measure.specs.TwoGames.{top_for, IsProgressOf}
 use Rattle.vpg_trail.specs.Page.{Which, Hopeful, Dual, Entry, Decided, Lifted, Decision, literal_of}
-use Rattle.vpg_texts.specs.Text.{show_text, products_text}
+use Rattle.vpg_texts.specs.Text.{show_text, count_text, products_text}
 
 pub record Scene : Type 0 where
   pub game : GuardedGame Formula
@@ -48,17 +49,38 @@ AreSettledTables games hopeful dual = (which : Which) → IsProgressTable (games
 abbrev pub AreProgressTables : List Tri → GuardedGame Formula → (hopeful dual : List ℕ) → Type 0
 AreProgressTables known game hopeful dual = (table : Which) → IsProgressOf (kleene known) table game (table_in hopeful dual table)
 
--- Under what is known, the text shows these decisions and tables.
-pub record ShowsUnder (scene : Scene) (known : List Tri) (decisions : List Decision) (hopeful dual text : List ℕ) : Type 0 where
+-- The text counts the verdicts by two tables, over these games of a page.
+abbrev pub CountsOver : GamesView → (hopeful dual text : List ℕ) → Type 0
+CountsOver games hopeful dual text =
+    (full : Bool) × (settled : Bool) × Decides full (AreAllKnown (length games.known) games.known) × Decides settled (AreSettledTables games hopeful dual)
+    × (text ≡ count_text (top_of games.hopeful_levels) (top_of games.dual_levels) full settled hopeful dual)
+
+-- Under what is known, the text is made of whether each feature is known, and of whether both tables are progress tables.
+pub record TellsUnder (scene : Scene) (known : List Tri) (hopeful dual : List ℕ) (text_of : (full settled : Bool) → List ℕ) (text : List ℕ) : Type 0 where
   pub full : Bool
   pub settled : Bool
   pub full_is : Decides full (AreAllKnown (length known) known)
   pub settled_is : Decides settled (AreProgressTables known scene.game hopeful dual)
-  pub text_is : text ≡ show_text scene.names scene.identifiers (top_for Hopeful scene.game) (top_for Dual scene.game) (map literal_of decisions) full settled hopeful dual
+  pub text_is : text ≡ text_of full settled
+
+-- the lines of these decisions and tables
+abbrev pub shown_lines : Scene → List Decision → (hopeful dual : List ℕ) → (full settled : Bool) → List ℕ
+shown_lines scene decisions hopeful dual full settled =
+    show_text scene.names scene.identifiers (top_for Hopeful scene.game) (top_for Dual scene.game) (map literal_of decisions) full settled hopeful dual
 
 -- The text shows these decisions, under what they make known, and these tables.
 abbrev pub IsShown : Scene → List Decision → (hopeful dual text : List ℕ) → Type 0
-IsShown scene decisions hopeful dual text = UnderKnown scene decisions (λ known. ShowsUnder scene known decisions hopeful dual text)
+IsShown scene decisions hopeful dual text =
+    UnderKnown scene decisions (λ known. TellsUnder scene known hopeful dual (shown_lines scene decisions hopeful dual) text)
+
+-- how many vertices have which verdict by these tables
+abbrev pub counted_lines : Scene → (hopeful dual : List ℕ) → (full settled : Bool) → List ℕ
+counted_lines scene hopeful dual full settled = count_text (top_for Hopeful scene.game) (top_for Dual scene.game) full settled hopeful dual
+
+-- The text counts the verdicts by these tables, under what the decisions make known.
+abbrev pub IsCounted : Scene → List Decision → (hopeful dual text : List ℕ) → Type 0
+IsCounted scene decisions hopeful dual text =
+    UnderKnown scene decisions (λ known. TellsUnder scene known hopeful dual (counted_lines scene hopeful dual) text)
 
 -- The text tells of each feature whether the decisions make it known.
 abbrev pub TellsKnown : Scene → List Decision → List ℕ → Type 0

@@ -1,5 +1,5 @@
 -- The texts of a page.
-use Rattle.std.specs.Prelude.{ℕ, zero, suc, Bool, true, false, ◌==◌, if◌then◌else◌, List, [], ◌∷◌, ◌++◌, length, Option, Some, None, flat_map, count_by, is_some, slice_index, slice_index_or, codes, decimal}
+use Rattle.std.specs.Prelude.{ℕ, zero, suc, Bool, true, false, not, ◌==◌, if◌then◌else◌, List, [], ◌∷◌, ◌++◌, length, Option, Some, None, flat_map, count_by, is_some, slice_index, slice_index_or, codes, decimal}
 use Rattle.vpg_diagram.specs.declared.clause.Literal.{Literal}
 use Rattle.vpg_guards.specs.declared.tri.Tri.{Tri}
 use Rattle.vpg_guards.specs.declared.tri.Tri.TheVariants.{No, Unknown, Yes}
@@ -56,6 +56,26 @@ show_text names identifiers hopeful_top dual_top choices full settled hopeful du
     ++ codes "full" ++ answer_line full
     ++ codes "settled" ++ answer_line settled
     ++ vertex_lines hopeful_top dual_top identifiers hopeful dual (length identifiers)
+
+-- ---- count
+
+-- a word and a number
+abbrev pub count_line : List ℕ → ℕ → List ℕ
+count_line word n = word ++ blank_number n ++ 10 ∷ []
+
+-- how many vertices have the top in a table, and how many have not
+abbrev pub count_lines : List ℕ → List ℕ → ℕ → List ℕ → List ℕ
+count_lines at_top below top table = count_line at_top (count_by (λ n. n == top) table) ++ count_line below (count_by (λ n. not (n == top)) table)
+
+-- whether the page is settled, and whether each feature is known
+abbrev pub state_lines : Bool → Bool → List ℕ
+state_lines settled full = codes "settled" ++ answer_line settled ++ codes "full" ++ answer_line full
+
+abbrev pub count_text : ℕ → ℕ → Bool → Bool → List ℕ → List ℕ → List ℕ
+count_text hopeful_top dual_top full settled hopeful dual =
+    count_lines (codes "hopeless") (codes "possible") hopeful_top hopeful
+    ++ count_lines (codes "sure") (codes "unsure") dual_top dual
+    ++ state_lines settled full
 
 -- ---- trail
 

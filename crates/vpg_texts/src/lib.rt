@@ -1,8 +1,9 @@
 //! Texts of pages.
 //!
-//! `show` writes a page's decisions, its tables and its verdicts, `trail` its entries, `products` what is known of each feature, and `plan`
-//! what Even does where everything is known and settled. They take a page with its game and its diagram, and know no desk. The crate of runs
-//! above answers lines by them, and takes `blank_number` and `blank_name` for its own answers.
+//! `show` writes a page's decisions, its tables and its verdicts, `count` how many vertices have which verdict, `trail` its entries,
+//! `products` what is known of each feature, and `plan` what Even does where everything is known and settled. They take a page with its game
+//! and its diagram, and know no desk. The crate of runs above answers lines by them, and takes `blank_number` and `blank_name` for its own
+//! answers.
 //!
 //! What the page's decisions make of its game they make once, as `PageGames`. Who holds that already, as a desk does, takes
 //! `show_over`, `products_over` and `plan_over`, which write the same and look at no guard. A game with a priority of 65,536 has no
@@ -14,5 +15,7 @@
 mod showing;
 mod text;
 
-pub use showing::{PlanFault, plan, plan_over, products, products_over, show, show_over, trail};
+pub use showing::{
+    PlanFault, count, plan, plan_over, products, products_over, show, show_over, trail,
+};
 pub use text::{blank_name, blank_number};

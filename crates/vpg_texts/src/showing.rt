@@ -6,11 +6,13 @@ ghost use Rattle.vpg_partial.specs.Known.{literal_of};
 ghost use Rattle.vpg_partial.specs.KnownLaws.{HasConflictOf};
 ghost use Rattle.vpg_partial.specs.TableLaws.{AreChoicesOf};
 
+mod counts;
 mod entries;
 mod known;
 mod page;
 mod plans;
 
+pub use counts::count;
 pub use entries::trail;
 pub use known::{products, products_over};
 pub use page::{show, show_over};

@@ -1,8 +1,8 @@
 //! The texts of a page.
-ghost use Rattle.std.specs.Prelude.{◌≡◌, ◌<◌, ◌≤◌, Some, ◌==◌, ◌++◌, ◌∷◌, [], codes, count_by, decimal, is_some, length, map, IfSome, OnOk, OnErr, All, slice_index, suc};
+ghost use Rattle.std.specs.Prelude.{◌≡◌, ◌<◌, ◌≤◌, Some, ◌==◌, ◌++◌, ◌∷◌, [], codes, count_by, decimal, is_some, length, not, map, IfSome, OnOk, OnErr, All, slice_index, suc};
 ghost use Rattle.vpg_texts.specs.Scene.{EntryIsWithin};
 ghost use Rattle.vpg_texts.specs.Text.{blank_number, name_of, blank_name, choice_text, choices_text, decisions_line, answer_line, hopeless_text, sure_text, vertex_line, vertex_lines, show_text};
-ghost use Rattle.vpg_texts.specs.Text.{deciding_text, table_text, entry_line, trail_text, names_known, products_line, products_text, plan_line, plan_text};
+ghost use Rattle.vpg_texts.specs.Text.{count_line, count_lines, state_lines, count_text, deciding_text, table_text, entry_line, trail_text, names_known, products_line, products_text, plan_line, plan_text};
 ghost use Rattle.vpg_trail.specs.Page.{literal_of};
 ghost use Rattle.vpg_trail.specs.Shown.{entry_of};
 ghost use Rattle.vpg_game.specs.Game.{vertex_ids};
@@ -203,6 +203,71 @@ pub(crate) fn page(
     out.extend_from_slice(b"settled")?;
     answer(settled, out)?;
     vertices(games, game, hopeful, dual, out)
+}
+
+fn count_line(word: &[u8], n: usize, out: &mut Vec<u8>) -> Result<(), AllocError>
+    ensures { OnOk result (out.new.items ≡ out.old.items ++ count_line word.now n) }
+{
+    out.extend_from_slice(word)?;
+    blank_number(n as u64, out)?;
+    out.push(b'\n')?;
+    Ok(())
+}
+
+/// How many vertices have the top.
+fn tops(table: &Table, top: u64) -> usize
+    ensures { result ≡ count_by (λ n. n == top) table.now }
+{
+    table.values().iter().filter(|n| **n == top).count()
+}
+
+/// How many have not.
+fn others(table: &Table, top: u64) -> usize
+    ensures { result ≡ count_by (λ n. not (n == top)) table.now }
+{
+    table.values().iter().filter(|n| **n != top).count()
+}
+
+/// How many vertices have the top, and how many have not.
+fn count_lines(
+    at_top: &[u8],
+    below: &[u8],
+    table: &Table,
+    top: u64,
+    out: &mut Vec<u8>,
+) -> Result<(), AllocError>
+    ensures { OnOk result (out.new.items ≡ out.old.items ++ count_lines at_top.now below.now top table.now) }
+{
+    count_line(at_top, tops(table, top), out)?;
+    count_line(below, others(table, top), out)
+}
+
+/// Whether the page is settled, and whether each feature is known.
+fn state_lines(settled: bool, full: bool, out: &mut Vec<u8>) -> Result<(), AllocError>
+    ensures { OnOk result (out.new.items ≡ out.old.items ++ state_lines settled full) }
+{
+    out.extend_from_slice(b"settled")?;
+    answer(settled, out)?;
+    out.extend_from_slice(b"full")?;
+    answer(full, out)
+}
+
+/// How many vertices have which verdict, and whether the page is settled and full.
+pub(crate) fn count(
+    games: &PageGames,
+    full: bool,
+    settled: bool,
+    hopeful: &Table,
+    dual: &Table,
+    out: &mut Vec<u8>,
+) -> Result<(), AllocError>
+    ensures { OnOk result (out.new.items ≡ out.old.items ++ count_text (top_of games.now.hopeful_levels) (top_of games.now.dual_levels) full settled hopeful.now dual.now) }
+{
+    let hopeful_top = games.shape(Which::Hopeful).top();
+    let dual_top = games.shape(Which::Dual).top();
+    count_lines(b"hopeless", b"possible", hopeful, hopeful_top, out)?;
+    count_lines(b"sure", b"unsure", dual, dual_top, out)?;
+    state_lines(settled, full, out)
 }
 
 fn table(which: Which, out: &mut Vec<u8>) -> Result<(), AllocError>

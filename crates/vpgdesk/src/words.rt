@@ -57,6 +57,7 @@ Scripts, one command a line (F a feature, S a change's number, V a vertex, K a h
   lift hopeful V, lift dual V           raise one vertex of one table
   harvest, commit K                     settle copies of the tables; take them into the page
   show, trail, products, plan           verdicts; the page's entries; known features; Even's moves (where all is known)
+  count                                 how many vertices have which verdict; whether the page is settled, and full
   # ..                                  a comment; `N: COMMAND` says that session N (1 to 64) gives the command
 
 Status: 0; 1 where the input is refused or something fails (an answer `refused ..` to a line leaves 0), told by one

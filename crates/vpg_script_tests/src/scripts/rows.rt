@@ -399,6 +399,21 @@ static PLANS: [Row; 1] = [Row {
     answers: "refused NotFull / done 1 / done 2 / refused NotSettled / settled 3 / plan 0 1 / plans 1",
 }];
 
+static COUNTS: [Row; 2] = [
+    Row {
+        diagram: DIAGRAM,
+        game: GAME,
+        script: "count / select f / select g / settle / count / retract f / retract g / exclude f / 2: settle / 2: count",
+        answers: "hopeless 0 / possible 2 / sure 0 / unsure 2 / settled no / full no / done 1 / done 2 / settled 3 / hopeless 0 / possible 2 / sure 2 / unsure 0 / settled yes / full yes / done 3 / done 4 / done 5 / settled 2 / hopeless 1 / possible 1 / sure 0 / unsure 2 / settled yes / full no",
+    },
+    Row {
+        diagram: DIAGRAM,
+        game: DOT,
+        script: "settle / count",
+        answers: "settled 1 / hopeless 0 / possible 1 / sure 1 / unsure 0 / settled yes / full no",
+    },
+];
+
 #[test]
 fn settling_and_showing(rt: HostRuntime) -> Result<(), Fail> {
     assert_eq!(rt; first_wrong(&rt, rt.alloc(), &SETTLING), None);
@@ -426,6 +441,12 @@ fn what_decisions_make_known(rt: HostRuntime) -> Result<(), Fail> {
 #[test]
 fn plans_on_full_settled_pages(rt: HostRuntime) -> Result<(), Fail> {
     assert_eq!(rt; first_wrong(&rt, rt.alloc(), &PLANS), None);
+    Ok(())
+}
+
+#[test]
+fn verdicts_counted(rt: HostRuntime) -> Result<(), Fail> {
+    assert_eq!(rt; first_wrong(&rt, rt.alloc(), &COUNTS), None);
     Ok(())
 }
 

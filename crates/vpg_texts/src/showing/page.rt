@@ -9,7 +9,7 @@ ghost use Rattle.vpg_measure.specs.TwoGames.{top_for};
 ghost use Rattle.vpg_partial.specs.Known.{literal_of};
 ghost use Rattle.vpg_partial.specs.KnownLaws.{HasConflictOf};
 ghost use Rattle.vpg_partial.specs.TableLaws.{AreChoicesOf};
-ghost use Rattle.vpg_texts.specs.Scene.{AreSettledTables, IsShown, ShowsUnder, scene_of};
+ghost use Rattle.vpg_texts.specs.Scene.{AreSettledTables, IsShown, TellsUnder, scene_of, shown_lines};
 
 use crate::showing::games_of;
 use crate::text;
@@ -29,7 +29,7 @@ pub(crate) fn is_settled_table(games: &PageGames, which: Which, table: &Table) -
 }
 
 /// Whether no lift raises either table.
-fn is_settled(games: &PageGames, hopeful: &Table, dual: &Table) -> bool
+pub(crate) fn is_settled(games: &PageGames, hopeful: &Table, dual: &Table) -> bool
     requires hopeful { IsTableOf games.now.hopeful_levels games.now.hopeful_arena hopeful.now }
     requires dual { IsTableOf games.now.dual_levels games.now.dual_arena dual.now }
     ensures { Decides result (AreSettledTables games.now hopeful.now dual.now) }
@@ -56,7 +56,7 @@ fn shown(
     requires dual { length dual.now ≡ length game.now.vertices }
     requires hopeful_within { All (λ n. n ≤ top_for Which.Hopeful (graph_of game.now)) hopeful.now }
     requires dual_within { All (λ n. n ≤ top_for Which.Dual (graph_of game.now)) dual.now }
-    ensures { IfOk result (λ text. ShowsUnder (scene_of game.now diagram.now) games.now.known decisions.now hopeful.now dual.now text.items) }
+    ensures { IfOk result (λ text. TellsUnder (scene_of game.now diagram.now) games.now.known hopeful.now dual.now (shown_lines (scene_of game.now diagram.now) decisions.now hopeful.now dual.now) text.items) }
 {
     let full = games.known().is_full();
     let settled = is_settled(games, hopeful, dual);

@@ -1,62 +1,81 @@
-use Rattle.std.proofs.Common.{◌≡◌, ℕ, ◌+◌, ◌<◌, false, List, ◌++◌, length, length-append, refl, sym, ap, ◌∙◌, arith}
-use Rattle.std.proofs.lemmas.List.{length_push}
-use Rattle.std.proofs.lemmas.List.Elements.{All-push}
+use Rattle.std.proofs.Common.{◌≡◌, ℕ, ◌+◌, ◌<◌, ◌≤◌, false, List, ◌++◌, length, set, drop, All, length-append, refl, sym, ap, ap₂, subst, ◌∙◌, arith}
+use Rattle.std.proofs.lemmas.List.{length-set}
+use Rattle.std.proofs.lemmas.List.Elements.{All-set}
+use Rattle.std.specs.Arc.{arc_slice_items}
 use Rattle.vpg_guards.specs.Formula.{Formula}
 use Rattle.vpg_guards.proofs.Noted.{any_default}
-use Rattle.vpg_game.specs.declared.player.Player.{Player}
 use Rattle.vpg_game.specs.Guarded.{GuardedEdge}
-use Rattle.vpg_game.specs.Game.{graph_of, vertex_in}
+use Rattle.vpg_game.specs.Game.{graph_of, vertex_in, edges_in}
 use Rattle.vpg_game.proofs.Graphs.{same_count, graph_at}
+use Rattle.vpg_hope.specs.declared.arena.Row.{Row}
+use Rattle.vpg_hope.specs.Arena.{InLists, row_vertices}
 use Rattle.vpg_hope.specs.Selection.{kept_under, owner_under, priority_under}
-use Rattle.vpg_hope.proofs.Rows.{InRange, ranges_grow}
-use Rattle.vpg_hope.proofs.Selected.{priority_fits, few_more, kept_closed, vertex_made}
+use Rattle.vpg_hope.proofs.Rows.{own_row, ranges_in_own}
+use Rattle.vpg_hope.proofs.Selected.{few_more, few_next, room_at, kept_closed, vertex_replaced, vertex_left}
 use Rattle.vpg_hope.proofs.arena.Arena.reselected.Goals as goal
+use Rattle.vpg_hope.proofs.arena.Arena.reselected.Goals.{then-marks-v+in_ok-rows-2, else-marks-v}
 
-pub push_held-requires-clause-held : goal.push_held-requires-clause-held
-push_held-requires-clause-held c =
-    let within : c.loop-v.v < length c.args.marks.now = omega (arith, c.loop-v-test.true, c.vertices-count.ensures.graph, c.requires.marks) in
-    λ unmarked. c.requires.held c.loop-v.v (any_default c.args.marks.now c.loop-v.v false _ within ∙ unmarked)
+both_are : {X Y : Type 0} (P : X → Y → Type 0) {x x' : X} {y y' : Y} → x' ≡ x → y' ≡ y → P x y → P x' y'
+both_are P {x} {x'} {y} {y'} ex ey h = subst (λ a. P a y') (sym ex) (subst (λ b. P x b) (sym ey) h)
 
-pub priority-requires-in-loop-v : goal.priority-requires-in-loop-v
-priority-requires-in-loop-v c =
-    let less : c.loop-v.v < length c.args.game.now.vertices = omega (arith, c.loop-v-test.true, c.vertices-count.ensures.count) in
-    omega (arith, c.priority.ensures.value, priority_fits c.args.game.now c.loop-v.v c.vertices-count.ensures.game less)
-
-pub overflow_cast-len : goal.overflow_cast-len
-overflow_cast-len c =
+pub push_row-requires-clause-room : goal.push_row-requires-clause-room
+push_row-requires-clause-room c =
     let game = c.args.game.now in
-    let v = c.loop-v.v in
-    let less : v < length game.vertices = omega (arith, c.loop-v-test.true, c.vertices-count.ensures.count) in
-    let owner = (vertex_in (graph_of game) v).owner in
-    let more = kept_under c.args.selection owner (vertex_in (graph_of game) v).edges in
-    let same = ap (λ (es : List (GuardedEdge Formula)). kept_under c.args.selection owner es) (ap (λ x. x.edges) (graph_at game.vertices v)) in
-    let few = few_more c.args.selection owner game.vertices c.loop-v.successors.items more v less same c.loop-v.invariant.few in
-    omega (arith, c.len.ensures, c.push_held.new.successors.ok.0, ap length c.in_ok-push_held.ensures, few, c.vertices-count.ensures.game.few_edges)
+    let less : c.loop-v.v < length game.vertices = omega (arith, c.loop-v-test.true, c.vertices-v-end.ensures.count) in
+    omega (arith, room_at game.vertices c.loop-v.own.items c.loop-v.v less c.loop-v.invariant.few, c.vertices-v-end.ensures.game.few_edges)
 
 pub loop-v-preserved : goal.loop-v-preserved
 loop-v-preserved c =
     let game = c.args.game.now in
+    let graph = graph_of game in
     let v = c.loop-v.v in
-    let ss = c.loop-v.successors.items in
-    let less : v < length game.vertices = omega (arith, c.loop-v-test.true, c.vertices-count.ensures.count) in
-    let graph_less : v < length (graph_of game) = omega (arith, same_count game) in
-    let vertex_owner = (vertex_in (graph_of game) v).owner in
-    let more = kept_under c.args.selection vertex_owner (vertex_in (graph_of game) v).edges in
-    let pushed = c.in_ok-push.ensures.items in
-    let extended : c.push_held.new.successors.items ≡ ss ++ more = c.in_ok-push_held.ensures in
-    let whole = ap length extended ∙ length-append ss more in
-    let start : c.len-start.result ≡ length ss = omega (arith, c.len-start.ensures, c.loop-v.successors.ok.0) in
-    let last : c.len.result ≡ length ss + length more = omega (arith, c.len.ensures, c.push_held.new.successors.ok.0, whole) in
+    let selection = c.args.selection in
+    let shared = arc_slice_items c.in_ok-shared.shared in
+    let rows = c.loop-v.rows.items in
+    let own = c.loop-v.own.items in
+    let owner = (vertex_in graph v).owner in
+    let more = kept_under selection owner (vertex_in graph v).edges in
+    let row = own_row (owner_under selection owner) (priority_under selection (vertex_in graph v).priority) (length own) (length (own ++ more)) in
+    let less : v < length game.vertices = omega (arith, c.loop-v-test.true, c.vertices-v-end.ensures.count) in
+    let graph_less : v < length graph = omega (arith, same_count game) in
+    let edges_at = ap (λ (es : List (GuardedEdge Formula)). kept_under selection owner es) (ap (λ x. x.edges) (graph_at game.vertices v)) in
     record {
-      rows = ap length pushed ∙ length_push c.loop-v.rows.items _ ∙ ap (λ n. n + 1) c.loop-v.invariant.rows;
-      made = rw (pushed, extended) (vertex_made c.args.selection (graph_of game) c.loop-v.rows.items ss more v c.len-start.result c.len.result c.owner-in-loop-v.result c.priority-in-loop-v.result
-          c.loop-v.invariant.ranges c.loop-v.invariant.made graph_less
-          (c.owner-in-loop-v.ensures ∙ ap (λ (owner : Player). owner_under c.args.selection owner) c.owner.ensures.graph)
-          (c.priority-in-loop-v.ensures ∙ ap (λ (priority : ℕ). priority_under c.args.selection priority) c.priority.ensures.graph)
-          refl start last);
-      ranges = rw pushed (All-push (InRange (length c.push_held.new.successors.items)) c.loop-v.rows.items _
-          (ranges_grow c.loop-v.rows.items (length ss) _ (omega (arith, whole)) c.loop-v.invariant.ranges) (omega arith, omega (arith, whole)));
-      closed = rw extended (kept_closed c.args.selection vertex_owner game ss v c.vertices-count.ensures.game less c.loop-v.invariant.closed);
-      few = rw extended (few_more c.args.selection vertex_owner game.vertices ss more v less
-          (ap (λ (es : List (GuardedEdge Formula)). kept_under c.args.selection vertex_owner es) (ap (λ x. x.edges) (graph_at game.vertices v))) c.loop-v.invariant.few);
+      rows = elim c.if-marks-v.branch [
+        | then-marks-v+in_ok-rows-2 w ↦ ap (λ r. length r.items) w.rows-is ∙ length-set rows v _ ∙ c.loop-v.invariant.rows
+        | else-marks-v w ↦ ap (λ r. length r.items) w.rows-is ∙ c.loop-v.invariant.rows
+      ];
+      made = elim c.if-marks-v.branch [
+        | then-marks-v+in_ok-rows-2 w ↦ (
+            let own_is : c.if-marks-v.own.items ≡ own ++ more = ap (λ o. o.items) w.own-is ∙ w.in_ok-rows-2.ensures.own in
+            let rows_is : c.if-marks-v.rows.items ≡ set rows v row =
+            ap (λ r. r.items) w.rows-is ∙ ap (λ (r : Row). set rows v r) (w.in_ok-rows-2.ensures.row ∙ ap (λ (xs : List ℕ). own_row (owner_under selection owner) (priority_under selection (vertex_in graph v).priority) (length own) (length xs)) w.in_ok-rows-2.ensures.own) in
+            ap₂ (λ (rs : List Row) (os : List ℕ). row_vertices rs shared os) rows_is own_is ∙ vertex_replaced selection graph c.args.self.now rows shared own more v c.requires.count graph_less c.loop-v.invariant.ranges refl c.loop-v.invariant.made)
+        | else-marks-v w ↦ (
+            let within : v < length c.args.marks.now = omega (arith, c.requires.marks) in
+            let held = c.requires.held v graph_less (any_default c.args.marks.now v false _ within ∙ w.if-marks-v.false) in
+            ap₂ (λ (rs : List Row) (os : List ℕ). row_vertices rs shared os) (ap (λ r. r.items) w.rows-is) (ap (λ o. o.items) w.own-is)
+            ∙ vertex_left selection graph c.args.self.now (row_vertices rows shared own) v c.requires.count graph_less held c.loop-v.invariant.made)
+      ];
+      ranges = elim c.if-marks-v.branch [
+        | then-marks-v+in_ok-rows-2 w ↦ (
+            let own_is : c.if-marks-v.own.items ≡ own ++ more = ap (λ o. o.items) w.own-is ∙ w.in_ok-rows-2.ensures.own in
+            let rows_is : c.if-marks-v.rows.items ≡ set rows v row =
+            ap (λ r. r.items) w.rows-is ∙ ap (λ (r : Row). set rows v r) (w.in_ok-rows-2.ensures.row ∙ ap (λ (xs : List ℕ). own_row (owner_under selection owner) (priority_under selection (vertex_in graph v).priority) (length own) (length xs)) w.in_ok-rows-2.ensures.own) in
+            both_are (λ (rs : List Row) (os : List ℕ). All (InLists shared os) rs) rows_is own_is
+            (All-set (InLists shared (own ++ more)) rows v row (omega (arith, length-append own more), omega arith) (ranges_in_own rows shared own more c.loop-v.invariant.ranges)))
+        | else-marks-v w ↦ both_are (λ (rs : List Row) (os : List ℕ). All (InLists shared os) rs) (ap (λ r. r.items) w.rows-is) (ap (λ o. o.items) w.own-is) c.loop-v.invariant.ranges
+      ];
+      closed = elim c.if-marks-v.branch [
+        | then-marks-v+in_ok-rows-2 w ↦
+            subst (λ (os : List ℕ). All (λ u. u < length graph) os) (sym (ap (λ o. o.items) w.own-is ∙ w.in_ok-rows-2.ensures.own)) (kept_closed selection owner game own v c.vertices-v-end.ensures.game less c.loop-v.invariant.closed)
+        | else-marks-v w ↦ subst (λ (os : List ℕ). All (λ u. u < length graph) os) (sym (ap (λ o. o.items) w.own-is)) c.loop-v.invariant.closed
+      ];
+      few = elim c.if-marks-v.branch [
+        | then-marks-v+in_ok-rows-2 w ↦
+            subst (λ (os : List ℕ). length os + edges_in (drop (v + 1) game.vertices) ≤ 262144 + edges_in game.vertices) (sym (ap (λ o. o.items) w.own-is ∙ w.in_ok-rows-2.ensures.own))
+            (few_more selection owner game.vertices own more v less edges_at c.loop-v.invariant.few)
+        | else-marks-v w ↦
+            subst (λ (os : List ℕ). length os + edges_in (drop (v + 1) game.vertices) ≤ 262144 + edges_in game.vertices) (sym (ap (λ o. o.items) w.own-is))
+            (few_next game.vertices own v less c.loop-v.invariant.few)
+      ];
     }

@@ -1,15 +1,15 @@
-use Rattle.std.proofs.Common.{◌≡◌, ◌+◌, ◌<◌, ◌≤◌, length, map, take, drop, All}
+use Rattle.std.proofs.Common.{◌≡◌, ◌+◌, ◌<◌, ◌≤◌, length, drop, All}
+use Rattle.std.specs.Arc.{arc_slice_items}
 use Rattle.vpg_game.specs.Game.{graph_of, edges_in}
-use Rattle.vpg_hope.specs.Arena.{row_vertices}
-use Rattle.vpg_hope.specs.Selection.{vertex_under}
-use Rattle.vpg_hope.proofs.Rows.{InRange}
+use Rattle.vpg_hope.specs.Arena.{row_vertices, InLists}
+use Rattle.vpg_hope.proofs.Selected.{AreUpTo}
 use Rattle.vpg_hope.proofs.arena.Arena.reselected.Given as goal
 
 abbrev pub invariant-loop-v : goal.invariant-loop-v
 invariant-loop-v l = record {
-  rows : length l.rows.items ≡ l.v;
-  made : row_vertices l.rows.items l.successors.items ≡ map (vertex_under l.selection) (take l.v (graph_of l.game));
-  ranges : All (InRange (length l.successors.items)) l.rows.items;
-  closed : All (λ w. w < length (graph_of l.game)) l.successors.items;
-  few : length l.successors.items + edges_in (drop l.v l.game.vertices) ≤ edges_in l.game.vertices;
+  rows : length l.rows.items ≡ length (graph_of l.game);
+  made : AreUpTo l.selection (graph_of l.game) l.self l.v (row_vertices l.rows.items (arc_slice_items l.shared) l.own.items);
+  ranges : All (InLists (arc_slice_items l.shared) l.own.items) l.rows.items;
+  closed : All (λ w. w < length (graph_of l.game)) l.own.items;
+  few : length l.own.items + edges_in (drop l.v l.game.vertices) ≤ 262144 + edges_in l.game.vertices;
 }

@@ -1,4 +1,4 @@
-use Rattle.std.proofs.Common.{◌≡◌, ℕ, ◌+◌, ◌<◌, List, ◌++◌, length, length-append, refl, sym, ap, ap₂, ◌∙◌, subst, All, arith}
+use Rattle.std.proofs.Common.{◌≡◌, ℕ, [], ◌+◌, ◌<◌, List, ◌++◌, length, length-append, refl, sym, ap, ap₂, ◌∙◌, subst, All, arith}
 use Rattle.std.proofs.lemmas.List.{length_push}
 use Rattle.std.proofs.lemmas.List.Elements.{All-push}
 use Rattle.vpg_guards.specs.Formula.{Formula, IsBelow}
@@ -7,7 +7,8 @@ use Rattle.vpg_game.specs.Guarded.{GuardedEdge}
 use Rattle.vpg_game.specs.Game.{graph_of, vertex_in}
 use Rattle.vpg_game.proofs.Graphs.{same_count}
 use Rattle.vpg_hope.specs.Selection.{features_under, kept_under, owner_under, priority_under}
-use Rattle.vpg_hope.proofs.Rows.{InRange, ranges_grow}
+use Rattle.vpg_hope.specs.Arena.{InLists}
+use Rattle.vpg_hope.proofs.Rows.{ranges_in_shared}
 use Rattle.vpg_hope.proofs.Selected.{guards_named, priority_fits, few_more, kept_closed, vertex_made}
 use Rattle.vpg_hope.proofs.arena.Arena.selected.Goals as goal
 
@@ -51,8 +52,7 @@ loop-v-preserved c =
           (c.owner.ensures ∙ ap (λ (owner : Player). owner_under c.args.selection owner) c.owner-owner.ensures.graph)
           (c.priority-in-loop-v.ensures ∙ ap (λ (priority : ℕ). priority_under c.args.selection priority) c.priority.ensures.graph)
           refl start last);
-      ranges = rw pushed (All-push (InRange (length c.push_kept.new.successors.items)) c.loop-v.rows.items _
-          (ranges_grow c.loop-v.rows.items (length ss) _ (omega (arith, whole)) c.loop-v.invariant.ranges) (omega arith, omega (arith, whole)));
+      ranges = rw (pushed, extended) (All-push (InLists (ss ++ more) []) c.loop-v.rows.items _ (ranges_in_shared c.loop-v.rows.items ss more [] c.loop-v.invariant.ranges) (omega arith, omega (arith, length-append ss more)));
       closed = rw extended (kept_closed c.args.selection (vertex_in (graph_of game) v).owner game ss v c.vertices-vertices.ensures.game less c.loop-v.invariant.closed);
       few = rw extended (few_more c.args.selection (vertex_in (graph_of game) v).owner game.vertices ss more v less
           (ap (λ (es : List (GuardedEdge Formula)). kept_under c.args.selection (vertex_in (graph_of game) v).owner es) (sym c.edges.ensures.graph ∙ c.edges.ensures.value)) c.loop-v.invariant.few);

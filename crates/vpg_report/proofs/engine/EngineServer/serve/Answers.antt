@@ -83,6 +83,12 @@ returns-in-Plan-clause-answer g c =
     served c.plan.result c.args.self.now c.plan.new.self c.args.lifters (asks script.Plan) (request_shown c.args.request.now) c.args.out.now.items c.plan.new.out.items
     (ap (λ command. asks (command_shown command)) (sym c.in-Plan.is)) (λ calls held. tt) c.plan.ensures
 
+pub returns-in-Count-clause-answer : goal.returns-in-Count-clause-answer
+returns-in-Count-clause-answer g c =
+    let asks : script.Command → Request = λ command. record { label = c.args.request.now.label; command = command } in
+    served c.count.result c.args.self.now c.count.new.self c.args.lifters (asks script.Count) (request_shown c.args.request.now) c.args.out.now.items c.count.new.out.items
+    (ap (λ command. asks (command_shown command)) (sym c.in-Count.is)) (λ calls held. tt) c.count.ensures
+
 pub returns-in-Harvest-clause-answer : goal.returns-in-Harvest-clause-answer
 returns-in-Harvest-clause-answer g c =
     let asks : script.Command → Request = λ command. record { label = c.args.request.now.label; command = command } in

@@ -1,0 +1,193 @@
+//! Sessions at work.
+use std::alloc::Global;
+use std::sync::Wait;
+use std::sync::atomic::{AtomicU64, Ordering};
+use vpg_office::{Front, Office, Redo, Returned, Session, Terms, Undo};
+
+/// A session with its front.
+#[derive(Drop)]
+pub struct Seat<L: Terms> {
+    pub session: Session<L>,
+    pub front: Front<L>,
+}
+
+/// A further session.
+pub fn joined<L: Terms, R: Wait>(rt: &R, office: &Office<L>) -> Option<Seat<L>> {
+    let (session, front) = office.join(rt).ok()?;
+    Some(Seat { session, front })
+}
+
+/// The token of a decision, unless it is refused.
+pub fn decide<L: Terms, R: Wait>(
+    rt: &R,
+    alloc: Global,
+    office: &Office<L>,
+    seat: &mut Seat<L>,
+    feature: u16,
+) -> Option<Undo<L>> {
+    match seat
+        .session
+        .decide(rt, alloc, office, &mut seat.front, feature, true)
+    {
+        Ok(token) => Some(token),
+        Err(_fault) => None,
+    }
+}
+
+/// The token of a retraction, unless it is refused.
+fn retract<L: Terms, R: Wait>(
+    rt: &R,
+    alloc: Global,
+    office: &Office<L>,
+    seat: &mut Seat<L>,
+    feature: u16,
+) -> Option<Undo<L>> {
+    match seat
+        .session
+        .retract(rt, alloc, office, &mut seat.front, feature)
+    {
+        Ok(token) => Some(token),
+        Err(_fault) => None,
+    }
+}
+
+/// Spends a token. A token can't be let go, so a call that is refused is made again: the log has to have room for it.
+pub fn keep<L: Terms, R: Wait>(rt: &R, office: &Office<L>, seat: &mut Seat<L>, token: Undo<L>) {
+    let mut token = token;
+    for _ in rt.forever() {
+        match seat.session.keep(rt, office, &mut seat.front, token) {
+            Ok(()) => return,
+            Err(returned) => {
+                let Returned {
+                    fault: _fault,
+                    value,
+                } = returned;
+                token = value;
+            }
+        }
+    }
+    unreachable!()
+}
+
+/// Spends the token of an undone change, as `keep`.
+fn forget<L: Terms, R: Wait>(rt: &R, office: &Office<L>, seat: &mut Seat<L>, token: Redo<L>) {
+    let mut token = token;
+    for _ in rt.forever() {
+        match seat.session.forget(rt, office, &mut seat.front, token) {
+            Ok(()) => return,
+            Err(returned) => {
+                let Returned {
+                    fault: _fault,
+                    value,
+                } = returned;
+                token = value;
+            }
+        }
+    }
+    unreachable!()
+}
+
+/// Takes a decision back by its token, and spends what is left.
+pub fn undo<L: Terms, R: Wait>(
+    rt: &R,
+    alloc: Global,
+    office: &Office<L>,
+    seat: &mut Seat<L>,
+    token: Undo<L>,
+) {
+    match seat.session.undo(rt, alloc, office, &mut seat.front, token) {
+        Ok(token) => forget(rt, office, seat, token),
+        Err(returned) => {
+            let Returned {
+                fault: _fault,
+                value,
+            } = returned;
+            keep(rt, office, seat, value);
+        }
+    }
+}
+
+/// Where the calls of a session stand in the log, from 1.
+#[derive(Clone, Copy)]
+pub struct Places {
+    last: usize,
+    /// The sum of the places.
+    pub sum: u64,
+    /// Whether each stands behind the one before.
+    pub in_order: bool,
+}
+
+impl Places {
+    fn none() -> Places {
+        Places {
+            last: 0,
+            sum: 0,
+            in_order: true,
+        }
+    }
+
+    /// Notes the call that a front of this length ends with.
+    fn note(&mut self, length: usize) {
+        self.in_order = self.in_order && self.last < length;
+        self.last = length;
+        self.sum = self.sum.saturating_add(length as u64);
+    }
+}
+
+/// Decides a feature and retracts it: four calls, unless one is refused.
+fn round<L: Terms, R: Wait>(
+    rt: &R,
+    alloc: Global,
+    office: &Office<L>,
+    seat: &mut Seat<L>,
+    feature: u16,
+    places: &mut Places,
+) -> Option<()> {
+    let token = decide(rt, alloc, office, seat, feature)?;
+    places.note(seat.front.len());
+    keep(rt, office, seat, token);
+    places.note(seat.front.len());
+    let token = retract(rt, alloc, office, seat, feature)?;
+    places.note(seat.front.len());
+    keep(rt, office, seat, token);
+    places.note(seat.front.len());
+    Some(())
+}
+
+/// So many rounds on the feature of the session's number, and the places of their calls.
+pub fn places_of<L: Terms, R: Wait>(
+    rt: &R,
+    alloc: Global,
+    office: &Office<L>,
+    seat: Seat<L>,
+    rounds: u32,
+) -> Places {
+    let mut seat = seat;
+    let mut places = Places::none();
+    let feature = seat.session.number() as u16;
+    for _ in 0..rounds {
+        if round(rt, alloc, office, &mut seat, feature, &mut places).is_none() {
+            return places;
+        }
+    }
+    places
+}
+
+/// A feature is decided and that undone so often: three calls a time. Then it is told that this has ended.
+pub fn change_often<L: Terms, R: Wait>(
+    rt: &R,
+    alloc: Global,
+    office: &Office<L>,
+    seat: Seat<L>,
+    feature: u16,
+    rounds: u32,
+    ended: &AtomicU64,
+) {
+    let mut seat = seat;
+    for _ in 0..rounds {
+        if let Some(token) = decide(rt, alloc, office, &mut seat, feature) {
+            undo(rt, alloc, office, &mut seat, token);
+        }
+    }
+    ended.store(1, Ordering::SeqCst);
+}

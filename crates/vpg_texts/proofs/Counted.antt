@@ -1,0 +1,30 @@
+-- What is counted of a page.
+use Rattle.std.proofs.Common.{◌≡◌, ℕ, ◌≤◌, List, ◌++◌, length, All, ap, ◌∙◌, append_assoc}
+use Rattle.std.specs.Prelude.{map}
+use Rattle.vpg_diagram.specs.DiagramText.{NamedDiagram}
+use Rattle.vpg_game.specs.Game.{NamedGame, graph_of}
+use Rattle.vpg_measure.specs.Games.{GamesView, ArePageGames}
+use Rattle.vpg_measure.specs.TwoGames.{top_for}
+use Rattle.vpg_trail.specs.Page.{Hopeful, Dual, Decision, literal_of}
+use Rattle.vpg_texts.specs.Scene.{CountsOver, IsCounted, scene_of}
+use Rattle.vpg_texts.specs.Text.{count_text}
+use Rattle.vpg_texts.proofs.Settled.{settled_tells}
+use Rattle.vpg_texts.proofs.Shown.{tells}
+
+-- three parts, written one behind another
+pub three_parts : (before one two three x y z : List ℕ) → one ≡ before ++ x → two ≡ one ++ y → three ≡ two ++ z → three ≡ before ++ (x ++ y ++ z)
+three_parts before one two three x y z first second third =
+    third ∙ ap (λ (bytes : List ℕ). bytes ++ z) (second ∙ ap (λ (bytes : List ℕ). bytes ++ y) first ∙ append_assoc before x y) ∙ append_assoc before (x ++ y) z
+
+pub counts : (game : NamedGame) (diagram : NamedDiagram) (decisions : List Decision) (games : GamesView) → ArePageGames game diagram (map literal_of decisions) games →
+    (hopeful dual text : List ℕ) → length hopeful ≡ length game.vertices → length dual ≡ length game.vertices →
+    All (λ n. n ≤ top_for Hopeful (graph_of game)) hopeful → All (λ n. n ≤ top_for Dual (graph_of game)) dual →
+    CountsOver games hopeful dual text → IsCounted (scene_of game diagram) decisions hopeful dual text
+counts game diagram decisions games are hopeful dual text hopeful_len dual_len hopeful_within dual_within (full, settled, full_is, settled_is, text_is) = (
+  games.known,
+  (
+    are.known,
+    tells game diagram (map literal_of decisions) games are (λ first second is_full is_settled. count_text first second is_full is_settled hopeful dual) full settled hopeful dual text full_is
+        (settled_tells game diagram (map literal_of decisions) games are hopeful dual hopeful_len dual_len hopeful_within dual_within settled settled_is) text_is,
+  ),
+)

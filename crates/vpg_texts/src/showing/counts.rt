@@ -1,0 +1,63 @@
+//! The text of how many vertices have which verdict.
+ghost use Rattle.std.specs.Prelude.{◌≡◌, ◌≤◌, ◌++◌, ℕ, List, length, map, All, OnOk, OnErr};
+ghost use Rattle.vpg_diagram.specs.FeatureDiagram.{feature_count};
+ghost use Rattle.vpg_game.specs.Game.{graph_of};
+ghost use Rattle.vpg_measure.specs.Lifts.{IsTableOf};
+ghost use Rattle.vpg_measure.specs.TwoGames.{top_for};
+ghost use Rattle.vpg_partial.specs.Known.{literal_of};
+ghost use Rattle.vpg_partial.specs.KnownLaws.{HasConflictOf};
+ghost use Rattle.vpg_partial.specs.TableLaws.{AreChoicesOf};
+ghost use Rattle.vpg_texts.specs.Scene.{CountsOver, IsCounted, scene_of};
+
+use crate::showing::games_of;
+use crate::showing::page::is_settled;
+use crate::text;
+use std::alloc::{AllocError, Global};
+use vpg_diagram::Diagram;
+use vpg_game::GuardedGame;
+use vpg_measure::{PageGames, Table, Which};
+use vpg_trail::Page;
+
+/// Appends the counts of two tables, over what the decisions make of the game.
+fn count_over(
+    alloc: Global,
+    games: &PageGames,
+    hopeful: &Table,
+    dual: &Table,
+    out: &mut Vec<u8>,
+) -> Result<(), AllocError>
+    requires hopeful { IsTableOf games.now.hopeful_levels games.now.hopeful_arena hopeful.now }
+    requires dual { IsTableOf games.now.dual_levels games.now.dual_arena dual.now }
+    ensures counted { OnOk result ((text : List ℕ) × (CountsOver games.now hopeful.now dual.now text × (out.new.items ≡ out.old.items ++ text))) }
+    ensures unchanged { OnErr result (out.new.items ≡ out.old.items) }
+{
+    let full = games.known().is_full();
+    let settled = is_settled(games, hopeful, dual);
+    let mut text = Vec::new(alloc);
+    text::count(games, full, settled, hopeful, dual, &mut text)?;
+    out.extend_from_slice(&text)
+}
+
+/// Appends how many vertices of a page are hopeless and how many possible, how many are sure and how many unsure, whether both tables
+/// are progress tables, and whether each feature is known. The page's decisions have no conflict, and its tables have one number up to
+/// the top for each vertex.
+pub fn count(
+    alloc: Global,
+    page: &Page,
+    game: &GuardedGame,
+    diagram: &Diagram,
+    out: &mut Vec<u8>,
+) -> Result<(), AllocError>
+    requires features { game.now.features ≡ feature_count diagram.now.lines }
+    requires named { AreChoicesOf diagram.now.lines (map literal_of page.now.decisions) }
+    requires consistent { ¬ (HasConflictOf diagram.now.lines (map literal_of page.now.decisions)) }
+    requires hopeful { length page.now.hopeful ≡ length game.now.vertices }
+    requires dual { length page.now.dual ≡ length game.now.vertices }
+    requires hopeful_within { All (λ n. n ≤ top_for Which.Hopeful (graph_of game.now)) page.now.hopeful }
+    requires dual_within { All (λ n. n ≤ top_for Which.Dual (graph_of game.now)) page.now.dual }
+    ensures counted { OnOk result ((text : List ℕ) × (IsCounted (scene_of game.now diagram.now) page.now.decisions page.now.hopeful page.now.dual text × (out.new.items ≡ out.old.items ++ text))) }
+    ensures unchanged { OnErr result (out.new.items ≡ out.old.items) }
+{
+    let games = games_of(alloc, game, diagram, page.decisions.as_slice())?;
+    count_over(alloc, &games, &page.hopeful, &page.dual, out)
+}
