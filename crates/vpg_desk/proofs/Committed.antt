@@ -1,5 +1,7 @@
 -- What a desk answers to a commit, and what an accepted one leaves.
-use Rattle.std.proofs.Common.{◌≡◌, ℕ, ◌≤◌, Bool, true, false, List, ◌++◌, length, map, Option, Some, None, IfSome, IfErr, Result, Ok, Err, refl, sym, ap, ◌∙◌, subst, arith, append-nil}
+use Rattle.std.proofs.Common.{◌≡◌, ℕ, ◌<◌, ◌≤◌, max, Bool, true, false, IsTrue, ◌⊎◌, inl, inr, get_or, slice_index, le_antisymm, List, ◌++◌, length, map, Option, Some, None, IfSome, IfErr, Result, Ok, Err, refl, sym, ap, ◌∙◌, subst, arith, append-nil}
+use Rattle.std.proofs.lemmas.Bool.{false≢true}
+use Rattle.std.proofs.lemmas.List.{same_lists, get_or_default}
 use Rattle.std.specs.Arc.{arc_value}
 use Rattle.std.specs.Bool.{Decides}
 use Rattle.vpg_game.proofs.Graphs.{same_count}
@@ -7,30 +9,33 @@ use Rattle.vpg_game.specs.Game.{NamedGame, graph_of}
 use Rattle.vpg_diagram.specs.DiagramText.{NamedDiagram}
 use Rattle.vpg_guards.specs.Formula.{Formula}
 use Rattle.vpg_guards.specs.Known.{kleene}
-use Rattle.vpg_measure.proofs.TwoGames.{arena_length}
-use Rattle.vpg_measure.specs.Games.{ArePageGames}
-use Rattle.vpg_measure.specs.Orders.{HarvestView, IsHarvest, harvest_table}
-use Rattle.vpg_measure.specs.TwoGames.{IsTableBelow}
+use Rattle.vpg_hope.specs.Hope.{Extends}
+use Rattle.vpg_measure.proofs.TwoGames.{arena_length, progress_earlier}
+use Rattle.vpg_measure.specs.Games.{GamesView, ArePageGames}
+use Rattle.vpg_measure.specs.Orders.{HarvestView, IsHarvest, IsSettledHarvest, harvest_table}
+use Rattle.vpg_measure.specs.TwoGames.{IsProgressOf, IsTableBelow}
 use Rattle.vpg_partial.specs.TableLaws.{IsKnownTable}
-use Rattle.vpg_trail.specs.Page.{Which, Hopeful, Dual, Literal, Decision, literal_of, choices_of, raises}
+use Rattle.vpg_trail.specs.Page.{Which, Hopeful, Dual, Literal, Decision, literal_of, choices_of, value_at, table_of, raises}
 use Rattle.vpg_trail.specs.Shown.{Track}
 use Rattle.vpg_trail.specs.WellFormed.{LiftsStandAfter}
 use Rattle.vpg_trail.proofs.Lifting.{well_formed_lifts_stand}
-use Rattle.vpg_trail.proofs.PageLemmas.{choices_of-append}
-use Rattle.vpg_desk.specs.Book.{Commit, Added, Refused, OtherGame, Outdated, committed, raises_of, first_missing, outdated_at, refuses_commit, Refusal}
+use Rattle.vpg_trail.proofs.PageLemmas.{choices_of-append, value_at-append, length-table_of, table_of-at}
+use Rattle.vpg_desk.specs.Book.{Commit, Added, Refused, OtherGame, Outdated, IsSettledPage, committed, raises_of, first_missing, outdated_at, refuses_commit, Refusal}
 use Rattle.vpg_desk.specs.Commit.{IsOrderOf, handed_in, raised_by, commit_refusal}
 use Rattle.vpg_desk.specs.declared.fault.CommitFault.{CommitFault}
 use Rattle.vpg_desk.specs.declared.fault.CommitFault.TheVariants.{Memory}
 use Rattle.vpg_desk.specs.Cuts.{cut_book, SuffixesBelow}
-use Rattle.vpg_desk.specs.Desk.{family_of}
+use Rattle.vpg_desk.specs.Desk.{family_of, IsProgressUnder}
 use Rattle.vpg_desk.specs.DeskFields.{setting_in, book_in, desk_of, IsDesk}
-use Rattle.vpg_desk.specs.Lawful.{IsLawful, harvested}
+use Rattle.vpg_desk.specs.Lawful.{IsLawful, PageIsBelow, harvested}
 use Rattle.vpg_desk.specs.State.{DeskState, Replies, IsStep, IsReached}
 use Rattle.vpg_desk.specs.Trail.{StandsFor, book_of}
 use Rattle.vpg_desk.specs.declared.desk.Desk.TheInside.{Inside}
+use Rattle.vpg_desk.proofs.Answering.{tells}
 use Rattle.vpg_desk.proofs.Lawful.{harvests_are_lawful}
-use Rattle.vpg_desk.proofs.Raising.{raises-decisions, raises_of_well_formed, missing_none}
+use Rattle.vpg_desk.proofs.Raising.{raises-decisions, raises-reach, raises_of_well_formed, missing_none}
 use Rattle.vpg_desk.proofs.Reaching.{reached_step}
+use Rattle.vpg_desk.proofs.Sound.{sound_of}
 use Rattle.vpg_desk.proofs.Telling.{added_are_few}
 use Rattle.vpg_desk.proofs.Trail.{append_is_commit}
 
@@ -114,8 +119,8 @@ module _ (d : Inside) (i : IsDesk d) (harvest : HarvestView) (is_harvest : IsHar
     pub committed_step : (session : ℕ) → IsStep (desk_of d) session (Commit (handed_in true harvest)) (Added n) (record { game = arc_value d.game; diagram = arc_value d.diagram; book = book_of (cut_book d.past.items trail.entries d.future.items d.changes d.tokens) })
     committed_step session = record { step = (accepted n added, stands.same); game = refl; diagram = refl }
 
-    pub committed_desk : IsDesk (record d { trail = trail })
-    committed_desk = record {
+    pub committed_desk : (is_noted : Bool) → (IsTrue is_noted → IsSettledPage (family_of (setting_in d)) trail.entries) → IsDesk (record d { trail = trail; is_noted = is_noted })
+    committed_desk is_noted noted = record {
       opened = i.opened;
       reached = subst (IsReached (setting_in d)) (sym stands.same) (reached_step (setting_in d) (book_in d) 0 (Commit (handed_in true harvest)) (Added n) i.reached (accepted n added) (λ _. lawful));
       games = subst (λ (l : List Literal). ArePageGames (arc_value d.game) (arc_value d.diagram) l (arc_value d.games)) (sym (ap (λ (t : Track). choices_of t.entries) trail_is ∙ raised_choices harvest d.trail)) i.games;
@@ -124,4 +129,89 @@ module _ (d : Inside) (i : IsDesk d) (harvest : HarvestView) (is_harvest : IsHar
       future_fits = stands.future_fits;
       past_below = subst (λ (t : Track). SuffixesBelow t.vertices d.past.items) (sym trail_is) i.past_below;
       future_below = subst (λ (t : Track). SuffixesBelow t.vertices d.future.items) (sym trail_is) i.future_below;
+      noted = noted;
     }
+
+    -- ---- whether it is settled then
+
+    below : PageIsBelow (family_of (setting_in d)) trail.entries
+    below = (tells (record d { trail = trail; is_noted = false }) (committed_desk false (λ t. absurd (false≢true t)))).below
+
+    choices : choices_of trail.entries ≡ choices_of d.trail.entries
+    choices = ap (λ (t : Track). choices_of t.entries) trail_is ∙ raised_choices harvest d.trail
+
+    value : (which : Which) (v : ℕ) → value_at which v trail.entries ≡ max (value_at which v d.trail.entries) (value_at which v (raised_by harvest d.trail))
+    value which v = ap (λ (t : Track). value_at which v t.entries) trail_is ∙ value_at-append which v d.trail.entries (raised_by harvest d.trail)
+
+    -- it is where its values are at least those of a progress table: no value is above one
+    reaches : (which : Which) (values : List ℕ) → IsProgressUnder (setting_in d) (choices_of d.trail.entries) which values →
+        ((v : ℕ) → v < length (graph_of (arc_value d.game)) → slice_index values v ≤ value_at which v trail.entries) →
+        IsProgressUnder (setting_in d) (choices_of trail.entries) which (table_of which trail.entries (length (graph_of (arc_value d.game))))
+    reaches which values progress least = subst (λ (t : List ℕ). IsProgressUnder (setting_in d) (choices_of trail.entries) which t) (sym same) under
+      where
+        under : IsProgressUnder (setting_in d) (choices_of trail.entries) which values
+        under = subst (λ (l : List Literal). IsProgressUnder (setting_in d) l which values) (sym choices) progress
+
+        len : length values ≡ length (graph_of (arc_value d.game))
+        len = progress.1.1.is_table.len ∙ arena_length Formula (kleene progress.0) which (graph_of (arc_value d.game))
+
+        at : (v e : ℕ) → v < length (table_of which trail.entries (length (graph_of (arc_value d.game)))) → get_or (table_of which trail.entries (length (graph_of (arc_value d.game)))) v e ≡ get_or values v e
+        at v e l =
+            let h : v < length (graph_of (arc_value d.game)) = subst (λ (m : ℕ). v < m) (length-table_of which trail.entries (length (graph_of (arc_value d.game)))) l in
+            let k : v < length values = subst (λ (m : ℕ). v < m) (sym len) h in
+            get_or_default (table_of which trail.entries (length (graph_of (arc_value d.game)))) v e 0 l ∙ table_of-at which trail.entries (length (graph_of (arc_value d.game))) v h
+            ∙ le_antisymm (below which v values under) (least v h) ∙ get_or_default values v 0 e k
+
+        same : table_of which trail.entries (length (graph_of (arc_value d.game))) ≡ values
+        same =
+            same_lists (table_of which trail.entries (length (graph_of (arc_value d.game)))) values
+            (length-table_of which trail.entries (length (graph_of (arc_value d.game))) ∙ sym len) at
+
+    -- so it stays settled
+    stays_settled : IsSettledPage (family_of (setting_in d)) d.trail.entries → IsSettledPage (family_of (setting_in d)) trail.entries
+    stays_settled settled which =
+        reaches which (table_of which d.trail.entries (length (graph_of (arc_value d.game)))) (settled which)
+        (λ v h. omega (arith, table_of-at which d.trail.entries (length (graph_of (arc_value d.game))) v h, value which v))
+
+    -- and a settled harvest settles it, where the harvest's decisions make known what is known of the page
+    module _ (settled : IsSettledHarvest harvest) (known : IsKnownTable (arc_value d.diagram).lines (map literal_of harvest.order.decisions) (arc_value d.games).known) where
+      progress : (which : Which) → IsProgressUnder (setting_in d) (choices_of d.trail.entries) which (harvest_table which harvest)
+      progress which = ((arc_value d.games).known, (i.games.known, progress_earlier Formula (kleene harvest.order.known) (kleene (arc_value d.games).known) (graph_of (arc_value d.game)) which (harvest_table which harvest) grows there))
+        where
+          grows : Extends (kleene harvest.order.known) (kleene (arc_value d.games).known) (graph_of (arc_value d.game))
+          grows = (sound_of (setting_in d) i.opened.is_setting).grows (map literal_of harvest.order.decisions) (map literal_of harvest.order.decisions) (arc_value d.games).known harvest.order.known (λ c s. s) known
+              (subst (λ (x : NamedDiagram). IsKnownTable x.lines (map literal_of harvest.order.decisions) harvest.order.known) ours.1 is_harvest.order.known)
+
+          here : IsProgressOf (kleene harvest.order.known) which (graph_of harvest.order.game) (harvest_table which harvest)
+          here = record { is_table = (is_harvest.below which).is_table; settled = settled which }
+
+          there : IsProgressOf (kleene harvest.order.known) which (graph_of (arc_value d.game)) (harvest_table which harvest)
+          there = subst (λ (g : NamedGame). IsProgressOf (kleene harvest.order.known) which (graph_of g) (harvest_table which harvest)) ours.0 here
+
+      inside : (v : ℕ) → v < length (graph_of (arc_value d.game)) → v < d.trail.vertices
+      inside v h = subst (λ (m : ℕ). v < m) (sym i.vertices) h
+
+      least : (which : Which) (v : ℕ) → v < length (graph_of (arc_value d.game)) → slice_index (harvest_table which harvest) v ≤ value_at which v trail.entries
+      least Hopeful v h =
+          omega (
+            arith,
+            raises-reach (map literal_of harvest.order.decisions) d.trail.entries Hopeful harvest.hopeful d.trail.vertices v (inside v h),
+            value Hopeful v,
+            value_at-append Hopeful v (raises (map literal_of harvest.order.decisions) d.trail.entries Hopeful harvest.hopeful d.trail.vertices) (raises (map literal_of harvest.order.decisions) d.trail.entries Dual harvest.dual d.trail.vertices),
+          )
+      least Dual v h =
+          omega (
+            arith,
+            raises-reach (map literal_of harvest.order.decisions) d.trail.entries Dual harvest.dual d.trail.vertices v (inside v h),
+            value Dual v,
+            value_at-append Dual v (raises (map literal_of harvest.order.decisions) d.trail.entries Hopeful harvest.hopeful d.trail.vertices) (raises (map literal_of harvest.order.decisions) d.trail.entries Dual harvest.dual d.trail.vertices),
+          )
+
+      settled_then : IsSettledPage (family_of (setting_in d)) trail.entries
+      settled_then which = reaches which (harvest_table which harvest) (progress which) (least which)
+
+    -- one or the other
+    pub settled_by : (read : GamesView) → read ≡ arc_value d.games →
+        IsTrue d.is_noted ⊎ (IsSettledHarvest harvest × IsKnownTable harvest.order.diagram.lines (map literal_of harvest.order.decisions) read.known) → IsSettledPage (family_of (setting_in d)) trail.entries
+    settled_by read same (inl noted) = stays_settled (i.noted noted)
+    settled_by read same (inr (settled, known)) = settled_then settled (coe 0 1 (k. IsKnownTable (ours.1 k).lines (map literal_of harvest.order.decisions) (same k).known) known)

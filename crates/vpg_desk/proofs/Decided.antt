@@ -1,5 +1,6 @@
 -- What a desk answers to a decide, and what an accepted one leaves.
-use Rattle.std.proofs.Common.{◌≡◌, ℕ, ◌+◌, ◌<◌, ◌≤◌, Bool, List, [], ◌∷◌, ◌++◌, Some, None, IfSome, refl, sym, ap, ◌∙◌, subst, arith, Vec, Global}
+use Rattle.std.proofs.Common.{◌≡◌, ℕ, ◌+◌, ◌<◌, ◌≤◌, Bool, false, List, [], ◌∷◌, ◌++◌, Some, None, IfSome, refl, sym, ap, ◌∙◌, subst, arith, Vec, Global}
+use Rattle.std.proofs.lemmas.Bool.{false≢true}
 use Rattle.std.specs.Arc.{arc_value}
 use Rattle.std.specs.declared.sync.Arc.{Arc}
 use Rattle.std.specs.List.{AllByRecursion}
@@ -101,7 +102,7 @@ module _ (d : Inside) (i : IsDesk d) (session f : ℕ) (value : Bool) (games : A
   made = Decided (record { serial = d.changes + 1; session = session; feature = f; value = value })
 
   left : Inside
-  left = record { game = d.game; diagram = d.diagram; games = games; trail = trail; past = later; future = future; changes = d.changes + 1; tokens = d.tokens + 1 }
+  left = record { game = d.game; diagram = d.diagram; games = games; trail = trail; past = later; future = future; changes = d.changes + 1; tokens = d.tokens + 1; is_noted = false }
 
   stands : StandsFor (cut_book later.items trail.entries future.items (d.changes + 1) (d.tokens + 1)) (changed (book_in d) (d.trail.entries ++ Decided (record { serial = d.changes + 1; session = session; feature = f; value = value }) ∷ []))
   stands = coe 0 1 (k. StandsFor (record { past = cuts_of later.items; entries = (sym trail_is k).entries; future = cuts_of (sym emptied k); changes = d.changes + 1; tokens = d.tokens + 1 }) (changed (book_in d) (d.trail.entries ++ Decided (record { serial = d.changes + 1; session = session; feature = f; value = value }) ∷ [])))
@@ -110,7 +111,7 @@ module _ (d : Inside) (i : IsDesk d) (session f : ℕ) (value : Bool) (games : A
   pub decided_step : IsStep (desk_of d) session (Decide f value) (Changed (d.changes + 1)) (record { game = arc_value d.game; diagram = arc_value d.diagram; book = book_of (cut_book later.items trail.entries future.items (d.changes + 1) (d.tokens + 1)) })
   decided_step = record { step = (accepted, stands.same); game = refl; diagram = refl }
 
-  pub decided_desk : IsDesk (record { game = d.game; diagram = d.diagram; games = games; trail = trail; past = later; future = future; changes = d.changes + 1; tokens = d.tokens + 1 })
+  pub decided_desk : IsDesk (record { game = d.game; diagram = d.diagram; games = games; trail = trail; past = later; future = future; changes = d.changes + 1; tokens = d.tokens + 1; is_noted = false })
   decided_desk = record {
     opened = i.opened;
     reached = subst (IsReached (setting_in d)) (sym stands.same) (reached_step (setting_in d) (book_in d) session (Decide f value) (Changed (d.changes + 1)) i.reached accepted tt);
@@ -120,4 +121,5 @@ module _ (d : Inside) (i : IsDesk d) (session f : ℕ) (value : Bool) (games : A
     future_fits = stands.future_fits;
     past_below = subst (λ (t : Track). SuffixesBelow t.vertices later.items) (sym trail_is) (below i.past_below);
     future_below = subst (λ (l : List Cut). SuffixesBelow trail.vertices l) (sym emptied) (λ k x h. absurd (omega arith));
+    noted = λ t. absurd (false≢true t);
   }

@@ -1,6 +1,6 @@
 -- What an accepted retract leaves.
-use Rattle.std.proofs.Common.{◌≡◌, ℕ, ◌+◌, ◌<◌, ◌≤◌, Bool, true, not, cond, List, [], ◌∷◌, ◌++◌, length, take, drop, filter, Option, Some, None, refl, sym, ap, ◌∙◌, subst, arith, Vec, Global}
-use Rattle.std.proofs.lemmas.Bool.{lt-leb}
+use Rattle.std.proofs.Common.{◌≡◌, ℕ, ◌+◌, ◌<◌, ◌≤◌, Bool, true, false, not, cond, List, [], ◌∷◌, ◌++◌, length, take, drop, filter, Option, Some, None, refl, sym, ap, ◌∙◌, subst, arith, Vec, Global}
+use Rattle.std.proofs.lemmas.Bool.{lt-leb, false≢true}
 use Rattle.std.specs.Arc.{arc_value}
 use Rattle.std.specs.declared.sync.Arc.{Arc}
 use Rattle.vpg_diagram.specs.FeatureDiagram.{feature_count}
@@ -58,7 +58,7 @@ module _ (d : Inside) (i : IsDesk d) (f : ℕ) (accepted : Replies (desk_of d) (
     pub retracted_step : IsStep (desk_of d) session (Retract f) (Changed (d.changes + 1)) (record { game = arc_value d.game; diagram = arc_value d.diagram; book = book_of (cut_book later.items trail.entries future.items (d.changes + 1) (d.tokens + 1)) })
     retracted_step = record { step = (accepted, stands.same); game = refl; diagram = refl }
 
-    pub retracted_desk : IsDesk (record { game = d.game; diagram = d.diagram; games = games; trail = trail; past = later; future = future; changes = d.changes + 1; tokens = d.tokens + 1 })
+    pub retracted_desk : IsDesk (record { game = d.game; diagram = d.diagram; games = games; trail = trail; past = later; future = future; changes = d.changes + 1; tokens = d.tokens + 1; is_noted = false })
     retracted_desk = record {
       opened = i.opened;
       reached = subst (IsReached (setting_in d)) (sym stands.same) reached;
@@ -68,4 +68,5 @@ module _ (d : Inside) (i : IsDesk d) (f : ℕ) (accepted : Replies (desk_of d) (
       future_fits = stands.future_fits;
       past_below = subst (λ (t : Track). SuffixesBelow t.vertices later.items) (sym trail_is) (below i.past_below);
       future_below = subst (λ (l : List Cut). SuffixesBelow trail.vertices l) (sym emptied) (λ k x h. absurd (omega arith));
+      noted = λ t. absurd (false≢true t);
     }

@@ -38,6 +38,7 @@ module _ (d : Inside) (i : IsDesk d) (s : ℕ) where
       future_fits = i.future_fits;
       past_below = below;
       future_below = i.future_below;
+      noted = i.noted;
     }
 
   module _ (future : Vec Cut Global) (front : cuts_of future.items ≡ cuts_in_front_of s (cuts_of d.future.items)) where
@@ -57,4 +58,5 @@ module _ (d : Inside) (i : IsDesk d) (s : ℕ) where
       future_fits = forgotten_stands.future_fits;
       past_below = i.past_below;
       future_below = below;
+      noted = i.noted;
     }

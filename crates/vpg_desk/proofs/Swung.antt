@@ -1,5 +1,6 @@
 -- What a desk answers to undo and redo, and what accepted ones leave.
-use Rattle.std.proofs.Common.{◌≡◌, ℕ, ◌<◌, List, [], ◌∷◌, map, reverse, Some, None, IfSome, refl, sym, ap, ◌∙◌, subst, Vec, Global}
+use Rattle.std.proofs.Common.{◌≡◌, ℕ, ◌<◌, false, List, [], ◌∷◌, map, reverse, Some, None, IfSome, refl, sym, ap, ◌∙◌, subst, Vec, Global}
+use Rattle.std.proofs.lemmas.Bool.{false≢true}
 use Rattle.std.specs.Arc.{arc_value}
 use Rattle.std.specs.List.{AllByRecursion}
 use Rattle.std.specs.declared.sync.Arc.{Arc}
@@ -94,7 +95,7 @@ module _ (d : Inside) (i : IsDesk d) where
   module _ (s : ℕ) (games : Arc GamesView Global) (past future : Vec Cut Global) (trail : Track) (vertices : trail.vertices ≡ d.trail.vertices)
       (past_below : SuffixesBelow d.trail.vertices past.items) (future_below : SuffixesBelow d.trail.vertices future.items) where
     nearest_desk : (book : Book) → StandsFor (cut_book past.items trail.entries future.items d.changes d.tokens) book → IsReached (setting_in d) book → ArePageGames (arc_value d.game) (arc_value d.diagram) (choices_of trail.entries) (arc_value games) →
-        IsDesk (record d { games = games; trail = trail; past = past; future = future })
+        IsDesk (record d { games = games; trail = trail; past = past; future = future; is_noted = false })
     nearest_desk book stands reached known = record {
       opened = i.opened;
       reached = subst (IsReached (setting_in d)) (sym stands.same) reached;
@@ -104,6 +105,7 @@ module _ (d : Inside) (i : IsDesk d) where
       future_fits = stands.future_fits;
       past_below = subst (λ (n : ℕ). SuffixesBelow n past.items) (sym vertices) past_below;
       future_below = subst (λ (n : ℕ). SuffixesBelow n future.items) (sym vertices) future_below;
+      noted = λ t. absurd (false≢true t);
     }
 
     module _ (accepted : refuses_undo s (serials_from_top d.past.items) ≡ None) (swung : IsSwung d.past.items d.trail.entries d.future.items past.items trail.entries future.items)
@@ -114,10 +116,10 @@ module _ (d : Inside) (i : IsDesk d) where
           same : swung_back cuts_in (cuts_of d.past.items) ≡ cut_book past.items trail.entries future.items d.changes d.tokens
           same = ap (swung_back cuts_in) swung.left ∙ (λ k. record { past = cuts_of past.items; entries = sym swung.entries_are k; future = sym swung.went k; changes = d.changes; tokens = d.tokens })
 
-      pub undone_step : (session : ℕ) → IsStep (desk_of d) session (Undo s) (Undone s) (desk_of (record d { games = games; trail = trail; past = past; future = future }))
+      pub undone_step : (session : ℕ) → IsStep (desk_of d) session (Undo s) (Undone s) (desk_of (record d { games = games; trail = trail; past = past; future = future; is_noted = false }))
       undone_step session = record { step = (undo_accepted s accepted, undone_stands.same); game = refl; diagram = refl }
 
-      pub undone_desk : IsDesk (record d { games = games; trail = trail; past = past; future = future })
+      pub undone_desk : IsDesk (record d { games = games; trail = trail; past = past; future = future; is_noted = false })
       undone_desk =
           nearest_desk (undone (book_in d) (book_in d).past) undone_stands (reached_step (setting_in d) (book_in d) 0 (Undo s) (Undone s) i.reached (undo_accepted s accepted) tt)
           (subst (λ (l : List Step). ArePageGames (arc_value d.game) (arc_value d.diagram) (choices_of l) (arc_value games)) (sym swung.entries_are) (known swung.nearest (cuts_of past.items) swung.left))
@@ -130,10 +132,10 @@ module _ (d : Inside) (i : IsDesk d) where
           same : swung_forth cuts_in (cuts_of d.future.items) ≡ cut_book past.items trail.entries future.items d.changes d.tokens
           same = ap (swung_forth cuts_in) swung.left ∙ (λ k. record { past = sym swung.went k; entries = sym swung.entries_are k; future = cuts_of future.items; changes = d.changes; tokens = d.tokens })
 
-      pub redone_step : (session : ℕ) → IsStep (desk_of d) session (Redo s) (Redone s) (desk_of (record d { games = games; trail = trail; past = past; future = future }))
+      pub redone_step : (session : ℕ) → IsStep (desk_of d) session (Redo s) (Redone s) (desk_of (record d { games = games; trail = trail; past = past; future = future; is_noted = false }))
       redone_step session = record { step = (redo_accepted s accepted, redone_stands.same); game = refl; diagram = refl }
 
-      pub redone_desk : IsDesk (record d { games = games; trail = trail; past = past; future = future })
+      pub redone_desk : IsDesk (record d { games = games; trail = trail; past = past; future = future; is_noted = false })
       redone_desk =
           nearest_desk (redone (book_in d) (book_in d).future) redone_stands (reached_step (setting_in d) (book_in d) 0 (Redo s) (Redone s) i.reached (redo_accepted s accepted) tt)
           (subst (λ (l : List Step). ArePageGames (arc_value d.game) (arc_value d.diagram) (choices_of l) (arc_value games)) (sym swung.entries_are) (known swung.nearest (cuts_of future.items) swung.left))

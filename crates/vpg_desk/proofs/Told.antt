@@ -2,7 +2,7 @@
 use Rattle.std.proofs.Common.{refl, ◌≡◌, ℕ, zero, suc, ◌<◌, ◌≤◌, ◌⊎◌, inl, inr, Bool, List, [], ◌∷◌, Option, Some, length, slice_get, slice_index, sym, ap, ◌∙◌, subst, arith}
 use Rattle.std.proofs.lemmas.Bool.{cases_lt}
 use Rattle.std.proofs.lemmas.List.Elements.{All-from_get_or}
-use Rattle.vpg_measure.specs.Lifts.{IsTableOf, IsProgressTable, AreChoices, choice_of}
+use Rattle.vpg_measure.specs.Lifts.{IsTableOf, AreChoices, choice_of}
 use Rattle.vpg_measure.specs.Views.{strategy_of}
 use Rattle.vpg_hope.specs.Arena.{Vertex as Node, vertex_at}
 use Rattle.vpg_hope.specs.Strategies.{Strategy}

@@ -1,11 +1,12 @@
 -- A desk by its fields.
 use Rattle.std.specs.Arc.{arc_value}
-use Rattle.std.specs.Prelude.{◌≡◌, length}
+use Rattle.std.specs.Prelude.{◌≡◌, length, IsTrue}
 use Rattle.vpg_measure.specs.Games.{ArePageGames}
 use Rattle.vpg_game.specs.Game.{graph_of}
 use Rattle.vpg_trail.specs.Page.{choices_of}
-use Rattle.vpg_desk.specs.Book.{Book}
+use Rattle.vpg_desk.specs.Book.{Book, IsSettledPage}
 use Rattle.vpg_desk.specs.Cuts.{cut_book, cuts_of, SuffixesBelow}
+use Rattle.vpg_desk.specs.Desk.{family_of}
 use Rattle.vpg_desk.specs.Setting.{Setting}
 use Rattle.vpg_desk.specs.State.{DeskState, setting_between, IsOpened, IsReached}
 use Rattle.vpg_desk.specs.Trail.{book_of, FitOver}
@@ -27,6 +28,8 @@ pub record IsDesk (d : Inside) : Type 0 where
   pub reached : IsReached (setting_in d) (book_in d)
   -- what is kept beside the trail
   pub games : ArePageGames (arc_value d.game) (arc_value d.diagram) (choices_of d.trail.entries) (arc_value d.games)
+  -- where the present page is known to be settled, it is
+  pub noted : IsTrue d.is_noted → IsSettledPage (family_of (setting_in d)) d.trail.entries
   -- the trail is over the game's vertices, and each cut fits over the nearer page
   pub vertices : d.trail.vertices ≡ length (graph_of (arc_value d.game))
   pub past_fits : FitOver d.trail.entries (cuts_of d.past.items)

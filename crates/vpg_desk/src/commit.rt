@@ -1,6 +1,8 @@
 //! Committing what lifters bring back.
 ghost use Rattle.std.specs.Bool.{Decides};
-ghost use Rattle.std.specs.Prelude.{◌≡◌, ℕ, Bool, true, length, map, None, All, IfOk, IfErr, OnOk, OnErr, IfSome};
+ghost use Rattle.std.specs.Prelude.{◌≡◌, ℕ, ◌⊎◌, Bool, true, length, map, None, All, IfOk, IfErr, OnOk, OnErr, IfSome, IsTrue};
+ghost use Rattle.vpg_measure.specs.Orders.{IsSettledHarvest};
+ghost use Rattle.vpg_partial.specs.TableLaws.{IsKnownTable};
 ghost use Rattle.vpg_trail.specs.Page.{literal_of, choices_of, stands};
 ghost use Rattle.vpg_trail.specs.Shown.{entry_of, VertexBelow};
 ghost use Rattle.vpg_desk.specs.Book.{first_missing as missing_among};
@@ -12,7 +14,8 @@ use std::alloc::{AllocError, Global};
 use std::sync::Arc;
 use vpg_diagram::{Diagram, Literal};
 use vpg_game::GuardedGame;
-use vpg_measure::{Harvest, Order, Which};
+use vpg_guards::Tri;
+use vpg_measure::{Harvest, Order, PageGames, Which};
 use vpg_partial::Decision;
 use vpg_trail::{Assumed, Entry, Trail, lifts};
 
@@ -92,6 +95,33 @@ fn raise(alloc: Global, trail: &Trail, harvest: &Harvest) -> Result<Vec<Entry>, 
     Ok(raised)
 }
 
+/// Whether the same is known of each feature.
+fn are_same(one: &[Tri], other: &[Tri]) -> bool
+    ensures { IsTrue result → one.now ≡ other.now }
+{
+    if one.len() != other.len() {
+        return false;
+    }
+    for f in 0..one.len() {
+        if one[f] != other[f] {
+            return false;
+        }
+    }
+    true
+}
+
+/// Whether a page is known to be settled once it has taken a harvest in: it was so before, or the harvest is, and its decisions make
+/// known what is known of the page.
+fn settles(was: bool, harvest: &Harvest, present: &PageGames) -> bool
+    ensures { IsTrue result → IsTrue was ⊎ (IsSettledHarvest harvest.now × IsKnownTable harvest.now.order.diagram.lines (map literal_of harvest.now.order.decisions) present.now.known) }
+{
+    if was {
+        return true;
+    }
+    let order = harvest.order();
+    harvest.is_noted() && are_same(order.games().known().values(), present.known().values())
+}
+
 impl Desk {
     ghost use Rattle.vpg_desk.specs.Book.{Commit, Added, Refused, refuses_commit};
     ghost use Rattle.vpg_desk.specs.Commit.{IsOrderOf, handed_in, commit_refusal};
@@ -153,9 +183,11 @@ impl Desk {
         if let Some(feature) = first_missing(self.trail.entries(), order.decisions()) {
             return Err(CommitFault::Outdated { feature });
         }
+        let is_noted = settles(self.is_noted, harvest, &self.games);
         let raised = raise(alloc, &self.trail, harvest)?;
         let added = raised.len() as u32;
         self.trail.extend(raised)?;
+        self.is_noted = is_noted;
         Ok(added)
     }
 }

@@ -127,6 +127,7 @@ impl Desk {
         push_decision(alloc, &mut self.past, &mut self.trail, decision)?;
         self.future.clear();
         self.games = games;
+        self.is_noted = false;
         self.changes = serial;
         self.tokens += 1;
         Ok(Undo::of(serial))

@@ -5,9 +5,9 @@ ghost use Rattle.vpg_diagram.specs.FeatureDiagram.{feature_count};
 ghost use Rattle.vpg_partial.specs.KnownLaws.{HasConflictOf};
 ghost use Rattle.vpg_game.specs.Game.{graph_of, IsAtLimit};
 ghost use Rattle.vpg_measure.specs.Games.{ArePageGames};
-ghost use Rattle.vpg_measure.specs.Orders.{IsOrder};
+ghost use Rattle.vpg_measure.specs.Orders.{IsOrder, IsSettledOrder};
 ghost use Rattle.vpg_trail.specs.Page.{Which as Side, Hopeful, Dual, choices_of, decisions_of, table_of};
-ghost use Rattle.vpg_desk.specs.Book.{opened, Order as AsksOrder, Ordered, Settled, IsSettled, Verdict as AsksVerdict, VerdictIs, Page as AsksPage, PageIs};
+ghost use Rattle.vpg_desk.specs.Book.{opened, Order as AsksOrder, Ordered, Settled, IsSettled, IsSettledPage, Verdict as AsksVerdict, VerdictIs, Page as AsksPage, PageIs};
 ghost use Rattle.vpg_desk.specs.Desk.{family_of, IsLeastUnder, IsProgressUnder};
 ghost use Rattle.vpg_desk.specs.Headline.{NeverWins, Tells};
 ghost use Rattle.vpg_desk.specs.Lawful.{PageIsBelow};
@@ -28,6 +28,14 @@ use vpg_trail::{Decisions, Entries, Page, Trail, decisions_among};
 /// The most changes that a desk makes.
 pub const MOST_CHANGES: u64 = 1_048_576;
 
+/// An order, with a note where its tables are known to be progress tables.
+fn with_note(order: Order, is_settled: bool) -> Order
+    requires { IsTrue is_settled → IsSettledOrder order }
+    ensures { result ≡ order }
+{
+    if is_settled { order.noted() } else { order }
+}
+
 /// A game and a diagram with the book of the pages that decisions and lifts made of them.
 #[derive(Drop)]
 pub struct Desk {
@@ -41,6 +49,8 @@ pub struct Desk {
     pub(crate) future: Vec<Cut>,
     pub(crate) changes: u64,
     pub(crate) tokens: u64,
+    // whether the present page is known to be settled
+    pub(crate) is_noted: bool,
 }
 
 impl Model for Desk {
@@ -87,6 +97,7 @@ impl Desk {
                 future: Vec::new(alloc),
                 changes: 0,
                 tokens: 0,
+                is_noted: false,
             }),
             Err(fault) => Err(OpenRefused {
                 fault,
@@ -119,10 +130,18 @@ impl Desk {
         &self.games
     }
 
-    /// Whether both tables of the present page are progress tables. They are then the least ones.
+    /// Whether both tables of the present page are progress tables. They are then the least ones. Once a commit of a settled harvest
+    /// has settled the page this is known, until the decisions change; else it is a pass over the kept edges, which ends at the
+    /// first vertex that a lift raises.
     pub fn settled(&self) -> bool
         ensures reply { Replies self.now Settled (IsSettled result) }
         ensures least { IsTrue result → (which : Side) → IsLeastUnder (setting_of self.now) (choices_of self.now.book.present) which (table_of which self.now.book.present (length (graph_of self.now.game))) }
+    {
+        self.is_noted || self.looks_settled()
+    }
+
+    fn looks_settled(&self) -> bool
+        ensures { IsTrue result ↔ IsSettledPage (family_of (setting_of self.now)) self.now.book.present }
     {
         self.is_settled(Which::Hopeful) && self.is_settled(Which::Dual)
     }
@@ -152,7 +171,8 @@ impl Desk {
         }
     }
 
-    /// What lifters take along: the game, the diagram, the present decisions and both present tables.
+    /// What lifters take along: the game, the diagram, the present decisions and both present tables, with a note where the page is
+    /// known to be settled.
     pub fn order(&self, alloc: Global) -> Result<Order, AllocError>
         ensures reply { IfOk result (λ order. Replies self.now AsksOrder (Ordered order.decisions order.hopeful order.dual)) }
         ensures game { IfOk result (λ order. order.game ≡ self.now.game) }
@@ -168,7 +188,8 @@ impl Desk {
         let game = self.game.clone()?;
         let diagram = self.diagram.clone()?;
         let games = self.games.clone()?;
-        Order::over(alloc, game, diagram, decisions, games, hopeful, dual)
+        let order = Order::over(alloc, game, diagram, decisions, games, hopeful, dual)?;
+        Ok(with_note(order, self.is_noted))
     }
 
     /// The present page.

@@ -77,6 +77,7 @@ impl Desk {
         cut_out(&mut self.past, &mut self.trail, serial, place, kept)?;
         self.future.clear();
         self.games = games;
+        self.is_noted = false;
         self.changes = serial;
         self.tokens += 1;
         Ok(Undo::of(serial))

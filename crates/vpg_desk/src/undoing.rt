@@ -73,6 +73,7 @@ impl Desk {
         )?;
         swing(&mut self.past, &mut self.trail, &mut self.future)?;
         self.games = games;
+        self.is_noted = false;
         Ok(())
     }
 
@@ -97,6 +98,7 @@ impl Desk {
         )?;
         swing(&mut self.future, &mut self.trail, &mut self.past)?;
         self.games = games;
+        self.is_noted = false;
         Ok(())
     }
 }

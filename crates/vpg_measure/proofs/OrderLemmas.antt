@@ -18,7 +18,7 @@ use Rattle.vpg_guards.specs.Formula.{Formula}
 use Rattle.vpg_game.proofs.Graphs.{same_count}
 use Rattle.vpg_hope.specs.Games.{Game}
 use Rattle.vpg_measure.specs.Lifts.{IsBelowTable, IsProgressTable, raised, after_rounds}
-use Rattle.vpg_measure.specs.Orders.{OrderView, HarvestView, harvest_of, order_table, order_room, harvest_table, order_levels, order_arena, with_room, IsOpeningTable, IsOrder, IsSameOrder, IsHarvest, IsRaised, IsSettledHarvest, other_table}
+use Rattle.vpg_measure.specs.Orders.{OrderView, HarvestView, harvest_of, order_table, order_room, harvest_table, order_levels, order_arena, with_room, IsOpeningTable, IsOrder, IsSameOrder, IsHarvest, IsRaised, IsSettledOrder, IsSettledHarvest, other_table}
 use Rattle.vpg_measure.specs.Games.{GamesView, ArePageGames, games_levels, games_arena}
 use Rattle.vpg_measure.specs.TwoGames.{IsTableBelow, IsProgressOf, levels_for, arena_for, top_for}
 use Rattle.vpg_measure.proofs.Below.{raise_is_below, zeros_are_below}
@@ -299,6 +299,16 @@ rose_at order new old which b e h = subst (λ (x : HarvestView). MatchBool b (su
     (subst (λ (t : List ℕ). MatchBool b (sum t < sum (order_room which new)) (order_room which new ≡ t)) (sym (harvest_room order which)) h))
 
 -- ---- whether both tables are settled
+
+pub tables_settled : (order : OrderView) → IsProgressTable (order_levels Hopeful order) (order_arena Hopeful order) order.hopeful →
+    IsProgressTable (order_levels Dual order) (order_arena Dual order) order.dual → IsSettledOrder order
+tables_settled order h d Hopeful = h
+tables_settled order h d Dual = d
+
+-- whatever stands in its room
+pub still_settled : (order : OrderView) (hopeful dual : List ℕ) → IsSettledOrder order → IsSettledOrder (record order { hopeful_room = hopeful; dual_room = dual })
+still_settled order hopeful dual settled Hopeful = settled Hopeful
+still_settled order hopeful dual settled Dual = settled Dual
 
 pub both_settled : (harvest : HarvestView) → IsProgressTable (order_levels Hopeful harvest.order) (order_arena Hopeful harvest.order) harvest.hopeful →
     IsProgressTable (order_levels Dual harvest.order) (order_arena Dual harvest.order) harvest.dual → IsSettledHarvest harvest

@@ -3,6 +3,7 @@ pub mod Bounds
 pub mod Faults
 pub mod Games
 pub mod GamesFields
+pub mod HarvestFields
 pub mod Least
 pub mod Lifts
 pub mod MeasureLaws

@@ -95,6 +95,10 @@ pub record IsRaised (which : Which) (order : OrderView) (table : List ℕ) : Typ
   pub above : IsBelowTable (order_table which order) table
   pub below : IsBelowProgressTables (order_levels which order) (order_arena which order) table
 
+-- both tables of the order are progress tables
+abbrev pub IsSettledOrder : OrderView → Type 0
+IsSettledOrder order = (which : Which) → IsProgressTable (order_levels which order) (order_arena which order) (order_table which order)
+
 -- both tables of the harvest are progress tables
 abbrev pub IsSettledHarvest : HarvestView → Type 0
 IsSettledHarvest harvest = (which : Which) → IsProgressTable (order_levels which harvest.order) (order_arena which harvest.order) (harvest_table which harvest)

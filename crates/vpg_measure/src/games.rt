@@ -1,10 +1,11 @@
 //! What decisions make of a game: what is known of each feature, and the shape and the kept edges of both games.
 
 ghost use Rattle.std.specs.Arc.{arc_value};
-ghost use Rattle.std.specs.Prelude.{◌≡◌, ◌↔◌, ℕ, length, map, IfOk, Err};
+ghost use Rattle.std.specs.Prelude.{◌≡◌, ◌↔◌, ℕ, length, map, IfErr, IfOk, Err};
 ghost use Rattle.vpg_diagram.specs.Clauses.{clauses_of, counts_of};
 ghost use Rattle.vpg_diagram.specs.FeatureDiagram.{feature_count};
 ghost use Rattle.vpg_game.specs.Game.{IsAtLimit};
+ghost use Rattle.vpg_partial.specs.CloseFaults.{IsCloseFault};
 ghost use Rattle.vpg_partial.specs.Known.{literal_of, NamesConflict};
 ghost use Rattle.vpg_partial.specs.TableLaws.{AreChoicesOf, IsKnownTable};
 ghost use Rattle.vpg_measure.specs.Games.{AreGamesOf, ArePageGames, games_levels, games_arena};
@@ -19,7 +20,7 @@ use std::sync::Arc;
 use vpg_diagram::Diagram;
 use vpg_game::GuardedGame;
 use vpg_hope::Arena;
-use vpg_partial::{Decision, Partial};
+use vpg_partial::{Decision, Partial, PartialFault};
 
 /// The shape and the kept edges of one of the two games.
 #[derive(Drop)]
@@ -73,8 +74,23 @@ impl SideGame {
     }
 }
 
-/// What decisions on features of the diagram make known, where the game has a dual.
-fn known_under(
+/// What decisions on features of the diagram make known: all that questions of features alone ask for. They need no games.
+///
+/// Errors as those of `Partial::close`, in this order: `Conflict` where the decisions have one; `Memory`.
+pub fn known_under(
+    alloc: Global,
+    diagram: &Diagram,
+    decisions: &[Decision],
+) -> Result<Partial, PartialFault>
+    requires { AreChoicesOf diagram.now.lines (map literal_of decisions.now) }
+    ensures known { IfOk result (IsKnownTable diagram.now.lines (map literal_of decisions.now)) }
+    ensures conflict { IfErr result (IsCloseFault diagram.now.lines (map literal_of decisions.now)) }
+{
+    Partial::close(alloc, diagram, decisions)
+}
+
+/// The same for games, where the game has a dual.
+fn known_for(
     alloc: Global,
     game: &GuardedGame,
     diagram: &Diagram,
@@ -89,7 +105,7 @@ fn known_under(
     if game.is_at_limit() {
         return Err(OrderFault::AtLimit);
     }
-    Ok(Partial::close(alloc, diagram, decisions)?)
+    Ok(known_under(alloc, diagram, decisions)?)
 }
 
 /// What the decisions of a page make of its game: what is known of each feature, and for each of the two tables the shape of its
@@ -128,7 +144,7 @@ impl PageGames {
         ensures conflict { (f : ℕ) → result ≡ Err (OrderFault.Conflict f) →
             NamesConflict (clauses_of diagram.now.lines) (counts_of diagram.now.lines) (map literal_of decisions.now) f }
     {
-        let known = known_under(alloc, game, diagram, decisions)?;
+        let known = known_for(alloc, game, diagram, decisions)?;
         // What every game and every diagram keeps, for the proof.
         let _features = (game.vertices(), diagram.features());
         let hopeful = SideGame::of(alloc, Which::Hopeful, game, &known)?;
@@ -159,7 +175,7 @@ impl PageGames {
         ensures conflict { (f : ℕ) → result ≡ Err (OrderFault.Conflict f) →
             NamesConflict (clauses_of diagram.now.lines) (counts_of diagram.now.lines) (map literal_of decisions.now) f }
     {
-        let known = known_under(alloc, game, diagram, decisions)?;
+        let known = known_for(alloc, game, diagram, decisions)?;
         // What every game and every diagram keeps, for the proof.
         let _features = (game.vertices(), diagram.features());
         let hopeful = self

@@ -12,16 +12,20 @@ use std::marker::Model;
 
 /// An order, and two tables on or above its own, below every progress table of its two games.
 ///
-/// No call on it takes memory: its tables stand in the order's room.
+/// No call on it takes memory: its tables stand in the order's room. It may hold a note that they are progress tables; then
+/// `check` looks at no edge.
 #[derive(Drop)]
 pub struct Harvest {
     order: Order,
+    // whether the tables are known to be progress tables
+    is_noted: bool,
 }
 
 impl Model for Harvest {
     ghost use Rattle.std.specs.Coded.{codes};
     ghost use Rattle.vpg_game.specs.Coding.{game_code};
-    ghost use Rattle.vpg_measure.specs.Orders.{HarvestView, harvest_of, IsHarvest};
+    ghost use Rattle.vpg_measure.specs.Orders.{HarvestView, harvest_of};
+    ghost use Rattle.vpg_measure.specs.HarvestFields.{AreHarvestFields};
 
     ghost Value = { HarvestView };
 
@@ -29,7 +33,7 @@ impl Model for Harvest {
 
     ghost view = { λ h. harvest_of h.order };
 
-    ghost invariant = { λ h. IsHarvest (harvest_of h.order) };
+    ghost invariant = { AreHarvestFields };
 }
 
 impl Harvest {
@@ -40,7 +44,10 @@ impl Harvest {
     {
         let mut filled = order;
         filled.fill_room();
-        Harvest { order: filled }
+        Harvest {
+            order: filled,
+            is_noted: false,
+        }
     }
 
     /// The order with one vertex of one table lifted once, where that is greater.
@@ -53,7 +60,10 @@ impl Harvest {
         let mut order = order;
         order.fill_room();
         order.raise_room(which, v);
-        Harvest { order }
+        Harvest {
+            order,
+            is_noted: false,
+        }
     }
 
     /// The order with both tables settled by one thread, in this many rounds each at most.
@@ -65,7 +75,10 @@ impl Harvest {
         order.fill_room();
         order.settle_room(Which::Hopeful, rounds);
         order.settle_room(Which::Dual, rounds);
-        Harvest { order }
+        Harvest {
+            order,
+            is_noted: false,
+        }
     }
 
     /// The order with these tables, one value for each vertex.
@@ -78,7 +91,10 @@ impl Harvest {
     {
         let mut order = order;
         order.put_room(Table::of(hopeful), Table::of(dual));
-        Harvest { order }
+        Harvest {
+            order,
+            is_noted: false,
+        }
     }
 
     /// Lifts one vertex of either table once, where that is greater, and says whether its value rose.
@@ -90,6 +106,7 @@ impl Harvest {
         ensures rose { MatchBool result (sum (harvest_table which self.old) < sum (harvest_table which self.new)) (harvest_table which self.new ≡ harvest_table which self.old) }
         ensures harvests { IsHarvest self.old × IsHarvest self.new }
     {
+        self.is_noted = false;
         self.order.raise_room(which, v)
     }
 
@@ -117,8 +134,33 @@ impl Harvest {
         self.table(which).get(v)
     }
 
-    /// Whether both tables are progress tables.
+    /// Whether both tables are progress tables. Without a note of it this is a pass over the kept edges, which ends at the first
+    /// vertex that a lift raises.
     pub fn check(&self) -> bool
+        ensures { IsTrue result ↔ IsSettledHarvest self.now }
+    {
+        self.is_noted || self.looks_settled()
+    }
+
+    /// The same with a note that both tables are progress tables: whoever asks again looks at no edge.
+    pub fn noted(self) -> Harvest
+        requires { IsSettledHarvest self }
+        ensures { result ≡ self }
+    {
+        let mut noted = self;
+        noted.is_noted = true;
+        noted
+    }
+
+    /// Whether there is a note that both tables are progress tables. They may be so without one.
+    pub fn is_noted(&self) -> bool
+        ensures { IsTrue result → IsSettledHarvest self.now }
+    {
+        self.is_noted
+    }
+
+    // Whether both tables are progress tables, by looking at the kept edges.
+    fn looks_settled(&self) -> bool
         ensures { IsTrue result ↔ IsSettledHarvest self.now }
     {
         self.is_settled(Which::Hopeful) && self.is_settled(Which::Dual)
@@ -139,7 +181,7 @@ impl Harvest {
     pub fn again(self) -> Order
         ensures { IsOrderAgain result self }
     {
-        let Harvest { order } = self;
+        let Harvest { order, .. } = self;
         let mut order = order;
         order.exchange_room();
         order

@@ -35,7 +35,7 @@ pub mod which;
 
 pub use bounds::{Certificate, raise_to_bounds};
 pub use fault::OrderFault;
-pub use games::PageGames;
+pub use games::{PageGames, known_under};
 pub use harvest::Harvest;
 pub use lifts::{Outcome, StrategyFault, is_progress, lift, settle_alone, strategy};
 pub use order::{Order, Refused};

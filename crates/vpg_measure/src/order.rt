@@ -1,7 +1,7 @@
 //! Orders: what lifters take from a page.
 
 ghost use Rattle.std.specs.Arc.{arc_value};
-ghost use Rattle.std.specs.Prelude.{◌≡◌, ◌↔◌, ◌<◌, ℕ, length, map, sum, IfOk, IfErr, Err, MatchBool};
+ghost use Rattle.std.specs.Prelude.{◌≡◌, ◌↔◌, ◌<◌, ℕ, length, map, sum, IfOk, IfErr, IsTrue, Err, MatchBool};
 ghost use Rattle.vpg_diagram.specs.Clauses.{clauses_of, counts_of};
 ghost use Rattle.vpg_diagram.specs.FeatureDiagram.{feature_count};
 ghost use Rattle.vpg_game.specs.Game.{IsAtLimit, graph_of};
@@ -9,13 +9,13 @@ ghost use Rattle.vpg_partial.specs.Known.{literal_of, NamesConflict};
 ghost use Rattle.vpg_partial.specs.TableLaws.{AreChoicesOf};
 ghost use Rattle.vpg_guards.specs.Known.{kleene};
 ghost use Rattle.vpg_measure.specs.Games.{ArePageGames};
-ghost use Rattle.vpg_measure.specs.Lifts.{IsTableOf, raised, after_rounds};
-ghost use Rattle.vpg_measure.specs.Orders.{IsOrder, IsOpeningTable, order_table, order_room, with_room, order_levels, order_arena};
+ghost use Rattle.vpg_measure.specs.Lifts.{IsProgressTable, IsTableOf, raised, after_rounds};
+ghost use Rattle.vpg_measure.specs.Orders.{IsOrder, IsOpeningTable, IsSettledOrder, order_table, order_room, with_room, order_levels, order_arena};
 ghost use Rattle.vpg_measure.specs.TwoGames.{IsTableBelow};
 
 use crate::fault::OrderFault;
 use crate::games::PageGames;
-use crate::lifts::{raise, settle_alone};
+use crate::lifts::{is_progress, raise, settle_alone};
 use crate::shape::Shape;
 use crate::table::Table;
 use crate::which::Which;
@@ -29,7 +29,7 @@ use vpg_hope::Arena;
 use vpg_partial::Decision;
 
 /// The game, the diagram, the decisions and both tables of a page, with all that lifters need: the page's games, and room for two
-/// raised tables.
+/// raised tables. It may hold a note that its tables are progress tables; then `check` looks at no edge.
 #[derive(Drop)]
 pub struct Order {
     game: Arc<GuardedGame>,
@@ -40,6 +40,8 @@ pub struct Order {
     dual: Table,
     hopeful_room: Table,
     dual_room: Table,
+    // whether the tables are known to be progress tables
+    is_noted: bool,
 }
 
 impl Model for Order {
@@ -140,6 +142,7 @@ impl Order {
                 dual,
                 hopeful_room,
                 dual_room,
+                is_noted: false,
             }),
             Err(fault) => Err(Refused {
                 fault,
@@ -187,6 +190,7 @@ impl Order {
             dual,
             hopeful_room,
             dual_room,
+            is_noted: false,
         })
     }
 
@@ -258,6 +262,38 @@ impl Order {
         ensures { result.now ≡ order_arena which self.now }
     {
         self.games.arena(which)
+    }
+
+    /// Whether both tables are progress tables. Without a note of it this is a pass over the kept edges, which ends at the first
+    /// vertex that a lift raises.
+    pub fn check(&self) -> bool
+        ensures { IsTrue result ↔ IsSettledOrder self.now }
+    {
+        self.is_noted || self.looks_settled()
+    }
+
+    /// The same with a note that both tables are progress tables: whoever asks again looks at no edge.
+    pub fn noted(self) -> Order
+        requires { IsSettledOrder self }
+        ensures { result ≡ self }
+    {
+        let mut noted = self;
+        noted.is_noted = true;
+        noted
+    }
+
+    // Whether both tables are progress tables, by looking at the kept edges.
+    fn looks_settled(&self) -> bool
+        ensures { IsTrue result ↔ IsSettledOrder self.now }
+    {
+        self.is_settled(Which::Hopeful) && self.is_settled(Which::Dual)
+    }
+
+    // Whether one table is a progress table.
+    fn is_settled(&self, which: Which) -> bool
+        ensures { IsTrue result ↔ IsProgressTable (order_levels which self.now) (order_arena which self.now) (order_table which self.now) }
+    {
+        is_progress(self.shape(which), self.arena(which), self.table(which))
     }
 }
 
@@ -333,5 +369,6 @@ impl Order {
     {
         mem::swap(&mut self.hopeful, &mut self.hopeful_room);
         mem::swap(&mut self.dual, &mut self.dual_room);
+        self.is_noted = false;
     }
 }

@@ -1,4 +1,4 @@
-use Rattle.std.proofs.Common.{◌≡◌, ◌∙◌, ◌+◌, ◌<◌, ◌≤◌, ◌++◌, ◌∷◌, [], ℕ, None, Result, Ok, Err, IfErr, IfSome, refl, sym, ap, subst, arith, map}
+use Rattle.std.proofs.Common.{◌≡◌, ◌∙◌, ◌+◌, ◌<◌, ◌≤◌, ◌++◌, ◌∷◌, [], ℕ, None, Result, Ok, Err, IfErr, IfSome, refl, sym, ap, subst, arith, map, false, List}
 use Rattle.std.proofs.lemmas.Result.{err_from_is_err_and}
 use Rattle.std.specs.Arc.{arc_value}
 use Rattle.std.specs.List.{AllByRecursion}
@@ -12,6 +12,9 @@ use Rattle.vpg_desk.specs.DeskFields.{desk_of}
 use Rattle.vpg_desk.specs.Faults.{decide_refusal, ClosesWith}
 use Rattle.vpg_desk.specs.State.{DeskState, Replies, IsStep}
 use Rattle.vpg_desk.specs.declared.fault.DecideFault.TheVariants.{Memory}
+use Rattle.vpg_desk.specs.Cuts.{cuts_of, SuffixesBelow}
+use Rattle.vpg_desk.specs.declared.cuts.Cut.{Cut}
+use Rattle.vpg_desk.proofs.Unchanged.{still_desk}
 use Rattle.vpg_desk.proofs.Shared.{held_at}
 use Rattle.vpg_desk.proofs.Decided.{decide_unknown, decide_already, decide_too_many, decide_accepted, closes_refuses, decisions_inside, limits, decided_step, decided_desk}
 use Rattle.vpg_desk.proofs.desk.Desk.decide.Goals as goal
@@ -77,8 +80,8 @@ invariant_of-self-2 c =
 pub returns-clause-accepted : goal.returns-clause-accepted
 returns-clause-accepted c =
     let at = (goal.at.returns-clause-accepted c).After-clear in
-    subst (λ (n : ℕ). IsStep c.args.self.now c.args.session (Decide c.args.feature c.args.value) (Changed n) (desk_of (record { game = c.self.inside.game; diagram = c.self.inside.diagram; games = c.in_ok-games.games; trail = c.push_decision.new.trail; past = c.push_decision.new.past; future = c.clear.new.self; changes = c.self.inside.changes + 1; tokens = c.self.inside.tokens + 1 }))) (sym c.of.ensures)
-    (subst (λ (s : DeskState). IsStep s c.args.session (Decide c.args.feature c.args.value) (Changed (c.self.inside.changes + 1)) (desk_of (record { game = c.self.inside.game; diagram = c.self.inside.diagram; games = c.in_ok-games.games; trail = c.push_decision.new.trail; past = c.push_decision.new.past; future = c.clear.new.self; changes = c.self.inside.changes + 1; tokens = c.self.inside.tokens + 1 }))) c.self.view_is
+    subst (λ (n : ℕ). IsStep c.args.self.now c.args.session (Decide c.args.feature c.args.value) (Changed n) (desk_of (record { game = c.self.inside.game; diagram = c.self.inside.diagram; games = c.in_ok-games.games; trail = c.push_decision.new.trail; past = c.push_decision.new.past; future = c.clear.new.self; changes = c.self.inside.changes + 1; tokens = c.self.inside.tokens + 1; is_noted = false }))) (sym c.of.ensures)
+    (subst (λ (s : DeskState). IsStep s c.args.session (Decide c.args.feature c.args.value) (Changed (c.self.inside.changes + 1)) (desk_of (record { game = c.self.inside.game; diagram = c.self.inside.diagram; games = c.in_ok-games.games; trail = c.push_decision.new.trail; past = c.push_decision.new.past; future = c.clear.new.self; changes = c.self.inside.changes + 1; tokens = c.self.inside.tokens + 1; is_noted = false }))) c.self.view_is
     (decided_step c.self.inside c.self.invariant c.args.session c.args.feature c.args.value c.in_ok-games.games c.push_decision.new.past c.push_decision.new.trail c.clear.new.self
     c.in_ok-push_decision.ensures.past c.in_ok-push_decision.ensures.below c.in_ok-push_decision.ensures.trail c.clear.ensures.items (accepted at) (games_are at)))
 
@@ -103,3 +106,9 @@ returns-in_err-push_decision-clause-last c = unrefused Memory c.from_residual-in
 pub games_with-requires-clause-held : goal.games_with-requires-clause-held
 games_with-requires-clause-held c =
     held_at c.self.inside c.self.invariant c.deref-2.result.now c.deref-3.result.now c.deref-4.result.now c.deref-2.ensures c.deref-3.ensures c.deref-4.ensures
+
+pub invariant_of-self : goal.invariant_of-self
+invariant_of-self c =
+    let same = c.in_err-push_decision.ensures.err_past in
+    still_desk c.self.inside c.self.invariant c.push_decision.new.trail c.push_decision.new.past c.self.inside.future c.in_err-push_decision.ensures.err_trail (ap cuts_of same) refl
+    (subst (λ (l : List Cut). SuffixesBelow c.self.inside.trail.vertices l) (sym same) c.self.invariant.past_below) c.self.invariant.future_below

@@ -1,19 +1,24 @@
-use Rattle.std.specs.Bool.{Decides}
+use Rattle.std.proofs.Common.{subst}
 use Rattle.vpg_desk.specs.Book.{IsSettledPage}
 use Rattle.vpg_desk.specs.Desk.{family_of}
-use Rattle.vpg_desk.specs.State.{setting_of}
-use Rattle.vpg_desk.proofs.Answering.{settled_page, by_second, by_first}
+use Rattle.vpg_desk.specs.Headline.{Tells}
+use Rattle.vpg_desk.specs.State.{DeskState, setting_of}
+use Rattle.vpg_desk.proofs.Answering.{settled_page, tells}
 use Rattle.vpg_desk.proofs.desk.Desk.settled.Goals as goal
-use Rattle.vpg_desk.proofs.desk.Desk.settled.Goals.{After-is_settled-then-is_settled}
 
-decides : (c : After-is_settled-then-is_settled) → Decides c.is_settled-then-is_settled.result (IsSettledPage (family_of (setting_of c.args.self.now)) c.args.self.now.book.present)
-decides c = by_second c.args.self.now _ (c.is_settled.ensures.settled.0 c.if-is_settled.true) c.is_settled-then-is_settled.ensures.settled
+pub returns-then-self-clause-reply : goal.returns-then-self-clause-reply
+returns-then-self-clause-reply c =
+    settled_page c.args.self.now c.self.inside.is_noted
+    ((λ _. subst (λ (s : DeskState). IsSettledPage (family_of (setting_of s)) s.book.present) c.self.view_is (c.self.invariant.noted c.if-self.true)), (λ _. c.if-self.true))
 
-pub returns-then-is_settled-clause-reply : goal.returns-then-is_settled-clause-reply
-returns-then-is_settled-clause-reply c = settled_page c.args.self.now _ (decides c)
+pub returns-then-self-clause-least : goal.returns-then-self-clause-least
+returns-then-self-clause-least c t =
+    (subst (λ (s : DeskState). Tells (setting_of s) s.book.present) c.self.view_is (tells c.self.inside c.self.invariant)).settled
+    (subst (λ (s : DeskState). IsSettledPage (family_of (setting_of s)) s.book.present) c.self.view_is (c.self.invariant.noted c.if-self.true))
 
-pub returns-then-is_settled-clause-least : goal.returns-then-is_settled-clause-least
-returns-then-is_settled-clause-least c t = c.is_settled.ensures.tells.settled ((decides c).0 t)
+pub returns-else-self-clause-reply : goal.returns-else-self-clause-reply
+returns-else-self-clause-reply c = settled_page c.args.self.now c.looks_settled.result c.looks_settled.ensures
 
-pub returns-else-is_settled-clause-reply : goal.returns-else-is_settled-clause-reply
-returns-else-is_settled-clause-reply c = settled_page c.args.self.now _ (by_first c.args.self.now c.is_settled.result c.if-is_settled.false c.is_settled.ensures.settled)
+pub returns-else-self-clause-least : goal.returns-else-self-clause-least
+returns-else-self-clause-least c t =
+    (subst (λ (s : DeskState). Tells (setting_of s) s.book.present) c.self.view_is (tells c.self.inside c.self.invariant)).settled (c.looks_settled.ensures.0 t)

@@ -1,4 +1,4 @@
-use Rattle.std.proofs.Common.{◌≡◌, ◌∙◌, ◌∷◌, IfSome, IfErr, List, None, Result, Ok, Err, ap, sym, subst}
+use Rattle.std.proofs.Common.{◌≡◌, ◌∙◌, ◌∷◌, IfSome, IfErr, List, None, Result, Ok, Err, ap, sym, subst, false}
 use Rattle.std.specs.Arc.{arc_value}
 use Rattle.std.specs.List.{AllByRecursion}
 use Rattle.vpg_measure.specs.Games.{ArePageGames}
@@ -12,6 +12,7 @@ use Rattle.vpg_desk.specs.State.{DeskState, IsStep, Replies, setting_between}
 use Rattle.vpg_desk.specs.Trail.{Cut as Saved, spliced}
 use Rattle.vpg_desk.specs.declared.cuts.Cut.{Cut}
 use Rattle.vpg_desk.specs.declared.fault.RedoFault.TheVariants.{Memory}
+use Rattle.vpg_desk.proofs.Unchanged.{still_desk}
 use Rattle.vpg_desk.proofs.Shared.{held_at}
 use Rattle.vpg_desk.proofs.Swung.{redo_refused, redo_accepted, nearest_below, future_consistent, future_well_formed, redone_step, redone_desk}
 use Rattle.vpg_desk.proofs.desk.Desk.swing_forth.Goals as goal
@@ -45,7 +46,7 @@ invariant_of-self-2 c =
 pub returns-clause-accepted : goal.returns-clause-accepted
 returns-clause-accepted c session =
     let at = (goal.at.returns-clause-accepted c).After-swing in
-    subst (λ (s : DeskState). IsStep s session (Redo c.args.serial) (Redone c.args.serial) (desk_of (record c.self.inside { games = c.in_ok-games.games; trail = c.swing.new.trail; past = c.swing.new.to; future = c.swing.new.from }))) c.self.view_is
+    subst (λ (s : DeskState). IsStep s session (Redo c.args.serial) (Redone c.args.serial) (desk_of (record c.self.inside { games = c.in_ok-games.games; trail = c.swing.new.trail; past = c.swing.new.to; future = c.swing.new.from; is_noted = false }))) c.self.view_is
     (redone_step c.self.inside c.self.invariant c.args.serial c.in_ok-games.games c.swing.new.to c.swing.new.from c.swing.new.trail c.swing.ensures.vertices (c.swing.ensures.to_below c.self.invariant.past_below) c.swing.ensures.from_below (accepted at) c.in_ok-swing.ensures.swung (known at) session)
 
 pub returns-in-Some-clause-last : goal.returns-in-Some-clause-last
@@ -76,3 +77,8 @@ returns-in-Some-clause-nearer c n e =
 pub games_over-requires-clause-held : goal.games_over-requires-clause-held
 games_over-requires-clause-held c =
     held_at c.self.inside c.self.invariant c.deref-2.result.now c.deref-3.result.now c.deref-5.result.now c.deref-2.ensures c.deref-3.ensures c.deref-5.ensures
+
+pub invariant_of-self : goal.invariant_of-self
+invariant_of-self c =
+    still_desk c.self.inside c.self.invariant c.swing.new.trail c.swing.new.to c.swing.new.from c.in_err-swing.ensures.err_trail (ap cuts_of c.in_err-swing.ensures.err_to) c.in_err-swing.ensures.err_from
+    (c.swing.ensures.to_below c.self.invariant.past_below) c.swing.ensures.from_below

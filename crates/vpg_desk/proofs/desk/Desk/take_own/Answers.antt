@@ -1,4 +1,4 @@
-use Rattle.std.proofs.Common.{◌≡◌, ◌∙◌, ◌++◌, ◌≤◌, List, None, Result, Ok, Err, IfErr, true, length, map, sym, ap, subst, arith}
+use Rattle.std.proofs.Common.{◌≡◌, ◌∙◌, ◌++◌, ◌≤◌, List, None, Result, Ok, Err, IfErr, true, length, map, sym, ap, subst, arith, refl}
 use Rattle.std.proofs.lemmas.List.{length-map}
 use Rattle.vpg_trail.specs.Page.{Entry as Step, literal_of, choices_of}
 use Rattle.vpg_trail.specs.Shown.{entry_of}
@@ -9,7 +9,8 @@ use Rattle.vpg_desk.specs.Commit.{IsOrderOf, handed_in, raised_by}
 use Rattle.vpg_desk.specs.DeskFields.{desk_of}
 use Rattle.vpg_desk.specs.State.{DeskState, IsStep, Replies}
 use Rattle.vpg_desk.specs.declared.fault.CommitFault.TheVariants.{Memory}
-use Rattle.vpg_desk.proofs.Committed.{own_outdated, few, lifts_stand, committed_step, committed_desk}
+use Rattle.vpg_desk.proofs.Unchanged.{still_desk}
+use Rattle.vpg_desk.proofs.Committed.{own_outdated, few, lifts_stand, committed_step, committed_desk, settled_by}
 use Rattle.vpg_desk.proofs.desk.Desk.take_own.Goals as goal
 use Rattle.vpg_desk.proofs.desk.Desk.take_own.Goals.{After-first_missing, After-raise, After-len-added}
 
@@ -48,13 +49,14 @@ extend-requires-clause-lifts c =
 pub invariant_of-self-2 : goal.invariant_of-self-2
 invariant_of-self-2 c =
     let at = (goal.at.invariant_of-self-2 c).After-len-added in
-    committed_desk c.self.inside c.self.invariant c.args.harvest.now c.order-order.ensures.harvest (ours at) (none at) c.extend.new.self
-    (c.in_ok-extend.ensures.extended ∙ ap (λ (l : List Step). record { vertices = c.self.inside.trail.vertices; entries = c.self.inside.trail.entries ++ l }) c.in_ok-raised.ensures.lifts) c.len-added.result (added at)
+    let trail_is = c.in_ok-extend.ensures.extended ∙ ap (λ (l : List Step). record { vertices = c.self.inside.trail.vertices; entries = c.self.inside.trail.entries ++ l }) c.in_ok-raised.ensures.lifts in
+    committed_desk c.self.inside c.self.invariant c.args.harvest.now c.order-order.ensures.harvest (ours at) (none at) c.extend.new.self trail_is c.len-added.result (added at) c.settles-is_noted.result
+    (λ t. settled_by c.self.inside c.self.invariant c.args.harvest.now c.order-order.ensures.harvest (ours at) (none at) c.extend.new.self trail_is c.len-added.result (added at) c.deref.result.now c.deref.ensures (c.settles-is_noted.ensures t))
 
 pub returns-clause-accepted : goal.returns-clause-accepted
 returns-clause-accepted c session =
     let at = (goal.at.returns-clause-accepted c).After-len-added in
-    subst (λ (s : DeskState). IsStep s session (Commit (handed_in true c.args.harvest.now)) (Added c.len-added.result) (desk_of (record c.self.inside { trail = c.extend.new.self }))) c.self.view_is
+    subst (λ (s : DeskState). IsStep s session (Commit (handed_in true c.args.harvest.now)) (Added c.len-added.result) (desk_of (record c.self.inside { trail = c.extend.new.self; is_noted = c.settles-is_noted.result }))) c.self.view_is
     (committed_step c.self.inside c.self.invariant c.args.harvest.now c.order-order.ensures.harvest (ours at) (none at) c.extend.new.self
     (c.in_ok-extend.ensures.extended ∙ ap (λ (l : List Step). record { vertices = c.self.inside.trail.vertices; entries = c.self.inside.trail.entries ++ l }) c.in_ok-raised.ensures.lifts) c.len-added.result (added at) session)
 
@@ -74,3 +76,7 @@ returns-in_err-raised-clause-last c = unrefused Memory c.from_residual.result (t
 
 pub returns-in_err-extend-clause-last : goal.returns-in_err-extend-clause-last
 returns-in_err-extend-clause-last c = unrefused Memory c.from_residual-in_err-extend.result (taken (goal.at.returns-in_err-extend-clause-last c).After-raise)
+
+pub invariant_of-self : goal.invariant_of-self
+invariant_of-self c =
+    still_desk c.self.inside c.self.invariant c.extend.new.self c.self.inside.past c.self.inside.future c.in_err-extend.ensures.err refl refl c.self.invariant.past_below c.self.invariant.future_below

@@ -8,4 +8,4 @@ use Rattle.vpg_measure.proofs.harvest.Harvest.again.Goals as goal
 pub exchange_room-requires : goal.exchange_room-requires
 exchange_room-requires c which =
     subst (λ (table : List ℕ). IsTableBelow (kleene c.self.inside.order.known) which (graph_of c.self.inside.order.game) table)
-    (harvest_room c.self.inside.order which) (c.self.invariant.below which)
+    (harvest_room c.self.inside.order which) (c.self.invariant.harvest.below which)

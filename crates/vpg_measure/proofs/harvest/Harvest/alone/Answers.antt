@@ -1,4 +1,5 @@
 use Rattle.std.proofs.Common.{◌≡◌, ap, sym, subst, ◌∙◌}
+use Rattle.std.proofs.lemmas.Bool.{false≢true}
 use Rattle.vpg_measure.specs.declared.which.Which.TheVariants.{Hopeful, Dual}
 use Rattle.vpg_measure.specs.Lifts.{IsTableOf, after_rounds}
 use Rattle.vpg_measure.specs.Orders.{OrderView, harvest_of, harvest_table, order_levels, order_arena, order_room, with_room, IsHarvest}
@@ -24,8 +25,11 @@ pub invariant_of-result : goal.invariant_of-result
 invariant_of-result c =
     let order = c.args.order in
     let is = c.fill_room.ensures.order in
-    subst (λ (o : OrderView). IsHarvest (harvest_of o)) (sym (whole c))
-    (harvest_made order _ _ is (settled_lawful order is Hopeful c.args.rounds) (settled_lawful order is Dual c.args.rounds))
+    record {
+      harvest = subst (λ (o : OrderView). IsHarvest (harvest_of o)) (sym (whole c))
+          (harvest_made order _ _ is (settled_lawful order is Hopeful c.args.rounds) (settled_lawful order is Dual c.args.rounds));
+      noted = λ t. absurd (false≢true t);
+    }
 
 pub returns-clause-settled : goal.returns-clause-settled
 returns-clause-settled c which =

@@ -1,16 +1,9 @@
-use Rattle.std.proofs.Common.{◌≡◌, false, true}
-use Rattle.vpg_measure.specs.declared.which.Which.TheVariants.{Hopeful, Dual}
-use Rattle.vpg_measure.proofs.OrderLemmas.{both_settled}
+use Rattle.std.proofs.Common.{subst}
+use Rattle.vpg_measure.specs.Orders.{IsSettledHarvest}
 use Rattle.vpg_measure.proofs.harvest.Harvest.check.Goals as goal
 
-pub returns-then-is_settled : goal.returns-then-is_settled
-returns-then-is_settled c = (
-  λ settled. both_settled c.args.self.now (c.is_settled.ensures.0 c.if-is_settled.true) (c.is_settled-then-is_settled.ensures.0 settled),
-  λ all. c.is_settled-then-is_settled.ensures.1 (all Dual),
-)
-
-pub returns-else-is_settled : goal.returns-else-is_settled
-returns-else-is_settled c = (
-  λ settled. (let e : false ≡ true = rw c.if-is_settled.false at settled in absurd (cc)),
-  λ all. c.is_settled.ensures.1 (all Hopeful),
+pub returns-then-self : goal.returns-then-self
+returns-then-self c = (
+  λ _. subst IsSettledHarvest c.self.view_is (c.self.invariant.noted c.if-self.true),
+  λ _. c.if-self.true,
 )

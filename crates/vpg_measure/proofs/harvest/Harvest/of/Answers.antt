@@ -1,4 +1,5 @@
 use Rattle.std.proofs.Common.{length, ap, sym, subst, ◌∙◌}
+use Rattle.std.proofs.lemmas.Bool.{false≢true}
 use Rattle.vpg_measure.specs.declared.which.Which.TheVariants.{Hopeful, Dual}
 use Rattle.vpg_measure.specs.Orders.{OrderView, harvest_of, IsHarvest}
 use Rattle.vpg_measure.proofs.OrderLemmas.{harvest_made, handed_lawful}
@@ -14,7 +15,10 @@ pub invariant_of-result : goal.invariant_of-result
 invariant_of-result c =
     let order = c.args.order in
     let is = c.put_room.ensures.order in
-    subst (λ (o : OrderView). IsHarvest (harvest_of o)) (sym c.put_room.ensures.put)
-    (harvest_made order c.of.result c.of-2.result is
-    (handed_lawful order is Hopeful c.of.result (rw c.of.ensures c.requires.hopeful))
-    (handed_lawful order is Dual c.of-2.result (rw c.of-2.ensures c.requires.dual)))
+    record {
+      harvest = subst (λ (o : OrderView). IsHarvest (harvest_of o)) (sym c.put_room.ensures.put)
+          (harvest_made order c.of.result c.of-2.result is
+          (handed_lawful order is Hopeful c.of.result (rw c.of.ensures c.requires.hopeful))
+          (handed_lawful order is Dual c.of-2.result (rw c.of-2.ensures c.requires.dual)));
+      noted = λ t. absurd (false≢true t);
+    }

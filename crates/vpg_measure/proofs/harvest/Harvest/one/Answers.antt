@@ -1,4 +1,5 @@
 use Rattle.std.proofs.Common.{◌≡◌, ℕ, List, ap, sym, subst, ◌∙◌}
+use Rattle.std.proofs.lemmas.Bool.{false≢true}
 use Rattle.vpg_measure.specs.Lifts.{IsTableOf, raised}
 use Rattle.vpg_measure.specs.Orders.{OrderView, harvest_of, harvest_table, order_levels, order_arena, order_room, order_table, with_room, IsHarvest}
 use Rattle.vpg_measure.proofs.OrderLemmas.{filled, filled_room, one_made, with_room_at}
@@ -20,8 +21,10 @@ lifted c =
     ∙ ap (λ (table : List ℕ). with_room which (raised (order_levels which c.args.order) (order_arena which c.args.order) table c.args.v) (filled c.args.order)) (filled_room c.args.order which)
 
 pub invariant_of-result : goal.invariant_of-result
-invariant_of-result c =
-    subst (λ (o : OrderView). IsHarvest (harvest_of o)) (sym (lifted c)) (one_made c.args.order c.args.which c.args.v c.fill_room.ensures.order c.requires)
+invariant_of-result c = record {
+  harvest = subst (λ (o : OrderView). IsHarvest (harvest_of o)) (sym (lifted c)) (one_made c.args.order c.args.which c.args.v c.fill_room.ensures.order c.requires);
+  noted = λ t. absurd (false≢true t);
+}
 
 pub returns-clause-raised : goal.returns-clause-raised
 returns-clause-raised c =

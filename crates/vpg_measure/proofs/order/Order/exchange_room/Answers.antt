@@ -1,4 +1,5 @@
 use Rattle.std.proofs.Common.{sym, subst}
+use Rattle.std.proofs.lemmas.Bool.{false≢true}
 use Rattle.vpg_guards.specs.Known.{kleene}
 use Rattle.vpg_game.specs.Game.{graph_of}
 use Rattle.vpg_measure.specs.declared.which.Which.{Which}
@@ -14,4 +15,5 @@ invariant_of-self c =
       order = room_exchanged (order_of c.self.inside) c.self.invariant.order
           (subst (λ (o : OrderView). (which : Which) → IsTableBelow (kleene o.known) which (graph_of o.game) (order_room which o)) (sym c.self.view_is) c.requires);
       games = c.self.invariant.games;
+      noted = λ t. absurd (false≢true t);
     })

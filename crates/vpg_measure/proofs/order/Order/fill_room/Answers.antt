@@ -1,7 +1,7 @@
 use Rattle.std.proofs.Common.{◌∙◌, sym}
 use Rattle.vpg_measure.specs.declared.which.Which.TheVariants.{Hopeful, Dual}
 use Rattle.vpg_measure.specs.OrderFields.{order_of}
-use Rattle.vpg_measure.proofs.OrderLemmas.{table_count, room_filled}
+use Rattle.vpg_measure.proofs.OrderLemmas.{table_count, room_filled, still_settled}
 use Rattle.vpg_measure.proofs.order.Order.fill_room.Goals as goal
 
 pub assign-requires : goal.assign-requires
@@ -15,4 +15,5 @@ invariant_of-self c =
     rw (c.assign.ensures, c.assign-2.ensures) (record {
       order = room_filled (order_of c.self.inside) c.self.invariant.order;
       games = c.self.invariant.games;
+      noted = λ t. still_settled (order_of c.self.inside) c.self.inside.hopeful c.self.inside.dual (c.self.invariant.noted t);
     })

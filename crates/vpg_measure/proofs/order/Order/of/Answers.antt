@@ -1,4 +1,5 @@
 use Rattle.std.proofs.Common.{ap, Err, map}
+use Rattle.std.proofs.lemmas.Bool.{false≢true}
 use Rattle.std.specs.Arc.{arc_value}
 use Rattle.vpg_partial.specs.Known.{literal_of}
 use Rattle.vpg_measure.specs.Games.{ArePageGames}
@@ -15,7 +16,7 @@ made c = order_made (arc_value c.args.game) (arc_value c.args.diagram) c.args.de
     (rw c.deref.ensures at c.in-Ok.ensures.hopeful) (rw c.deref.ensures at c.in-Ok.ensures.dual)
 
 pub invariant_of-result : goal.invariant_of-result
-invariant_of-result c = record { order = made c; games = are c }
+invariant_of-result c = record { order = made c; games = are c; noted = λ t. absurd (false≢true t) }
 
 pub returns-in-Ok-clause-order : goal.returns-in-Ok-clause-order
 returns-in-Ok-clause-order c = made c

@@ -8,7 +8,7 @@ use Rattle.vpg_measure.specs.Lifts.{raised}
 use Rattle.vpg_measure.specs.OrderFields.{order_of}
 use Rattle.vpg_measure.specs.Orders.{OrderView, order_room, with_room}
 use Rattle.vpg_measure.proofs.OrderGames.{own_levels, own_arena}
-use Rattle.vpg_measure.proofs.OrderLemmas.{room_put, room_count, room_changed}
+use Rattle.vpg_measure.proofs.OrderLemmas.{room_put, room_count, room_changed, still_settled}
 use Rattle.vpg_measure.proofs.order.Order.raise_room.Goals as goal
 
 -- whether the sum rose tells the same of the table in the room
@@ -23,6 +23,7 @@ invariant_of-self c = record {
       (room_count (order_of c.self.inside) c.args.which c.arena-arena.result.now c.raise.new.table (own_arena c.self.inside c.self.invariant c.deref-2.result.now c.deref-2.ensures c.args.which c.arena-arena.result.now c.arena-arena.ensures) c.raise.ensures.table.len)
       c.self.invariant.order.dual_room;
   games = c.self.invariant.games;
+  noted = λ t. still_settled (order_of c.self.inside) c.raise.new.table c.self.inside.dual_room (c.self.invariant.noted t);
 }
 
 pub returns-in-Hopeful-clause-raised : goal.returns-in-Hopeful-clause-raised
@@ -37,6 +38,7 @@ invariant_of-self-in-Dual c = record {
       c.self.invariant.order.hopeful_room
       (room_count (order_of c.self.inside) c.args.which c.arena-arena.result.now c.raise-in-Dual.new.table (own_arena c.self.inside c.self.invariant c.deref-2.result.now c.deref-2.ensures c.args.which c.arena-arena.result.now c.arena-arena.ensures) c.raise-in-Dual.ensures.table.len);
   games = c.self.invariant.games;
+  noted = λ t. still_settled (order_of c.self.inside) c.self.inside.hopeful_room c.raise-in-Dual.new.table (c.self.invariant.noted t);
 }
 
 pub returns-in-Dual-clause-raised : goal.returns-in-Dual-clause-raised

@@ -5,7 +5,7 @@ use Rattle.vpg_measure.specs.declared.which.Which.TheVariants.{Hopeful, Dual}
 use Rattle.vpg_measure.specs.Lifts.{after_rounds}
 use Rattle.vpg_measure.specs.OrderFields.{order_of}
 use Rattle.vpg_measure.proofs.OrderGames.{own_levels, own_arena}
-use Rattle.vpg_measure.proofs.OrderLemmas.{room_put, room_count, room_changed}
+use Rattle.vpg_measure.proofs.OrderLemmas.{room_put, room_count, room_changed, still_settled}
 use Rattle.vpg_measure.proofs.order.Order.settle_room.Goals as goal
 
 pub invariant_of-self : goal.invariant_of-self
@@ -14,6 +14,7 @@ invariant_of-self c = record {
       (room_count (order_of c.self.inside) c.args.which c.arena-arena.result.now c.settle_alone.new.table (own_arena c.self.inside c.self.invariant c.deref-2.result.now c.deref-2.ensures c.args.which c.arena-arena.result.now c.arena-arena.ensures) c.settle_alone.ensures.table.len)
       c.self.invariant.order.dual_room;
   games = c.self.invariant.games;
+  noted = λ t. still_settled (order_of c.self.inside) c.settle_alone.new.table c.self.inside.dual_room (c.self.invariant.noted t);
 }
 
 pub returns-in-Hopeful : goal.returns-in-Hopeful
@@ -28,6 +29,7 @@ invariant_of-self-in-Dual c = record {
       c.self.invariant.order.hopeful_room
       (room_count (order_of c.self.inside) c.args.which c.arena-arena.result.now c.settle_alone-in-Dual.new.table (own_arena c.self.inside c.self.invariant c.deref-2.result.now c.deref-2.ensures c.args.which c.arena-arena.result.now c.arena-arena.ensures) c.settle_alone-in-Dual.ensures.table.len);
   games = c.self.invariant.games;
+  noted = λ t. still_settled (order_of c.self.inside) c.self.inside.hopeful_room c.settle_alone-in-Dual.new.table (c.self.invariant.noted t);
 }
 
 pub returns-in-Dual : goal.returns-in-Dual
