@@ -66,53 +66,53 @@ stops_tell family limit refusal call session front newest (Doubled g) p h s =
 stops_tell family limit refusal call session front newest (DeskRefuses fault) p h s = absurd s
 stops_tell family limit refusal call session front newest Memory p h s = refl
 
-module _ {row : Shelves} {game : NamedGame} {diagram : NamedDiagram} {limit : ℕ} {chronicle : Chronicle} {newest : List Event} {desk : DeskState} {total parts amount sessions room : ℕ} {shown : List Event}
-    (i : IsLog row game diagram limit chronicle newest desk total parts amount sessions room shown) where
+module _ {row : Shelves} {game : NamedGame} {diagram : NamedDiagram} {limit : ℕ} {chronicle : Chronicle} {newest : List Event} {desk : DeskState} {room total : ℕ} {shown : List Event} {sessions : ℕ}
+    (i : IsLog row game diagram limit chronicle newest desk room total shown sessions) where
   abbrev F : Family
   F = family_between game diagram
 
   -- the desk's reply is that of the log's book
   pub told_here : (call : Call) (reply : Reply) → Replies desk call reply → IsReply F (book_after F opened newest) call reply
-  told_here call reply r = coe 0 1 (k. IsReply (family_between (i.of_game k) (i.of_diagram k)) (i.replay k) call reply) r
+  told_here call reply r = coe 0 1 (k. IsReply (family_between (i.replay.of_game k) (i.replay.of_diagram k)) (i.replay.book k) call reply) r
 
   pub leaves : (session : ℕ) (call : Call) (reply : Reply) → next (family_of (setting_of desk)) desk.book session call reply ≡ book_after F opened (newest ++ event session call reply ∷ [])
-  leaves session call reply = (λ k. next (family_between (i.of_game k) (i.of_diagram k)) (i.replay k) session call reply) ∙ sym (book_more F newest (event session call reply))
+  leaves session call reply = (λ k. next (family_between (i.replay.of_game k) (i.replay.of_diagram k)) (i.replay.book k) session call reply) ∙ sym (book_more F newest (event session call reply))
 
   pub log_history : IsHistory F newest
-  log_history = kept_history row game diagram chronicle newest i.kept
+  log_history = kept_history row game diagram chronicle newest i.replay.kept
 
   pub seen_here : {log : List Event} (front : List Event) → newest ≡ log → IsPrefix front log → IsPrefix front newest
   seen_here {log} front is p = subst (λ (l : List Event). IsPrefix front l) (sym is) p
 
-  -- a part is left for one token more
-  pub some_part : 0 < parts
-  some_part =
-      let h = counts_are_limited F newest (kept_history row game diagram chronicle newest i.kept).legal in
-      omega (arith, i.left, ap (λ (b : Book). b.tokens) i.replay, h.0, h.1)
+  -- there is a share for one token more
+  pub few_tokens : total ≤ 1048576
+  few_tokens =
+      let h = counts_are_limited F newest (kept_history row game diagram chronicle newest i.replay.kept).legal in
+      omega (arith, i.counted, ap (λ (b : Book). b.tokens) i.replay.book, h.0, h.1)
 
-  pub log_after : (after : Chronicle) (new : List Event) (desk_after : DeskState) (total_after parts_after amount_after : ℕ) (session : ℕ) (call : Call) (reply : Reply) → IsChronicle row game diagram after new →
+  pub log_after : (after : Chronicle) (new : List Event) (desk_after : DeskState) (total_after : ℕ) (session : ℕ) (call : Call) (reply : Reply) → IsChronicle row game diagram after new →
       new ≡ newest ++ event session call reply ∷ [] → desk_after.game ≡ desk.game → desk_after.diagram ≡ desk.diagram → desk_after.book ≡ next (family_of (setting_of desk)) desk.book session call reply →
-      total_after ≡ desk_after.book.tokens → amount_after ≡ 0 → parts_after + desk_after.book.tokens ≡ 1048577 → IsLog row game diagram limit after new desk_after total_after parts_after amount_after sessions room shown
-  log_after after new desk_after total_after parts_after amount_after session call reply kept is g d b t a p = record {
-    kept = kept;
-    of_game = g ∙ i.of_game;
-    of_diagram = d ∙ i.of_diagram;
-    replay = b ∙ leaves session call reply ∙ ap (book_after F opened) (sym is);
+      total_after ≡ desk_after.book.tokens → IsLog row game diagram limit after new desk_after room total_after shown sessions
+  log_after after new desk_after total_after session call reply kept is g d b t = record {
+    replay = record {
+      kept = kept;
+      of_game = g ∙ i.replay.of_game;
+      of_diagram = d ∙ i.replay.of_diagram;
+      book = b ∙ leaves session call reply ∙ ap (book_after F opened) (sym is);
+      most = i.replay.most;
+      few = i.replay.few;
+    };
     counted = t;
-    none = a;
-    left = p;
-    most = i.most;
-    few = i.few;
-    joined = i.joined;
     published = prefix_more shown newest new (event session call reply) i.published is;
+    joined = i.joined;
   }
 
   -- an order of the desk is of the office's game and diagram
   pub of_here : (order : OrderView) → IsOrderOf desk order → IsOf game diagram order
-  of_here order ours = (ours.0 ∙ i.of_game, ours.1 ∙ i.of_diagram)
+  of_here order ours = (ours.0 ∙ i.replay.of_game, ours.1 ∙ i.replay.of_diagram)
 
   pub to_desk : (order : OrderView) → IsOf game diagram order → IsOrderOf desk order
-  to_desk order ours = (ours.0 ∙ sym i.of_game, ours.1 ∙ sym i.of_diagram)
+  to_desk order ours = (ours.0 ∙ sym i.replay.of_game, ours.1 ∙ sym i.replay.of_diagram)
 
 -- a page has the entries of the desk's present page
 pub page_is : (state : DeskState) (entries : List Step) → Replies state Page (PageIs entries) → entries ≡ state.book.present

@@ -3,10 +3,6 @@ use denote.RattleType.{RattleType}
 use denote.Param.Send.{IsSend, IsSync, AllSend, struct_send, recorded_send, struct_sync, recorded_sync, sendable}
 use denote.Struct.Declared.{shape, fields}
 use Rattle.std.proofs.Crossing.{crosses}
-use Rattle.std.proofs.sync.ledger.Book.TheSendSync.{the_send as book_send}
-use Rattle.std.proofs.sync.ledger.Share.TheSendSync.{the_send as share_send}
-use Rattle.std.specs.contracts.sync.ledger.Book as Book
-use Rattle.std.specs.contracts.sync.ledger.Share as Share
 use Rattle.std.specs.declared.sync.ledger.Ledger as ledger
 use Rattle.boxcar.proofs.table.Placed.TheSendSync.{the_send as placed_send}
 use Rattle.boxcar.proofs.vec.Vec.TheSendSync.{the_sync as row_sync}
@@ -19,12 +15,14 @@ use Rattle.std.specs.contracts.sync.Mutex as Mutex
 use Rattle.vpg_desk.proofs.Crossing.{desk_send}
 use Rattle.vpg_watch.proofs.press.Press.TheSendSync.{the_send as press_send}
 use Rattle.vpg_office.proofs.front.Front.TheSendSync.{the_send as front_send, the_sync as front_sync}
+use Rattle.vpg_office.proofs.purse.Purse.TheSendSync.{the_send as purse_send}
 use Rattle.vpg_office.specs.contracts.asked.Entry as Entry
 use Rattle.vpg_office.specs.contracts.asked.Told as Told
 use Rattle.vpg_office.specs.contracts.chronicle.Chronicle as Chronicle
 use Rattle.vpg_office.specs.contracts.front.Front as Front
 use Rattle.vpg_office.specs.contracts.log.Log as Log
 use Rattle.vpg_office.specs.contracts.log.Log.TheInside as Inside
+use Rattle.vpg_office.specs.contracts.log.Replay as Replay
 use Rattle.vpg_office.specs.contracts.office.RowRowed.TheImpl as rowed
 use Rattle.vpg_office.specs.contracts.office.Shared as Shared
 use Rattle.vpg_office.specs.declared.terms.Terms as terms
@@ -52,14 +50,14 @@ module _ (L : RattleType) (t : terms.Ghosts L.Denot) (l : ledger.Ghosts L.Denot)
   front_syncs : IsSync (Front.the_row L t l)
   front_syncs = search (front_sync, sendable, crosses) depth 40
 
-  book_sends : IsSend (Book.the_row L l)
-  book_sends = search (book_send, sendable, crosses) depth 20
+  replay_fields : AllSend (fields (Replay.the_type L t l))
+  replay_fields = (chronicle_field, (search (front_sends, sendable) depth 12, (search (desk_send, sendable) depth 12, (search sendable depth 12, tt))))
 
-  share_sends : IsSend (Share.the_row L l)
-  share_sends = search (share_send, sendable, crosses) depth 20
+  replay_field : IsSend (Replay.the_field L t l).row
+  replay_field = struct_send (shape (Replay.the_type L t l)) replay_fields
 
   fields_send : AllSend (fields (Inside.the_type L t l))
-  fields_send = (chronicle_field, (search (front_sends, sendable) depth 12, (search (desk_send, sendable) depth 12, (search (book_sends, sendable) depth 12, (search (share_sends, sendable) depth 12, (search sendable depth 12, (search sendable depth 12, (search sendable depth 12, (search (press_send, front_sends, front_syncs, sendable, crosses) depth 40, tt)))))))))
+  fields_send = (replay_field, (search (purse_send, sendable, crosses) depth 40, (search (press_send, front_sends, front_syncs, sendable, crosses) depth 40, (search sendable depth 12, (search sendable depth 12, tt)))))
 
   inside_send : IsSend (Inside.the_row L t l)
   inside_send = recorded_send (Inside.the_field L t l).row _ _ (Inside.the_type L t l).to_one (struct_send (shape (Inside.the_type L t l)) fields_send)

@@ -5,31 +5,31 @@ ghost use Rattle.vpg_desk.specs.History.{book_after};
 ghost use Rattle.vpg_office.specs.Fronts.{family_between};
 
 use crate::front::Front;
-use crate::log::Log;
+use crate::log::{Log, Replay};
+use crate::purse::Purse;
 use crate::redo_token::Redo;
 use crate::terms::Terms;
 use crate::undo_token::Undo;
 use std::sync::Wait;
-use std::sync::ledger::Book;
 use vpg_desk::Desk;
 use vpg_watch::Press;
 
 /// Spends undos, until none is left.
-fn keep_all<L: Terms>(desk: &mut Desk, book: &mut Book<L>, undos: Vec<Undo<L>>)
-    requires { book.old.total ≡ desk.old.book.tokens }
-    ensures counted { book.new.total ≡ desk.new.book.tokens }
+fn keep_all<L: Terms>(desk: &mut Desk, purse: &mut Purse<L>, undos: Vec<Undo<L>>)
+    requires { purse.old ≡ desk.old.book.tokens }
+    ensures counted { purse.new ≡ desk.new.book.tokens }
     ensures spent { desk.new.book.tokens + length undos.items ≡ desk.old.book.tokens }
 {
     let mut undos = undos;
     while let Some(undo) = undos.pop() {
-        keep_one(desk, book, undo);
+        keep_one(desk, purse, undo);
     }
     undos.destroy_empty();
 }
 
-fn keep_one<L: Terms>(desk: &mut Desk, book: &mut Book<L>, undo: Undo<L>)
-    requires { book.old.total ≡ desk.old.book.tokens }
-    ensures counted { book.new.total ≡ desk.new.book.tokens }
+fn keep_one<L: Terms>(desk: &mut Desk, purse: &mut Purse<L>, undo: Undo<L>)
+    requires { purse.old ≡ desk.old.book.tokens }
+    ensures counted { purse.new ≡ desk.new.book.tokens }
     ensures spent { desk.new.book.tokens + 1 ≡ desk.old.book.tokens }
 {
     let Undo {
@@ -37,27 +37,27 @@ fn keep_one<L: Terms>(desk: &mut Desk, book: &mut Book<L>, undo: Undo<L>)
         place: _,
         mut share,
     } = undo;
-    book.audit(&mut share);
+    purse.audit(&mut share);
     desk.keep(token);
-    book.sub(&mut share, 1);
+    purse.take_back(share);
 }
 
 /// Spends redos, until none is left.
-fn forget_all<L: Terms>(desk: &mut Desk, book: &mut Book<L>, redos: Vec<Redo<L>>)
-    requires { book.old.total ≡ desk.old.book.tokens }
-    ensures counted { book.new.total ≡ desk.new.book.tokens }
+fn forget_all<L: Terms>(desk: &mut Desk, purse: &mut Purse<L>, redos: Vec<Redo<L>>)
+    requires { purse.old ≡ desk.old.book.tokens }
+    ensures counted { purse.new ≡ desk.new.book.tokens }
     ensures spent { desk.new.book.tokens + length redos.items ≡ desk.old.book.tokens }
 {
     let mut redos = redos;
     while let Some(redo) = redos.pop() {
-        forget_one(desk, book, redo);
+        forget_one(desk, purse, redo);
     }
     redos.destroy_empty();
 }
 
-fn forget_one<L: Terms>(desk: &mut Desk, book: &mut Book<L>, redo: Redo<L>)
-    requires { book.old.total ≡ desk.old.book.tokens }
-    ensures counted { book.new.total ≡ desk.new.book.tokens }
+fn forget_one<L: Terms>(desk: &mut Desk, purse: &mut Purse<L>, redo: Redo<L>)
+    requires { purse.old ≡ desk.old.book.tokens }
+    ensures counted { purse.new ≡ desk.new.book.tokens }
     ensures spent { desk.new.book.tokens + 1 ≡ desk.old.book.tokens }
 {
     let Redo {
@@ -65,9 +65,9 @@ fn forget_one<L: Terms>(desk: &mut Desk, book: &mut Book<L>, redo: Redo<L>)
         place: _,
         mut share,
     } = redo;
-    book.audit(&mut share);
+    purse.audit(&mut share);
     desk.forget(token);
-    book.sub(&mut share, 1);
+    purse.take_back(share);
 }
 
 impl<L: Terms> Log<L> {
@@ -75,7 +75,7 @@ impl<L: Terms> Log<L> {
     pub(crate) fn tokens(&self) -> u64
         ensures { result ≡ (book_after (family_between L.game L.diagram) opened self.now).tokens }
     {
-        self.desk.tokens()
+        self.replay.desk.tokens()
     }
 
     /// Spends the tokens handed in, and ends the log. Answers how many further tokens are out.
@@ -83,18 +83,20 @@ impl<L: Terms> Log<L> {
         ensures { result + length undos.items + length redos.items ≡ (book_after (family_between L.game L.diagram) opened self).tokens }
     {
         let Log {
+            replay,
+            mut purse,
+            press,
+            sessions: _,
+            watched: _,
+        } = self;
+        let Replay {
             chronicle: _,
             newest: _,
             mut desk,
-            mut book,
-            rest: _,
-            sessions: _,
             room: _,
-            watched: _,
-            press,
-        } = self;
-        keep_all(&mut desk, &mut book, undos);
-        forget_all(&mut desk, &mut book, redos);
+        } = replay;
+        keep_all(&mut desk, &mut purse, undos);
+        forget_all(&mut desk, &mut purse, redos);
         let further = desk.tokens();
         let_go(rt, desk, press);
         further
@@ -103,16 +105,18 @@ impl<L: Terms> Log<L> {
     /// Lets the log go.
     pub(crate) fn dissolve<R: Wait>(self, rt: &R) {
         let Log {
+            replay,
+            purse: _,
+            press,
+            sessions: _,
+            watched: _,
+        } = self;
+        let Replay {
             chronicle: _,
             newest: _,
             desk,
-            book: _,
-            rest: _,
-            sessions: _,
             room: _,
-            watched: _,
-            press,
-        } = self;
+        } = replay;
         let_go(rt, desk, press);
     }
 }

@@ -79,10 +79,10 @@ impl<L: Terms> Log<L> {
         let place = match admit(
             rt,
             row,
-            &mut self.chronicle,
-            &self.newest,
+            &mut self.replay.chronicle,
+            &self.replay.newest,
             front,
-            self.room,
+            self.replay.room,
             session,
             &asked,
         ) {
@@ -94,18 +94,18 @@ impl<L: Terms> Log<L> {
                 });
             }
         };
-        match hand_in(&mut self.desk, alloc, harvest, own) {
+        match hand_in(&mut self.replay.desk, alloc, harvest, own) {
             Ok(entries) => {
                 let answer = Answer::Added { entries };
                 enter(
-                    &mut self.chronicle,
-                    &mut self.newest,
+                    &mut self.replay.chronicle,
+                    &mut self.replay.newest,
                     &place,
                     session,
                     &asked,
                     answer,
                 );
-                *front = self.newest.copy();
+                *front = self.replay.newest.copy();
                 Ok(entries)
             }
             Err(refused) => {
@@ -118,14 +118,14 @@ impl<L: Terms> Log<L> {
                 };
                 let answer = Answer::Refused { cause };
                 enter(
-                    &mut self.chronicle,
-                    &mut self.newest,
+                    &mut self.replay.chronicle,
+                    &mut self.replay.newest,
                     &place,
                     session,
                     &asked,
                     answer,
                 );
-                *front = self.newest.copy();
+                *front = self.replay.newest.copy();
                 Err(Returned {
                     fault: Fault::Refused { fault },
                     value: harvest,

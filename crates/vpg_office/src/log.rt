@@ -1,4 +1,5 @@
-//! What lies under the office's lock: the log, its desk, the ledger of tokens, and the press.
+//! What lies under the office's lock: the log with the desk that replays it, the purse of tokens, and the press. Each of the three has a rule
+//! of its own; what joins them stands in `specs/Locked.antt`.
 ghost use Rattle.std.specs.Prelude.{◌≡◌, ◌+◌, ◌-◌, ◌<◌, ◌≤◌, ◌⊎◌, ℕ, List, [], ◌∷◌, ◌++◌, length, drop, true, false, Some, None, IfOk, IfErr, OnOk, OnErr, IfSome, option_map};
 ghost use mathlib.Core.List.{IsPrefix};
 ghost use Rattle.boxcar.specs.Table.{Shows};
@@ -16,28 +17,33 @@ use crate::asked::{Answer, Asked, Cause};
 use crate::chronicle::{Chronicle, Row, has_call_since};
 use crate::fault::Fault;
 use crate::front::{Front, Place};
+use crate::purse::Purse;
 use crate::terms::Terms;
 use crate::undo_token::Undo;
 use std::alloc::Global;
 use std::marker::Model;
 use std::sync::Wait;
-use std::sync::ledger::{Book, Share};
 use vpg_desk::{DecideFault, Desk};
 use vpg_watch::Press;
 
-/// The log, its desk, the ledger's book, and the press. Contracts see it as the history that the log is.
-pub struct Log<L: Terms> {
+/// The calls that were made, the history that they are, and the desk that replays it.
+pub struct Replay<L: Terms> {
     pub(crate) chronicle: Chronicle,
     // the whole log
     pub(crate) newest: Front<L>,
     pub(crate) desk: Desk,
-    pub(crate) book: Book<L>,
-    pub(crate) rest: Share<L>,
-    pub(crate) sessions: u32,
+    // how many calls it takes
     pub(crate) room: usize,
+}
+
+/// The log, the purse and the press. Contracts see it as the history that the log is.
+pub struct Log<L: Terms> {
+    pub(crate) replay: Replay<L>,
+    pub(crate) purse: Purse<L>,
+    pub(crate) press: Press<Front<L>>,
+    pub(crate) sessions: u32,
     // whether there was a watch yet
     pub(crate) watched: bool,
-    pub(crate) press: Press<Front<L>>,
 }
 
 impl<L: Terms> Model for Log<L> {
@@ -51,9 +57,9 @@ impl<L: Terms> Model for Log<L> {
 
     ghost use Rattle.vpg_office.specs.Locked.{IsLog};
 
-    ghost view = { λ g. g.newest };
+    ghost view = { λ g. g.replay.newest };
 
-    ghost invariant = { λ g. IsLog L.shelves L.game L.diagram L.limit g.chronicle g.newest g.desk g.book.total g.rest.parts g.rest.amount g.sessions g.room g.press.front };
+    ghost invariant = { λ g. IsLog L.shelves L.game L.diagram L.limit g.replay.chronicle g.replay.newest g.replay.desk g.replay.room g.purse g.press.front g.sessions };
 }
 
 /// Whether the front is a beginning of the log.
@@ -169,29 +175,30 @@ impl<L: Terms> Log<L> {
     pub(crate) fn open(
         alloc: Global,
         desk: Desk,
-        book: Book<L>,
-        rest: Share<L>,
+        purse: Purse<L>,
         room: usize,
         press: Press<Front<L>>,
     ) -> Log<L>
         requires of { (desk.game ≡ L.game) × (desk.diagram ≡ L.diagram) }
         requires opened { desk.book ≡ opened }
         requires opens { IsOpened L.game L.diagram }
-        requires ledger { (book.total ≡ 0) × (rest.amount ≡ 0) × (rest.parts ≡ 1048577) }
+        requires none { purse ≡ 0 }
         requires room { (room ≡ L.limit) × (room ≤ 1048576) }
         requires press { press.front ≡ [] }
         ensures { result ≡ [] }
     {
-        Log {
+        let replay = Replay {
             chronicle: Chronicle::new(alloc),
             newest: Front::empty(),
             desk,
-            book,
-            rest,
-            sessions: 0,
             room,
-            watched: false,
+        };
+        Log {
+            replay,
+            purse,
             press,
+            sessions: 0,
+            watched: false,
         }
     }
 
@@ -212,7 +219,7 @@ impl<L: Terms> Log<L> {
         ensures front { result ≡ self.now }
         ensures history { IsHistory (family_between L.game L.diagram) result }
     {
-        self.newest.copy()
+        self.replay.newest.copy()
     }
 
     /// Whether the front is a beginning of the log.
@@ -220,7 +227,7 @@ impl<L: Terms> Log<L> {
         requires { row.now ≡ L.shelves }
         ensures { result ≡ true → IsPrefix front.now self.now }
     {
-        has(row, &self.chronicle, &self.newest, front)
+        has(row, &self.replay.chronicle, &self.replay.newest, front)
     }
 
     /// Makes the first the longer of both, where the log has both.
@@ -258,35 +265,34 @@ impl<L: Terms> Log<L> {
         let place = match admit(
             rt,
             row,
-            &mut self.chronicle,
-            &self.newest,
+            &mut self.replay.chronicle,
+            &self.replay.newest,
             front,
-            self.room,
+            self.replay.room,
             session,
             &asked,
         ) {
             Ok(place) => place,
             Err(fault) => return Err(fault),
         };
-        match self.desk.decide(alloc, session, feature, value) {
+        match self.replay.desk.decide(alloc, session, feature, value) {
             Ok(token) => {
                 let answer = Answer::Changed {
                     serial: token.serial(),
                 };
                 enter(
-                    &mut self.chronicle,
-                    &mut self.newest,
+                    &mut self.replay.chronicle,
+                    &mut self.replay.newest,
                     &place,
                     session,
                     &asked,
                     answer,
                 );
-                *front = self.newest.copy();
-                let mut share = self.rest.split_off(1, 0);
-                self.book.add(&mut share, 1);
+                *front = self.replay.newest.copy();
+                let share = self.purse.issue();
                 Ok(Undo {
                     token,
-                    place: self.newest.copy(),
+                    place: self.replay.newest.copy(),
                     share,
                 })
             }
@@ -296,14 +302,14 @@ impl<L: Terms> Log<L> {
                 };
                 let answer = Answer::Refused { cause };
                 enter(
-                    &mut self.chronicle,
-                    &mut self.newest,
+                    &mut self.replay.chronicle,
+                    &mut self.replay.newest,
                     &place,
                     session,
                     &asked,
                     answer,
                 );
-                *front = self.newest.copy();
+                *front = self.replay.newest.copy();
                 Err(Fault::Refused { fault })
             }
         }

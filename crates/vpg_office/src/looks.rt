@@ -43,26 +43,26 @@ impl<L: Terms> Log<L> {
         let place = match admit(
             rt,
             row,
-            &mut self.chronicle,
-            &self.newest,
+            &mut self.replay.chronicle,
+            &self.replay.newest,
             front,
-            self.room,
+            self.replay.room,
             session,
             &asked,
         ) {
             Ok(place) => place,
             Err(fault) => return Err(fault),
         };
-        let r = self.desk.settled();
+        let r = self.replay.desk.settled();
         enter(
-            &mut self.chronicle,
-            &mut self.newest,
+            &mut self.replay.chronicle,
+            &mut self.replay.newest,
             &place,
             session,
             &asked,
             Answer::IsSettled { settled: r },
         );
-        *front = self.newest.copy();
+        *front = self.replay.newest.copy();
         Ok(r)
     }
 
@@ -85,20 +85,20 @@ impl<L: Terms> Log<L> {
         let place = match admit(
             rt,
             row,
-            &mut self.chronicle,
-            &self.newest,
+            &mut self.replay.chronicle,
+            &self.replay.newest,
             front,
-            self.room,
+            self.replay.room,
             session,
             &asked,
         ) {
             Ok(place) => place,
             Err(fault) => return Err(fault),
         };
-        let r = self.desk.verdict(vertex);
+        let r = self.replay.desk.verdict(vertex);
         enter(
-            &mut self.chronicle,
-            &mut self.newest,
+            &mut self.replay.chronicle,
+            &mut self.replay.newest,
             &place,
             session,
             &asked,
@@ -107,7 +107,7 @@ impl<L: Terms> Log<L> {
                 sure: r.sure,
             },
         );
-        *front = self.newest.copy();
+        *front = self.replay.newest.copy();
         Ok(r)
     }
 
@@ -136,28 +136,28 @@ impl<L: Terms> Log<L> {
         let place = match admit(
             rt,
             row,
-            &mut self.chronicle,
-            &self.newest,
+            &mut self.replay.chronicle,
+            &self.replay.newest,
             front,
-            self.room,
+            self.replay.room,
             session,
             &asked,
         ) {
             Ok(place) => place,
             Err(fault) => return Err(fault),
         };
-        let Ok(page) = self.desk.page(alloc) else {
+        let Ok(page) = self.replay.desk.page(alloc) else {
             return Err(Fault::Memory);
         };
         enter(
-            &mut self.chronicle,
-            &mut self.newest,
+            &mut self.replay.chronicle,
+            &mut self.replay.newest,
             &place,
             session,
             &asked,
             Answer::PageIs,
         );
-        *front = self.newest.copy();
+        *front = self.replay.newest.copy();
         Ok(page)
     }
 
@@ -180,28 +180,28 @@ impl<L: Terms> Log<L> {
         let place = match admit(
             rt,
             row,
-            &mut self.chronicle,
-            &self.newest,
+            &mut self.replay.chronicle,
+            &self.replay.newest,
             front,
-            self.room,
+            self.replay.room,
             session,
             &asked,
         ) {
             Ok(place) => place,
             Err(fault) => return Err(fault),
         };
-        let Ok(r) = self.desk.order(alloc) else {
+        let Ok(r) = self.replay.desk.order(alloc) else {
             return Err(Fault::Memory);
         };
         enter(
-            &mut self.chronicle,
-            &mut self.newest,
+            &mut self.replay.chronicle,
+            &mut self.replay.newest,
             &place,
             session,
             &asked,
             Answer::Ordered,
         );
-        *front = self.newest.copy();
+        *front = self.replay.newest.copy();
         Ok(r)
     }
 }

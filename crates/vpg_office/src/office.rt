@@ -14,6 +14,7 @@ use crate::chronicle::Row;
 use crate::front::Front;
 use crate::log::Log;
 use crate::publishing::opening_press;
+use crate::purse::Purse;
 use crate::redo_token::Redo;
 use crate::session::Session;
 use crate::site::Site;
@@ -164,7 +165,8 @@ impl<L: Terms> Shared<Row, L, Log<L>> {
             Ok((desk, press)) => {
                 let Site { row, blank } = site;
                 let (book, rest) = blank.open::<L>();
-                let log = Log::open(alloc, desk, book, rest, room as usize, press);
+                let purse = Purse::of(book, rest);
+                let log = Log::open(alloc, desk, purse, room as usize, press);
                 Ok(Shared {
                     row,
                     log: Mutex::new(log),

@@ -50,35 +50,34 @@ impl<L: Terms> Log<L> {
         let place = match admit(
             rt,
             row,
-            &mut self.chronicle,
-            &self.newest,
+            &mut self.replay.chronicle,
+            &self.replay.newest,
             front,
-            self.room,
+            self.replay.room,
             session,
             &asked,
         ) {
             Ok(place) => place,
             Err(fault) => return Err(fault),
         };
-        match self.desk.retract(alloc, session, feature) {
+        match self.replay.desk.retract(alloc, session, feature) {
             Ok(token) => {
                 let answer = Answer::Changed {
                     serial: token.serial(),
                 };
                 enter(
-                    &mut self.chronicle,
-                    &mut self.newest,
+                    &mut self.replay.chronicle,
+                    &mut self.replay.newest,
                     &place,
                     session,
                     &asked,
                     answer,
                 );
-                *front = self.newest.copy();
-                let mut share = self.rest.split_off(1, 0);
-                self.book.add(&mut share, 1);
+                *front = self.replay.newest.copy();
+                let share = self.purse.issue();
                 Ok(Undo {
                     token,
-                    place: self.newest.copy(),
+                    place: self.replay.newest.copy(),
                     share,
                 })
             }
@@ -88,14 +87,14 @@ impl<L: Terms> Log<L> {
                 };
                 let answer = Answer::Refused { cause };
                 enter(
-                    &mut self.chronicle,
-                    &mut self.newest,
+                    &mut self.replay.chronicle,
+                    &mut self.replay.newest,
                     &place,
                     session,
                     &asked,
                     answer,
                 );
-                *front = self.newest.copy();
+                *front = self.replay.newest.copy();
                 Err(Fault::Refused { fault })
             }
         }

@@ -53,10 +53,10 @@ impl<L: Terms> Log<L> {
             return false;
         }
         let at = (serial - 1) as usize;
-        if at >= self.chronicle.given.len() || self.chronicle.given[at] != count - 1 {
+        if at >= self.replay.chronicle.given.len() || self.replay.chronicle.given[at] != count - 1 {
             return false;
         }
-        has(row, &self.chronicle, &self.newest, own)
+        has(row, &self.replay.chronicle, &self.replay.newest, own)
     }
 
     pub(crate) fn undo<R: Wait>(
@@ -84,10 +84,10 @@ impl<L: Terms> Log<L> {
         let place = match admit(
             rt,
             row,
-            &mut self.chronicle,
-            &self.newest,
+            &mut self.replay.chronicle,
+            &self.replay.newest,
             front,
-            self.room,
+            self.replay.room,
             session,
             &asked,
         ) {
@@ -104,24 +104,24 @@ impl<L: Terms> Log<L> {
             place: own,
             mut share,
         } = token;
-        self.book.audit(&mut share);
-        match self.desk.undo(alloc, inner) {
+        self.purse.audit(&mut share);
+        match self.replay.desk.undo(alloc, inner) {
             Ok(redo) => {
                 let answer = Answer::Undone {
                     serial: redo.serial(),
                 };
                 enter(
-                    &mut self.chronicle,
-                    &mut self.newest,
+                    &mut self.replay.chronicle,
+                    &mut self.replay.newest,
                     &place,
                     session,
                     &asked,
                     answer,
                 );
-                *front = self.newest.copy();
+                *front = self.replay.newest.copy();
                 Ok(Redo {
                     token: redo,
-                    place: self.newest.copy(),
+                    place: self.replay.newest.copy(),
                     share,
                 })
             }
@@ -143,14 +143,14 @@ impl<L: Terms> Log<L> {
                 };
                 let answer = Answer::Refused { cause };
                 enter(
-                    &mut self.chronicle,
-                    &mut self.newest,
+                    &mut self.replay.chronicle,
+                    &mut self.replay.newest,
                     &place,
                     session,
                     &asked,
                     answer,
                 );
-                *front = self.newest.copy();
+                *front = self.replay.newest.copy();
                 Err(Returned {
                     fault: Fault::Refused { fault },
                     value: token,
@@ -184,10 +184,10 @@ impl<L: Terms> Log<L> {
         let place = match admit(
             rt,
             row,
-            &mut self.chronicle,
-            &self.newest,
+            &mut self.replay.chronicle,
+            &self.replay.newest,
             front,
-            self.room,
+            self.replay.room,
             session,
             &asked,
         ) {
@@ -204,24 +204,24 @@ impl<L: Terms> Log<L> {
             place: own,
             mut share,
         } = token;
-        self.book.audit(&mut share);
-        match self.desk.redo(alloc, inner) {
+        self.purse.audit(&mut share);
+        match self.replay.desk.redo(alloc, inner) {
             Ok(undo) => {
                 let answer = Answer::Redone {
                     serial: undo.serial(),
                 };
                 enter(
-                    &mut self.chronicle,
-                    &mut self.newest,
+                    &mut self.replay.chronicle,
+                    &mut self.replay.newest,
                     &place,
                     session,
                     &asked,
                     answer,
                 );
-                *front = self.newest.copy();
+                *front = self.replay.newest.copy();
                 Ok(Undo {
                     token: undo,
-                    place: self.newest.copy(),
+                    place: self.replay.newest.copy(),
                     share,
                 })
             }
@@ -243,14 +243,14 @@ impl<L: Terms> Log<L> {
                 };
                 let answer = Answer::Refused { cause };
                 enter(
-                    &mut self.chronicle,
-                    &mut self.newest,
+                    &mut self.replay.chronicle,
+                    &mut self.replay.newest,
                     &place,
                     session,
                     &asked,
                     answer,
                 );
-                *front = self.newest.copy();
+                *front = self.replay.newest.copy();
                 Err(Returned {
                     fault: Fault::Refused { fault },
                     value: token,
@@ -282,10 +282,10 @@ impl<L: Terms> Log<L> {
         let place = match admit(
             rt,
             row,
-            &mut self.chronicle,
-            &self.newest,
+            &mut self.replay.chronicle,
+            &self.replay.newest,
             front,
-            self.room,
+            self.replay.room,
             session,
             &asked,
         ) {
@@ -302,19 +302,18 @@ impl<L: Terms> Log<L> {
             place: _,
             mut share,
         } = token;
-        self.book.audit(&mut share);
-        self.desk.keep(inner);
+        self.purse.audit(&mut share);
+        self.replay.desk.keep(inner);
         enter(
-            &mut self.chronicle,
-            &mut self.newest,
+            &mut self.replay.chronicle,
+            &mut self.replay.newest,
             &place,
             session,
             &asked,
             Answer::Spent,
         );
-        *front = self.newest.copy();
-        self.book.sub(&mut share, 1);
-        self.rest.merge(share);
+        *front = self.replay.newest.copy();
+        self.purse.take_back(share);
         Ok(())
     }
 
@@ -341,10 +340,10 @@ impl<L: Terms> Log<L> {
         let place = match admit(
             rt,
             row,
-            &mut self.chronicle,
-            &self.newest,
+            &mut self.replay.chronicle,
+            &self.replay.newest,
             front,
-            self.room,
+            self.replay.room,
             session,
             &asked,
         ) {
@@ -361,19 +360,18 @@ impl<L: Terms> Log<L> {
             place: _,
             mut share,
         } = token;
-        self.book.audit(&mut share);
-        self.desk.forget(inner);
+        self.purse.audit(&mut share);
+        self.replay.desk.forget(inner);
         enter(
-            &mut self.chronicle,
-            &mut self.newest,
+            &mut self.replay.chronicle,
+            &mut self.replay.newest,
             &place,
             session,
             &asked,
             Answer::Spent,
         );
-        *front = self.newest.copy();
-        self.book.sub(&mut share, 1);
-        self.rest.merge(share);
+        *front = self.replay.newest.copy();
+        self.purse.take_back(share);
         Ok(())
     }
 }

@@ -34,8 +34,9 @@ pub fn fill<L: Terms, R: Wait + Abort + AllocGlobal>(rt: &R, office: Office<L>)
     one.front.headline();
     let third = joined(rt, &office);
     assert_eq!(rt; third.front.len(), 4);
-    let (tokens, office) = still_open(rt, office, &mut two.front);
+    let (tokens, office) = still_open(rt, office, &mut opening);
     assert_eq!(rt; tokens, 1);
+    assert_eq!(rt; opening.len(), 4);
     let mut undos = Vec::new(rt.alloc());
     match undos.push(token) {
         Ok(()) => {}

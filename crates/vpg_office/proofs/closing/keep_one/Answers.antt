@@ -5,7 +5,7 @@ use Rattle.vpg_office.proofs.closing.keep_one.Goals as goal
 pub returns-clause-counted : goal.returns-clause-counted
 returns-clause-counted g c =
     let tokens : c.keep.new.self.book.tokens ≡ c.args.desk.now.book.tokens - 1 = ap (λ (b : Book). b.tokens) (c.keep.ensures 0).step.1 in
-    omega (arith, c.sub.ensures.total, c.audit.ensures.total, c.audit.ensures.bound, c.undo.invariant.0, c.requires, tokens)
+    omega (arith, c.take_back.ensures, c.audit.ensures.same, c.audit.ensures.bound, c.undo.invariant.0, c.requires, tokens)
 
 pub returns-clause-spent : goal.returns-clause-spent
 returns-clause-spent g c =

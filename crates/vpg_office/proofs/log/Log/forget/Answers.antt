@@ -9,7 +9,7 @@ use Rattle.vpg_office.proofs.log.Log.forget.Goals as goal
 
 pub returns-in-Err-clause-fault : goal.returns-in-Err-clause-fault
 returns-in-Err-clause-fault g c =
-    stops_tell (family_between g.L.Terms.game g.L.Terms.diagram) g.L.Terms.limit never_refused (book.Forget c.args.token.serial) c.args.session c.args.front.now c.self.inside.newest c.in-Err.fault
+    stops_tell (family_between g.L.Terms.game g.L.Terms.diagram) g.L.Terms.limit never_refused (book.Forget c.args.token.serial) c.args.session c.args.front.now c.self.inside.replay.newest c.in-Err.fault
     (seen_here c.self.invariant c.args.front.now c.self.view_is c.requires.seen) (log_history c.self.invariant) c.in-Err.ensures.err
 
 pub enter-requires-clause-reply : goal.enter-requires-clause-reply
@@ -19,15 +19,14 @@ pub invariant_of-self-2 : goal.invariant_of-self-2
 invariant_of-self-2 g c =
     let i = c.self.invariant in
     let serial : c.token.inside.token ≡ c.serial.result = ap (λ t. t.serial) c.token.view_is ∙ sym c.serial.ensures in
-    let step = coe 0 1 (k. IsStep c.self.inside.desk c.args.session (book.Forget (serial k)) book.Spent c.forget.new.self) (c.forget.ensures c.args.session) in
-    let tokens : c.forget.new.self.book.tokens ≡ c.self.inside.desk.book.tokens - 1 = ap (λ (b : Book). b.tokens) step.step.1 in
-    log_after i c.enter.new.chronicle c.enter.new.newest c.forget.new.self c.sub.new.self.total c.merge.new.self.parts c.merge.new.self.amount c.args.session (book.Forget c.serial.result) book.Spent
+    let step = coe 0 1 (k. IsStep c.self.inside.replay.desk c.args.session (book.Forget (serial k)) book.Spent c.forget.new.self) (c.forget.ensures c.args.session) in
+    let tokens : c.forget.new.self.book.tokens ≡ c.self.inside.replay.desk.book.tokens - 1 = ap (λ (b : Book). b.tokens) step.step.1 in
+    log_after i c.enter.new.chronicle c.enter.new.newest c.forget.new.self c.take_back.new.self c.args.session (book.Forget c.serial.result) book.Spent
     c.enter.ensures.kept c.enter.ensures.newest step.game step.diagram step.step.1
-    (omega (arith, c.sub.ensures.total, c.audit.ensures.total, i.counted, tokens)) (omega (arith, c.merge.ensures.amount, c.sub.ensures.amount, c.audit.ensures.amount, c.token.invariant.0, i.none))
-    (omega (arith, c.merge.ensures.parts, c.sub.ensures.parts, c.audit.ensures.parts, c.audit.ensures.bound, c.token.invariant.0, c.token.invariant.1, i.left, i.counted, tokens))
+    (omega (arith, c.take_back.ensures, c.audit.ensures.same, i.counted, tokens))
 
 pub returns-clause-done : goal.returns-clause-done
 returns-clause-done g c =
     let F = family_between g.L.Terms.game g.L.Terms.diagram in
-    let e = extends c.args.front.now c.self.inside.newest c.args.session (book.Forget c.serial.result) book.Spent (seen_here c.self.invariant c.args.front.now c.self.view_is c.requires.seen) c.in-Ok.ensures.none c.enter.ensures.newest c.enter.ensures.kept in
+    let e = extends c.args.front.now c.self.inside.replay.newest c.args.session (book.Forget c.serial.result) book.Spent (seen_here c.self.invariant c.args.front.now c.self.view_is c.requires.seen) c.in-Ok.ensures.none c.enter.ensures.newest c.enter.ensures.kept in
     coe 0 1 (k. Extends F c.args.front.now c.args.session (book.Forget (c.serial.ensures k)) book.Spent ((sym c.copy.ensures.same) k)) e

@@ -15,68 +15,68 @@ use Rattle.vpg_office.proofs.log.Log.redo.Goals as goal
 
 pub returns-in-Err-clause-fault : goal.returns-in-Err-clause-fault
 returns-in-Err-clause-fault g c =
-    stops_tell (family_between g.L.Terms.game g.L.Terms.diagram) g.L.Terms.limit redo_refusal (book.Redo c.args.token.serial) c.args.session c.args.front.now c.self.inside.newest c.in-Err.fault
+    stops_tell (family_between g.L.Terms.game g.L.Terms.diagram) g.L.Terms.limit redo_refusal (book.Redo c.args.token.serial) c.args.session c.args.front.now c.self.inside.replay.newest c.in-Err.fault
     (seen_here c.self.invariant c.args.front.now c.self.view_is c.requires.seen) (log_history c.self.invariant) c.in-Err.ensures.err
 
 pub enter-requires-clause-reply : goal.enter-requires-clause-reply
 enter-requires-clause-reply g c =
     let serial : c.token.inside.token ≡ c.serial.result = ap (λ t. t.serial) c.token.view_is ∙ sym c.serial.ensures in
     told_here c.self.invariant (book.Redo c.serial.result) (book.Redone c.serial-in-Ok-redo.result)
-    (coe 0 1 (k. Replies c.self.inside.desk (book.Redo (serial k)) (book.Redone ((sym c.serial-in-Ok-redo.ensures) k))) (c.in-Ok-redo.ensures.accepted 0).step.0)
+    (coe 0 1 (k. Replies c.self.inside.replay.desk (book.Redo (serial k)) (book.Redone ((sym c.serial-in-Ok-redo.ensures) k))) (c.in-Ok-redo.ensures.accepted 0).step.0)
 
 pub invariant_of-result : goal.invariant_of-result
 invariant_of-result g c = (
   c.audit.ensures.amount ∙ c.token.invariant.0,
   c.audit.ensures.parts ∙ c.token.invariant.1,
-  record { before = c.self.inside.newest; own = event c.args.session (book.Redo c.serial.result) (book.Redone c.serial-in-Ok-redo.result); is = c.copy-in-Ok-redo.ensures.same ∙ c.enter.ensures.newest; gave = eq-eqb _ _ c.serial-in-Ok-redo.ensures },
+  record { before = c.self.inside.replay.newest; own = event c.args.session (book.Redo c.serial.result) (book.Redone c.serial-in-Ok-redo.result); is = c.copy-in-Ok-redo.ensures.same ∙ c.enter.ensures.newest; gave = eq-eqb _ _ c.serial-in-Ok-redo.ensures },
 )
 
 pub invariant_of-self-in-Ok-redo : goal.invariant_of-self-in-Ok-redo
 invariant_of-self-in-Ok-redo g c =
     let i = c.self.invariant in
     let step = c.in-Ok-redo.ensures.accepted c.args.session in
-    let tokens : c.redo.new.self.book.tokens ≡ c.self.inside.desk.book.tokens = ap (λ (b : Book). b.tokens) step.step.1 ∙ redone_tokens c.self.inside.desk.book c.self.inside.desk.book.future in
-    log_after i c.enter.new.chronicle c.enter.new.newest c.redo.new.self c.audit.new.self.total c.self.inside.rest.parts c.self.inside.rest.amount c.args.session (book.Redo c.serial.result) (book.Redone c.serial-in-Ok-redo.result)
+    let tokens : c.redo.new.self.book.tokens ≡ c.self.inside.replay.desk.book.tokens = ap (λ (b : Book). b.tokens) step.step.1 ∙ redone_tokens c.self.inside.replay.desk.book c.self.inside.replay.desk.book.future in
+    log_after i c.enter.new.chronicle c.enter.new.newest c.redo.new.self c.audit.new.self c.args.session (book.Redo c.serial.result) (book.Redone c.serial-in-Ok-redo.result)
     c.enter.ensures.kept c.enter.ensures.newest step.game step.diagram
-    step.step.1 (c.audit.ensures.total ∙ i.counted ∙ sym tokens) i.none (omega (arith, i.left, tokens))
+    step.step.1 (c.audit.ensures.same ∙ i.counted ∙ sym tokens)
 
 pub returns-in-Ok-redo-clause-done : goal.returns-in-Ok-redo-clause-done
 returns-in-Ok-redo-clause-done g c =
     let F = family_between g.L.Terms.game g.L.Terms.diagram in
-    let e = extends c.args.front.now c.self.inside.newest c.args.session (book.Redo c.serial.result) (book.Redone c.serial-in-Ok-redo.result) (seen_here c.self.invariant c.args.front.now c.self.view_is c.requires.seen) c.in-Ok.ensures.none c.enter.ensures.newest c.enter.ensures.kept in
+    let e = extends c.args.front.now c.self.inside.replay.newest c.args.session (book.Redo c.serial.result) (book.Redone c.serial-in-Ok-redo.result) (seen_here c.self.invariant c.args.front.now c.self.view_is c.requires.seen) c.in-Ok.ensures.none c.enter.ensures.newest c.enter.ensures.kept in
     (coe 0 1 (k. Extends F c.args.front.now c.args.session (book.Redo (c.serial.ensures k)) (book.Redone (c.serial-in-Ok-redo.ensures k)) ((sym c.copy.ensures.same) k)) e, c.copy-in-Ok-redo.ensures.same ∙ sym c.copy.ensures.same)
 
 pub returns-in-Ok-redo-clause-goes_back : goal.returns-in-Ok-redo-clause-goes_back
 returns-in-Ok-redo-clause-goes_back g c =
     let F = family_between g.L.Terms.game g.L.Terms.diagram in
     let serial : c.token.inside.token ≡ c.args.token.serial = ap (λ t. t.serial) c.token.view_is in
-    let told : IsReply F (book_after F opened c.self.inside.newest) (book.Redo c.args.token.serial) (book.Redone c.in-Ok-redo.undo) =
-    told_here c.self.invariant (book.Redo c.args.token.serial) (book.Redone c.in-Ok-redo.undo) (coe 0 1 (k. Replies c.self.inside.desk (book.Redo (serial k)) (book.Redone c.in-Ok-redo.undo)) (c.in-Ok-redo.ensures.accepted 0).step.0) in
-    let held : IsLastGiven c.self.inside.newest c.args.token.serial c.args.token.history = subst (λ (l : List Event). IsLastGiven l c.args.token.serial c.args.token.history) (sym c.self.view_is) c.requires.held in
+    let told : IsReply F (book_after F opened c.self.inside.replay.newest) (book.Redo c.args.token.serial) (book.Redone c.in-Ok-redo.undo) =
+    told_here c.self.invariant (book.Redo c.args.token.serial) (book.Redone c.in-Ok-redo.undo) (coe 0 1 (k. Replies c.self.inside.replay.desk (book.Redo (serial k)) (book.Redone c.in-Ok-redo.undo)) (c.in-Ok-redo.ensures.accepted 0).step.0) in
+    let held : IsLastGiven c.self.inside.replay.newest c.args.token.serial c.args.token.history = subst (λ (l : List Event). IsLastGiven l c.args.token.serial c.args.token.history) (sym c.self.view_is) c.requires.held in
     let ends : EndsWith (λ reply. IsTrue (gives_redo c.args.token.serial reply)) c.args.token.history = coe 0 1 (k. EndsWith (λ reply. IsTrue (gives_redo (c.token.view_is k).serial reply)) (c.token.view_is k).history) c.token.invariant.2 in
-    let is : c.copy.result ≡ c.self.inside.newest ++ event c.args.session (book.Redo c.args.token.serial) (book.Redone c.in-Ok-redo.undo) ∷ [] =
-    c.copy.ensures.same ∙ c.enter.ensures.newest ∙ (λ k. c.self.inside.newest ++ event c.args.session (book.Redo (c.serial.ensures k)) (book.Redone (c.serial-in-Ok-redo.ensures k)) ∷ []) in
-    redone_back F c.self.inside.newest c.copy.result c.args.token.history c.args.session c.args.token.serial c.in-Ok-redo.undo told held ends is (subst (IsLegal F) (sym c.copy.ensures.same) c.copy.ensures.history.legal)
+    let is : c.copy.result ≡ c.self.inside.replay.newest ++ event c.args.session (book.Redo c.args.token.serial) (book.Redone c.in-Ok-redo.undo) ∷ [] =
+    c.copy.ensures.same ∙ c.enter.ensures.newest ∙ (λ k. c.self.inside.replay.newest ++ event c.args.session (book.Redo (c.serial.ensures k)) (book.Redone (c.serial-in-Ok-redo.ensures k)) ∷ []) in
+    redone_back F c.self.inside.replay.newest c.copy.result c.args.token.history c.args.session c.args.token.serial c.in-Ok-redo.undo told held ends is (subst (IsLegal F) (sym c.copy.ensures.same) c.copy.ensures.history.legal)
 
 pub enter-requires-in-Err-redo-clause-reply : goal.enter-requires-in-Err-redo-clause-reply
 enter-requires-in-Err-redo-clause-reply g c =
     let told : redo_refusal c.in-Err-redo.refused.fault ≡ Some (refusal_of c.in-Some.cause) = sym c.redo_cause.ensures ∙ ap (option_map refusal_of) c.in-Some.is in
     let serial : c.token.inside.token ≡ c.serial.result = ap (λ t. t.serial) c.token.view_is ∙ sym c.serial.ensures in
     told_here c.self.invariant (book.Redo c.serial.result) (book.Refused (refusal_of c.in-Some.cause))
-    (subst (λ n. Replies c.self.inside.desk (book.Redo n) (book.Refused (refusal_of c.in-Some.cause))) serial
-    (subst (λ (o : Option Refusal). IfSome o (λ r. Replies c.self.inside.desk (book.Redo c.token.inside.token) (book.Refused r))) told c.in-Err-redo.ensures.refused))
+    (subst (λ n. Replies c.self.inside.replay.desk (book.Redo n) (book.Refused (refusal_of c.in-Some.cause))) serial
+    (subst (λ (o : Option Refusal). IfSome o (λ r. Replies c.self.inside.replay.desk (book.Redo c.token.inside.token) (book.Refused r))) told c.in-Err-redo.ensures.refused))
 
 pub invariant_of-self-in-Err-redo : goal.invariant_of-self-in-Err-redo
 invariant_of-self-in-Err-redo g c =
     let i = c.self.invariant in
-    let same : c.redo.new.self ≡ c.self.inside.desk = c.in-Err-redo.ensures.err in
-    log_after i c.enter-in-Err-redo.new.chronicle c.enter-in-Err-redo.new.newest c.redo.new.self c.audit.new.self.total c.self.inside.rest.parts c.self.inside.rest.amount c.args.session (book.Redo c.serial.result) (book.Refused (refusal_of c.in-Some.cause))
+    let same : c.redo.new.self ≡ c.self.inside.replay.desk = c.in-Err-redo.ensures.err in
+    log_after i c.enter-in-Err-redo.new.chronicle c.enter-in-Err-redo.new.newest c.redo.new.self c.audit.new.self c.args.session (book.Redo c.serial.result) (book.Refused (refusal_of c.in-Some.cause))
     c.enter-in-Err-redo.ensures.kept c.enter-in-Err-redo.ensures.newest (λ k. (same k).game) (λ k. (same k).diagram) (λ k. (same k).book)
-    (c.audit.ensures.total ∙ i.counted ∙ (λ k. ((sym same) k).book.tokens)) i.none (omega (arith, i.left, ap (λ (b : Book). b.tokens) (λ k. (same k).book)))
+    (c.audit.ensures.same ∙ i.counted ∙ (λ k. ((sym same) k).book.tokens))
 
 pub returns-clause-fault : goal.returns-clause-fault
 returns-clause-fault g c =
     let F = family_between g.L.Terms.game g.L.Terms.diagram in
     let told : redo_refusal c.in-Err-redo.refused.fault ≡ Some (refusal_of c.in-Some.cause) = sym c.redo_cause.ensures ∙ ap (option_map refusal_of) c.in-Some.is in
-    let e = extends c.args.front.now c.self.inside.newest c.args.session (book.Redo c.serial.result) (book.Refused (refusal_of c.in-Some.cause)) (seen_here c.self.invariant c.args.front.now c.self.view_is c.requires.seen) c.in-Ok.ensures.none c.enter-in-Err-redo.ensures.newest c.enter-in-Err-redo.ensures.kept in
+    let e = extends c.args.front.now c.self.inside.replay.newest c.args.session (book.Redo c.serial.result) (book.Refused (refusal_of c.in-Some.cause)) (seen_here c.self.invariant c.args.front.now c.self.view_is c.requires.seen) c.in-Ok.ensures.none c.enter-in-Err-redo.ensures.newest c.enter-in-Err-redo.ensures.kept in
     (refusal_of c.in-Some.cause, (told, coe 0 1 (k. Extends F c.args.front.now c.args.session (book.Redo (c.serial.ensures k)) (book.Refused (refusal_of c.in-Some.cause)) ((sym c.copy-in-Err-redo.ensures.same) k)) e))
