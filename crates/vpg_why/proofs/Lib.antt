@@ -1,6 +1,7 @@
 pub mod Monotone
 pub mod Asked
 pub mod First
+pub mod FirstOnes
 pub mod OpenFeatures
 pub mod Fronts
 pub mod Halving

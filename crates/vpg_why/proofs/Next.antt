@@ -4,13 +4,13 @@ use Rattle.std.proofs.lemmas.List.{length-map}
 use Rattle.vpg_diagram.specs.FeatureDiagram.{feature_count}
 use Rattle.vpg_diagram.specs.DiagramText.{NamedDiagram, IsNamedDiagram}
 use Rattle.vpg_diagram.specs.declared.clause.Literal.{Literal}
-use Rattle.vpg_game.specs.Game.{NamedGame}
+use Rattle.vpg_game.specs.Game.{NamedGame, graph_of}
 use Rattle.vpg_partial.specs.Known.{literal_of}
 use Rattle.vpg_partial.specs.TableLaws.{AreAmong, AreChoicesOf}
 use Rattle.vpg_partial.specs.declared.decision.Decision.{Decision}
 use Rattle.vpg_why.specs.declared.question.Limits.{Limits}
 use Rattle.vpg_why.specs.declared.question.Question.{Question}
-use Rattle.vpg_why.specs.Suffices.{Suffice, IsSettled}
+use Rattle.vpg_why.specs.Suffices.{Suffice, SufficeIn, IsSettled}
 use Rattle.vpg_why.specs.Explained.{choices, front_with, IsLast, AreNeededInTurn, Explains}
 use Rattle.vpg_why.proofs.Fronts.{choices_with, pool_named}
 use Rattle.vpg_why.proofs.Listing.{IsListing, among_named, begun, ended, taken}
@@ -65,7 +65,7 @@ module _ (game : NamedGame) (diagram : NamedDiagram) (limits : Limits) (question
     inside = let w = is.listing.within in omega (arith, w, last.within, length-map decisions literal_of)
 
     more : (few : List Literal) → AreAmong few (take place (choices decisions) ++ choices kept) → Suffice game diagram question few → Suffice game diagram question (take place (choices decisions) ++ choices kept)
-    more few among h = more_choices_suffice game diagram question few (take place (choices decisions) ++ choices kept) is_diagram
+    more few among h = more_choices_suffice (graph_of game) diagram.lines question few (take place (choices decisions) ++ choices kept) is_diagram.diagram
         (among_named diagram.lines few (take place (choices decisions) ++ choices kept) among (pool_named diagram.lines place (choices decisions) (choices kept) named (among_named diagram.lines (choices kept) (choices decisions) is.listing.among named))) among h
 
     next_listing : IsListing (Suffice game diagram question) (choices decisions) (choices new) place (exact && also)
@@ -100,6 +100,6 @@ module _ (game : NamedGame) (diagram : NamedDiagram) (limits : Limits) (question
       at_end = subst (λ (n : ℕ). IsListed (Suffice game diagram question) (IsSettled game diagram limits question) decisions kept n exact) e is
 
 pub explanations_are_one : ExplanationsAreOne
-explanations_are_one game diagram question decisions one other is named a b =
-    one_list (Suffice game diagram question) (λ c. c.feature < feature_count diagram.lines) (λ few many within among h. more_choices_suffice game diagram question few many is within among h)
-    (a.in_turn refl) tt named (among_named diagram.lines (choices one) (choices decisions) a.among named) other (b.in_turn refl) (among_named diagram.lines (choices other) (choices decisions) b.among named) a.enough b.enough
+explanations_are_one game lines question decisions one other is named a b =
+    one_list (SufficeIn game lines question) (λ c. c.feature < feature_count lines) (λ few many within among h. more_choices_suffice game lines question few many is within among h)
+    (a.in_turn refl) tt named (among_named lines (choices one) (choices decisions) a.among named) other (b.in_turn refl) (among_named lines (choices other) (choices decisions) b.among named) a.enough b.enough

@@ -1,22 +1,27 @@
 -- What holds of explanations, as statements.
-use Rattle.std.specs.Prelude.{◌≡◌, ℕ, ◌<◌, true, List, length}
+use Rattle.std.specs.Prelude.{◌≡◌, ℕ, ◌<◌, Bool, true, List, length}
 use Rattle.vpg_diagram.specs.DiagramText.{NamedDiagram, IsNamedDiagram}
+use Rattle.vpg_diagram.specs.FeatureDiagram.{Line, IsDiagram}
 use Rattle.vpg_diagram.specs.declared.clause.Literal.{Literal}
+use Rattle.vpg_guards.specs.Formula.{Formula}
 use Rattle.vpg_game.specs.Game.{NamedGame, IsGame}
+use Rattle.vpg_game.specs.Guarded.{GuardedGame}
+use Rattle.vpg_partial.specs.KnownLaws.{IsRemaining}
 use Rattle.vpg_partial.specs.TableLaws.{AreChoicesOf, AreAmong}
 use Rattle.vpg_partial.specs.declared.decision.Decision.{Decision}
 use Rattle.vpg_measure.specs.declared.which.Which.{Which}
 use Rattle.vpg_why.specs.declared.question.Question.{Question}
 use Rattle.vpg_why.specs.declared.question.Question.TheVariants as asks
 use Rattle.vpg_why.specs.Explained.{choices, Explains}
+use Rattle.vpg_why.specs.declared.question.Aim.{Aim}
 use Rattle.vpg_why.specs.declared.question.Aim.TheVariants as aims
-use Rattle.vpg_why.specs.Products.{NoneMeets}
-use Rattle.vpg_why.specs.Suffices.{Suffice}
+use Rattle.vpg_why.specs.Products.{NoneMeets, MeetsIn, IsFirstIn}
+use Rattle.vpg_why.specs.Suffices.{Suffice, SufficeIn}
 
 -- what suffices still suffices with more choices
 abbrev pub MoreChoicesSuffice : Type 0
-MoreChoicesSuffice = (game : NamedGame) (diagram : NamedDiagram) (question : Question) (few many : List Literal) →
-    IsNamedDiagram diagram → AreChoicesOf diagram.lines few → AreAmong few many → Suffice game diagram question few → Suffice game diagram question many
+MoreChoicesSuffice = (game : GuardedGame Formula) (lines : List Line) (question : Question) (few many : List Literal) →
+    IsDiagram lines → AreChoicesOf lines few → AreAmong few many → SufficeIn game lines question few → SufficeIn game lines question many
 
 -- Where choices suffice for a verdict, they do.
 abbrev pub SufficientChoicesLose : Type 0
@@ -26,5 +31,11 @@ SufficientChoicesLose = (game : NamedGame) (diagram : NamedDiagram) (which : Whi
 
 -- Two explanations of one question from the same decisions are the same, where it is shown of both that none can be left out.
 abbrev pub ExplanationsAreOne : Type 0
-ExplanationsAreOne = (game : NamedGame) (diagram : NamedDiagram) (question : Question) (decisions one other : List Decision) →
-    IsNamedDiagram diagram → AreChoicesOf diagram.lines (choices decisions) → Explains (Suffice game diagram question) decisions one true → Explains (Suffice game diagram question) decisions other true → one ≡ other
+ExplanationsAreOne = (game : GuardedGame Formula) (lines : List Line) (question : Question) (decisions one other : List Decision) →
+    IsDiagram lines → AreChoicesOf lines (choices decisions) → Explains (SufficeIn game lines question) decisions one true → Explains (SufficeIn game lines question) decisions other true → one ≡ other
+
+-- Two first products that agree with the same choices and meet the same aim are the same.
+abbrev pub FirstProductsAreOne : Type 0
+FirstProductsAreOne = (game : GuardedGame Formula) (lines : List Line) (aim : Aim) (choices : List Literal) (one other : List Bool) →
+    IsRemaining lines choices one → MeetsIn game aim one → IsFirstIn game lines aim choices one →
+    IsRemaining lines choices other → MeetsIn game aim other → IsFirstIn game lines aim choices other → one ≡ other

@@ -1,11 +1,13 @@
 -- What may be asked of a list of choices, and when they alone make it so. This project's own.
 use Rattle.std.specs.Prelude.{ℕ, zero, suc, ◌+◌, ◌<◌, ◌≤◌, ⊤, Bool, List, [], ◌∷◌, ◌++◌, length, replicate, slice_index, IsTrue}
 use Rattle.vpg_guards.specs.declared.tri.Tri.{Tri}
+use Rattle.vpg_guards.specs.Formula.{Formula}
 use Rattle.vpg_guards.specs.Known.{kleene}
 use Rattle.vpg_diagram.specs.DiagramText.{NamedDiagram}
-use Rattle.vpg_diagram.specs.FeatureDiagram.{feature_count}
+use Rattle.vpg_diagram.specs.FeatureDiagram.{Line, feature_count}
 use Rattle.vpg_diagram.specs.declared.clause.Literal.{Literal}
 use Rattle.vpg_game.specs.Game.{NamedGame, graph_of}
+use Rattle.vpg_game.specs.Guarded.{GuardedGame}
 use Rattle.vpg_partial.specs.KnownLaws.{HasConflictOf}
 use Rattle.vpg_partial.specs.KnownTable.{literals_in}
 use Rattle.vpg_partial.specs.TableLaws.{IsKnownTable}
@@ -13,7 +15,7 @@ use Rattle.vpg_measure.specs.Least.{IsValueBelow}
 use Rattle.vpg_measure.specs.Lifts.{IsProgressTable, after_rounds}
 use Rattle.vpg_measure.specs.TwoGames.{levels_for, arena_for, top_for, IsProgressOf}
 use Rattle.vpg_measure.specs.declared.which.Which.{Which}
-use Rattle.vpg_why.specs.Products.{NoneMeets}
+use Rattle.vpg_why.specs.Products.{NoneMeetsIn}
 use Rattle.vpg_why.specs.declared.question.Aim.{Aim}
 use Rattle.vpg_why.specs.declared.question.Aim.TheVariants as aims
 use Rattle.vpg_why.specs.declared.question.Limits.{Limits}
@@ -25,16 +27,22 @@ abbrev pub choice : ℕ → Bool → Literal
 choice feature value = record { feature = feature; value = value }
 
 -- under what is known, every progress table of the game has the top at the vertex
-abbrev pub IsTopUnder : NamedGame → Which → ℕ → List Tri → Type 0
-IsTopUnder game which vertex known =
-    IsValueBelow (levels_for which (graph_of game)) (arena_for (kleene known) which (graph_of game)) vertex (top_for which (graph_of game))
+abbrev pub IsTopIn : GuardedGame Formula → Which → ℕ → List Tri → Type 0
+IsTopIn game which vertex known = IsValueBelow (levels_for which game) (arena_for (kleene known) which game) vertex (top_for which game)
 
--- The choices alone make it so. (Where they contradict the diagram, they make everything so.)
+abbrev pub IsTopUnder : NamedGame → Which → ℕ → List Tri → Type 0
+IsTopUnder game = IsTopIn (graph_of game)
+
+-- Of a game over the features of a diagram's lines: the choices alone make it so. (Where they contradict the diagram, they make everything so.)
+abbrev pub SufficeIn : GuardedGame Formula → List Line → Question → List Literal → Type 0
+SufficeIn game lines (asks.Verdict which vertex) choices = (known : List Tri) → IsKnownTable lines choices known → IsTopIn game which vertex known
+SufficeIn game lines (asks.Lost aim) choices = NoneMeetsIn game lines aim choices
+SufficeIn game lines (asks.Known feature value) choices = (known : List Tri) → IsKnownTable lines choices known → IsTrue (literals_in known (choice feature value))
+SufficeIn game lines (asks.Conflict feature value) choices = HasConflictOf lines (choices ++ choice feature value ∷ [])
+
+-- the same, where vertices have identifiers, and features names
 abbrev pub Suffice : NamedGame → NamedDiagram → Question → List Literal → Type 0
-Suffice game diagram (asks.Verdict which vertex) choices = (known : List Tri) → IsKnownTable diagram.lines choices known → IsTopUnder game which vertex known
-Suffice game diagram (asks.Lost aim) choices = NoneMeets game diagram aim choices
-Suffice game diagram (asks.Known feature value) choices = (known : List Tri) → IsKnownTable diagram.lines choices known → IsTrue (literals_in known (choice feature value))
-Suffice game diagram (asks.Conflict feature value) choices = HasConflictOf diagram.lines (choices ++ choice feature value ∷ [])
+Suffice game diagram = SufficeIn (graph_of game) diagram.lines
 
 -- a vertex that is spoken of is one of the game's
 abbrev pub IsAim : NamedGame → Aim → Type 0

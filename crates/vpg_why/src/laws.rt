@@ -1,5 +1,5 @@
 //! Laws of the definitions. Each function does nothing: its contract is the law.
-ghost use Rattle.vpg_why.specs.Laws.{ExplanationsAreOne, MoreChoicesSuffice, SufficientChoicesLose};
+ghost use Rattle.vpg_why.specs.Laws.{ExplanationsAreOne, FirstProductsAreOne, MoreChoicesSuffice, SufficientChoicesLose};
 
 /// What suffices still suffices with more decisions.
 pub fn more_choices_suffice()
@@ -14,4 +14,9 @@ pub fn sufficient_choices_lose()
 /// A question has one explanation from given decisions: an answer that was shown to be least is a function of them.
 pub fn explanations_are_one()
     ensures { ExplanationsAreOne }
+{}
+
+/// A search finds one product from given decisions, where it was shown to be the first: such an answer is a function of them.
+pub fn first_products_are_one()
+    ensures { FirstProductsAreOne }
 {}

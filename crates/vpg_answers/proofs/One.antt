@@ -1,0 +1,131 @@
+-- Two answers are one text.
+use Rattle.std.proofs.Common.{◌≡◌, ℕ, Bool, true, false, List, [], ◌++◌, refl, sym, ap, ap₂, ◌∙◌, subst, inl, inr, append-nil, append_assoc}
+use Rattle.std.specs.Prelude.{◌⊎◌, codes, map, slice_index}
+use Rattle.vpg_diagram.specs.FeatureDiagram.{IsDiagram}
+use Rattle.vpg_measure.specs.TwoGames.{top_for}
+use Rattle.vpg_measure.specs.declared.which.Which.{Which}
+use Rattle.vpg_measure.specs.declared.which.Which.TheVariants.{Hopeful, Dual}
+use Rattle.vpg_partial.specs.Known.{literal_of}
+use Rattle.vpg_partial.specs.TableLaws.{AreChoicesOf}
+use Rattle.vpg_partial.specs.declared.decision.Decision.{Decision}
+use Rattle.vpg_texts.specs.Scene.{Scene}
+use Rattle.vpg_texts.specs.Text.{blank_number, choices_text}
+use Rattle.vpg_why.specs.Explained.{choices}
+use Rattle.vpg_why.specs.Suffices.{choice}
+use Rattle.vpg_why.specs.declared.question.Question.{Question}
+use Rattle.vpg_why.specs.declared.question.Question.TheVariants as asks
+use Rattle.vpg_why.proofs.Listing.{among_named}
+use Rattle.vpg_why.proofs.Monotone.{more_choices_suffice}
+use Rattle.vpg_why.proofs.Next.{explanations_are_one}
+use Rattle.vpg_answers.specs.declared.query.Query.{Query}
+use Rattle.vpg_answers.specs.declared.query.Query.TheVariants as queries
+use Rattle.vpg_answers.specs.Texts.{verdict_word, verdict_line, other_line, known_line, conflict_line}
+use Rattle.vpg_answers.specs.Answers.{MakeSo, IsReason, identifier_of, TellsVerdict, TellsVertex, TellsKnownBy, TellsFeature, TellsChoice, Tells, HasDoubt}
+use Rattle.vpg_answers.specs.Laws.{AnswersAreOne}
+
+-- ---- doubts
+
+regroup : (p x c d n q : List ℕ) → (p ++ (x ++ ((c ++ d) ++ n))) ++ q ≡ ((p ++ (x ++ c)) ++ (d ++ n)) ++ q
+regroup p x c d n q =
+    ap (λ (t : List ℕ). t ++ q)
+    (ap (λ (t : List ℕ). p ++ t) (ap (λ (t : List ℕ). x ++ t) (append_assoc c d n) ∙ sym (append_assoc x c (d ++ n))) ∙ sym (append_assoc p (x ++ c) (d ++ n)))
+
+-- a line in a text without a doubt is exact
+no_doubt : (names : List (List ℕ)) (which : Which) (identifier : ℕ) (listed : List Decision) (exact : Bool) (before behind whole : List ℕ) →
+    whole ≡ before ++ verdict_line names which identifier listed exact ++ behind → ¬ (HasDoubt whole) → exact ≡ true
+no_doubt names which identifier listed true before behind whole is none = refl
+no_doubt names which identifier listed false before behind whole is none =
+    let head : List ℕ = verdict_word which ++ blank_number identifier in
+    let chosen : List ℕ = choices_text names (map literal_of listed) in
+    absurd (none (before ++ (head ++ chosen), behind, is ∙ regroup before head chosen (codes " or fewer") (codes "\n") behind))
+
+-- ---- one page
+
+module _ (scene : Scene) (decisions : List Decision) (is : IsDiagram scene.lines) (named : AreChoicesOf scene.lines (choices decisions)) where
+  reason_one : (question : Question) (one other : List Decision) → IsReason scene question decisions one true → IsReason scene question decisions other true → one ≡ other
+  reason_one question one other a b = explanations_are_one scene.game scene.lines question decisions one other is named a b
+
+  -- what some decisions make so, all of them do
+  all_make : (question : Question) (listed : List Decision) (exact : Bool) → IsReason scene question decisions listed exact → MakeSo scene question (choices decisions)
+  all_make question listed exact r =
+      more_choices_suffice scene.game scene.lines question (choices listed) (choices decisions) is (among_named scene.lines (choices listed) (choices decisions) r.among named) r.among r.enough
+
+  module _ (which : Which) (vertex : ℕ) (table : List ℕ) where
+    abbrev IsHigh : Type 0
+    IsHigh = slice_index table vertex ≡ top_for which scene.game
+
+    abbrev line : List Decision → Bool → List ℕ
+    line listed exact = verdict_line scene.names which (identifier_of scene vertex) listed exact
+
+    -- a verdict that is told without a doubt
+    record IsFor (text : List ℕ) : Type 0 where
+      listed : List Decision
+      reason : IsReason scene (asks.Verdict which vertex) decisions listed true
+      text_is : text ≡ line listed true
+
+    abbrev IsTold : List ℕ → Type 0
+    IsTold text = (IsHigh × IsFor text) ⊎ (¬ IsHigh × (text ≡ other_line which (identifier_of scene vertex)))
+
+    exactly : (text : List ℕ) (listed : List Decision) (exact : Bool) → exact ≡ true → IsReason scene (asks.Verdict which vertex) decisions listed exact → text ≡ line listed exact → IsFor text
+    exactly text listed exact sure reason text_is = record {
+      listed = listed;
+      reason = subst (λ (b : Bool). IsReason scene (asks.Verdict which vertex) decisions listed b) sure reason;
+      text_is = text_is ∙ ap (line listed) sure;
+    }
+
+    told : (before text behind whole : List ℕ) → whole ≡ before ++ text ++ behind → ¬ (HasDoubt whole) → TellsVerdict scene which vertex decisions table text → IsTold text
+    told before text behind whole parts none (inr low) = inr low
+    told before text behind whole parts none (inl (high, so)) =
+        inl (
+          high,
+          exactly text so.0 so.1
+              (no_doubt scene.names which (identifier_of scene vertex) so.0 so.1 before behind whole (parts ∙ ap (λ (t : List ℕ). before ++ t ++ behind) so.3) none) so.2 so.3,
+        )
+
+    verdict_one : (one other : List ℕ) → IsTold one → IsTold other → one ≡ other
+    verdict_one one other (inl (high, a)) (inl (also, b)) =
+        a.text_is ∙ ap (λ (listed : List Decision). line listed true) (reason_one (asks.Verdict which vertex) a.listed b.listed a.reason b.reason) ∙ sym b.text_is
+    verdict_one one other (inl (high, a)) (inr (low, b)) = absurd (low high)
+    verdict_one one other (inr (low, a)) (inl (high, b)) = absurd (low high)
+    verdict_one one other (inr (low, a)) (inr (also, b)) = a ∙ sym b
+
+  vertex_one : (vertex : ℕ) (hopeful dual one other : List ℕ) → TellsVertex scene vertex decisions hopeful dual one → TellsVertex scene vertex decisions hopeful dual other →
+      ¬ (HasDoubt one) → ¬ (HasDoubt other) → one ≡ other
+  vertex_one vertex hopeful dual one other a b sure also =
+      a.4
+      ∙ ap₂ (λ (first second : List ℕ). first ++ second)
+      (verdict_one Hopeful vertex hopeful a.0 b.0 (told Hopeful vertex hopeful [] a.0 a.1 one a.4 sure a.2) (told Hopeful vertex hopeful [] b.0 b.1 other b.4 also b.2))
+      (verdict_one Dual vertex dual a.1 b.1 (told Dual vertex dual a.0 a.1 [] one (a.4 ∙ sym (append-nil (a.0 ++ a.1))) sure a.3)
+      (told Dual vertex dual b.0 b.1 [] other (b.4 ∙ sym (append-nil (b.0 ++ b.1))) also b.3))
+      ∙ sym b.4
+
+  known_one : (feature : ℕ) (value : Bool) (one other : List ℕ) → TellsKnownBy scene feature value decisions one → TellsKnownBy scene feature value decisions other → one ≡ other
+  known_one feature value one other a b =
+      a.2 ∙ ap (known_line scene.names value feature) (reason_one (asks.Known feature value) a.0 b.0 a.1 b.1) ∙ sym b.2
+
+  feature_one : (feature : ℕ) (one other : List ℕ) → TellsFeature scene feature decisions one → TellsFeature scene feature decisions other → one ≡ other
+  feature_one feature one other (inl a) (inl b) = known_one feature true one other a b
+  feature_one feature one other (inl a) (inr (inl b)) = absurd (b.0 (all_make (asks.Known feature true) a.0 true a.1))
+  feature_one feature one other (inl a) (inr (inr b)) = absurd (b.0 (all_make (asks.Known feature true) a.0 true a.1))
+  feature_one feature one other (inr (inl a)) (inl b) = absurd (a.0 (all_make (asks.Known feature true) b.0 true b.1))
+  feature_one feature one other (inr (inl a)) (inr (inl b)) = known_one feature false one other a.1 b.1
+  feature_one feature one other (inr (inl a)) (inr (inr b)) = absurd (b.1 (all_make (asks.Known feature false) a.1.0 true a.1.1))
+  feature_one feature one other (inr (inr a)) (inl b) = absurd (a.0 (all_make (asks.Known feature true) b.0 true b.1))
+  feature_one feature one other (inr (inr a)) (inr (inl b)) = absurd (a.1 (all_make (asks.Known feature false) b.1.0 true b.1.1))
+  feature_one feature one other (inr (inr a)) (inr (inr b)) = a.2 ∙ sym b.2
+
+  choice_one : (feature : ℕ) (value : Bool) (one other : List ℕ) → TellsChoice scene feature value decisions one → TellsChoice scene feature value decisions other → one ≡ other
+  choice_one feature value one other (inl a) (inl b) =
+      a.2 ∙ ap (conflict_line scene.names (choice feature value)) (reason_one (asks.Conflict feature value) a.0 b.0 a.1 b.1) ∙ sym b.2
+  choice_one feature value one other (inl a) (inr b) = absurd (b.0 (all_make (asks.Conflict feature value) a.0 true a.1))
+  choice_one feature value one other (inr a) (inl b) = absurd (a.0 (all_make (asks.Conflict feature value) b.0 true b.1))
+  choice_one feature value one other (inr a) (inr b) = a.1 ∙ sym b.1
+
+  tells_one : (query : Query) (hopeful dual one other : List ℕ) → Tells scene query decisions hopeful dual one → Tells scene query decisions hopeful dual other → ¬ (HasDoubt one) → ¬ (HasDoubt other) → one ≡ other
+  tells_one (queries.WhyVertex vertex) hopeful dual one other a b sure also = vertex_one vertex hopeful dual one other a b sure also
+  tells_one (queries.WhyFeature feature) hopeful dual one other a b sure also = feature_one feature one other a b
+  tells_one (queries.WhyChoice feature value) hopeful dual one other a b sure also = choice_one feature value one other a b
+
+pub answers_are_one : AnswersAreOne
+answers_are_one scene query decisions hopeful dual one other a b sure also =
+    tells_one scene decisions a.diagram a.named query hopeful dual one other a.tells b.tells sure also

@@ -1,0 +1,124 @@
+-- What is told of an order's page.
+use Rattle.std.proofs.Common.{◌≡◌, ℕ, ◌<◌, Bool, true, false, List, ◌++◌, length, refl, sym, ap, ap₂, ◌∙◌, subst, inl, inr, append_assoc}
+use Rattle.std.specs.Prelude.{◌↔◌, All, IfSome, IsSome, IsTrue, Option, Some, None, is_some, slice_index}
+use Rattle.vpg_game.specs.Game.{graph_of, vertex_ids}
+use Rattle.vpg_measure.specs.Orders.{OrderView, IsOrder, order_table}
+use Rattle.vpg_measure.specs.TwoGames.{top_for}
+use Rattle.vpg_measure.specs.declared.which.Which.{Which}
+use Rattle.vpg_measure.specs.declared.which.Which.TheVariants.{Hopeful, Dual}
+use Rattle.vpg_partial.specs.TableLaws.{AreAmong}
+use Rattle.vpg_partial.specs.declared.decision.Decision.{Decision}
+use Rattle.vpg_texts.specs.Scene.{Scene, scene_of}
+use Rattle.vpg_texts.proofs.Shown.{named_below}
+use Rattle.vpg_why.specs.Explained.{choices, Explains}
+use Rattle.vpg_why.specs.Suffices.{Suffice, choice}
+use Rattle.vpg_why.specs.declared.explaining.Explanation.{Explanation}
+use Rattle.vpg_why.specs.declared.question.Question.{Question}
+use Rattle.vpg_why.specs.declared.question.Question.TheVariants as asks
+use Rattle.vpg_why.proofs.Listing.{among_named}
+use Rattle.vpg_answers.specs.declared.query.Query.{Query}
+use Rattle.vpg_answers.specs.Texts.{verdict_line, other_line, known_line, not_known_line, conflict_line, no_conflict_line}
+use Rattle.vpg_answers.specs.Answers.{identifier_of, TellsVerdict, TellsVertex, TellsKnownBy, IsNotKnown, TellsFeature, TellsChoice, Tells, IsAnswer, Appends}
+
+module _ (order : OrderView) (is : IsOrder order) where
+  abbrev scene : Scene
+  scene = scene_of order.game order.diagram
+
+  pub names_length : (names : List (List ℕ)) → names ≡ order.diagram.names → (feature : ℕ) → feature < length order.diagram.names → feature < length names
+  names_length names names_is feature less = rw names_is less
+
+  -- decisions of a reason name features of the diagram
+  pub listed_below : (names : List (List ℕ)) → names ≡ order.diagram.names → (listed : List Decision) → AreAmong (choices listed) (choices order.decisions) → All (λ d. d.feature < length names) listed
+  listed_below names names_is listed among =
+      named_below order.diagram.lines (length names) listed (among_named order.diagram.lines (choices listed) (choices order.decisions) among is.named) (ap length names_is ∙ is.diagram.each_named)
+
+  pub answers : (query : Query) (before after : List ℕ) → Appends (Tells scene query order.decisions order.hopeful order.dual) before after → Appends (IsAnswer scene query order.decisions order.hopeful order.dual) before after
+  answers query before after (text, (tells, appended)) = (text, (record { diagram = is.diagram.diagram; named = is.named; tells = tells }, appended))
+
+module _ (order : OrderView) (names : List (List ℕ)) (names_is : names ≡ order.diagram.names) where
+  abbrev page : Scene
+  page = scene_of order.game order.diagram
+
+  module _ (which : Which) (vertex identifier : ℕ) (identifier_is : identifier ≡ slice_index (vertex_ids order.game.vertices) vertex) (before after : List ℕ) where
+    pub told_verdict : (listed : List Decision) (exact : Bool) → slice_index (order_table which order) vertex ≡ top_for which (graph_of order.game) →
+        Explains (Suffice order.game order.diagram (asks.Verdict which vertex)) order.decisions listed exact → after ≡ before ++ verdict_line names which identifier listed exact →
+        Appends (TellsVerdict page which vertex order.decisions (order_table which order)) before after
+    told_verdict listed exact high explains appended = (
+      verdict_line order.diagram.names which (identifier_of page vertex) listed exact,
+      (
+        inl (high, (listed, exact, explains, refl)),
+        appended ∙ ap₂ (λ (ns : List (List ℕ)) (n : ℕ). before ++ verdict_line ns which n listed exact) names_is identifier_is,
+      ),
+    )
+
+    pub told_other : ¬ (slice_index (order_table which order) vertex ≡ top_for which (graph_of order.game)) → after ≡ before ++ other_line which identifier →
+        Appends (TellsVerdict page which vertex order.decisions (order_table which order)) before after
+    told_other low appended = (other_line which (identifier_of page vertex), (inr (low, refl), appended ∙ ap (λ (n : ℕ). before ++ other_line which n) identifier_is))
+
+  pub told_vertex : (vertex : ℕ) (before between after : List ℕ) → Appends (TellsVerdict page Hopeful vertex order.decisions order.hopeful) before between →
+      Appends (TellsVerdict page Dual vertex order.decisions order.dual) between after → Appends (TellsVertex page vertex order.decisions order.hopeful order.dual) before after
+  told_vertex vertex before between after (first, (a, one)) (second, (b, two)) =
+      (first ++ second, ((first, second, a, b, refl), two ∙ ap (λ (bytes : List ℕ). bytes ++ second) one ∙ append_assoc before first second))
+
+  -- what is told where none of the decisions can be left out
+  sharp : (question : Question) (listed : List Decision) (exact : Bool) → IsTrue exact → Explains (Suffice order.game order.diagram question) order.decisions listed exact →
+      Explains (Suffice order.game order.diagram question) order.decisions listed true
+  sharp question listed exact sure explains = subst (λ (b : Bool). Explains (Suffice order.game order.diagram question) order.decisions listed b) sure explains
+
+  module _ (feature : ℕ) (before after : List ℕ) where
+    -- it is known so
+    known_so : (value : Bool) (listed : List Decision) (exact : Bool) → IsTrue exact → Explains (Suffice order.game order.diagram (asks.Known feature value)) order.decisions listed exact →
+        after ≡ before ++ known_line names value feature listed → Appends (TellsKnownBy page feature value order.decisions) before after
+    known_so value listed exact sure explains appended = (
+      known_line order.diagram.names value feature listed,
+      (
+        (listed, sharp (asks.Known feature value) listed exact sure explains, refl),
+        appended ∙ ap (λ (ns : List (List ℕ)). before ++ known_line ns value feature listed) names_is,
+      ),
+    )
+
+    pub told_in : (listed : List Decision) (exact : Bool) → IsTrue exact → Explains (Suffice order.game order.diagram (asks.Known feature true)) order.decisions listed exact →
+        after ≡ before ++ known_line names true feature listed → Appends (TellsFeature page feature order.decisions) before after
+    told_in listed exact sure explains appended =
+        let so = known_so true listed exact sure explains appended in
+        (so.0, (inl so.1.0, so.1.1))
+
+    pub told_out : (listed : List Decision) (exact : Bool) → IsTrue exact → Explains (Suffice order.game order.diagram (asks.Known feature false)) order.decisions listed exact →
+        IsNotKnown page feature true order.decisions → after ≡ before ++ known_line names false feature listed → Appends (TellsFeature page feature order.decisions) before after
+    told_out listed exact sure explains not_in appended =
+        let so = known_so false listed exact sure explains appended in
+        (so.0, (inr (inl (not_in, so.1.0)), so.1.1))
+
+    pub told_open : IsNotKnown page feature true order.decisions → IsNotKnown page feature false order.decisions → after ≡ before ++ not_known_line → Appends (TellsFeature page feature order.decisions) before after
+    told_open not_in not_out appended = (not_known_line, (inr (inr (not_in, not_out, refl)), appended))
+
+    pub told_conflict : (value : Bool) (listed : List Decision) (exact : Bool) → IsTrue exact → Explains (Suffice order.game order.diagram (asks.Conflict feature value)) order.decisions listed exact →
+        after ≡ before ++ conflict_line names (choice feature value) listed → Appends (TellsChoice page feature value order.decisions) before after
+    told_conflict value listed exact sure explains appended = (
+      conflict_line order.diagram.names (choice feature value) listed,
+      (
+        inl (listed, sharp (asks.Conflict feature value) listed exact sure explains, refl),
+        appended ∙ ap (λ (ns : List (List ℕ)). before ++ conflict_line ns (choice feature value) listed) names_is,
+      ),
+    )
+
+    pub told_none : (value : Bool) → ¬ (Suffice order.game order.diagram (asks.Conflict feature value) (choices order.decisions)) → after ≡ before ++ no_conflict_line →
+        Appends (TellsChoice page feature value order.decisions) before after
+    told_none value none appended = (no_conflict_line, (inr (none, refl), appended))
+
+-- what is told where something was found, or nothing
+pub none_is_not : {X : Type 0} (found : Option X) (P : Type 0) → found ≡ None → IsSome found ↔ P → ¬ P
+none_is_not found P is told p = let some = told.1 p in absurd (cc (sym (ap is_some is) ∙ some))
+
+pub some_is : {X : Type 0} (found : Option X) (x : X) (P : Type 0) → found ≡ Some x → IsSome found ↔ P → P
+some_is found x P is told = told.0 (ap is_some is)
+
+-- an explanation that was found, with its list as the code lends it
+pub found_explains : (order : OrderView) (question : Question) (found : Option Explanation) (e : Explanation) (listed : List Decision) → found ≡ Some e → listed ≡ e.decisions.items →
+    IfSome found (λ x. Explains (Suffice order.game order.diagram question) order.decisions x.decisions.items x.exact) → Explains (Suffice order.game order.diagram question) order.decisions listed e.exact
+found_explains order question found e listed is same explains =
+    subst (λ (ds : List Decision). Explains (Suffice order.game order.diagram question) order.decisions ds e.exact) (sym same)
+    (subst (λ (o : Option Explanation). IfSome o (λ x. Explains (Suffice order.game order.diagram question) order.decisions x.decisions.items x.exact)) is explains)
+
+pub found_exact : (found : Option Explanation) (e : Explanation) → found ≡ Some e → IfSome found (λ x. IsTrue x.exact) → IsTrue e.exact
+found_exact found e is exact = subst (λ (o : Option Explanation). IfSome o (λ x. IsTrue x.exact)) is exact

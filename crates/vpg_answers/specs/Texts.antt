@@ -1,0 +1,55 @@
+-- The texts of answers about a page. This project's own.
+use Rattle.std.specs.Prelude.{ℕ, Bool, true, if◌then◌else◌, List, [], ◌∷◌, ◌++◌, codes, map}
+use Rattle.vpg_diagram.specs.declared.clause.Literal.{Literal}
+use Rattle.vpg_measure.specs.declared.which.Which.{Which}
+use Rattle.vpg_measure.specs.declared.which.Which.TheVariants.{Hopeful, Dual}
+use Rattle.vpg_partial.specs.Known.{literal_of}
+use Rattle.vpg_partial.specs.declared.decision.Decision.{Decision}
+use Rattle.vpg_texts.specs.Text.{blank_number, blank_name, choice_text, choices_text}
+
+-- where it was not shown that none of the decisions can be left out
+abbrev pub doubt_text : Bool → List ℕ
+doubt_text exact = if exact then [] else codes " or fewer"
+
+-- decisions that make something so, at the end of a line
+abbrev pub reason_text : List (List ℕ) → List Decision → Bool → List ℕ
+reason_text names listed exact = choices_text names (map literal_of listed) ++ doubt_text exact ++ 10 ∷ []
+
+-- ---- a vertex
+
+-- the verdict of a table, and what else it may say
+abbrev pub verdict_word : Which → List ℕ
+verdict_word Hopeful = codes "hopeless"
+verdict_word Dual = codes "sure"
+
+abbrev pub other_word : Which → List ℕ
+other_word Hopeful = codes "possible"
+other_word Dual = codes "unsure"
+
+-- a vertex with the verdict, and the decisions that make it so
+abbrev pub verdict_line : List (List ℕ) → Which → (identifier : ℕ) → List Decision → Bool → List ℕ
+verdict_line names which identifier listed exact = verdict_word which ++ blank_number identifier ++ reason_text names listed exact
+
+-- one without it
+abbrev pub other_line : Which → (identifier : ℕ) → List ℕ
+other_line which identifier = other_word which ++ blank_number identifier ++ 10 ∷ []
+
+-- ---- a feature
+
+-- how it is known
+abbrev pub known_word : Bool → List ℕ
+known_word value = if value then codes "in" else codes "out"
+
+abbrev pub known_line : List (List ℕ) → (value : Bool) → (feature : ℕ) → List Decision → List ℕ
+known_line names value feature listed = known_word value ++ blank_name names feature ++ reason_text names listed true
+
+abbrev pub not_known_line : List ℕ
+not_known_line = codes "refused NotKnown\n"
+
+-- ---- one more decision
+
+abbrev pub conflict_line : List (List ℕ) → Literal → List Decision → List ℕ
+conflict_line names choice listed = codes "conflict" ++ choice_text names choice ++ reason_text names listed true
+
+abbrev pub no_conflict_line : List ℕ
+no_conflict_line = codes "refused NoConflict\n"

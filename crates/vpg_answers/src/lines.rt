@@ -1,0 +1,180 @@
+//! The lines of answers.
+ghost use Rattle.std.specs.Prelude.{◌≡◌, ◌<◌, ◌++◌, All, OnOk, length, map};
+ghost use Rattle.vpg_partial.specs.Known.{literal_of};
+ghost use Rattle.vpg_texts.specs.Text.{choice_text, choices_text, name_of};
+ghost use Rattle.vpg_answers.specs.Texts.{conflict_line, doubt_text, known_line, known_word, no_conflict_line, not_known_line, other_line, other_word, reason_text, verdict_line, verdict_word};
+
+use std::alloc::AllocError;
+use vpg_diagram::Literal;
+use vpg_guards::Names;
+use vpg_measure::Which;
+use vpg_partial::Decision;
+use vpg_texts::{blank_name, blank_number};
+
+fn name_at(names: &Names, feature: u16) -> &[u8]
+    requires { feature < length names.now }
+    ensures { result.now ≡ name_of names.now feature }
+{
+    names.name(feature).as_bytes()
+}
+
+/// A feature that is in, or out.
+fn choice(names: &Names, l: Literal, out: &mut Vec<u8>) -> Result<(), AllocError>
+    requires { l.feature < length names.now }
+    ensures { OnOk result (out.new.items ≡ out.old.items ++ choice_text names.now l) }
+{
+    out.push(b' ')?;
+    out.push(if l.value { b'+' } else { b'-' })?;
+    out.extend_from_slice(name_at(names, l.feature))?;
+    Ok(())
+}
+
+fn literal(d: &Decision) -> Literal
+    ensures { result ≡ literal_of d.now }
+{
+    Literal {
+        feature: d.feature,
+        value: d.value,
+    }
+}
+
+/// What some decisions choose.
+fn choices(names: &Names, ds: &[Decision], out: &mut Vec<u8>) -> Result<(), AllocError>
+    requires { All (λ d. d.feature < length names.now) ds.now }
+    ensures { OnOk result (out.new.items ≡ out.old.items ++ choices_text names.now (map literal_of ds.now)) }
+{
+    for d in ds {
+        choice(names, literal(d), out)?;
+    }
+    Ok(())
+}
+
+fn doubt(exact: bool, out: &mut Vec<u8>) -> Result<(), AllocError>
+    ensures { OnOk result (out.new.items ≡ out.old.items ++ doubt_text exact) }
+{
+    if !exact {
+        out.extend_from_slice(b" or fewer")?;
+    }
+    Ok(())
+}
+
+/// Decisions that make something so, up to the line's end.
+fn reason(
+    names: &Names,
+    listed: &[Decision],
+    exact: bool,
+    out: &mut Vec<u8>,
+) -> Result<(), AllocError>
+    requires { All (λ d. d.feature < length names.now) listed.now }
+    ensures { OnOk result (out.new.items ≡ out.old.items ++ reason_text names.now listed.now exact) }
+{
+    choices(names, listed, out)?;
+    doubt(exact, out)?;
+    out.push(b'\n')?;
+    Ok(())
+}
+
+fn verdict_word(which: Which, out: &mut Vec<u8>) -> Result<(), AllocError>
+    ensures { OnOk result (out.new.items ≡ out.old.items ++ verdict_word which) }
+{
+    match which {
+        Which::Hopeful => out.extend_from_slice(b"hopeless")?,
+        Which::Dual => out.extend_from_slice(b"sure")?,
+    }
+    Ok(())
+}
+
+fn other_word(which: Which, out: &mut Vec<u8>) -> Result<(), AllocError>
+    ensures { OnOk result (out.new.items ≡ out.old.items ++ other_word which) }
+{
+    match which {
+        Which::Hopeful => out.extend_from_slice(b"possible")?,
+        Which::Dual => out.extend_from_slice(b"unsure")?,
+    }
+    Ok(())
+}
+
+/// A vertex with a verdict, and the decisions that make it so.
+pub(crate) fn verdict(
+    names: &Names,
+    which: Which,
+    identifier: u32,
+    listed: &[Decision],
+    exact: bool,
+    out: &mut Vec<u8>,
+) -> Result<(), AllocError>
+    requires { All (λ d. d.feature < length names.now) listed.now }
+    ensures { OnOk result (out.new.items ≡ out.old.items ++ verdict_line names.now which identifier listed.now exact) }
+{
+    verdict_word(which, out)?;
+    blank_number(identifier as u64, out)?;
+    reason(names, listed, exact, out)
+}
+
+/// A vertex without it.
+pub(crate) fn other(which: Which, identifier: u32, out: &mut Vec<u8>) -> Result<(), AllocError>
+    ensures { OnOk result (out.new.items ≡ out.old.items ++ other_line which identifier) }
+{
+    other_word(which, out)?;
+    blank_number(identifier as u64, out)?;
+    out.push(b'\n')?;
+    Ok(())
+}
+
+fn known_word(value: bool, out: &mut Vec<u8>) -> Result<(), AllocError>
+    ensures { OnOk result (out.new.items ≡ out.old.items ++ known_word value) }
+{
+    if value {
+        out.extend_from_slice(b"in")?;
+    } else {
+        out.extend_from_slice(b"out")?;
+    }
+    Ok(())
+}
+
+/// A feature that is known, and the decisions that make it so.
+pub(crate) fn known(
+    names: &Names,
+    feature: u16,
+    value: bool,
+    listed: &[Decision],
+    out: &mut Vec<u8>,
+) -> Result<(), AllocError>
+    requires feature { feature < length names.now }
+    requires listed { All (λ d. d.feature < length names.now) listed.now }
+    ensures { OnOk result (out.new.items ≡ out.old.items ++ known_line names.now value feature listed.now) }
+{
+    known_word(value, out)?;
+    blank_name(names, feature, out)?;
+    reason(names, listed, true, out)
+}
+
+/// A feature that is not known.
+pub(crate) fn not_known(out: &mut Vec<u8>) -> Result<(), AllocError>
+    ensures { OnOk result (out.new.items ≡ out.old.items ++ not_known_line) }
+{
+    out.extend_from_slice(b"refused NotKnown\n")
+}
+
+/// One more decision, and those that contradict it.
+pub(crate) fn conflict(
+    names: &Names,
+    more: Literal,
+    listed: &[Decision],
+    out: &mut Vec<u8>,
+) -> Result<(), AllocError>
+    requires feature { more.feature < length names.now }
+    requires listed { All (λ d. d.feature < length names.now) listed.now }
+    ensures { OnOk result (out.new.items ≡ out.old.items ++ conflict_line names.now more listed.now) }
+{
+    out.extend_from_slice(b"conflict")?;
+    choice(names, more, out)?;
+    reason(names, listed, true, out)
+}
+
+/// One that none contradict.
+pub(crate) fn no_conflict(out: &mut Vec<u8>) -> Result<(), AllocError>
+    ensures { OnOk result (out.new.items ≡ out.old.items ++ no_conflict_line) }
+{
+    out.extend_from_slice(b"refused NoConflict\n")
+}

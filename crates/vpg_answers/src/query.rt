@@ -1,0 +1,12 @@
+//! What is asked of a page.
+
+/// What is asked of a page. Vertices and features stand by their places in the game and in the diagram.
+#[derive(Clone, Copy, Debug, PartialEq, Eq)]
+pub enum Query {
+    /// Why the vertex is hopeless, and why it is sure.
+    WhyVertex { vertex: u32 },
+    /// Why the feature is known to be in, or out.
+    WhyFeature { feature: u16 },
+    /// Why one more decision, that the feature is in, or out, contradicts the page.
+    WhyChoice { feature: u16, value: bool },
+}

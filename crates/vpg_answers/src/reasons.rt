@@ -1,0 +1,102 @@
+//! Why something is so, by decisions of the page.
+ghost use Rattle.std.specs.Prelude.{◌≡◌, ◌<◌, length, slice_index, OnOk};
+ghost use Rattle.vpg_answers.specs.Answers.{Appends, TellsChoice, TellsFeature, TellsVerdict, TellsVertex};
+ghost use Rattle.vpg_diagram.specs.FeatureDiagram.{feature_count};
+ghost use Rattle.vpg_game.specs.Game.{vertex_ids};
+ghost use Rattle.vpg_measure.specs.Orders.{IsOrder, order_table};
+ghost use Rattle.vpg_texts.specs.Scene.{scene_of};
+
+use crate::lines;
+use std::alloc::{AllocError, Global};
+use vpg_diagram::Literal;
+use vpg_guards::Names;
+use vpg_measure::{Order, Which};
+use vpg_why::{Limits, why, why_conflict, why_known};
+
+fn names(order: &Order) -> &Names
+    ensures names { result.now ≡ order.now.diagram.names }
+    ensures order { IsOrder order.now }
+{
+    order.diagram().names()
+}
+
+fn identifier(order: &Order, vertex: u32) -> u32
+    requires { vertex < length order.now.game.vertices }
+    ensures { result ≡ slice_index (vertex_ids order.now.game.vertices) vertex }
+{
+    order.game().id(vertex)
+}
+
+/// Why the vertex has the verdict of a table, or that it hasn't.
+fn verdict(
+    alloc: Global,
+    order: &Order,
+    which: Which,
+    vertex: u32,
+    limits: Limits,
+    out: &mut Vec<u8>,
+) -> Result<(), AllocError>
+    requires { vertex < length order.now.game.vertices }
+    ensures { OnOk result (Appends (TellsVerdict (scene_of order.now.game order.now.diagram) which vertex order.now.decisions (order_table which order.now)) out.old.items out.new.items) }
+{
+    let names = names(order);
+    let identifier = identifier(order, vertex);
+    match why(alloc, order, which, vertex, limits)? {
+        Some(found) => lines::verdict(names, which, identifier, &found.decisions, found.exact, out),
+        None => lines::other(which, identifier, out),
+    }
+}
+
+/// Why the vertex has its verdicts.
+pub(crate) fn vertex(
+    alloc: Global,
+    order: &Order,
+    vertex: u32,
+    limits: Limits,
+    out: &mut Vec<u8>,
+) -> Result<(), AllocError>
+    requires { vertex < length order.now.game.vertices }
+    ensures { OnOk result (Appends (TellsVertex (scene_of order.now.game order.now.diagram) vertex order.now.decisions order.now.hopeful order.now.dual) out.old.items out.new.items) }
+{
+    verdict(alloc, order, Which::Hopeful, vertex, limits, out)?;
+    verdict(alloc, order, Which::Dual, vertex, limits, out)
+}
+
+/// Why the feature is known, or that it isn't.
+pub(crate) fn feature(
+    alloc: Global,
+    order: &Order,
+    feature: u16,
+    out: &mut Vec<u8>,
+) -> Result<(), AllocError>
+    requires { feature < feature_count order.now.diagram.lines }
+    ensures { OnOk result (Appends (TellsFeature (scene_of order.now.game order.now.diagram) feature order.now.decisions) out.old.items out.new.items) }
+{
+    let names = names(order);
+    if let Some(found) = why_known(alloc, order, feature, true)? {
+        return lines::known(names, feature, true, &found.decisions, out);
+    }
+    match why_known(alloc, order, feature, false)? {
+        Some(found) => lines::known(names, feature, false, &found.decisions, out),
+        None => lines::not_known(out),
+    }
+}
+
+/// Why one more decision contradicts the page, or that it doesn't.
+pub(crate) fn choice(
+    alloc: Global,
+    order: &Order,
+    feature: u16,
+    value: bool,
+    out: &mut Vec<u8>,
+) -> Result<(), AllocError>
+    requires { feature < feature_count order.now.diagram.lines }
+    ensures { OnOk result (Appends (TellsChoice (scene_of order.now.game order.now.diagram) feature value order.now.decisions) out.old.items out.new.items) }
+{
+    let names = names(order);
+    let more = Literal { feature, value };
+    match why_conflict(alloc, order, feature, value)? {
+        Some(found) => lines::conflict(names, more, &found.decisions, out),
+        None => lines::no_conflict(out),
+    }
+}
