@@ -6,10 +6,10 @@ use Rattle.vpg_game.specs.Game.{graph_of}
 use Rattle.vpg_measure.specs.declared.which.Which.{Which}
 use Rattle.vpg_measure.specs.declared.which.Which.TheVariants.{Hopeful, Dual}
 use Rattle.vpg_measure.specs.Lifts.{IsProgressTable, IsBelowTable, after_rounds}
-use Rattle.vpg_measure.specs.Orders.{OrderView, HarvestView, IsOrder, IsHarvest, IsSameOrder, IsOrderAgain, IsSettledHarvest, order_table, harvest_table, order_levels, order_arena}
+use Rattle.vpg_measure.specs.Orders.{OrderView, HarvestView, IsOrder, IsHarvest, IsSameOrder, IsOrderAgain, IsSettledOrder, IsSettledHarvest, order_table, harvest_table, order_levels, order_arena}
 use Rattle.vpg_measure.specs.TwoGames.{levels_for, arena_for}
 use Rattle.vpg_measure.proofs.Rounds.{after_above, below_trans}
-use Rattle.vpg_settle.specs.Sweeping.{IsSettledOrder, IsOfPage, IsSweptOrder, IsSweptTo, IsLeft, Reaches}
+use Rattle.vpg_settle.specs.Sweeping.{IsOfPage, IsSweptOrder, IsSweptTo, IsLeft, Reaches}
 use Rattle.vpg_settle.proofs.Sweeps.{sums_rise, rounds_settle_or_move}
 
 same_page : (one other : OrderView) → IsSameOrder one other → IsOfPage one other
@@ -70,12 +70,6 @@ tables_stay order harvest lawful same Dual = subst (λ (t : List ℕ). IsBelowTa
 -- a settled harvest needs no sweep
 pub settled_sweeps : (order : OrderView) (harvest : HarvestView) (sweeps : ℕ) → IsHarvest harvest → IsSameOrder harvest.order order → IsSettledHarvest harvest → IsSweptOrder order sweeps harvest
 settled_sweeps order harvest sweeps lawful same settled = record { lawful = lawful; page = same_page harvest.order order same; above = tables_stay order harvest lawful same; moved = λ unsettled. absurd (unsettled settled) }
-
--- an order is settled where each of its tables is
-pub both_settled : (order : OrderView) → IsProgressTable (order_levels Hopeful order) (order_arena Hopeful order) (order_table Hopeful order) →
-    IsProgressTable (order_levels Dual order) (order_arena Dual order) (order_table Dual order) → IsSettledOrder order
-both_settled order first second Hopeful = first
-both_settled order first second Dual = second
 
 -- a settled order, as it stands
 module _ (order : OrderView) (harvest : HarvestView) (same : IsSameOrder harvest.order order) (tables : (which : Which) → harvest_table which harvest ≡ order_table which order) where

@@ -1,12 +1,8 @@
 -- What sweeps make of an order. This project's own.
 use Rattle.std.specs.Prelude.{◌≡◌, ℕ, zero, suc, ◌+◌, ◌≤◌, ◌⊎◌, Option, Some, None, sum}
 use Rattle.vpg_measure.specs.declared.which.Which.{Which}
-use Rattle.vpg_measure.specs.Lifts.{IsBelowTable, IsProgressTable}
-use Rattle.vpg_measure.specs.Orders.{OrderView, HarvestView, IsHarvest, IsOrderAgain, IsSettledHarvest, order_table, harvest_table, order_levels, order_arena}
-
--- both tables of the order are progress tables
-abbrev pub IsSettledOrder : OrderView → Type 0
-IsSettledOrder order = (which : Which) → IsProgressTable (order_levels which order) (order_arena which order) (order_table which order)
+use Rattle.vpg_measure.specs.Lifts.{IsBelowTable}
+use Rattle.vpg_measure.specs.Orders.{OrderView, HarvestView, IsHarvest, IsOrderAgain, IsSettledHarvest, order_table, harvest_table}
 
 -- two orders of one page: they may differ in their tables alone
 pub record IsOfPage (one other : OrderView) : Type 0 where

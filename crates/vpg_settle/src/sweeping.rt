@@ -1,16 +1,16 @@
 //! Sweeps: what the lines `settle` and `harvest` make of an order.
-ghost use Rattle.std.specs.Prelude.{◌≡◌, ◌↔◌, ◌+◌, ◌<◌, ◌≤◌, ℕ, sum, IfOk, IfErr, IfSome, IsTrue, Some};
-ghost use Rattle.vpg_measure.specs.Lifts.{after_rounds, IsProgressTable};
-ghost use Rattle.vpg_measure.specs.Orders.{IsSameOrder, IsHarvest, IsSettledHarvest, order_table, harvest_table, order_levels, order_arena};
+ghost use Rattle.std.specs.Prelude.{◌≡◌, ◌+◌, ◌<◌, ◌≤◌, ℕ, sum, IfOk, IfErr, IfSome, IsTrue, Some};
+ghost use Rattle.vpg_measure.specs.Lifts.{after_rounds};
+ghost use Rattle.vpg_measure.specs.Orders.{IsSameOrder, IsHarvest, IsSettledOrder, IsSettledHarvest, order_table, harvest_table, order_levels, order_arena};
 ghost use Rattle.vpg_board.specs.Places.{vertices};
-ghost use Rattle.vpg_settle.specs.Sweeping.{IsSettledOrder, IsSweptOrder, IsSweptTo, IsSweptBy, IsGuessed, IsLeft, AreSweeps, Leave, Settles};
+ghost use Rattle.vpg_settle.specs.Sweeping.{IsSweptOrder, IsSweptTo, IsSweptBy, IsGuessed, IsLeft, AreSweeps, Leave, Settles};
 
 use std::alloc::Global;
 use std::sync::Wait;
 use std::thread::Threads;
 use vpg_board::{Gate, Predecessors, sweep_along};
 use vpg_guess::harvest_by_bounds;
-use vpg_measure::{Harvest, Order, Table, Which, is_progress};
+use vpg_measure::{Harvest, Order, Table, Which};
 
 /// A line with so small a number asks for sweeps alone.
 pub const FEW_SWEEPS: u64 = 4;
@@ -28,21 +28,6 @@ pub const MANY_SWEEPS: u64 = 1_000_000;
 /// How many sweeps there are behind a guess before that is asked.
 pub const LAST_SWEEPS: u64 = 16;
 
-/// Whether one table of an order is a progress table.
-fn is_settled_in(order: &Order, which: Which) -> bool
-    ensures { IsTrue result ↔ IsProgressTable (order_levels which order.now) (order_arena which order.now) (order_table which order.now) }
-{
-    let table = order.table(which);
-    is_progress(order.shape(which), order.arena(which), table)
-}
-
-/// Whether both are. It ends at the first vertex that a lift raises.
-fn is_settled(order: &Order) -> bool
-    ensures { IsTrue result ↔ IsSettledOrder order.now }
-{
-    is_settled_in(order, Which::Hopeful) && is_settled_in(order, Which::Dual)
-}
-
 /// A settled order as it stands.
 fn as_it_stands(order: Order) -> Harvest
     requires { IsSettledOrder order }
@@ -51,7 +36,7 @@ fn as_it_stands(order: Order) -> Harvest
 {
     let harvest = Harvest::of_order(order);
     let _order = harvest.order();
-    harvest
+    harvest.noted()
 }
 
 /// The order after this many rounds of one lifter at most. It takes no memory.
@@ -132,7 +117,7 @@ pub fn sweep_often<G: Gate + Sync, T: Threads + Wait + Sync>(
         let harvest = sweep(rt, alloc, order, lifters, gate, predecessors);
         if harvest.check() {
             return Ok(SweptHarvest {
-                harvest,
+                harvest: harvest.noted(),
                 sweeps: done + 1,
             });
         }
@@ -296,6 +281,7 @@ fn by_guesses<G: Gate + Sync, T: Threads + Wait + Sync>(
     match guess(alloc, order) {
         Ok(harvest) => {
             if harvest.check() {
+                let harvest = harvest.noted();
                 return SweptHarvest { harvest, sweeps: 0 };
             }
             by_hints(rt, alloc, harvest.again(), sweeps, goal, lifters, gate)
@@ -332,7 +318,7 @@ pub fn swept<G: Gate + Sync, T: Threads + Wait + Sync>(
     // A settled order is not swept.
     ensures settled { IsSettledOrder order → (result.sweeps ≡ 0) × IsLeft order result.harvest }
 {
-    if is_settled(&order) {
+    if order.check() {
         return SweptHarvest {
             harvest: as_it_stands(order),
             sweeps: 0,

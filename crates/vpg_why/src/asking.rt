@@ -17,7 +17,9 @@ use std::alloc::{AllocError, Global};
 use vpg_guards::Tri;
 use vpg_guess::raise_by_bounds;
 use vpg_hope::Arena;
-use vpg_measure::{Order, OrderFault, PageGames, Shape, Table, Which, is_progress, settle_alone};
+use vpg_measure::{
+    Order, OrderFault, PageGames, Shape, Table, Which, is_progress, known_under, settle_alone,
+};
 use vpg_partial::{Decision, Partial, PartialFault};
 
 // Raises a table by certified bounds and, where these do not settle it, by rounds of lifts; says whether it is a progress table then.
@@ -102,7 +104,7 @@ pub(crate) fn closed(
     ensures known { IfOk result (λ found. IfSome found (λ known. IsKnownTable order.now.diagram.lines (map literal_of decisions.now) known)) }
     ensures conflict { IfOk result (λ found. IsNone found → HasConflictOf order.now.diagram.lines (map literal_of decisions.now)) }
 {
-    match Partial::close(alloc, order.diagram(), decisions) {
+    match known_under(alloc, order.diagram(), decisions) {
         Ok(known) => Ok(Some(known)),
         Err(PartialFault::Conflict { feature: _ }) => Ok(None),
         Err(PartialFault::Memory) => Err(AllocError),

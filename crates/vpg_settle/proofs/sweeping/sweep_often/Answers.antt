@@ -1,5 +1,6 @@
 use Rattle.std.proofs.Common.{◌∙◌, ◌+◌, ℕ, subst, sym, arith}
-use Rattle.vpg_settle.specs.Sweeping.{Leave}
+use Rattle.vpg_measure.specs.Orders.{HarvestView, IsSettledHarvest}
+use Rattle.vpg_settle.specs.Sweeping.{IsSweptOrder, AreSweeps, Leave}
 use Rattle.vpg_settle.proofs.Often.{left_more, made_then, one_sweep, swept_on}
 use Rattle.vpg_settle.proofs.Repeated.{settled_early}
 use Rattle.vpg_settle.proofs.sweeping.sweep_often.Goals as goal
@@ -8,17 +9,19 @@ pub returns-then-check-clause-swept : goal.returns-then-check-clause-swept
 returns-then-check-clause-swept g c =
     let now = c.loop-done.order in
     let harvest = c.sweep-harvest.result in
-    settled_early c.args.order harvest (c.loop-done.done + 1) c.args.sweeps
-    (swept_on c.args.lifters c.loop-done.done 1 c.args.order now harvest c.loop-done.invariant.left c.sweep-harvest.ensures.swept) (c.check.ensures.0 c.if-check.true)
+    subst (IsSweptOrder c.args.order c.args.sweeps) (sym c.noted.ensures)
+    (settled_early c.args.order harvest (c.loop-done.done + 1) c.args.sweeps
+    (swept_on c.args.lifters c.loop-done.done 1 c.args.order now harvest c.loop-done.invariant.left c.sweep-harvest.ensures.swept) (c.check.ensures.0 c.if-check.true))
 
 pub returns-then-check-clause-settled : goal.returns-then-check-clause-settled
-returns-then-check-clause-settled g c = c.check.ensures.0 c.if-check.true
+returns-then-check-clause-settled g c = subst IsSettledHarvest (sym c.noted.ensures) (c.check.ensures.0 c.if-check.true)
 
 pub returns-then-check-clause-made : goal.returns-then-check-clause-made
 returns-then-check-clause-made g c =
     let now = c.loop-done.order in
     let harvest = c.sweep-harvest.result in
-    made_then c.args.lifters c.loop-done.done 1 c.args.order now harvest c.loop-done.invariant.left (one_sweep c.args.lifters now harvest c.sweep-harvest.ensures.by)
+    subst (λ (h : HarvestView). AreSweeps c.args.lifters (c.loop-done.done + 1) c.args.order h) (sym c.noted.ensures)
+    (made_then c.args.lifters c.loop-done.done 1 c.args.order now harvest c.loop-done.invariant.left (one_sweep c.args.lifters now harvest c.sweep-harvest.ensures.by))
 
 pub loop-done-preserved : goal.loop-done-preserved
 loop-done-preserved g c = record {

@@ -4,8 +4,8 @@ use Rattle.vpg_settle.proofs.Often.{guessed_then, swept_on}
 use Rattle.vpg_settle.proofs.Repeated.{settled_early}
 use Rattle.vpg_settle.proofs.sweeping.swept.Goals as goal
 
-pub returns-then-is_settled-clause-swept : goal.returns-then-is_settled-clause-swept
-returns-then-is_settled-clause-swept g c = c.as_it_stands.ensures.swept c.args.sweeps
+pub returns-then-check-clause-swept : goal.returns-then-check-clause-swept
+returns-then-check-clause-swept g c = c.as_it_stands.ensures.swept c.args.sweeps
 
 pub returns-in-Ok-clause-swept : goal.returns-in-Ok-clause-swept
 returns-in-Ok-clause-swept g c = settled_early c.args.order c.in-Ok.swept.harvest 1 c.args.sweeps c.in-Ok.ensures.swept c.in-Ok.ensures.settled
