@@ -37,11 +37,15 @@ abbrev pub IsFamilyFault : List ℕ → List ℕ → Fault → Type 0
 IsFamilyFault diagram_text game_text (told.Game fault) = (diagram : NamedDiagram) × (IsTextOf diagram_text diagram × IsGameFault diagram.names game_text (told.Game fault))
 IsFamilyFault diagram_text game_text fault = IsDiagramFault diagram_text fault
 
+-- some diagram is spelled by the text
+abbrev pub IsSomeDiagram : List ℕ → Type 0
+IsSomeDiagram text = (diagram : NamedDiagram) × IsTextOf text diagram
+
 -- What is told of two files that are no family, whatever their texts are: a fault of the game only where some text spells the diagram.
 abbrev pub IsUnread : Fault → Type 0
 IsUnread told.DiagramUnreadable = ⊤
 IsUnread (told.Diagram fault) = (text : List ℕ) × IsDiagramFault text (told.Diagram fault)
-IsUnread told.GameUnreadable = (text : List ℕ) × (diagram : NamedDiagram) × IsTextOf text diagram
+IsUnread told.GameUnreadable = (text : List ℕ) × IsSomeDiagram text
 IsUnread (told.Game fault) = (diagram_text : List ℕ) × (game_text : List ℕ) × IsFamilyFault diagram_text game_text (told.Game fault)
 IsUnread told.Memory = ⊤
 IsUnread fault = ⊥

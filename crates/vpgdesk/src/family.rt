@@ -68,7 +68,7 @@ fn not_opened(alloc: Global, diagram: &Diagram, fault: OpenFault) -> Fault
 }
 
 /// What is told of a conflict of the root.
-fn conflict(alloc: Global, diagram: &Diagram, root: u16) -> Fault
+pub(crate) fn conflict(alloc: Global, diagram: &Diagram, root: u16) -> Fault
     requires { root ≡ 0 }
     ensures { TellsConflict diagram.now.names root result }
 {

@@ -1,8 +1,8 @@
 //! The files that the words name.
 ghost use Rattle.std.specs.Arc.{arc_value};
-ghost use Rattle.std.specs.Prelude.{◌≡◌, ◌⊎◌, IfOk, IfErr};
+ghost use Rattle.std.specs.Prelude.{◌≡◌, ◌⊎◌, IfOk, IfErr, OnOk};
 ghost use Rattle.vpg_diagram.specs.FeatureDiagram.{feature_count};
-ghost use Rattle.vpgdesk.specs.Families.{IsSpelled, IsUnread};
+ghost use Rattle.vpgdesk.specs.Families.{IsSpelled, IsUnread, IsDiagramFault, IsSomeDiagram};
 
 use crate::family::{self, Family};
 use crate::fault::Fault;
@@ -21,6 +21,41 @@ fn unreadable(error: Error, fault: Fault) -> Fault
     }
 }
 
+/// Whether a text is a diagram, and why it is none.
+fn check_diagram(alloc: Global, text: &[u8]) -> Result<(), Fault>
+    ensures found { OnOk result (IsSomeDiagram text.now) }
+    ensures refused { IfErr result (IsDiagramFault text.now) }
+{
+    match family::read_diagram(alloc, text) {
+        Ok(_) => Ok(()),
+        Err(fault) => Err(fault),
+    }
+}
+
+/// The texts of a family's files.
+#[derive(Drop)]
+pub(crate) struct Texts {
+    pub(crate) diagram: Vec<u8>,
+    pub(crate) game: Vec<u8>,
+}
+
+/// The texts of two files. That of the diagram is read, and refused, before the game's file is.
+pub(crate) fn read_texts(rt: &HostRuntime, alloc: Global, paths: Paths<'_>) -> Result<Texts, Fault>
+    ensures refused { IfErr result IsUnread }
+{
+    let diagram = match fs::read(rt, paths.diagram) {
+        Ok(text) => text,
+        Err(error) => return Err(unreadable(error, Fault::DiagramUnreadable)),
+    };
+    if let Err(fault) = check_diagram(alloc, &diagram) {
+        return Err(fault);
+    }
+    match fs::read(rt, paths.game) {
+        Ok(game) => Ok(Texts { diagram, game }),
+        Err(error) => Err(unreadable(error, Fault::GameUnreadable)),
+    }
+}
+
 /// The family of two files. The diagram is read, and refused, before the game.
 pub(crate) fn read_family(
     rt: &HostRuntime,
@@ -31,17 +66,14 @@ pub(crate) fn read_family(
     ensures features { IfOk result (λ family. (arc_value family.game).features ≡ feature_count (arc_value family.diagram).lines) }
     ensures refused { IfErr result IsUnread }
 {
-    let text = match fs::read(rt, paths.diagram) {
-        Ok(text) => text,
-        Err(error) => return Err(unreadable(error, Fault::DiagramUnreadable)),
+    let texts = match read_texts(rt, alloc, paths) {
+        Ok(texts) => texts,
+        Err(fault) => return Err(fault),
     };
-    let diagram = family::read_diagram(alloc, &text)?;
-    let text = match fs::read(rt, paths.game) {
-        Ok(text) => text,
-        Err(error) => return Err(unreadable(error, Fault::GameUnreadable)),
-    };
-    let game = family::read_game(alloc, &text, &diagram)?;
-    Family::of(alloc, game, diagram)
+    match Family::read(alloc, &texts.diagram, &texts.game) {
+        Ok(family) => Ok(family),
+        Err(fault) => Err(fault),
+    }
 }
 
 /// A script that is to be read.

@@ -2,7 +2,7 @@
 //!
 //! Without words it reads a script of commands from standard input, carries it out on a desk over the game and the diagram that
 //! are built in, and writes the answers to standard output. `run` does so with the files of a game, a diagram and a script,
-//! `project` writes the plain game of one product, and `check` counts a game and tells its top measures.
+//! `project` writes the plain game of one product, `check` counts a game and tells its top measures, and `draw` writes a picture.
 //!
 //! The status is 0; 1 where the input is refused or something fails, and then one line on standard error, `vpgdesk: ` and the
 //! fault, says what; 2 where the words are wrong. An answer `refused ..` to a line of a script leaves 0. What was written before
@@ -13,6 +13,7 @@ ghost use Rattle.std.specs.Io.KnownBytes.{Appends};
 ghost use Rattle.std.specs.Prelude.{◌≡◌, true, Err, OnOk, OnErr};
 
 mod counts;
+mod drawing;
 mod family;
 mod fault;
 mod files;
@@ -21,13 +22,15 @@ mod telling;
 mod tests;
 mod words;
 
+use crate::drawing::{Subject, drawn};
 use crate::family::Family;
 use crate::fault::{End, Fault, status};
-use crate::files::{open_script, read_family};
+use crate::files::{open_script, read_family, read_texts};
 use crate::telling::line_of;
-use crate::words::Task;
+use crate::words::{Paths, Task};
 use clap::error::ErrorKind;
 use std::alloc::Global;
+use std::io::IsTerminal;
 use std::process::ExitCode;
 use std::sync::Wait;
 use std::thread::Threads;
@@ -51,6 +54,10 @@ fn put<W: Sink>(writer: &mut W, text: &[u8]) -> Result<(), Fault>
     }
 }
 
+/// What the program waits for, where a script comes from a terminal.
+const WAITS: &[u8] =
+    b"vpgdesk reads a script, one command a line; `vpgdesk --help` lists commands\n";
+
 /// Carries a script from standard input out on the family that is built in.
 fn run_built_in<T: Threads + Wait + Sync>(
     rt: &HostRuntime,
@@ -58,9 +65,20 @@ fn run_built_in<T: Threads + Wait + Sync>(
     alloc: Global,
 ) -> Result<(), Fault> {
     let family = Family::read(alloc, DIAGRAM.as_bytes(), GAME.as_bytes())?;
+    if rt.stdin().is_terminal() {
+        // Where this fails the answers are still to come.
+        let _ = Device::writer(rt.stderr().lock()).put(WAITS);
+    }
     let mut reader = Device::reader(rt.stdin().lock());
     let mut writer = Device::writer(rt.stdout().lock());
     family.run(threads, alloc, &mut reader, &mut writer, 1)
+}
+
+/// Writes a picture of a family.
+fn draw(rt: &HostRuntime, alloc: Global, paths: Paths<'_>, subject: Subject) -> Result<(), Fault> {
+    let texts = read_texts(rt, alloc, paths)?;
+    let picture = drawn(alloc, subject, &texts.diagram, &texts.game)?;
+    put(&mut Device::writer(rt.stdout().lock()), &picture)
 }
 
 /// Does what the words ask for. The runtime is handed in twice: for its files, and for the threads of the lifters.
@@ -99,6 +117,7 @@ fn carry_out<T: Threads + Wait + Sync>(
             let text = family.counted(alloc)?;
             put(&mut Device::writer(rt.stdout().lock()), &text)
         }
+        Task::Draw { paths, subject } => draw(rt, alloc, *paths, *subject),
     }
 }
 

@@ -1,7 +1,8 @@
 //! The words that the program is called with.
+use crate::drawing::Subject;
 use clap::builder::ValueParser;
 use clap::error::ErrorKind;
-use clap::{Arg, ArgMatches, Command, Error};
+use clap::{Arg, ArgAction, ArgMatches, Command, Error};
 use std::alloc::{AllocError, Global};
 
 /// The files of a product family.
@@ -32,66 +33,91 @@ pub(crate) enum Task<'a> {
     Check {
         paths: Paths<'a>,
     },
+    /// A picture of a family.
+    Draw {
+        paths: Paths<'a>,
+        subject: Subject,
+    },
 }
 
 /// What the program is for, in a few lines.
 const ABOUT: &str = "\
 Configures a product family whose behaviour is a variability parity game.
 
-The family is a parity game whose edges carry guards over features, and a feature diagram that says which sets of
-features are products. A script selects and excludes features, takes decisions back, and settles two tables of progress
-measures. They show for each vertex whether it is hopeless (Even wins it in no product that is left) and whether it is
-sure (Odd wins it in none). What cannot be shown is called possible, or unsure.";
+The family is a parity game whose edges carry guards over features, and a
+feature diagram that says which sets of features are products. A script selects
+and excludes features, takes decisions back, and settles two tables of progress
+measures. They show for each vertex whether it is hopeless (Even wins it in no
+product that is left) and whether it is sure (Odd wins it in none). What cannot
+be shown is called possible, or unsure.";
 
 /// What the words leave open: scripts, statuses, examples.
 const AFTER: &str = "\
-Without a command a script is read from standard input and carried out on a small family that is built in: the features
-r (the root), f and g, and the vertices 0 and 1.
+Without a command a script is read from standard input and carried out on a
+small family that is built in: the features r (the root), f and g, and the
+vertices 0 and 1.
 
-Scripts, one command a line (F a feature, S a change's number, V a vertex, K a harvest's number, N a number):
-  select F, exclude F, retract F        decide that F is in or out; take that decision back
-  undo [S], redo [S]                    the latest change, or the change S
-  keep S                                give up the right to undo S and all before it
-  forget S                              give up the right to redo S and all behind it
-  settle [N]                            raise both tables until they are settled, or in at most N sweeps
-  lift hopeful V, lift dual V           raise one vertex of one table
-  harvest, commit K                     settle copies of the tables; take them into the page
-  show, trail, products, plan           verdicts; the page's entries; known features; Even's moves (where all is known)
-  count                                 how many vertices have which verdict; whether the page is settled, and full
-  # ..                                  a comment; `N: COMMAND` says that session N (1 to 64) gives the command
+Scripts, one command a line (F a feature, S a change's number, V a vertex, K a
+harvest's number, N a number):
+  select F, exclude F    decide that F is in or out
+  retract F              take that decision back
+  undo [S], redo [S]     the latest change, or the change S
+  keep S                 give up the right to undo S and all before it
+  forget S               give up the right to redo S and all behind it
+  settle [N]             raise both tables until they are settled, or in at most
+                         N sweeps
+  lift hopeful V         raise one vertex of one table;
+  lift dual V            the same of the other
+  harvest, commit K      settle copies of the tables; take them into the page
+  show, trail            verdicts; the page's entries
+  products, plan         known features; Even's moves, where all is known
+  count                  how many vertices have which verdict; whether the page
+                         is settled, and full
+  # ..                   a comment
+  N: COMMAND             session N (1 to 64) gives the command
 
-Status: 0; 1 where the input is refused or something fails (an answer `refused ..` to a line leaves 0), told by one
-line on standard error; 2 where the words are wrong.
+Status: 0; 1 where the input is refused or something fails (an answer
+`refused ..` to a line leaves 0), told by one line on standard error; 2 where
+the words are wrong.
 
 Examples:
   printf 'exclude f\\nsettle\\nshow\\n' | vpgdesk
-  vpgdesk check examples/elevator/game examples/elevator/diagram
-  vpgdesk run examples/elevator/game examples/elevator/diagram examples/elevator/script
-  vpgdesk project examples/elevator/game examples/elevator/diagram lift sensor overload
+  cd examples/elevator
+  vpgdesk check game diagram
+  vpgdesk run game diagram script
+  vpgdesk project game diagram lift sensor overload
+  vpgdesk draw game diagram | dot -Tsvg > game.svg
 
 All formats, commands, answers and faults: docs/FORMATS.md";
 
 /// The same in one line each.
 const SHORT_AFTER: &str = "\
-Without a command a script is read from standard input, on a small family that is built in.
-`vpgdesk --help` tells of scripts, statuses and examples.";
+Without a command a script is read from standard input, on a small family that
+is built in. `vpgdesk --help` tells of scripts, statuses and examples.";
 
-const GAME_HELP: &str =
-    "A file with a parity game in PGSolver's format, with guards, as `0 2 1 1[f & !g],0;`";
+const GAME_HELP: &str = "A parity game in PGSolver's format with guards, `0 2 1 1[f];`";
 
-const DIAGRAM_HELP: &str =
-    "A file with the feature diagram that the guards speak of, as `root r`, `optional r f`, a line each";
+const DIAGRAM_HELP: &str = "A feature diagram, a line each: `root r`, `optional r f`, ..";
 
-const SCRIPT_HELP: &str = "A file with one command a line, as `select f`, `settle` or `show`";
+const SCRIPT_HELP: &str = "One command a line, as `select f`, `settle` or `show`";
 
-const LIFTERS_HELP: &str =
-    "How many threads raise the tables at once, from 1 to 64, without a sign";
+const LIFTERS_HELP: &str = "How many threads raise the tables, 1 to 64";
 
 const FEATURE_HELP: &str = "The features of the product, all of them, the root among them";
+
+const FEATURES_HELP: &str = "Draw the feature diagram in place of the game";
 
 /// A file that has to be named.
 fn file<'a>(alloc: Global, id: &'a str, help: &'a str) -> Arg<'a> {
     Arg::new(alloc, id).required(true).help(help)
+}
+
+/// An option without a value.
+fn flag<'a>(alloc: Global, name: &'a str, help: &'a str) -> Arg<'a> {
+    Arg::new(alloc, name)
+        .long(name)
+        .action(ArgAction::SetTrue)
+        .help(help)
 }
 
 /// A command over the two files of a family.
@@ -107,20 +133,16 @@ fn over_family<'a>(
 }
 
 fn run_command<'a>(alloc: Global) -> Result<Command<'a>, AllocError> {
-    over_family(
-        alloc,
-        "run",
-        "Carries a script out on a family, and writes the answers to its commands",
-    )?
-    .arg(file(alloc, "SCRIPT", SCRIPT_HELP))?
-    .arg(
-        Arg::new(alloc, "lifters")
-            .long("lifters")
-            .value_name("N")
-            .value_parser(ValueParser::unsigned(1, 64))
-            .default_value("1")
-            .help(LIFTERS_HELP),
-    )
+    over_family(alloc, "run", "Carries a script out on a family")?
+        .arg(file(alloc, "SCRIPT", SCRIPT_HELP))?
+        .arg(
+            Arg::new(alloc, "lifters")
+                .long("lifters")
+                .value_name("N")
+                .value_parser(ValueParser::unsigned(1, 64))
+                .default_value("1")
+                .help(LIFTERS_HELP),
+        )
 }
 
 fn project_command<'a>(alloc: Global) -> Result<Command<'a>, AllocError> {
@@ -132,12 +154,12 @@ fn project_command<'a>(alloc: Global) -> Result<Command<'a>, AllocError> {
     .arg(file(alloc, "FEATURE", FEATURE_HELP).num_args(1..))
 }
 
-fn check_command<'a>(alloc: Global) -> Result<Command<'a>, AllocError> {
-    over_family(
+fn draw_command<'a>(alloc: Global) -> Result<Command<'a>, AllocError> {
+    over_family(alloc, "draw", "Draws the game as a Graphviz text")?.arg(flag(
         alloc,
-        "check",
-        "Reads a family, and writes how many vertices, edges and features it has, and the top measures of the game and of its dual",
-    )
+        "features",
+        FEATURES_HELP,
+    ))
 }
 
 /// All that the program may be called with.
@@ -150,7 +172,12 @@ fn command<'a>(alloc: Global) -> Result<Command<'a>, AllocError> {
         .after_long_help(AFTER)
         .subcommand(run_command(alloc)?)?
         .subcommand(project_command(alloc)?)?
-        .subcommand(check_command(alloc)?)
+        .subcommand(over_family(
+            alloc,
+            "check",
+            "Counts vertices, edges, features and measures",
+        )?)?
+        .subcommand(draw_command(alloc)?)
 }
 
 /// What is told of words that no text in UTF-8 spells.
@@ -195,6 +222,14 @@ fn features<'a>(alloc: Global, matches: &ArgMatches<'a>) -> Result<Vec<&'a str>,
     Ok(features)
 }
 
+fn subject(matches: &ArgMatches<'_>) -> Subject {
+    if matches.get_flag("features") {
+        Subject::Features
+    } else {
+        Subject::Game
+    }
+}
+
 /// The task of a command over a family, `None` where it lacks a word.
 fn task_of<'a>(
     alloc: Global,
@@ -217,6 +252,10 @@ fn task_of<'a>(
             features: features(alloc, matches)?,
         })),
         "check" => Ok(Some(Task::Check { paths })),
+        "draw" => Ok(Some(Task::Draw {
+            paths,
+            subject: subject(matches),
+        })),
         _ => Ok(None),
     }
 }

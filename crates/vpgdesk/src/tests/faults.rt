@@ -1,4 +1,5 @@
 //! Which fault is told, and with which text. The family of most rows is the one that is built in.
+use crate::drawing::{Subject, drawn};
 use crate::family::Family;
 use crate::fault::Fault;
 use crate::telling::line_of;
@@ -23,6 +24,7 @@ enum Asked {
     Project(&'static str),
     /// A script.
     Run(&'static str),
+    Draw(Subject),
 }
 
 /// A family, what is asked of it, and what is written to standard output, or else to standard error.
@@ -47,6 +49,9 @@ fn answer<T: Threads + Wait + Sync>(rt: &T, alloc: Global, row: &Row) -> Result<
             let mut writer = Device::writer(Vec::new(alloc));
             family.run(rt, alloc, &mut reader, &mut writer, 1)?;
             Ok(writer.into_writer())
+        }
+        Asked::Draw(subject) => {
+            drawn(alloc, subject, row.diagram.as_bytes(), row.game.as_bytes())
         }
     }
 }
@@ -192,6 +197,61 @@ static REFUSED: [Row; 20] = [
     },
 ];
 
+static PICTURES: [Row; 4] = [
+    Row {
+        diagram: DIAGRAM,
+        game: GAME,
+        asked: Asked::Draw(Subject::Game),
+        written: "\
+digraph game {
+  graph [label=\"decisions\", labelloc=t, rankdir=LR];
+  node [style=filled];
+  0 [shape=diamond, label=\"0 : 1\", fillcolor=white, color=gray40];
+  1 [shape=box, label=\"1 : 2\", fillcolor=white, color=gray40];
+  0 -> 1 [label=\"f\", style=dashed, color=steelblue, fontcolor=steelblue];
+  0 -> 0 [style=solid];
+  1 -> 0 [label=\"g\", style=dashed, color=steelblue, fontcolor=steelblue];
+  1 -> 1 [style=solid];
+}
+",
+    },
+    Row {
+        diagram: "root r\nmandatory r f\noptional f g\nexcludes f g\n",
+        game: "start 7; 7 0 1 7[f],7[g] \"here\";",
+        asked: Asked::Draw(Subject::Game),
+        written: "\
+digraph game {
+  graph [label=\"decisions\", labelloc=t, rankdir=LR];
+  node [style=filled];
+  7 [shape=box, label=\"7 : 0\\nhere\", fillcolor=white, color=gray40];
+  7 -> 7 [label=\"f | g\", style=solid];
+}
+",
+    },
+    Row {
+        diagram: DIAGRAM,
+        game: GAME,
+        asked: Asked::Draw(Subject::Features),
+        written: "\
+digraph features {
+  graph [label=\"decisions\", labelloc=t];
+  node [shape=box, style=filled, height=0.3];
+  \"r\" [fillcolor=honeydew, color=darkgreen];
+  \"f\" [fillcolor=white, style=\"filled,dashed\"];
+  \"g\" [fillcolor=white, style=\"filled,dashed\"];
+  \"r\" -> \"f\" [arrowhead=odot];
+  \"r\" -> \"g\" [arrowhead=odot];
+}
+",
+    },
+    Row {
+        diagram: NONE,
+        game: DOT,
+        asked: Asked::Draw(Subject::Features),
+        written: "vpgdesk: Conflict r\n",
+    },
+];
+
 static DONE: [Row; 6] = [
     Row {
         diagram: DIAGRAM,
@@ -235,6 +295,7 @@ static DONE: [Row; 6] = [
 fn families_and_what_is_asked_of_them(rt: HostRuntime) -> Result<(), Fail> {
     assert_eq!(rt; first_wrong(&rt, rt.alloc(), &REFUSED), None);
     assert_eq!(rt; first_wrong(&rt, rt.alloc(), &DONE), None);
+    assert_eq!(rt; first_wrong(&rt, rt.alloc(), &PICTURES), None);
     Ok(())
 }
 

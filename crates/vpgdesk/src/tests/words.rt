@@ -1,4 +1,5 @@
 //! What the words of the command line ask for.
+use crate::drawing::Subject;
 use crate::words::{self, Task};
 use clap::error::ErrorKind;
 use std::alloc::{AllocError, Global};
@@ -13,6 +14,7 @@ enum Taken {
     /// With so many features.
     Project(usize),
     Check,
+    Draw(Subject),
     /// Help or the version is shown, with status 0.
     Shown,
     /// Refused, with status 2.
@@ -25,7 +27,7 @@ struct Call {
     taken: Taken,
 }
 
-static CALLS: [Call; 42] = [
+static CALLS: [Call; 46] = [
     Call {
         words: "",
         taken: Taken::BuiltIn,
@@ -93,6 +95,22 @@ static CALLS: [Call; 42] = [
     Call {
         words: "project g d r f f x",
         taken: Taken::Project(4),
+    },
+    Call {
+        words: "draw g d",
+        taken: Taken::Draw(Subject::Game),
+    },
+    Call {
+        words: "draw --features g d",
+        taken: Taken::Draw(Subject::Features),
+    },
+    Call {
+        words: "draw g d f",
+        taken: Taken::Wrong,
+    },
+    Call {
+        words: "check g d --features",
+        taken: Taken::Wrong,
     },
     Call {
         words: "help",
@@ -208,13 +226,20 @@ fn line(alloc: Global, words: &str) -> Result<Vec<String>, AllocError> {
     Ok(line)
 }
 
+fn task_taken(task: &Task<'_>) -> Taken {
+    match task {
+        Task::BuiltIn => Taken::BuiltIn,
+        Task::Run { lifters, .. } => Taken::Run(*lifters),
+        Task::Project { features, .. } => Taken::Project(features.len()),
+        Task::Check { .. } => Taken::Check,
+        Task::Draw { subject, .. } => Taken::Draw(*subject),
+    }
+}
+
 fn how_taken(alloc: Global, words: &str) -> Option<Taken> {
     let line = line(alloc, words).ok()?;
     match words::read(alloc, &line) {
-        Ok(Task::BuiltIn) => Some(Taken::BuiltIn),
-        Ok(Task::Run { lifters, .. }) => Some(Taken::Run(lifters)),
-        Ok(Task::Project { features, .. }) => Some(Taken::Project(features.len())),
-        Ok(Task::Check { .. }) => Some(Taken::Check),
+        Ok(task) => Some(task_taken(&task)),
         Err(told) if told.kind() == ErrorKind::OutOfMemory => None,
         Err(told) if told.use_stderr() => Some(Taken::Wrong),
         Err(_) => Some(Taken::Shown),
@@ -237,9 +262,9 @@ fn words_are_taken(rt: HostRuntime) -> Result<(), Fail> {
 /// Whether the words ask for a run with just these paths, in this order, and this script.
 fn asks_for_run(alloc: Global, words: &[String], game: &str, diagram: &str, wanted: &str) -> bool {
     match words::read(alloc, words) {
-        Ok(Task::Run { paths, script, .. }) => {
-            paths.game == game && paths.diagram == diagram && script == wanted
-        }
+        Ok(Task::Run { paths, script, .. }) => paths.game == game
+            && paths.diagram == diagram
+            && script == wanted,
         _ => false,
     }
 }
@@ -254,9 +279,9 @@ fn files_stand_in_their_order(rt: HostRuntime) -> Result<(), Fail> {
 /// Whether the words ask for the product of just these features, in this order.
 fn asks_for_product(alloc: Global, words: &[String], wanted: &[&str]) -> bool {
     match words::read(alloc, words) {
-        Ok(Task::Project { paths, features }) => {
-            paths.game == "a" && paths.diagram == "b" && features.as_slice() == wanted
-        }
+        Ok(Task::Project { paths, features }) => paths.game == "a"
+            && paths.diagram == "b"
+            && features.as_slice() == wanted,
         _ => false,
     }
 }
@@ -307,5 +332,37 @@ fn told_texts(rt: HostRuntime) -> Result<(), Fail> {
             .to_string(alloc)?
             .starts_with("error: a word is not text in UTF-8\n")
     );
+    Ok(())
+}
+
+/// The most columns of a line of help.
+const COLUMNS: usize = 80;
+
+static HELPS: [&str; 7] = [
+    "-h",
+    "--help",
+    "run --help",
+    "run -h",
+    "project --help",
+    "check --help",
+    "draw --help",
+];
+
+/// The widest line of what is told of words.
+fn width_of(alloc: Global, words: &str) -> Option<usize> {
+    let asked = line(alloc, words).ok()?;
+    let told = words::read(alloc, &asked).err()?.to_string(alloc).ok()?;
+    told.lines().map(|line| line.chars().count()).max()
+}
+
+#[test]
+fn help_is_no_wider_than_a_terminal(rt: HostRuntime) -> Result<(), Fail> {
+    for words in HELPS {
+        let width = width_of(rt.alloc(), words);
+        assert!(rt;
+            width.is_some_and(|width| width <= COLUMNS),
+            "{words}: {width:?}"
+        );
+    }
     Ok(())
 }
