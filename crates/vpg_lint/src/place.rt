@@ -15,7 +15,7 @@ fn is_line_feed(b: u8) -> bool
     b == b'\n'
 }
 
-fn begins_character(b: u8) -> bool
+pub(crate) fn begins_character(b: u8) -> bool
     ensures { result ≡ begins_character b }
 {
     !(128 <= b && b < 192)

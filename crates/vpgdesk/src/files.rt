@@ -4,7 +4,8 @@ ghost use Rattle.std.specs.Prelude.{◌≡◌, ◌⊎◌, IfOk, IfErr, OnOk};
 ghost use Rattle.vpg_diagram.specs.FeatureDiagram.{feature_count};
 ghost use Rattle.vpgdesk.specs.Families.{IsSpelled, IsUnread, IsDiagramFault, IsSomeDiagram};
 
-use crate::family::{self, Family};
+use crate::explaining::{Explaining, Texts};
+use crate::family::{Family, read_diagram};
 use crate::fault::Fault;
 use crate::words::Paths;
 use std::alloc::Global;
@@ -26,34 +27,38 @@ fn check_diagram(alloc: Global, text: &[u8]) -> Result<(), Fault>
     ensures found { OnOk result (IsSomeDiagram text.now) }
     ensures refused { IfErr result (IsDiagramFault text.now) }
 {
-    match family::read_diagram(alloc, text) {
+    match read_diagram(alloc, text) {
         Ok(_) => Ok(()),
         Err(fault) => Err(fault),
     }
 }
 
-/// The texts of a family's files.
-#[derive(Drop)]
-pub(crate) struct Texts {
-    pub(crate) diagram: Vec<u8>,
-    pub(crate) game: Vec<u8>,
-}
-
 /// The texts of two files. That of the diagram is read, and refused, before the game's file is.
-pub(crate) fn read_texts(rt: &HostRuntime, alloc: Global, paths: Paths<'_>) -> Result<Texts, Fault>
+pub(crate) fn read_texts(
+    rt: &HostRuntime,
+    alloc: Global,
+    paths: Paths<'_>,
+    explaining: &mut Explaining,
+) -> Result<Texts, Fault>
     ensures refused { IfErr result IsUnread }
 {
     let diagram = match fs::read(rt, paths.diagram) {
         Ok(text) => text,
         Err(error) => return Err(unreadable(error, Fault::DiagramUnreadable)),
     };
-    if let Err(fault) = check_diagram(alloc, &diagram) {
+    let mut texts = Texts {
+        diagram,
+        game: Vec::new(alloc),
+    };
+    if let Err(fault) = check_diagram(alloc, &texts.diagram) {
+        explaining.family(alloc, paths, &texts, &fault);
         return Err(fault);
     }
     match fs::read(rt, paths.game) {
-        Ok(game) => Ok(Texts { diagram, game }),
-        Err(error) => Err(unreadable(error, Fault::GameUnreadable)),
+        Ok(text) => texts.game = text,
+        Err(error) => return Err(unreadable(error, Fault::GameUnreadable)),
     }
+    Ok(texts)
 }
 
 /// The family of two files. The diagram is read, and refused, before the game.
@@ -61,18 +66,22 @@ pub(crate) fn read_family(
     rt: &HostRuntime,
     alloc: Global,
     paths: Paths<'_>,
+    explaining: &mut Explaining,
 ) -> Result<Family, Fault>
     ensures spelled { IfOk result (λ family. IsSpelled (arc_value family.diagram) (arc_value family.game)) }
     ensures features { IfOk result (λ family. (arc_value family.game).features ≡ feature_count (arc_value family.diagram).lines) }
     ensures refused { IfErr result IsUnread }
 {
-    let texts = match read_texts(rt, alloc, paths) {
+    let texts = match read_texts(rt, alloc, paths, explaining) {
         Ok(texts) => texts,
         Err(fault) => return Err(fault),
     };
     match Family::read(alloc, &texts.diagram, &texts.game) {
         Ok(family) => Ok(family),
-        Err(fault) => Err(fault),
+        Err(fault) => {
+            explaining.family(alloc, paths, &texts, &fault);
+            Err(fault)
+        }
     }
 }
 

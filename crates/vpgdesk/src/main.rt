@@ -2,7 +2,8 @@
 //!
 //! Without words it reads a script of commands from standard input, carries it out on a desk over the game and the diagram that
 //! are built in, and writes the answers to standard output. `run` does so with the files of a game, a diagram and a script,
-//! `project` writes the plain game of one product, `check` counts a game and tells its top measures, and `draw` writes a picture.
+//! `project` writes the plain game of one product, `check` counts a game and tells its top measures, `lint` says what looks wrong in a
+//! family, and `draw` writes its picture.
 //!
 //! The status is 0; 1 where the input is refused or something fails, and then one line on standard error, `vpgdesk: ` and the
 //! fault, says what; 2 where the words are wrong. An answer `refused ..` to a line of a script leaves 0. What was written before
@@ -10,26 +11,35 @@
 #![tactic(auto)]
 
 ghost use Rattle.std.specs.Io.KnownBytes.{Appends};
+ghost use Rattle.std.specs.Arc.{arc_value};
 ghost use Rattle.std.specs.Prelude.{◌≡◌, true, Err, OnOk, OnErr};
+ghost use Rattle.vpg_diagram.specs.FeatureDiagram.{feature_count};
 
 mod counts;
 mod drawing;
+mod explaining;
 mod family;
 mod fault;
 mod files;
+mod linting;
+mod recorded;
 mod telling;
 #[cfg(test)]
 mod tests;
 mod words;
 
 use crate::drawing::{Subject, drawn};
+use crate::explaining::Explaining;
 use crate::family::Family;
 use crate::fault::{End, Fault, status};
 use crate::files::{open_script, read_family, read_texts};
+use crate::linting::linted;
+use crate::recorded::Recorded;
 use crate::telling::line_of;
 use crate::words::{Paths, Task};
 use clap::error::ErrorKind;
 use std::alloc::Global;
+use std::fs::File;
 use std::io::IsTerminal;
 use std::process::ExitCode;
 use std::sync::Wait;
@@ -74,11 +84,106 @@ fn run_built_in<T: Threads + Wait + Sync>(
     family.run(threads, alloc, &mut reader, &mut writer, 1)
 }
 
+/// Carries a script out on a family.
+fn run_script<T: Threads + Wait + Sync>(
+    rt: &HostRuntime,
+    threads: &T,
+    alloc: Global,
+    family: Family,
+    script: File,
+    path: &str,
+    lifters: u32,
+    explaining: &mut Explaining,
+) -> Result<(), Fault>
+    requires { (arc_value family.game).features ≡ feature_count (arc_value family.diagram).lines }
+{
+    let mut recorded = Recorded::new(alloc, script, explaining.is_asked_for);
+    let mut reader = Device::reader(&mut recorded);
+    let mut writer = Device::writer(rt.stdout().lock());
+    // The parser takes no other number.
+    let lifters = lifters.clamp(1, 64);
+    let ended = family.run(threads, alloc, &mut reader, &mut writer, lifters);
+    if let Err(Fault::Line { line, .. }) = &ended {
+        explaining.line(alloc, path, *line, recorded.line(*line));
+    }
+    ended
+}
+
+/// Carries the script of a file out on the family of two others.
+fn run_files<T: Threads + Wait + Sync>(
+    rt: &HostRuntime,
+    threads: &T,
+    alloc: Global,
+    paths: Paths<'_>,
+    script: &str,
+    lifters: u32,
+    explaining: &mut Explaining,
+) -> Result<(), Fault> {
+    let family = read_family(rt, alloc, paths, explaining)?;
+    let file = open_script(rt, script)?;
+    run_script(
+        rt, threads, alloc, family, file, script, lifters, explaining,
+    )
+}
+
+/// Writes the plain game of the product that words name.
+fn project(
+    rt: &HostRuntime,
+    alloc: Global,
+    paths: Paths<'_>,
+    features: &[&str],
+    explaining: &mut Explaining,
+) -> Result<(), Fault> {
+    let family = read_family(rt, alloc, paths, explaining)?;
+    let text = family.projected(alloc, features)?;
+    put(&mut Device::writer(rt.stdout().lock()), &text)
+}
+
+/// Writes the counts of a family.
+fn check(
+    rt: &HostRuntime,
+    alloc: Global,
+    paths: Paths<'_>,
+    explaining: &mut Explaining,
+) -> Result<(), Fault> {
+    let family = read_family(rt, alloc, paths, explaining)?;
+    let text = family.counted(alloc)?;
+    put(&mut Device::writer(rt.stdout().lock()), &text)
+}
+
+/// Writes what looks wrong in a family.
+fn lint(
+    rt: &HostRuntime,
+    alloc: Global,
+    paths: Paths<'_>,
+    explaining: &mut Explaining,
+) -> Result<(), Fault> {
+    let texts = read_texts(rt, alloc, paths, explaining)?;
+    match linted(alloc, paths, &texts) {
+        Ok(lines) => put(&mut Device::writer(rt.stdout().lock()), &lines),
+        Err(fault) => {
+            explaining.family(alloc, paths, &texts, &fault);
+            Err(fault)
+        }
+    }
+}
+
 /// Writes a picture of a family.
-fn draw(rt: &HostRuntime, alloc: Global, paths: Paths<'_>, subject: Subject) -> Result<(), Fault> {
-    let texts = read_texts(rt, alloc, paths)?;
-    let picture = drawn(alloc, subject, &texts.diagram, &texts.game)?;
-    put(&mut Device::writer(rt.stdout().lock()), &picture)
+fn draw(
+    rt: &HostRuntime,
+    alloc: Global,
+    paths: Paths<'_>,
+    subject: Subject,
+    explaining: &mut Explaining,
+) -> Result<(), Fault> {
+    let texts = read_texts(rt, alloc, paths, explaining)?;
+    match drawn(alloc, subject, &texts.diagram, &texts.game) {
+        Ok(picture) => put(&mut Device::writer(rt.stdout().lock()), &picture),
+        Err(fault) => {
+            explaining.family(alloc, paths, &texts, &fault);
+            Err(fault)
+        }
+    }
 }
 
 /// Does what the words ask for. The runtime is handed in twice: for its files, and for the threads of the lifters.
@@ -87,6 +192,7 @@ fn carry_out<T: Threads + Wait + Sync>(
     threads: &T,
     alloc: Global,
     task: &Task<'_>,
+    explaining: &mut Explaining,
 ) -> Result<(), Fault> {
     match task {
         Task::BuiltIn => run_built_in(rt, threads, alloc),
@@ -94,35 +200,16 @@ fn carry_out<T: Threads + Wait + Sync>(
             paths,
             script,
             lifters,
-        } => {
-            let family = read_family(rt, alloc, *paths)?;
-            let mut reader = Device::reader(open_script(rt, script)?);
-            let mut writer = Device::writer(rt.stdout().lock());
-            // The parser takes no other number.
-            family.run(
-                threads,
-                alloc,
-                &mut reader,
-                &mut writer,
-                (*lifters).clamp(1, 64),
-            )
-        }
-        Task::Project { paths, features } => {
-            let family = read_family(rt, alloc, *paths)?;
-            let text = family.projected(alloc, features)?;
-            put(&mut Device::writer(rt.stdout().lock()), &text)
-        }
-        Task::Check { paths } => {
-            let family = read_family(rt, alloc, *paths)?;
-            let text = family.counted(alloc)?;
-            put(&mut Device::writer(rt.stdout().lock()), &text)
-        }
-        Task::Draw { paths, subject } => draw(rt, alloc, *paths, *subject),
+        } => run_files(rt, threads, alloc, *paths, script, *lifters, explaining),
+        Task::Project { paths, features } => project(rt, alloc, *paths, features, explaining),
+        Task::Check { paths } => check(rt, alloc, *paths, explaining),
+        Task::Lint { paths } => lint(rt, alloc, *paths, explaining),
+        Task::Draw { paths, subject } => draw(rt, alloc, *paths, *subject, explaining),
     }
 }
 
-/// Tells of a fault, in one line on standard error.
-fn tell(rt: &HostRuntime, alloc: Global, fault: &Fault) {
+/// Tells of a fault, in one line on standard error, and then in the lines that explain it.
+fn tell(rt: &HostRuntime, alloc: Global, fault: &Fault, lines: &[u8]) {
     let mut writer = Device::writer(rt.stderr().lock());
     let told = match line_of(alloc, fault) {
         Ok(line) => writer.put(&line),
@@ -130,6 +217,7 @@ fn tell(rt: &HostRuntime, alloc: Global, fault: &Fault) {
     };
     // Where this fails too, the status is all that tells of the fault.
     let _ = told;
+    let _ = writer.put(lines);
 }
 
 /// Prints what is told of the words: help and the version to standard output, what is wrong with them to standard error.
@@ -153,6 +241,7 @@ fn obey<T: Threads + Wait + Sync>(
     rt: &HostRuntime,
     threads: &T,
     alloc: Global,
+    explaining: &mut Explaining,
 ) -> Result<End, Fault> {
     let words: Vec<String> = match env::args(rt) {
         Ok(words) => words.collect(alloc)?,
@@ -160,8 +249,9 @@ fn obey<T: Threads + Wait + Sync>(
         Err(_) => return print(rt, &words::not_text(alloc)?),
     };
     match words::read(alloc, &words) {
-        Ok(task) => {
-            carry_out(rt, threads, alloc, &task)?;
+        Ok(asked) => {
+            explaining.is_asked_for = asked.explains;
+            carry_out(rt, threads, alloc, &asked.task, explaining)?;
             Ok(End::Done)
         }
         Err(told) => print(rt, &told),
@@ -169,9 +259,10 @@ fn obey<T: Threads + Wait + Sync>(
 }
 
 fn main(rt: HostRuntime) -> ExitCode {
-    let ended = obey(&rt, &rt, rt.alloc());
+    let mut explaining = Explaining::new(rt.alloc());
+    let ended = obey(&rt, &rt, rt.alloc(), &mut explaining);
     if let Err(fault) = &ended {
-        tell(&rt, rt.alloc(), fault);
+        tell(&rt, rt.alloc(), fault, explaining.lines());
     }
     status(&ended)
 }

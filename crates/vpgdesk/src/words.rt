@@ -14,6 +14,14 @@ pub(crate) struct Paths<'a> {
 
 /// What the words ask for.
 #[derive(Drop)]
+pub(crate) struct Asked<'a> {
+    pub(crate) task: Task<'a>,
+    /// Whether lines are to say what a fault means.
+    pub(crate) explains: bool,
+}
+
+/// What is to be done.
+#[derive(Drop)]
 pub(crate) enum Task<'a> {
     /// A script from standard input, on the family that is built in.
     BuiltIn,
@@ -31,6 +39,10 @@ pub(crate) enum Task<'a> {
     },
     /// The counts of a family.
     Check {
+        paths: Paths<'a>,
+    },
+    /// What looks wrong in a family.
+    Lint {
         paths: Paths<'a>,
     },
     /// A picture of a family.
@@ -77,13 +89,13 @@ harvest's number, N a number):
   N: COMMAND             session N (1 to 64) gives the command
 
 Status: 0; 1 where the input is refused or something fails (an answer
-`refused ..` to a line leaves 0), told by one line on standard error; 2 where
-the words are wrong.
+`refused ..` to a line leaves 0), told by one line on standard error, and with
+--explain by further lines behind it; 2 where the words are wrong.
 
 Examples:
   printf 'exclude f\\nsettle\\nshow\\n' | vpgdesk
   cd examples/elevator
-  vpgdesk check game diagram
+  vpgdesk lint game diagram
   vpgdesk run game diagram script
   vpgdesk project game diagram lift sensor overload
   vpgdesk draw game diagram | dot -Tsvg > game.svg
@@ -104,6 +116,8 @@ const SCRIPT_HELP: &str = "One command a line, as `select f`, `settle` or `show`
 const LIFTERS_HELP: &str = "How many threads raise the tables, 1 to 64";
 
 const FEATURE_HELP: &str = "The features of the product, all of them, the root among them";
+
+const EXPLAIN_HELP: &str = "Where an input is refused, say where and why";
 
 const FEATURES_HELP: &str = "Draw the feature diagram in place of the game";
 
@@ -132,8 +146,13 @@ fn over_family<'a>(
         .arg(file(alloc, "DIAGRAM", DIAGRAM_HELP))
 }
 
+/// The same of a command that explains faults where it is asked to.
+fn explaining<'a>(alloc: Global, name: &'a str, about: &'a str) -> Result<Command<'a>, AllocError> {
+    over_family(alloc, name, about)?.arg(flag(alloc, "explain", EXPLAIN_HELP))
+}
+
 fn run_command<'a>(alloc: Global) -> Result<Command<'a>, AllocError> {
-    over_family(alloc, "run", "Carries a script out on a family")?
+    explaining(alloc, "run", "Carries a script out on a family")?
         .arg(file(alloc, "SCRIPT", SCRIPT_HELP))?
         .arg(
             Arg::new(alloc, "lifters")
@@ -146,7 +165,7 @@ fn run_command<'a>(alloc: Global) -> Result<Command<'a>, AllocError> {
 }
 
 fn project_command<'a>(alloc: Global) -> Result<Command<'a>, AllocError> {
-    over_family(
+    explaining(
         alloc,
         "project",
         "Writes the plain parity game of one product",
@@ -155,7 +174,7 @@ fn project_command<'a>(alloc: Global) -> Result<Command<'a>, AllocError> {
 }
 
 fn draw_command<'a>(alloc: Global) -> Result<Command<'a>, AllocError> {
-    over_family(alloc, "draw", "Draws the game as a Graphviz text")?.arg(flag(
+    explaining(alloc, "draw", "Draws the game as a Graphviz text")?.arg(flag(
         alloc,
         "features",
         FEATURES_HELP,
@@ -172,11 +191,12 @@ fn command<'a>(alloc: Global) -> Result<Command<'a>, AllocError> {
         .after_long_help(AFTER)
         .subcommand(run_command(alloc)?)?
         .subcommand(project_command(alloc)?)?
-        .subcommand(over_family(
+        .subcommand(explaining(
             alloc,
             "check",
             "Counts vertices, edges, features and measures",
         )?)?
+        .subcommand(over_family(alloc, "lint", "Says what is, or looks, wrong in a family")?)?
         .subcommand(draw_command(alloc)?)
 }
 
@@ -252,6 +272,7 @@ fn task_of<'a>(
             features: features(alloc, matches)?,
         })),
         "check" => Ok(Some(Task::Check { paths })),
+        "lint" => Ok(Some(Task::Lint { paths })),
         "draw" => Ok(Some(Task::Draw {
             paths,
             subject: subject(matches),
@@ -261,16 +282,22 @@ fn task_of<'a>(
 }
 
 /// What the words ask for, the first of them being the program's name; else what is told of them, help and the version among it.
-pub(crate) fn read<'a>(alloc: Global, words: &'a [String]) -> Result<Task<'a>, Error> {
+pub(crate) fn read<'a>(alloc: Global, words: &'a [String]) -> Result<Asked<'a>, Error> {
     let matches = command(alloc)?.try_get_matches_from(words)?;
     let Some((name, inner)) = matches.subcommand() else {
-        return Ok(Task::BuiltIn);
+        return Ok(Asked {
+            task: Task::BuiltIn,
+            explains: false,
+        });
     };
     if has_sign(inner) {
         return Err(signed(alloc)?);
     }
     match task_of(alloc, name, inner)? {
-        Some(task) => Ok(task),
+        Some(task) => Ok(Asked {
+            task,
+            explains: name == "lint" || inner.get_flag("explain"),
+        }),
         None => Err(lacking(alloc)?),
     }
 }

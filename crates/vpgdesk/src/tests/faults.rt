@@ -1,8 +1,11 @@
 //! Which fault is told, and with which text. The family of most rows is the one that is built in.
 use crate::drawing::{Subject, drawn};
+use crate::explaining::Texts;
 use crate::family::Family;
 use crate::fault::Fault;
+use crate::linting::linted;
 use crate::telling::line_of;
+use crate::words::Paths;
 use crate::{DIAGRAM, GAME};
 use std::alloc::Global;
 use std::io::{self, Read, Write};
@@ -25,6 +28,7 @@ enum Asked {
     /// A script.
     Run(&'static str),
     Draw(Subject),
+    Lint,
 }
 
 /// A family, what is asked of it, and what is written to standard output, or else to standard error.
@@ -33,6 +37,22 @@ struct Row {
     game: &'static str,
     asked: Asked,
     written: &'static str,
+}
+
+/// What is written of a row's texts as they are.
+fn answer_texts(alloc: Global, row: &Row) -> Result<Vec<u8>, Fault> {
+    let texts = Texts {
+        diagram: Vec::from_slice(alloc, row.diagram.as_bytes())?,
+        game: Vec::from_slice(alloc, row.game.as_bytes())?,
+    };
+    let paths = Paths {
+        game: "game",
+        diagram: "diagram",
+    };
+    match row.asked {
+        Asked::Draw(subject) => drawn(alloc, subject, &texts.diagram, &texts.game),
+        _ => linted(alloc, paths, &texts),
+    }
 }
 
 /// What is written for a row's task on its family.
@@ -50,9 +70,7 @@ fn answer<T: Threads + Wait + Sync>(rt: &T, alloc: Global, row: &Row) -> Result<
             family.run(rt, alloc, &mut reader, &mut writer, 1)?;
             Ok(writer.into_writer())
         }
-        Asked::Draw(subject) => {
-            drawn(alloc, subject, row.diagram.as_bytes(), row.game.as_bytes())
-        }
+        Asked::Draw(_) | Asked::Lint => answer_texts(alloc, row),
     }
 }
 
@@ -197,7 +215,7 @@ static REFUSED: [Row; 20] = [
     },
 ];
 
-static PICTURES: [Row; 4] = [
+static PICTURES: [Row; 5] = [
     Row {
         diagram: DIAGRAM,
         game: GAME,
@@ -249,6 +267,12 @@ digraph features {
         game: DOT,
         asked: Asked::Draw(Subject::Features),
         written: "vpgdesk: Conflict r\n",
+    },
+    Row {
+        diagram: DIAGRAM,
+        game: GAME,
+        asked: Asked::Lint,
+        written: "warnings 0\n",
     },
 ];
 

@@ -1,4 +1,5 @@
 //! Which fault of which file is told first.
+use crate::explaining::Explaining;
 use crate::fault::Fault;
 use crate::files::{open_script, read_family};
 use crate::telling::line_of;
@@ -65,7 +66,8 @@ fn counted(rt: &HostRuntime, alloc: Global, row: &Row) -> Result<Vec<u8>, Fault>
         game: row.game,
         diagram: row.diagram,
     };
-    Ok(read_family(rt, alloc, paths)?.counted(alloc)?)
+    let mut explaining = Explaining::new(alloc);
+    Ok(read_family(rt, alloc, paths, &mut explaining)?.counted(alloc)?)
 }
 
 fn holds(rt: &HostRuntime, alloc: Global, row: &Row) -> bool {

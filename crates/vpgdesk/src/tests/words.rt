@@ -1,6 +1,6 @@
 //! What the words of the command line ask for.
 use crate::drawing::Subject;
-use crate::words::{self, Task};
+use crate::words::{self, Asked, Task};
 use clap::error::ErrorKind;
 use std::alloc::{AllocError, Global};
 use std::test::*;
@@ -14,7 +14,10 @@ enum Taken {
     /// With so many features.
     Project(usize),
     Check,
+    Lint,
     Draw(Subject),
+    /// The same where faults are explained.
+    Explained,
     /// Help or the version is shown, with status 0.
     Shown,
     /// Refused, with status 2.
@@ -27,7 +30,7 @@ struct Call {
     taken: Taken,
 }
 
-static CALLS: [Call; 46] = [
+static CALLS: [Call; 54] = [
     Call {
         words: "",
         taken: Taken::BuiltIn,
@@ -97,6 +100,18 @@ static CALLS: [Call; 46] = [
         taken: Taken::Project(4),
     },
     Call {
+        words: "lint g d",
+        taken: Taken::Lint,
+    },
+    Call {
+        words: "lint g",
+        taken: Taken::Wrong,
+    },
+    Call {
+        words: "lint g d --explain",
+        taken: Taken::Wrong,
+    },
+    Call {
         words: "draw g d",
         taken: Taken::Draw(Subject::Game),
     },
@@ -110,6 +125,26 @@ static CALLS: [Call; 46] = [
     },
     Call {
         words: "check g d --features",
+        taken: Taken::Wrong,
+    },
+    Call {
+        words: "run g d s --explain",
+        taken: Taken::Explained,
+    },
+    Call {
+        words: "check --explain g d",
+        taken: Taken::Explained,
+    },
+    Call {
+        words: "project g d r --explain f",
+        taken: Taken::Explained,
+    },
+    Call {
+        words: "draw g d --explain",
+        taken: Taken::Explained,
+    },
+    Call {
+        words: "--explain check g d",
         taken: Taken::Wrong,
     },
     Call {
@@ -232,14 +267,25 @@ fn task_taken(task: &Task<'_>) -> Taken {
         Task::Run { lifters, .. } => Taken::Run(*lifters),
         Task::Project { features, .. } => Taken::Project(features.len()),
         Task::Check { .. } => Taken::Check,
+        Task::Lint { .. } => Taken::Lint,
         Task::Draw { subject, .. } => Taken::Draw(*subject),
+    }
+}
+
+/// Lint explains faults without being asked to.
+fn asked_taken(asked: &Asked<'_>) -> Taken {
+    let taken = task_taken(&asked.task);
+    if asked.explains && taken != Taken::Lint {
+        Taken::Explained
+    } else {
+        taken
     }
 }
 
 fn how_taken(alloc: Global, words: &str) -> Option<Taken> {
     let line = line(alloc, words).ok()?;
     match words::read(alloc, &line) {
-        Ok(task) => Some(task_taken(&task)),
+        Ok(asked) => Some(asked_taken(&asked)),
         Err(told) if told.kind() == ErrorKind::OutOfMemory => None,
         Err(told) if told.use_stderr() => Some(Taken::Wrong),
         Err(_) => Some(Taken::Shown),
@@ -262,9 +308,12 @@ fn words_are_taken(rt: HostRuntime) -> Result<(), Fail> {
 /// Whether the words ask for a run with just these paths, in this order, and this script.
 fn asks_for_run(alloc: Global, words: &[String], game: &str, diagram: &str, wanted: &str) -> bool {
     match words::read(alloc, words) {
-        Ok(Task::Run { paths, script, .. }) => paths.game == game
-            && paths.diagram == diagram
-            && script == wanted,
+        Ok(
+            Asked {
+                task: Task::Run { paths, script, .. },
+                ..
+            },
+        ) => paths.game == game && paths.diagram == diagram && script == wanted,
         _ => false,
     }
 }
@@ -279,9 +328,12 @@ fn files_stand_in_their_order(rt: HostRuntime) -> Result<(), Fail> {
 /// Whether the words ask for the product of just these features, in this order.
 fn asks_for_product(alloc: Global, words: &[String], wanted: &[&str]) -> bool {
     match words::read(alloc, words) {
-        Ok(Task::Project { paths, features }) => paths.game == "a"
-            && paths.diagram == "b"
-            && features.as_slice() == wanted,
+        Ok(
+            Asked {
+                task: Task::Project { paths, features },
+                ..
+            },
+        ) => paths.game == "a" && paths.diagram == "b" && features.as_slice() == wanted,
         _ => false,
     }
 }
@@ -289,7 +341,12 @@ fn asks_for_product(alloc: Global, words: &[String], wanted: &[&str]) -> bool {
 /// Whether the words ask for the counts of just these files.
 fn asks_for_counts(alloc: Global, words: &[String]) -> bool {
     match words::read(alloc, words) {
-        Ok(Task::Check { paths }) => paths.game == "a" && paths.diagram == "b",
+        Ok(
+            Asked {
+                task: Task::Check { paths },
+                ..
+            },
+        ) => paths.game == "a" && paths.diagram == "b",
         _ => false,
     }
 }
@@ -338,13 +395,14 @@ fn told_texts(rt: HostRuntime) -> Result<(), Fail> {
 /// The most columns of a line of help.
 const COLUMNS: usize = 80;
 
-static HELPS: [&str; 7] = [
+static HELPS: [&str; 8] = [
     "-h",
     "--help",
     "run --help",
     "run -h",
     "project --help",
     "check --help",
+    "lint --help",
     "draw --help",
 ];
 
