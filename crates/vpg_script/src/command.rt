@@ -4,8 +4,8 @@ ghost use Rattle.std.specs.List.{list_all};
 ghost use Rattle.std.specs.Char.{is_ascii_digit, digit_value};
 ghost use Rattle.std.specs.Str.Parse.{digits_value};
 ghost use Rattle.std.specs.Prelude.{bytes_eq};
-ghost use Rattle.vpg_script.specs.Script.{is_blank, is_nonempty, words, is_feature_name, number_of, verb_of, bare_command, command_with, table_named, command_with_two, command_of, label_of, is_comment};
-ghost use Rattle.vpg_script.specs.View.{command_shown, texts};
+ghost use Rattle.vpg_script.specs.Script.{is_blank, is_nonempty, words, is_feature_name, number_of, verb_of, bare_command, signed, why_of, command_with, table_named, command_with_two, command_of, label_of, is_comment};
+ghost use Rattle.vpg_script.specs.View.{command_shown, inquiry_shown, texts};
 
 use std::alloc::{AllocError, Global};
 use thiserror::Error;
@@ -42,6 +42,18 @@ pub enum Verb {
     Products,
     Plan,
     Count,
+    Why,
+}
+
+/// What is asked of the page. Names stand in the line that was read.
+#[derive(Clone, Copy, Debug)]
+pub enum Inquiry<'t> {
+    /// Why a vertex has its verdicts, by its identifier.
+    WhyVertex(u32),
+    /// Why a feature is known.
+    WhyFeature(&'t [u8]),
+    /// Why one more decision contradicts the page: whether the feature is to be in, and its name.
+    WhyChoice(bool, &'t [u8]),
 }
 
 /// A command. Names stand in the line that was read.
@@ -64,6 +76,7 @@ pub enum Command<'t> {
     Products,
     Plan,
     Count,
+    Ask(Inquiry<'t>),
 }
 
 /// What is wrong with a line.
@@ -201,6 +214,8 @@ fn verb_named(word: &[u8]) -> Option<Verb>
         Some(Verb::Plan)
     } else if same(word, b"count") {
         Some(Verb::Count)
+    } else if same(word, b"why") {
+        Some(Verb::Why)
     } else {
         None
     }
@@ -226,8 +241,36 @@ fn bare_command<'t>(verb: Verb) -> Option<Command<'t>>
         | Verb::Keep
         | Verb::Forget
         | Verb::Lift
-        | Verb::Commit => None,
+        | Verb::Commit
+        | Verb::Why => None,
     }
+}
+
+/// The name behind a sign.
+fn signed(sign: u8, word: &[u8]) -> Option<&[u8]>
+    ensures { option_map (λ name. name.now) result ≡ signed sign word.now }
+{
+    match word {
+        [first, name @ ..] if *first == sign && is_name(name) => Some(name),
+        _ => None,
+    }
+}
+
+/// What is asked why: a vertex, a feature, or a decision.
+fn why_of(word: &[u8]) -> Option<Inquiry>
+    ensures { option_map inquiry_shown result ≡ why_of word.now }
+{
+    if is_name(word) {
+        return Some(Inquiry::WhyFeature(word));
+    }
+    if let Some(name) = signed(b'+', word) {
+        return Some(Inquiry::WhyChoice(true, name));
+    }
+    if let Some(name) = signed(b'-', word) {
+        return Some(Inquiry::WhyChoice(false, name));
+    }
+    let identifier = number(word, LARGEST_IDENTIFIER)?;
+    Some(Inquiry::WhyVertex(identifier as u32))
 }
 
 /// A command with one argument.
@@ -244,6 +287,7 @@ fn command_with(verb: Verb, word: &[u8]) -> Option<Command>
         Verb::Forget => Some(Command::Forget(number(word, LARGEST_SERIAL)?)),
         Verb::Commit => Some(Command::Commit(number(word, LARGEST_SERIAL)?)),
         Verb::Settle => Some(Command::Settle(Some(number(word, MOST_SWEEPS)?))),
+        Verb::Why => Some(Command::Ask(why_of(word)?)),
         _ => None,
     }
 }

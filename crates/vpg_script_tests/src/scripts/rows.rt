@@ -414,6 +414,28 @@ static COUNTS: [Row; 2] = [
     },
 ];
 
+static WHYS: [Row; 3] = [
+    Row {
+        diagram: DIAGRAM,
+        game: GAME,
+        script: "why 0 / why r / why f / why +r / why -r / why -f / exclude g / exclude f / why 0 / settle / why 0 / why 1 / why f / why +f / 2: why -f / why 7 / why h / why +h / retract f / select f / settle / why 0 / why 1 / why g",
+        answers: "possible 0 / unsure 0 / in r / refused NotKnown / refused NoConflict / conflict -r / refused NoConflict / done 1 / done 2 / possible 0 / unsure 0 / settled 2 / hopeless 0 -f / unsure 0 / possible 1 / sure 1 -g / out f -f / conflict +f -f / refused NoConflict / refused NoVertex / refused UnknownFeature / refused UnknownFeature / done 3 / done 4 / settled 3 / possible 0 / sure 0 +f / possible 1 / sure 1 -g / out g -g",
+    },
+    // Two decisions are needed together, and of two that suffice the older one is named.
+    Row {
+        diagram: "root r / optional r a / optional r b / optional r c / optional r d / requires a d / requires b d / excludes c d",
+        game: "0 0 0 1[!a | !b]; 1 0 0 1;",
+        script: "select c / why d / why a / why +a / why +d / retract c / select b / select a / why d / why +c / why -d / settle / why 0 / retract b / select b / why d / settle / why 0",
+        answers: "done 1 / out d +c / out a +c / conflict +a +c / conflict +d +c / done 2 / done 3 / done 4 / in d +b / conflict +c +b / conflict -d +b / settled 2 / hopeless 0 +b +a / unsure 0 / done 5 / done 6 / in d +a / settled 2 / hopeless 0 +a +b / unsure 0",
+    },
+    Row {
+        diagram: "root r / optional r a / optional r b / optional r c",
+        game: "0 0 0 1[!a & !b]; 1 0 0 1;",
+        script: "select c / select b / select a / settle / why 0 / why 1",
+        answers: "done 1 / done 2 / done 3 / settled 2 / hopeless 0 +b / unsure 0 / possible 1 / sure 1",
+    },
+];
+
 #[test]
 fn settling_and_showing(rt: HostRuntime) -> Result<(), Fail> {
     assert_eq!(rt; first_wrong(&rt, rt.alloc(), &SETTLING), None);
@@ -447,6 +469,12 @@ fn plans_on_full_settled_pages(rt: HostRuntime) -> Result<(), Fail> {
 #[test]
 fn verdicts_counted(rt: HostRuntime) -> Result<(), Fail> {
     assert_eq!(rt; first_wrong(&rt, rt.alloc(), &COUNTS), None);
+    Ok(())
+}
+
+#[test]
+fn reasons_told(rt: HostRuntime) -> Result<(), Fail> {
+    assert_eq!(rt; first_wrong(&rt, rt.alloc(), &WHYS), None);
     Ok(())
 }
 
