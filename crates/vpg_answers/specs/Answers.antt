@@ -1,20 +1,23 @@
 -- What answers say of a page. This project's own.
-use Rattle.std.specs.Prelude.{◌≡◌, ℕ, ◌<◌, ◌⊎◌, Bool, true, false, List, ◌++◌, codes, slice_index}
+use Rattle.std.specs.Prelude.{◌≡◌, ℕ, ◌<◌, ◌⊎◌, Bool, true, false, List, ◌++◌, codes, slice_index, IsTrue}
 use Rattle.vpg_diagram.specs.FeatureDiagram.{IsDiagram}
 use Rattle.vpg_diagram.specs.declared.clause.Literal.{Literal}
 use Rattle.vpg_measure.specs.TwoGames.{top_for}
 use Rattle.vpg_measure.specs.declared.which.Which.{Which}
 use Rattle.vpg_measure.specs.declared.which.Which.TheVariants.{Hopeful, Dual}
+use Rattle.vpg_partial.specs.KnownLaws.{IsRemaining}
 use Rattle.vpg_partial.specs.TableLaws.{AreChoicesOf}
 use Rattle.vpg_partial.specs.declared.decision.Decision.{Decision}
 use Rattle.vpg_texts.specs.Scene.{Scene}
 use Rattle.vpg_why.specs.Explained.{choices, Explains}
+use Rattle.vpg_why.specs.Products.{MeetsIn, NoneMeetsIn, IsFirstIn}
 use Rattle.vpg_why.specs.Suffices.{SufficeIn, choice}
+use Rattle.vpg_why.specs.declared.question.Aim.TheVariants as aims
 use Rattle.vpg_why.specs.declared.question.Question.{Question}
 use Rattle.vpg_why.specs.declared.question.Question.TheVariants as asks
 use Rattle.vpg_answers.specs.declared.query.Query.{Query}
 use Rattle.vpg_answers.specs.declared.query.Query.TheVariants as queries
-use Rattle.vpg_answers.specs.Texts.{verdict_line, other_line, known_line, not_known_line, conflict_line, no_conflict_line}
+use Rattle.vpg_answers.specs.Texts.{verdict_line, other_line, known_line, not_known_line, conflict_line, no_conflict_line, product_line, none_line, unsettled_line}
 
 -- the choices alone make it so, in the scene's game and diagram
 abbrev pub MakeSo : Scene → Question → List Literal → Type 0
@@ -67,12 +70,23 @@ TellsChoice scene feature value decisions text =
     ((listed : List Decision) × IsReason scene (asks.Conflict feature value) decisions listed true × (text ≡ conflict_line scene.names (choice feature value) listed))
     ⊎ (¬ (MakeSo scene (asks.Conflict feature value) (choices decisions)) × (text ≡ no_conflict_line))
 
+-- ---- a product
+
+-- A product that is left and in which the verdict's loser wins from the vertex, the first where that was shown; or there is none; or a limit was met.
+abbrev pub TellsExample : Scene → Which → (vertex : ℕ) → List Decision → (text : List ℕ) → Type 0
+TellsExample scene which vertex decisions text =
+    ((set : List Bool) × (first : Bool) × IsRemaining scene.lines (choices decisions) set × MeetsIn scene.game (aims.Won which vertex) set
+    × (IsTrue first → IsFirstIn scene.game scene.lines (aims.Won which vertex) (choices decisions) set) × (text ≡ product_line scene.names set first))
+    ⊎ (NoneMeetsIn scene.game scene.lines (aims.Won which vertex) (choices decisions) × (text ≡ none_line))
+    ⊎ (text ≡ unsettled_line)
+
 -- ---- any
 
 abbrev pub Tells : Scene → Query → List Decision → (hopeful dual text : List ℕ) → Type 0
 Tells scene (queries.WhyVertex vertex) decisions hopeful dual text = TellsVertex scene vertex decisions hopeful dual text
 Tells scene (queries.WhyFeature feature) decisions hopeful dual text = TellsFeature scene feature decisions text
 Tells scene (queries.WhyChoice feature value) decisions hopeful dual text = TellsChoice scene feature value decisions text
+Tells scene (queries.Example which vertex) decisions hopeful dual text = TellsExample scene which vertex decisions text
 
 -- The text answers what is asked, of the page with these decisions and tables: decisions of a diagram's features.
 pub record IsAnswer (scene : Scene) (query : Query) (decisions : List Decision) (hopeful dual text : List ℕ) : Type 0 where
@@ -89,7 +103,11 @@ abbrev pub IsWithin : (vertices features : ℕ) → Query → Type 0
 IsWithin vertices features (queries.WhyVertex vertex) = vertex < vertices
 IsWithin vertices features (queries.WhyFeature feature) = feature < features
 IsWithin vertices features (queries.WhyChoice feature value) = feature < features
+IsWithin vertices features (queries.Example which vertex) = vertex < vertices
 
--- Somewhere in the text a line says that fewer decisions may do: a limit was met.
+-- A limit was met: somewhere in the text a line says that fewer decisions may do, or the text tells of some product, or of none but that.
 abbrev pub HasDoubt : List ℕ → Type 0
-HasDoubt text = (before : List ℕ) × (behind : List ℕ) × (text ≡ before ++ codes " or fewer\n" ++ behind)
+HasDoubt text =
+    ((before : List ℕ) × (behind : List ℕ) × (text ≡ before ++ codes " or fewer\n" ++ behind))
+    ⊎ ((behind : List ℕ) × (text ≡ codes "some product" ++ behind))
+    ⊎ (text ≡ unsettled_line)

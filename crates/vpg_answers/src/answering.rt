@@ -5,7 +5,7 @@ ghost use Rattle.vpg_diagram.specs.FeatureDiagram.{feature_count};
 ghost use Rattle.vpg_texts.specs.Scene.{scene_of};
 
 use crate::query::Query;
-use crate::reasons;
+use crate::{examples, reasons};
 use std::alloc::{AllocError, Global};
 use vpg_measure::Order;
 use vpg_why::Limits;
@@ -27,6 +27,9 @@ fn told(
         Query::WhyVertex { vertex } => reasons::vertex(alloc, order, vertex, limits, out),
         Query::WhyFeature { feature } => reasons::feature(alloc, order, feature, out),
         Query::WhyChoice { feature, value } => reasons::choice(alloc, order, feature, value, out),
+        Query::Example { which, vertex } => {
+            examples::example(alloc, order, which, vertex, limits, out)
+        }
     }
 }
 

@@ -11,6 +11,7 @@
 #![tactic(auto)]
 
 mod answering;
+mod examples;
 pub mod laws;
 mod lines;
 mod query;

@@ -13,7 +13,7 @@ use vpg_guards::Names;
 use vpg_measure::{Order, Which};
 use vpg_why::{Limits, why, why_conflict, why_known};
 
-fn names(order: &Order) -> &Names
+pub(crate) fn names(order: &Order) -> &Names
     ensures names { result.now ≡ order.now.diagram.names }
     ensures order { IsOrder order.now }
 {

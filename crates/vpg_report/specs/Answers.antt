@@ -89,6 +89,7 @@ abbrev pub query_of : Scene → script.Inquiry → Result Query Own
 query_of scene (script.WhyVertex identifier) = query_or NoVertex queries.WhyVertex (vertex_of scene identifier)
 query_of scene (script.WhyFeature name) = query_or NoFeature queries.WhyFeature (index_of scene.names name)
 query_of scene (script.WhyChoice value name) = query_or NoFeature (λ f. queries.WhyChoice f value) (index_of scene.names name)
+query_of scene (script.Example which identifier) = query_or NoVertex (queries.Example which) (vertex_of scene identifier)
 
 -- what is asked of the page is answered of an order
 abbrev pub order_or : Result Query Own → Result Call Own

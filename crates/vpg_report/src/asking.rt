@@ -49,6 +49,10 @@ pub(crate) fn query_of(
             Some(vertex) => Ok(Query::WhyVertex { vertex }),
             None => Err(Missing::Vertex),
         },
+        Inquiry::Example(which, identifier) => match vertex_at(game, identifier) {
+            Some(vertex) => Ok(Query::Example { which, vertex }),
+            None => Err(Missing::Vertex),
+        },
         Inquiry::WhyFeature(name) => match feature_at(diagram.names(), name) {
             Some(feature) => Ok(Query::WhyFeature { feature }),
             None => Err(Missing::Feature),

@@ -51,6 +51,7 @@ pub data Inquiry : Type 0 where
   WhyVertex : (identifier : ℕ) → Inquiry
   WhyFeature : (name : List ℕ) → Inquiry
   WhyChoice : (value : Bool) → (name : List ℕ) → Inquiry
+  Example : (which : Which) → (identifier : ℕ) → Inquiry
 
 pub data Command : Type 0 where
   Select : (name : List ℕ) → Command
@@ -91,6 +92,8 @@ verb_of w =
     else if bytes_eq w (codes "plan") then Some verbs.Plan
     else if bytes_eq w (codes "count") then Some verbs.Count
     else if bytes_eq w (codes "why") then Some verbs.Why
+    else if bytes_eq w (codes "example") then Some verbs.Example
+    else if bytes_eq w (codes "counterexample") then Some verbs.Counterexample
     else None
 
 -- a command without arguments
@@ -124,6 +127,9 @@ why_else None None n = option_map WhyVertex n
 abbrev pub why_of : List ℕ → Option Inquiry
 why_of w = if is_feature_name w then Some (WhyFeature w) else why_else (signed 43 w) (signed 45 w) (number_of largest_identifier w)
 
+abbrev pub example_of : Which → List ℕ → Option Inquiry
+example_of which w = option_map (Example which) (number_of largest_identifier w)
+
 -- with one
 abbrev pub command_with : Verb → List ℕ → Option Command
 command_with verbs.Select w = if_name Select w
@@ -136,6 +142,8 @@ command_with verbs.Forget w = option_map Forget (number_of largest_serial w)
 command_with verbs.Commit w = option_map Commit (number_of largest_serial w)
 command_with verbs.Settle w = option_map (λ n. Settle (Some n)) (number_of most_sweeps w)
 command_with verbs.Why w = option_map Ask (why_of w)
+command_with verbs.Example w = option_map Ask (example_of Hopeful w)
+command_with verbs.Counterexample w = option_map Ask (example_of Dual w)
 command_with _ w = None
 
 -- the table that a word names

@@ -14,6 +14,7 @@ abbrev pub inquiry_shown : Inquiry → script.Inquiry
 inquiry_shown (inquiries.WhyVertex v) = script.WhyVertex v
 inquiry_shown (inquiries.WhyFeature f) = script.WhyFeature f.now
 inquiry_shown (inquiries.WhyChoice value f) = script.WhyChoice value f.now
+inquiry_shown (inquiries.Example which v) = script.Example which v
 
 abbrev pub command_shown : Command → script.Command
 command_shown (commands.Select f) = script.Select f.now

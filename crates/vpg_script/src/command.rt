@@ -4,7 +4,7 @@ ghost use Rattle.std.specs.List.{list_all};
 ghost use Rattle.std.specs.Char.{is_ascii_digit, digit_value};
 ghost use Rattle.std.specs.Str.Parse.{digits_value};
 ghost use Rattle.std.specs.Prelude.{bytes_eq};
-ghost use Rattle.vpg_script.specs.Script.{is_blank, is_nonempty, words, is_feature_name, number_of, verb_of, bare_command, signed, why_of, command_with, table_named, command_with_two, command_of, label_of, is_comment};
+ghost use Rattle.vpg_script.specs.Script.{is_blank, is_nonempty, words, is_feature_name, number_of, verb_of, bare_command, signed, why_of, example_of, command_with, table_named, command_with_two, command_of, label_of, is_comment};
 ghost use Rattle.vpg_script.specs.View.{command_shown, inquiry_shown, texts};
 
 use std::alloc::{AllocError, Global};
@@ -43,6 +43,8 @@ pub enum Verb {
     Plan,
     Count,
     Why,
+    Example,
+    Counterexample,
 }
 
 /// What is asked of the page. Names stand in the line that was read.
@@ -54,6 +56,8 @@ pub enum Inquiry<'t> {
     WhyFeature(&'t [u8]),
     /// Why one more decision contradicts the page: whether the feature is to be in, and its name.
     WhyChoice(bool, &'t [u8]),
+    /// A product in which Even wins from a vertex, for the first table, or Odd, for the second; by the vertex's identifier.
+    Example(Which, u32),
 }
 
 /// A command. Names stand in the line that was read.
@@ -216,6 +220,10 @@ fn verb_named(word: &[u8]) -> Option<Verb>
         Some(Verb::Count)
     } else if same(word, b"why") {
         Some(Verb::Why)
+    } else if same(word, b"example") {
+        Some(Verb::Example)
+    } else if same(word, b"counterexample") {
+        Some(Verb::Counterexample)
     } else {
         None
     }
@@ -242,7 +250,9 @@ fn bare_command<'t>(verb: Verb) -> Option<Command<'t>>
         | Verb::Forget
         | Verb::Lift
         | Verb::Commit
-        | Verb::Why => None,
+        | Verb::Why
+        | Verb::Example
+        | Verb::Counterexample => None,
     }
 }
 
@@ -273,6 +283,14 @@ fn why_of(word: &[u8]) -> Option<Inquiry>
     Some(Inquiry::WhyVertex(identifier as u32))
 }
 
+/// A product that is asked for.
+fn example_of<'t>(which: Which, word: &[u8]) -> Option<Inquiry<'t>>
+    ensures { option_map inquiry_shown result ≡ example_of which word.now }
+{
+    let identifier = number(word, LARGEST_IDENTIFIER)?;
+    Some(Inquiry::Example(which, identifier as u32))
+}
+
 /// A command with one argument.
 fn command_with(verb: Verb, word: &[u8]) -> Option<Command>
     ensures { option_map command_shown result ≡ command_with verb word.now }
@@ -288,6 +306,8 @@ fn command_with(verb: Verb, word: &[u8]) -> Option<Command>
         Verb::Commit => Some(Command::Commit(number(word, LARGEST_SERIAL)?)),
         Verb::Settle => Some(Command::Settle(Some(number(word, MOST_SWEEPS)?))),
         Verb::Why => Some(Command::Ask(why_of(word)?)),
+        Verb::Example => Some(Command::Ask(example_of(Which::Hopeful, word)?)),
+        Verb::Counterexample => Some(Command::Ask(example_of(Which::Dual, word)?)),
         _ => None,
     }
 }

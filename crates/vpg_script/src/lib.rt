@@ -3,7 +3,7 @@
 //! A script is read line by line from a `Source`; a `Server` carries each line's request out, and its answer is written whole to a `Sink`
 //! before the next line is read. A line is blank, a comment, or a command with its arguments, under a label from 1 to 64 or none. The
 //! commands are `select`, `exclude`, `retract`, `undo`, `redo`, `keep`, `forget`, `lift`, `harvest`, `commit`, `settle`, `show`, `trail`,
-//! `products`, `plan`, `count` and `why`; each other first word is a fault of its line. This crate knows no desk: what a request does is
+//! `products`, `plan`, `count`, `why`, `example` and `counterexample`; each other first word is a fault of its line. This crate knows no desk: what a request does is
 //! its server's, and `answer_script` holds for each. The crate of runs above serves a desk. `Device` makes a `Source` of each reader, and
 //! a `Sink` of each writer.
 //!

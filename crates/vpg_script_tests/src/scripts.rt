@@ -163,6 +163,8 @@ fn names_the_faulty_line(rt: HostRuntime) -> Result<(), Fail> {
         ("why 4294967296", LineFault::Args),
         ("why +", LineFault::Args),
         ("why -1", LineFault::Args),
+        ("example", LineFault::Args),
+        ("counterexample f", LineFault::Args),
         ("select", LineFault::Args),
         ("select 9", LineFault::Args),
         ("65: undo", LineFault::Word),

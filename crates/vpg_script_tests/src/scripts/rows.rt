@@ -436,6 +436,21 @@ static WHYS: [Row; 3] = [
     },
 ];
 
+static EXAMPLES: [Row; 2] = [
+    Row {
+        diagram: DIAGRAM,
+        game: GAME,
+        script: "example 0 / counterexample 0 / example 1 / counterexample 1 / exclude f / example 0 / 2: counterexample 0 / select g / counterexample 1 / example 7 / counterexample 7",
+        answers: "product r f g / product r g / product r f g / product r g / done 1 / none / product r g / done 2 / product r g / refused NoVertex / refused NoVertex",
+    },
+    Row {
+        diagram: "root r / optional r a / optional r b / excludes a b",
+        game: "0 0 0 1[a & b],0[!a]; 1 0 0 1; 2 0 0 1[a],1[!a]; 3 0 1 1[a],1[!a],3[a & b];",
+        script: "settle / example 0 / counterexample 0 / example 2 / counterexample 2 / select a / settle / why 0 / example 0 / why 2 / counterexample 2",
+        answers: "settled 2 / product r b / product r a / product r a / none / done 1 / settled 2 / hopeless 0 +a / unsure 0 / none / possible 2 / sure 2 +a / none",
+    },
+];
+
 #[test]
 fn settling_and_showing(rt: HostRuntime) -> Result<(), Fail> {
     assert_eq!(rt; first_wrong(&rt, rt.alloc(), &SETTLING), None);
@@ -475,6 +490,12 @@ fn verdicts_counted(rt: HostRuntime) -> Result<(), Fail> {
 #[test]
 fn reasons_told(rt: HostRuntime) -> Result<(), Fail> {
     assert_eq!(rt; first_wrong(&rt, rt.alloc(), &WHYS), None);
+    Ok(())
+}
+
+#[test]
+fn products_found(rt: HostRuntime) -> Result<(), Fail> {
+    assert_eq!(rt; first_wrong(&rt, rt.alloc(), &EXAMPLES), None);
     Ok(())
 }
 
