@@ -86,9 +86,7 @@ fn raises_to(
 
 // Whether the bound of v follows from that of w.
 fn follows(ground: &GuessGround, bounds: &PerVertex<u64>, v: u32, w: u32) -> bool {
-    ground
-        .even
-        .reaches(&ground.graph, v, bounds.get(v), bounds.get(w))
+    ground.even.reaches(v, bounds.get(v), bounds.get(w))
 }
 
 // The game of the vertices to be raised: Odd has the edges over which the bound follows.
@@ -160,6 +158,59 @@ fn ranks_along(
     Ok(ranks)
 }
 
+// Odd's move over which the bound of v follows: out of the vertices to be raised, else to the one of the greatest present value.
+fn straight_move(
+    ground: &GuessGround,
+    raises: &Raises,
+    rising: &PerVertex<bool>,
+    table: &[u64],
+    v: u32,
+) -> Option<u32> {
+    let mut chosen = None;
+    let mut greatest = 0;
+    for w in ground.graph.successors(v) {
+        if follows(ground, &raises.bounds, v, *w) {
+            if !rising.get(*w) {
+                return Some(*w);
+            }
+            let value = value_in(table, *w);
+            if chosen.is_none() || greatest < value {
+                chosen = Some(*w);
+                greatest = value;
+            }
+        }
+    }
+    chosen
+}
+
+// Ranks along Odd's straight moves, where they show all bounds. No game is solved.
+fn straight_ranks(
+    alloc: Global,
+    ground: &GuessGround,
+    raises: &Raises,
+    table: &[u64],
+    budget: &mut Budget,
+) -> Result<Option<PerVertex<u64>>, AllocError> {
+    let vertices = ground.graph.vertices();
+    let mut rising = PerVertex::of(alloc, vertices, false)?;
+    for v in &raises.exceeding {
+        rising.set(*v, true);
+    }
+    let mut choice = PerVertex::of(alloc, vertices, None)?;
+    for v in &raises.exceeding {
+        if ground.graph.owner(*v) == Player::Odd {
+            choice.set(*v, straight_move(ground, raises, &rising, table, *v));
+        }
+    }
+    let ranks = ranks_along(alloc, ground, &choice, &raises.exceeding, budget)?;
+    for v in &raises.exceeding {
+        if ground.odd.top <= ranks.get(*v) {
+            return Ok(None);
+        }
+    }
+    Ok(Some(ranks))
+}
+
 // Ranks of what Odd wins, along its moves; what it does not win keeps its value.
 fn rank(
     alloc: Global,
@@ -211,9 +262,14 @@ fn ranked(
     budget: &mut Budget,
 ) -> Result<Option<RankedBounds>, AllocError> {
     budget.spend(ground.graph.vertices() as usize);
-    let Raises { bounds, exceeding } = raises_to(alloc, ground, values, table, weight)?;
-    if exceeding.is_empty() {
+    let raises = raises_to(alloc, ground, values, table, weight)?;
+    if raises.exceeding.is_empty() {
         return Ok(None);
+    }
+    let straight = straight_ranks(alloc, ground, &raises, table, budget)?;
+    let Raises { bounds, exceeding } = raises;
+    if let Some(ranks) = straight {
+        return Ok(Some(RankedBounds { bounds, ranks }));
     }
     let solved = raising_game(alloc, ground, &bounds, exceeding)?.solve(alloc, budget)?;
     Ok(Some(rank(alloc, ground, bounds, &solved, table, budget)?))

@@ -41,6 +41,16 @@ impl GuessGround {
         Ok(lost)
     }
 
+    /// Whether a lift raises a vertex, where its value is a number over some edge.
+    pub(crate) fn rises(&self, table: &[u64], v: u32) -> bool {
+        let successors = self.graph.successors(v);
+        let best = match self.graph.owner(v) {
+            Player::Even => least_in(table, successors, self.even.top),
+            Player::Odd => greatest_in(table, successors),
+        };
+        self.even.exceeds(v, best, value_in(table, v))
+    }
+
     /// So many looks at each edge and vertex.
     pub(crate) fn looks(&self, each: u64) -> u64 {
         self.graph.size().saturating_mul(each)
@@ -88,6 +98,22 @@ impl GuessGround {
         }
         Ok(weights)
     }
+}
+
+fn least_in(table: &[u64], vertices: &[u32], top: u64) -> u64 {
+    let mut least = top;
+    for v in vertices {
+        least = least.min(value_in(table, *v));
+    }
+    least
+}
+
+fn greatest_in(table: &[u64], vertices: &[u32]) -> u64 {
+    let mut greatest = 0;
+    for v in vertices {
+        greatest = greatest.max(value_in(table, *v));
+    }
+    greatest
 }
 
 /// A vertex's value in a table.

@@ -14,6 +14,12 @@ use vpg_regions::{Budget, PerVertex};
 /// Where more than one in so many of the vertices wait, they are looked at in the order of the vertices.
 const DENSE: usize = 64;
 
+/// Rounds go on while the number of waiting vertices falls by one in so many.
+const FALL: usize = 8;
+
+/// How often all edges and vertices are looked at before a turn ends since that number does not fall.
+const PATIENCE: u64 = 1;
+
 /// How often a vertex rises in one turn before it is taken to climb.
 const CLIMBS: u32 = 4;
 
@@ -22,6 +28,8 @@ const CLIMBS: u32 = 4;
 #[derive(Drop)]
 pub(crate) struct Waiting {
     waits: PerVertex<bool>,
+    count: usize,
+    // those that wait, and others
     queue: VecDeque<u32>,
     raises: PerVertex<u32>,
     moves: PerVertex<bool>,
@@ -30,25 +38,29 @@ pub(crate) struct Waiting {
 }
 
 impl Waiting {
-    /// Nothing waits.
-    pub(crate) fn none(alloc: Global, ground: &GuessGround) -> Result<Waiting, AllocError> {
+    /// All wait that are below the top.
+    pub(crate) fn all(
+        alloc: Global,
+        ground: &GuessGround,
+        table: &[u64],
+    ) -> Result<Waiting, AllocError> {
         let vertices = ground.graph.vertices();
+        let mut waits = PerVertex::of(alloc, vertices, false)?;
+        let mut queue = VecDeque::new(alloc);
+        for v in 0..vertices {
+            if value_in(table, v) < ground.even.top {
+                waits.set(v, true);
+                queue.push_back(v)?;
+            }
+        }
         Ok(Waiting {
-            waits: PerVertex::of(alloc, vertices, false)?,
-            queue: VecDeque::new(alloc),
+            waits,
+            count: queue.len(),
+            queue,
             raises: PerVertex::of(alloc, vertices, 0)?,
             moves: PerVertex::of(alloc, vertices, false)?,
             climbs: CLIMBS,
         })
-    }
-
-    // A vertex at the top is never looked at.
-    fn add(&mut self, ground: &GuessGround, table: &[u64], v: u32) -> Result<(), AllocError> {
-        if !self.waits.get(v) && value_in(table, v) < ground.even.top {
-            self.waits.set(v, true);
-            self.queue.push_back(v)?;
-        }
-        Ok(())
     }
 
     // Whether v waited; it waits no more.
@@ -56,20 +68,26 @@ impl Waiting {
         let waited = self.waits.get(v);
         if waited {
             self.waits.set(v, false);
+            self.count = self.count.saturating_sub(1);
         }
         waited
     }
 
     // Whether so many wait that they are looked at faster in the order of the vertices.
     fn is_dense(&self) -> bool {
-        self.waits.count() as usize / DENSE < self.queue.len()
+        self.waits.count() as usize / DENSE < self.count
     }
 
-    // Those that move to v, which rose, are to be looked at again.
+    // Those that move to v, which rose, are to be looked at again where that may raise them.
     fn wake(&mut self, ground: &GuessGround, table: &[u64], v: u32) -> Result<(), AllocError> {
         self.raises.set(v, self.raises.get(v).saturating_add(1));
+        let value = value_in(table, v);
         for u in ground.graph.predecessors(v) {
-            self.add(ground, table, *u)?;
+            if !self.waits.get(*u) && ground.even.exceeds(*u, value, value_in(table, *u)) {
+                self.waits.set(*u, true);
+                self.count = self.count.saturating_add(1);
+                self.queue.push_back(*u)?;
+            }
         }
         Ok(())
     }
@@ -99,7 +117,7 @@ impl Waiting {
     /// Those that wait or climbed when some turn ended; none where nothing waits.
     pub(crate) fn moving(&mut self, alloc: Global) -> Result<Vec<u32>, AllocError> {
         let mut moving = Vec::new(alloc);
-        if self.queue.is_empty() {
+        if self.count == 0 {
             return Ok(moving);
         }
         for v in 0..self.waits.count() {
@@ -140,7 +158,7 @@ fn look(
 {
     if waiting.takes(v) {
         budget.spend(ground.graph.successors(v).len().saturating_add(1));
-        if lift_vertex(shape, arena, table, v) {
+        if ground.rises(table.values(), v) && lift_vertex(shape, arena, table, v) {
             waiting.wake(ground, table.values(), v)?;
         }
     }
@@ -167,7 +185,48 @@ fn look_round(
     Ok(())
 }
 
-// Lifts what waits, until nothing does or the budget is spent.
+// Lifts what waits, first come, first served, but not what these lifts wake.
+#[tactic(auto, using(crate::proofs::Kept::kept_then))]
+fn look_queue(
+    shape: &Shape,
+    arena: &Arena,
+    ground: &GuessGround,
+    waiting: &mut Waiting,
+    table: &mut Table,
+    budget: &mut Budget,
+) -> Result<(), AllocError>
+    requires { IsTableOf shape.now arena.now table.old }
+    ensures { IsRaisedFrom shape.now arena.now table.old table.new }
+{
+    for _ in 0..waiting.queue.len() {
+        let Some(v) = waiting.queue.pop_front() else {
+            break;
+        };
+        look(shape, arena, ground, waiting, table, v, budget)?;
+    }
+    Ok(())
+}
+
+// Lifts each vertex that waits.
+fn look_once(
+    shape: &Shape,
+    arena: &Arena,
+    ground: &GuessGround,
+    waiting: &mut Waiting,
+    table: &mut Table,
+    budget: &mut Budget,
+) -> Result<(), AllocError>
+    requires { IsTableOf shape.now arena.now table.old }
+    ensures { IsRaisedFrom shape.now arena.now table.old table.new }
+{
+    if waiting.is_dense() {
+        look_round(shape, arena, ground, waiting, table, budget)
+    } else {
+        look_queue(shape, arena, ground, waiting, table, budget)
+    }
+}
+
+// Lifts what waits, until nothing does, as many wait round after round, or the budget is spent.
 #[tactic(auto, using(crate::proofs::Kept::kept_then))]
 fn lift_waiting(
     shape: &Shape,
@@ -180,23 +239,24 @@ fn lift_waiting(
     requires { IsTableOf shape.now arena.now table.old }
     ensures { IsRaisedFrom shape.now arena.now table.old table.new }
 {
+    let mut least = waiting.count;
+    let mut left = budget.left();
     for _ in 0..u64::MAX {
-        if budget.is_spent() {
+        if waiting.count == 0 || budget.is_spent() {
             break;
         }
-        if waiting.is_dense() {
-            look_round(shape, arena, ground, waiting, table, budget)?;
-        } else {
-            let Some(v) = waiting.queue.pop_front() else {
-                break;
-            };
-            look(shape, arena, ground, waiting, table, v, budget)?;
+        look_once(shape, arena, ground, waiting, table, budget)?;
+        if waiting.count < least.saturating_sub(least / FALL) {
+            least = waiting.count;
+            left = budget.left();
+        } else if budget.left().saturating_add(ground.looks(PATIENCE)) < left {
+            break;
         }
     }
     Ok(())
 }
 
-/// Lifts until nothing waits, or so many edges and vertices were looked at, or the budget is spent.
+/// Lifts until nothing waits, or as many do round after round, or so many edges and vertices were looked at, or the budget is spent.
 pub(crate) fn lift_remaining(
     shape: &Shape,
     arena: &Arena,
