@@ -60,7 +60,7 @@ REFUSED = (
     + rb"|Overtaken|NotNext " + N + rb"|Outdated " + NAME + rb"|NotFull|NotSettled|NoToken|NoHarvest|NoVertex)"
 )
 ANSWERS = re.compile(
-    rb"(?:(?:(?:(?:done|undone|redone|kept|forgotten|added|harvest|settled|unsettled|entries|plans) " + N + rb"|" + REFUSED
+    rb"(?:(?:(?:(?:done|undone|redone|kept|forgotten|added|harvest|settled|unsettled|entries|plans|hopeless|possible|sure|unsure) " + N + rb"|" + REFUSED
     + rb"|decisions" + SIGNED + rb"|(?:full|settled) (?:yes|no)|" + N + rb" " + N + rb" " + N + rb" (?:hopeless|possible) (?:sure|unsure)"
     + rb"|(?:select|exclude) " + NAME + rb" " + N + rb"|(?:hopeful|dual) " + N + rb" " + N + rb" " + N + SIGNED
     + rb"|(?:in|out|open)(?: " + NAME + rb")*|plan " + N + rb" " + N + rb")\n)*)\Z"
