@@ -80,6 +80,9 @@ def cases():
     yield "script of 64 MB of comments", run, GAME, ROOT, (b"# " + b"x" * 1021 + b"\n") * 65_536, done
     yield "script of 64 MB of blank lines", run, GAME, ROOT, b"\n" * (64 << 20), done
     yield "script of a hundred thousand decisions undone", run, GAME, ROOT, b"select f\nundo\nforget 1\n" + b"".join(b"select f\nundo\nforget %d\n" % i for i in range(2, 100_001)), done
+    yield "script of 64 MB of lines that are refused", run, GAME, ROOT, b"undo 7\n" * ((64 << 20) // 7), done
+    yield "script of 64 MB of decisions that are refused", run, GAME, ROOT, b"select f\n" * ((64 << 20) // 9), done
+    yield "settling 65,536 vertices in reverse order", run, lines(b"%d 1 0 %d[f],0;\n", reversed(vertices)), ROOT, b"settle\nexclude f\nsettle\nshow\n", done
     yield "script of a million lines that are refused", run, GAME, ROOT, b"undo 7\n" * million, done
 
 
