@@ -1,0 +1,122 @@
+//! Calls that read texts.
+
+use crate::try_call;
+use anyhow::Result;
+use std::alloc::Global;
+use std::sync::Wait;
+use std::thread::Threads;
+use vpg_diagram::{Diagram, DiagramFault};
+use vpg_game::{GameFault, GuardedGame};
+use vpg_guards::{GuardFault, NameFault, Names, parse_guard};
+use vpg_scarce::{End, Heap, Trial};
+
+const DIAGRAM: &[u8] = b"root r\nmandatory r a\noptional r b\nalternative b: c d\nor a: e f g
+group r 1 2: h i j\nrequires c e\nexcludes d h\n";
+
+const GAME: &[u8] =
+    b"parity 9; start 1;\n1 1 0 2[a & !(b | c)],3 \"one\";\n2 4 1 1[!a],3[d],3[!d & true];
+3 3 0 3[(a | b) & (c | d)],1;\n9 0 1;\n";
+
+/// A text that is read.
+#[derive(Clone, Copy)]
+enum Text {
+    NoNames,
+    Name,
+    Guard,
+    Diagram,
+    Game,
+}
+
+/// A text that is read, and names over which it is.
+#[derive(Drop)]
+struct Reading {
+    text: Text,
+    names: Names,
+}
+
+fn make_names(alloc: Global) -> End {
+    match Names::new(alloc) {
+        Ok(names) if names.len() == 0 => End::Done,
+        Ok(_) => End::Otherwise,
+        Err(_) => End::Memory,
+    }
+}
+
+fn add_name(alloc: Global, names: &mut Names) -> End {
+    match names.add(alloc, b"another") {
+        Ok(10) => End::Done,
+        Err(NameFault::Memory) => End::Memory,
+        _ => End::Otherwise,
+    }
+}
+
+fn read_guard(alloc: Global, names: &Names) -> End {
+    match parse_guard(alloc, b"!(a|b) & true & (c | d | !!e)", names) {
+        Ok(_) => End::Done,
+        Err(GuardFault::Memory) => End::Memory,
+        Err(_) => End::Otherwise,
+    }
+}
+
+fn read_diagram(alloc: Global) -> End {
+    match Diagram::read(alloc, DIAGRAM) {
+        Ok(diagram) if diagram.features() == 11 => End::Done,
+        Err(DiagramFault::Memory) => End::Memory,
+        _ => End::Otherwise,
+    }
+}
+
+fn read_game(alloc: Global, names: &Names) -> End {
+    match GuardedGame::read(alloc, GAME, names) {
+        Ok(game) if game.vertices() == 4 => End::Done,
+        Err(GameFault::Memory) => End::Memory,
+        _ => End::Otherwise,
+    }
+}
+
+impl<R> Trial<R> for Reading {
+    fn attempt(&mut self, _rt: &R, alloc: Global) -> End {
+        match self.text {
+            Text::NoNames => make_names(alloc),
+            Text::Name => add_name(alloc, &mut self.names),
+            Text::Guard => read_guard(alloc, &self.names),
+            Text::Diagram => read_diagram(alloc),
+            Text::Game => read_game(alloc, &self.names),
+        }
+    }
+
+    fn is_unchanged(&mut self, _rt: &R, _alloc: Global) -> bool {
+        self.names.len() == 10
+            && self.names.get(b"j") == Some(9)
+            && self.names.get(b"another").is_none()
+    }
+}
+
+/// The names of ten features.
+fn ten_names(alloc: Global) -> Result<Names> {
+    let mut names = Names::new(alloc)?;
+    for name in ["a", "b", "c", "d", "e", "f", "g", "h", "i", "j"] {
+        names.add(alloc, name.as_bytes())?;
+    }
+    Ok(names)
+}
+
+/// Reads each text with little memory.
+pub(crate) fn refuse<R: Threads + Wait + Sync + Print>(rt: &R, heap: &mut Heap) -> Result<()> {
+    let names = ten_names(heap.alloc())?;
+    let mut reading = Reading {
+        text: Text::NoNames,
+        names,
+    };
+    for (name, text) in [
+        ("Names::new", Text::NoNames),
+        ("parse_guard", Text::Guard),
+        ("Diagram::read", Text::Diagram),
+        ("GuardedGame::read", Text::Game),
+        ("Names::add", Text::Name),
+    ] {
+        reading.text = text;
+        try_call(rt, heap, name, &mut reading)?;
+    }
+    Ok(())
+}
