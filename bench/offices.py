@@ -9,10 +9,10 @@ reading the files and starting threads is not counted. All that is compared take
   calls    100,000 and 200,000 calls of 1 and of 8 sessions, each in a thread of its own: whether order and `end` hold; the seconds of the clock that the
            first take as a whole, microseconds a further call, and bytes of peak memory a further call, also against a run of 32 calls
   reads    millions of reads a second of 1, 4 and 16 watchers, each in a thread of its own, beside a session that decides a feature and undoes that
-           without pause; and of as many threads that read the same sheet behind a mutex, where that session puts it. Beside both, how many
-           milliseconds a round of that session takes: a decision, its undo, and that the token is forgotten
-  changes  microseconds of the processor and by the clock a round where no watch was ever opened, and with one watch that nobody reads; and by the clock
-           with one that is read without pause
+           without pause; of as many that give way after each read; and of as many threads that read the same sheet behind a mutex, where that
+           session puts it. Beside each, how many milliseconds a round of that session takes: a decision, its undo, and that the token is forgotten
+  changes  microseconds of the processor and by the clock a round on a desk without an office, on an office where no watch was ever opened, and with one
+           watch that nobody reads; and by the clock with one that is read without pause
 
 The games: examples/mine_pump, the family of `decisions.py` with 65,536 vertices of sixteen edges, and the pump of `families.py` with as many vertices.
 """
@@ -100,7 +100,7 @@ def rounds_of_a_second(program, game, how, readers):
 
 def tell_reads(program, name, game, runs):
     for readers in (1, 4, 16):
-        hows = [(how, rounds_of_a_second(program, game, how, readers)) for how in ("watches", "mutex")]
+        hows = [(how, rounds_of_a_second(program, game, how, readers)) for how in ("watches", "polite", "mutex")]
         taken = [[slope(program, game, rounds, how, readers) for how, rounds in hows] for _ in range(runs)]
         print(f"{name:12} {readers:3} readers", end="")
         for (how, _), figures in zip(hows, zip(*taken)):
@@ -110,11 +110,11 @@ def tell_reads(program, name, game, runs):
 
 
 def tell_changes(program, name, game, runs):
-    hows = [(how, readers, rounds_of_a_second(program, game, how, readers)) for how, readers in (("alone", 0), ("idle", 1), ("watches", 1))]
+    hows = [(how, readers, rounds_of_a_second(program, game, how, readers)) for how, readers in (("desk", 0), ("alone", 0), ("idle", 1), ("watches", 1))]
     taken = [[slope(program, game, rounds, how, readers) for how, readers, rounds in hows] for _ in range(runs)]
-    alone, idle, read = [[median(figures) * 1e6 for figures in zip(*of_one)] for of_one in zip(*taken)]
-    print(f"{name:12} no watch {alone[2]:10.1f} us of processor, {alone[0]:10.1f} by the clock", end="")
-    print(f"   idle {idle[2]:10.1f}, {idle[0]:10.1f}   read by the clock {read[0]:10.1f}", flush=True)
+    desk, alone, idle, read = [[median(figures) * 1e6 for figures in zip(*of_one)] for of_one in zip(*taken)]
+    print(f"{name:12} desk {desk[2]:10.1f} us of processor, {desk[0]:10.1f} by the clock", end="")
+    print(f"   no watch {alone[2]:10.1f}, {alone[0]:10.1f}   idle {idle[2]:10.1f}, {idle[0]:10.1f}   read by the clock {read[0]:10.1f}", flush=True)
 
 
 def main():

@@ -8,12 +8,14 @@
 //!
 //! `changes`: on an office on the files' game one session decides the feature of this number and undoes that, ROUNDS times: three calls
 //! a time. HOW is `alone` (no watch is ever opened), `idle` (READERS watches that nobody reads), `watches` (READERS watches, each read
-//! without pause in a thread of its own) or `mutex` (READERS threads read without pause what the session puts behind a mutex after each change: the
-//! same sheet). It prints how many calls the log has, how many reads there were, and how many tokens `end` misses.
+//! without pause in a thread of its own), `polite` (the same, but each reader gives way after a read), `mutex` (READERS threads read without
+//! pause what the session puts behind a mutex after each change: the same sheet) or `desk` (the same calls on a desk, without an office). It
+//! prints how many reads there were, how many calls the log has, and how many tokens `end` misses.
 //!
 //! A log takes 1,048,576 calls. Without words it does a little of both and prints no count of reads. `bench/offices.py` runs it, and measures what it takes.
 #![tactic(auto)]
 
+mod desk;
 mod reading;
 mod working;
 
@@ -21,6 +23,7 @@ ghost use Rattle.std.specs.Arc.{arc_value};
 ghost use Rattle.std.specs.Prelude.{◌≡◌, ◌≤◌, IfOk, vec_len, vec_capacity};
 ghost use Rattle.vpg_diagram.specs.FeatureDiagram.{feature_count};
 
+use crate::desk::change_alone;
 use crate::reading::{change_and_show, look_all, read_all, watches};
 use crate::working::{Places, Seat, change_often, decide, joined, places_of};
 use anyhow::{Result, bail};
@@ -30,6 +33,7 @@ use std::sync::atomic::AtomicU64;
 use std::sync::{Arc, Mutex, Wait};
 use std::thread::{Threads, join, map_vec};
 use std::{env, fs};
+use vpg_desk::Desk;
 use vpg_diagram::Diagram;
 use vpg_game::GuardedGame;
 use vpg_office::{Front, Office, Site, Terms, Undo, read};
@@ -50,6 +54,7 @@ enum How {
     Alone,
     Idle,
     Watches,
+    Polite,
     Mutex,
 }
 
@@ -66,6 +71,13 @@ enum Task {
         how: How,
         readers: u32,
     },
+}
+
+/// What is done.
+#[derive(Clone, Copy)]
+enum Job {
+    AtOffice(Task),
+    AtDesk { feature: u16, rounds: u32 },
 }
 
 /// What came of it.
@@ -144,12 +156,13 @@ fn change_and_read<L: Terms + Send + Sync, R: Threads + Wait + Sync>(
     feature: u16,
     rounds: u32,
     watches: Vec<Watch<Front<L>>>,
+    polite: bool,
 ) -> Option<u64> {
     let ended = AtomicU64::new(0);
     let (_changed, reads) = join(
         rt,
         || change_often(rt, alloc, office, seat, feature, rounds, &ended),
-        || read_all(rt, watches, &ended),
+        || read_all(rt, watches, polite, &ended),
     );
     reads.ok()
 }
@@ -193,8 +206,9 @@ fn change<L: Terms + Send + Sync, R: Threads + Wait + Sync>(
     }
     let count = if how == How::Alone { 0 } else { readers };
     let watches = watches(rt, alloc, office, count)?;
-    if how == How::Watches {
-        return change_and_read(rt, alloc, office, seat, feature, rounds, watches);
+    if how == How::Watches || how == How::Polite {
+        let polite = how == How::Polite;
+        return change_and_read(rt, alloc, office, seat, feature, rounds, watches, polite);
     }
     change_often(rt, alloc, office, seat, feature, rounds, &AtomicU64::new(0));
     Some(0)
@@ -279,13 +293,39 @@ fn open_and_work<L: Terms + Send + Sync, R: Threads + Wait + Sync>(
     }
 }
 
-/// Does the task on an office on the game and diagram that these texts spell.
+/// Makes changes on a desk without an office.
+fn work_at_desk<R: Wait>(
+    rt: &R,
+    alloc: Global,
+    game: Arc<GuardedGame>,
+    diagram: Arc<Diagram>,
+    feature: u16,
+    rounds: u32,
+) -> Option<Told>
+    requires { (arc_value game).features ≡ feature_count (arc_value diagram).lines }
+{
+    match Desk::open(alloc, game, diagram) {
+        Ok(desk) => {
+            let mut desk = desk;
+            let calls = change_alone(rt, alloc, &mut desk, feature, rounds);
+            Some(Told {
+                calls,
+                in_order: true,
+                reads: 0,
+                further: desk.tokens(),
+            })
+        }
+        Err(_refused) => None,
+    }
+}
+
+/// Does the job on an office or a desk on the game and diagram that these texts spell.
 fn told_of<R: Threads + Wait + Sync>(
     rt: &R,
     alloc: Global,
     game: &[u8],
     diagram: &[u8],
-    task: Task,
+    job: Job,
 ) -> Result<Told> {
     let diagram = Diagram::read(alloc, diagram)?;
     let game = GuardedGame::read(alloc, game, diagram.names())?;
@@ -294,7 +334,15 @@ fn told_of<R: Threads + Wait + Sync>(
     }
     let (game, diagram) = (Arc::new(alloc, game)?, Arc::new(alloc, diagram)?);
     let site = Site::new(alloc)?;
-    match open_and_work::<Brand, R>(rt, alloc, site, game, diagram, ROOM, task) {
+    let told = match job {
+        Job::AtOffice(task) => {
+            open_and_work::<Brand, R>(rt, alloc, site, game, diagram, ROOM, task)
+        }
+        Job::AtDesk { feature, rounds } => {
+            work_at_desk(rt, alloc, game, diagram, feature, rounds)
+        }
+    };
+    match told {
         Some(told) => Ok(told),
         None => bail!("no office, no place or no memory"),
     }
@@ -310,34 +358,39 @@ fn number_of(word: &str, most: u32) -> Result<u32>
     }
 }
 
-/// The task that the words after `calls` name.
-fn calls_of(sessions: &str, calls: &str) -> Result<Task> {
+/// The job that the words after `calls` name.
+fn calls_of(sessions: &str, calls: &str) -> Result<Job> {
     let sessions = number_of(sessions, 8)?;
     let calls = number_of(calls, ROOM - 8)?;
     if sessions == 0 {
         bail!("there are 1 to 8 sessions");
     }
-    Ok(Task::Calls {
+    Ok(Job::AtOffice(Task::Calls {
         sessions,
         rounds: calls / sessions / 4,
-    })
+    }))
 }
 
-/// The task that the words after `changes GAME DIAGRAM` name.
-fn changes_of(feature: &str, rounds: &str, how: &str, readers: &str) -> Result<Task> {
+/// The job that the words after `changes GAME DIAGRAM` name.
+fn changes_of(feature: &str, rounds: &str, how: &str, readers: &str) -> Result<Job> {
+    let feature = number_of(feature, 511)? as u16;
+    let rounds = number_of(rounds, ROOM / 3 - 1)?;
+    let readers = number_of(readers, 63)?;
     let how = match how {
+        "desk" => return Ok(Job::AtDesk { feature, rounds }),
         "alone" => How::Alone,
         "idle" => How::Idle,
         "watches" => How::Watches,
+        "polite" => How::Polite,
         "mutex" => How::Mutex,
         _ => bail!("{how} is no way of reading"),
     };
-    Ok(Task::Changes {
-        feature: number_of(feature, 511)? as u16,
-        rounds: number_of(rounds, ROOM / 3 - 1)?,
+    Ok(Job::AtOffice(Task::Changes {
+        feature,
+        rounds,
         how,
-        readers: number_of(readers, 63)?,
-    })
+        readers,
+    }))
 }
 
 /// Tells what came of a task, but for reads, in one line.
@@ -354,9 +407,9 @@ fn work_built_in<T: Threads + Wait + Sync>(rt: &HostRuntime, threads: &T) -> Res
     let alloc = rt.alloc();
     let told = told_of(threads, alloc, GAME, DIAGRAM, calls_of("8", "8000")?)?;
     tell(rt, told)?;
-    for how in ["alone", "idle", "watches", "mutex"] {
-        let task = changes_of("1", "100", how, "2")?;
-        tell(rt, told_of(threads, alloc, GAME, DIAGRAM, task)?)?;
+    for how in ["alone", "idle", "watches", "polite", "mutex", "desk"] {
+        let job = changes_of("1", "100", how, "2")?;
+        tell(rt, told_of(threads, alloc, GAME, DIAGRAM, job)?)?;
     }
     Ok(())
 }
@@ -364,13 +417,13 @@ fn work_built_in<T: Threads + Wait + Sync>(rt: &HostRuntime, threads: &T) -> Res
 fn main(rt: HostRuntime) -> Result<()> {
     let words: Vec<String> = env::args(&rt)?.collect(rt.alloc())?;
     if words.len() == 4 {
-        let task = calls_of(words[2].as_str(), words[3].as_str())?;
-        return tell(&rt, told_of(&rt, rt.alloc(), GAME, DIAGRAM, task)?);
+        let job = calls_of(words[2].as_str(), words[3].as_str())?;
+        return tell(&rt, told_of(&rt, rt.alloc(), GAME, DIAGRAM, job)?);
     }
     if words.len() < 8 {
         return work_built_in(&rt, &rt);
     }
-    let task = changes_of(
+    let job = changes_of(
         words[4].as_str(),
         words[5].as_str(),
         words[6].as_str(),
@@ -378,7 +431,7 @@ fn main(rt: HostRuntime) -> Result<()> {
     )?;
     let game = fs::read(&rt, words[2].as_str())?;
     let diagram = fs::read(&rt, words[3].as_str())?;
-    let told = told_of(&rt, rt.alloc(), &game, &diagram, task)?;
+    let told = told_of(&rt, rt.alloc(), &game, &diagram, job)?;
     println!(rt; "reads {}", told.reads)?;
     tell(&rt, told)
 }

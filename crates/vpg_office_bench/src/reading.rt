@@ -26,8 +26,13 @@ pub fn watches<L: Terms, R: Wait>(
     Some(watches)
 }
 
-/// Reads by a watch until the changes have ended: how many sheets.
-fn read_on<L: Terms, R: Wait>(rt: &R, watch: Watch<Front<L>>, ended: &AtomicU64) -> u64 {
+/// Reads by a watch until the changes have ended: how many sheets. A polite reader gives way after each read.
+fn read_on<L: Terms, R: Wait>(
+    rt: &R,
+    watch: Watch<Front<L>>,
+    polite: bool,
+    ended: &AtomicU64,
+) -> u64 {
     let mut watch = watch;
     let mut reads = 0u64;
     for _ in rt.forever() {
@@ -38,6 +43,9 @@ fn read_on<L: Terms, R: Wait>(rt: &R, watch: Watch<Front<L>>, ended: &AtomicU64)
             if sheet.verdicts.as_slice().first().is_some() {
                 reads = reads.saturating_add(1);
             }
+        }
+        if polite {
+            thread::yield_now();
         }
     }
     unreachable!()
@@ -73,9 +81,10 @@ fn sum_of(reads: &[u64]) -> u64 {
 pub fn read_all<L: Terms + Send + Sync, R: Threads + Wait + Sync>(
     rt: &R,
     watches: Vec<Watch<Front<L>>>,
+    polite: bool,
     ended: &AtomicU64,
 ) -> Result<u64, AllocError> {
-    let reads = thread::map_vec(rt, watches, &|watch| read_on(rt, watch, ended))?;
+    let reads = thread::map_vec(rt, watches, &|watch| read_on(rt, watch, polite, ended))?;
     Ok(sum_of(reads.as_slice()))
 }
 
