@@ -170,6 +170,7 @@ fn harvest_place(harvests: &[Option<Harvest>], number: u64) -> Option<usize>
 pub(crate) fn take_harvest(harvests: &mut Vec<Option<Harvest>>, number: u64) -> Option<Harvest>
     ensures kept { result ≡ harvest_kept harvests.old.items number }
     ensures gone { IfSome result (λ _. harvests.new.items ≡ slice_set harvests.old.items (number - 1) None) }
+    ensures within { IfSome result (λ _. (0 < number) × (number ≤ vec_len harvests.new)) }
     ensures none { IfNone result (harvests.new.items ≡ harvests.old.items) }
 {
     let place = harvest_place(harvests, number)?;
