@@ -67,7 +67,7 @@ ANSWERS = re.compile(
 )
 PLAIN = re.compile(rb"\Aparity " + N + rb";\n(?:" + N + rb" " + N + rb" [01](?: " + N + rb"(?:," + N + rb")*)?;\n)+\Z")
 COUNTS = re.compile(rb"\Avertices " + N + rb" edges " + N + rb" features " + N + rb" top " + N + rb" " + N + rb"\n\Z")
-TOLD = re.compile(rb"\A(?:Configures|Carries|Writes|Reads|Print|vpgdesk [0-9])")
+TOLD = re.compile(rb"\A(?:Configures|Carries|Counts|Writes|Reads|Print|vpgdesk [0-9])")
 
 
 def kind_of(words, status, out, err):

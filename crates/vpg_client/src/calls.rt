@@ -1,8 +1,10 @@
 //! The calls of a client, each that of the desk under the label as session number.
+ghost use Rattle.std.specs.Arc.{arc_value};
 ghost use Rattle.std.specs.Prelude.{◌≡◌, ◌<◌, true, None, Some, length, IfOk, IfErr, OnOk};
 ghost use Rattle.vpg_game.specs.Game.{graph_of};
+ghost use Rattle.vpg_measure.specs.Games.{ArePageGames};
 ghost use Rattle.vpg_measure.specs.Orders.{IsOrder};
-ghost use Rattle.vpg_trail.specs.Page.{Hopeful, Dual, decisions_of, table_of};
+ghost use Rattle.vpg_trail.specs.Page.{Hopeful, Dual, choices_of, decisions_of, table_of};
 ghost use Rattle.vpg_desk.specs.Book as book;
 ghost use Rattle.vpg_desk.specs.Commit.{IsOrderOf, commit_refusal, handed_in};
 ghost use Rattle.vpg_desk.specs.Desk.{family_of};
@@ -18,9 +20,9 @@ ghost use Rattle.vpg_client.specs.Faults.{CommitTells, Tells, UnlessStray};
 use crate::client::{Client, has_one_more, seat};
 use crate::fault::{ClientFault, Returned, Token, sorted};
 use std::alloc::Global;
-use std::sync::Wait;
+use std::sync::{Arc, Wait};
 use vpg_desk::{CommitFault, DecideFault, RedoFault, RetractFault, UndoFault};
-use vpg_measure::{Harvest, Order, Verdict};
+use vpg_measure::{Harvest, Order, PageGames, Verdict};
 use vpg_office::{Never, Redo, Terms, Undo};
 use vpg_trail::Page;
 
@@ -464,5 +466,43 @@ impl<L: Terms> Client<L> {
             return Err(ClientFault::Stray);
         }
         Ok(page)
+    }
+
+    /// The present page, as `Desk::page`, with what its decisions make of the game, as `Desk::games`. Nothing is made anew for it.
+    pub fn page_with_games<R: Wait>(
+        &mut self,
+        rt: &R,
+        alloc: Global,
+        label: u32,
+    ) -> Result<(Page, Arc<PageGames>), ClientFault<Never>>
+        ensures accepted { IfOk result (λ r. IsLogged L.limit self.old label book.Page (book.PageIs r.0.entries) self.new) }
+        ensures decisions { IfOk result (λ r. r.0.decisions ≡ decisions_of self.old.desk.book.present) }
+        ensures hopeful { IfOk result (λ r. r.0.hopeful ≡ table_of Hopeful self.old.desk.book.present (length (graph_of self.old.desk.game))) }
+        ensures dual { IfOk result (λ r. r.0.dual ≡ table_of Dual self.old.desk.book.present (length (graph_of self.old.desk.game))) }
+        ensures games { IfOk result (λ r. ArePageGames self.old.desk.game self.old.desk.diagram (choices_of self.old.desk.book.present) (arc_value r.1)) }
+        ensures below { OnOk result (PageIsBelow (family_of (setting_of self.old.desk)) self.old.desk.book.present) }
+        ensures tells { OnOk result (PageTells (setting_of self.old.desk) self.old.desk.book.present) }
+        ensures setting { OnOk result (IsSetting (setting_of self.old.desk)) }
+        ensures reached { OnOk result (IsReached (setting_of self.old.desk) self.old.desk.book) }
+        ensures fault { IfErr result (Tells L.limit never_refused self.old label book.Page self.new) }
+    {
+        let place = match seat(rt, &self.office, &self.front, &mut self.sessions, label) {
+            Ok(place) => place,
+            Err(fault) => return Err(fault),
+        };
+        let calls = self.front.len();
+        let both = match self.sessions[place].page_with_games(
+            rt,
+            alloc,
+            &self.office,
+            &mut self.front,
+        ) {
+            Ok(both) => both,
+            Err(fault) => return Err(sorted(fault, calls, &self.front)),
+        };
+        if !has_one_more(&self.front, calls) {
+            return Err(ClientFault::Stray);
+        }
+        Ok(both)
     }
 }

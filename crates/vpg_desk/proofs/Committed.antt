@@ -20,14 +20,15 @@ use Rattle.vpg_trail.specs.Shown.{Track}
 use Rattle.vpg_trail.specs.WellFormed.{LiftsStandAfter}
 use Rattle.vpg_trail.proofs.Lifting.{well_formed_lifts_stand}
 use Rattle.vpg_trail.proofs.PageLemmas.{choices_of-append, value_at-append, length-table_of, table_of-at}
-use Rattle.vpg_desk.specs.Book.{Commit, Added, Refused, OtherGame, Outdated, IsSettledPage, committed, raises_of, first_missing, outdated_at, refuses_commit, Refusal}
+use Rattle.vpg_desk.specs.Book.{Book, Commit, Added, Refused, OtherGame, Outdated, IsSettledPage, committed, raises_of, first_missing, outdated_at, refuses_commit, Refusal}
 use Rattle.vpg_desk.specs.Commit.{IsOrderOf, handed_in, raised_by, commit_refusal}
 use Rattle.vpg_desk.specs.declared.fault.CommitFault.{CommitFault}
 use Rattle.vpg_desk.specs.declared.fault.CommitFault.TheVariants.{Memory}
-use Rattle.vpg_desk.specs.Cuts.{cut_book, SuffixesBelow}
+use Rattle.vpg_desk.specs.Cuts.{notes_of, cut_book, SuffixesBelow}
 use Rattle.vpg_desk.specs.Desk.{family_of, IsProgressUnder}
 use Rattle.vpg_desk.specs.DeskFields.{setting_in, book_in, desk_of, IsDesk}
 use Rattle.vpg_desk.specs.Lawful.{IsLawful, PageIsBelow, harvested}
+use Rattle.vpg_desk.specs.Notes.{NotedAre}
 use Rattle.vpg_desk.specs.State.{DeskState, Replies, IsStep, IsReached}
 use Rattle.vpg_desk.specs.Trail.{StandsFor, book_of}
 use Rattle.vpg_desk.specs.declared.desk.Desk.TheInside.{Inside}
@@ -129,7 +130,11 @@ module _ (d : Inside) (i : IsDesk d) (harvest : HarvestView) (is_harvest : IsHar
       future_fits = stands.future_fits;
       past_below = subst (λ (t : Track). SuffixesBelow t.vertices d.past.items) (sym trail_is) i.past_below;
       future_below = subst (λ (t : Track). SuffixesBelow t.vertices d.future.items) (sym trail_is) i.future_below;
-      noted = noted;
+      noted = record {
+        present = noted;
+        past = subst (λ (b : Book). NotedAre (IsSettledPage (family_of (setting_in d))) (notes_of d.past.items) b.past) (sym stands.same) i.noted.past;
+        future = subst (λ (b : Book). NotedAre (IsSettledPage (family_of (setting_in d))) (notes_of d.future.items) b.future) (sym stands.same) i.noted.future;
+      };
     }
 
     -- ---- whether it is settled then
@@ -213,5 +218,5 @@ module _ (d : Inside) (i : IsDesk d) (harvest : HarvestView) (is_harvest : IsHar
     -- one or the other
     pub settled_by : (read : GamesView) → read ≡ arc_value d.games →
         IsTrue d.is_noted ⊎ (IsSettledHarvest harvest × IsKnownTable harvest.order.diagram.lines (map literal_of harvest.order.decisions) read.known) → IsSettledPage (family_of (setting_in d)) trail.entries
-    settled_by read same (inl noted) = stays_settled (i.noted noted)
+    settled_by read same (inl noted) = stays_settled (i.noted.present noted)
     settled_by read same (inr (settled, known)) = settled_then settled (coe 0 1 (k. IsKnownTable (ours.1 k).lines (map literal_of harvest.order.decisions) (same k).known) known)

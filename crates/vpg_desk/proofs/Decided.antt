@@ -1,6 +1,5 @@
 -- What a desk answers to a decide, and what an accepted one leaves.
 use Rattle.std.proofs.Common.{◌≡◌, ℕ, ◌+◌, ◌<◌, ◌≤◌, Bool, false, List, [], ◌∷◌, ◌++◌, Some, None, IfSome, refl, sym, ap, ◌∙◌, subst, arith, Vec, Global}
-use Rattle.std.proofs.lemmas.Bool.{false≢true}
 use Rattle.std.specs.Arc.{arc_value}
 use Rattle.std.specs.declared.sync.Arc.{Arc}
 use Rattle.std.specs.List.{AllByRecursion}
@@ -14,13 +13,15 @@ use Rattle.vpg_partial.specs.TableLaws.{IsKnownTable, AreChoicesOf}
 use Rattle.vpg_trail.specs.Page.{Literal, Decision, Entry as Step, Decided, literal_of, decisions_of, choices_of, decision_on}
 use Rattle.vpg_trail.specs.Shown.{Track}
 use Rattle.vpg_trail.proofs.PageLemmas.{choices_of-append}
-use Rattle.vpg_desk.specs.Book.{Refused, Changed, Decide, AlreadyDecided, UnknownFeature, Conflict, TooManyChanges, most_changes, with_choice, changed}
-use Rattle.vpg_desk.specs.Cuts.{cuts_of, cut_book, SuffixesBelow}
+use Rattle.vpg_desk.specs.Book.{Refused, Changed, Decide, AlreadyDecided, UnknownFeature, Conflict, TooManyChanges, most_changes, with_choice, changed, IsSettledPage}
+use Rattle.vpg_desk.specs.Cuts.{cuts_of, notes_of, cut_book, SuffixesBelow}
 use Rattle.vpg_desk.specs.Trail.{StandsFor, book_of}
 use Rattle.vpg_desk.specs.declared.cuts.Cut.{Cut}
 use Rattle.vpg_desk.proofs.Changing.{end_cut, decided_stands}
-use Rattle.vpg_desk.specs.DeskFields.{setting_in, book_in, desk_of, IsDesk}
+use Rattle.vpg_desk.specs.Desk.{family_of}
+use Rattle.vpg_desk.specs.DeskFields.{setting_in, book_in, notes_in, desk_of, IsDesk}
 use Rattle.vpg_desk.specs.Faults.{decide_refusal, ClosesWith}
+use Rattle.vpg_desk.specs.Notes.{NotesHold}
 use Rattle.vpg_desk.specs.Setting.{HasConflict}
 use Rattle.vpg_desk.specs.State.{Replies, IsStep, IsReached}
 use Rattle.vpg_desk.specs.declared.desk.Desk.TheInside.{Inside}
@@ -28,6 +29,7 @@ use Rattle.vpg_desk.specs.declared.fault.DecideFault.{DecideFault}
 use Rattle.vpg_desk.specs.declared.fault.DecideFault.TheVariants.{UnknownFeature as IsUnknown, AlreadyDecided as IsDecided, Conflict as InConflict, TooManyChanges as IsTooMany, Memory}
 use Rattle.vpg_desk.proofs.Answering.{tells}
 use Rattle.vpg_desk.proofs.Deciding.{choices_inside, one_more_inside, known_no_conflict, named_has_conflict}
+use Rattle.vpg_desk.proofs.Noted.{noted_changed}
 use Rattle.vpg_desk.proofs.Reaching.{reached_step, reached_limits}
 
 module _ (d : Inside) (i : IsDesk d) where
@@ -93,6 +95,7 @@ module _ (d : Inside) (i : IsDesk d) where
 
 module _ (d : Inside) (i : IsDesk d) (session f : ℕ) (value : Bool) (games : Arc GamesView Global) (later : Vec Cut Global) (trail : Track) (future : Vec Cut Global)
     (cuts : cuts_of later.items ≡ end_cut (d.changes + 1) d.trail.entries ∷ cuts_of d.past.items)
+    (notes : notes_of later.items ≡ d.is_noted ∷ notes_of d.past.items)
     (below : SuffixesBelow d.trail.vertices d.past.items → SuffixesBelow d.trail.vertices later.items)
     (trail_is : trail ≡ record { vertices = d.trail.vertices; entries = d.trail.entries ++ Decided (record { serial = d.changes + 1; session = session; feature = f; value = value }) ∷ [] })
     (emptied : future.items ≡ [])
@@ -121,5 +124,6 @@ module _ (d : Inside) (i : IsDesk d) (session f : ℕ) (value : Bool) (games : A
     future_fits = stands.future_fits;
     past_below = subst (λ (t : Track). SuffixesBelow t.vertices later.items) (sym trail_is) (below i.past_below);
     future_below = subst (λ (l : List Cut). SuffixesBelow trail.vertices l) (sym emptied) (λ k x h. absurd (omega arith));
-    noted = λ t. absurd (false≢true t);
+    noted = coe 0 1 (k. NotesHold (IsSettledPage (family_of (setting_in d))) (record { present = false; past = sym notes k; future = notes_of (sym emptied k) }) (sym stands.same k))
+        (noted_changed (IsSettledPage (family_of (setting_in d))) (notes_in d) (book_in d) (d.trail.entries ++ Decided (record { serial = d.changes + 1; session = session; feature = f; value = value }) ∷ []) i.noted);
   }

@@ -1,21 +1,24 @@
 -- What an accepted retract leaves.
 use Rattle.std.proofs.Common.{◌≡◌, ℕ, ◌+◌, ◌<◌, ◌≤◌, Bool, true, false, not, cond, List, [], ◌∷◌, ◌++◌, length, take, drop, filter, Option, Some, None, refl, sym, ap, ◌∙◌, subst, arith, Vec, Global}
-use Rattle.std.proofs.lemmas.Bool.{lt-leb, false≢true}
+use Rattle.std.proofs.lemmas.Bool.{lt-leb}
 use Rattle.std.specs.Arc.{arc_value}
 use Rattle.std.specs.declared.sync.Arc.{Arc}
 use Rattle.vpg_diagram.specs.FeatureDiagram.{feature_count}
 use Rattle.vpg_measure.specs.Games.{GamesView, ArePageGames}
 use Rattle.vpg_trail.specs.Page.{Entry as Step, choices_of, has_decided, assumes, before_decision, after_decision, reset_all, retracted}
 use Rattle.vpg_trail.specs.Shown.{Track}
-use Rattle.vpg_desk.specs.Book.{Refusal, Changed, Retract, UnknownFeature, NotDecided, TooManyChanges, most_changes, changed}
-use Rattle.vpg_desk.specs.Cuts.{cuts_of, cut_book, SuffixesBelow}
-use Rattle.vpg_desk.specs.DeskFields.{setting_in, book_in, desk_of, IsDesk}
+use Rattle.vpg_desk.specs.Book.{Refusal, Changed, Retract, UnknownFeature, NotDecided, TooManyChanges, most_changes, changed, IsSettledPage}
+use Rattle.vpg_desk.specs.Cuts.{cuts_of, notes_of, cut_book, SuffixesBelow}
+use Rattle.vpg_desk.specs.Desk.{family_of}
+use Rattle.vpg_desk.specs.DeskFields.{setting_in, book_in, notes_in, desk_of, IsDesk}
+use Rattle.vpg_desk.specs.Notes.{NotesHold}
 use Rattle.vpg_desk.specs.Setting.{HasConflict}
 use Rattle.vpg_desk.specs.State.{Replies, IsStep, IsReached}
 use Rattle.vpg_desk.specs.Trail.{StandsFor, book_of}
 use Rattle.vpg_desk.specs.declared.cuts.Cut.{Cut}
 use Rattle.vpg_desk.specs.declared.desk.Desk.TheInside.{Inside}
 use Rattle.vpg_desk.proofs.Decided.{limits}
+use Rattle.vpg_desk.proofs.Noted.{noted_changed}
 use Rattle.vpg_desk.proofs.Reaching.{reached_step, reached_tells}
 use Rattle.vpg_desk.proofs.Trail.{cut_is_change}
 
@@ -47,6 +50,7 @@ module _ (d : Inside) (i : IsDesk d) (f : ℕ) (accepted : Replies (desk_of d) (
       (within : place ≤ length d.trail.entries)
       (page_is : take place d.trail.entries ++ kept ≡ retracted f d.trail.entries)
       (cuts : cuts_of later.items ≡ record { serial = d.changes + 1; place = place; suffix = drop place d.trail.entries } ∷ cuts_of d.past.items)
+      (notes : notes_of later.items ≡ d.is_noted ∷ notes_of d.past.items)
       (below : SuffixesBelow d.trail.vertices d.past.items → SuffixesBelow d.trail.vertices later.items)
       (trail_is : trail ≡ record { vertices = d.trail.vertices; entries = take place d.trail.entries ++ kept })
       (emptied : future.items ≡ [])
@@ -68,5 +72,6 @@ module _ (d : Inside) (i : IsDesk d) (f : ℕ) (accepted : Replies (desk_of d) (
       future_fits = stands.future_fits;
       past_below = subst (λ (t : Track). SuffixesBelow t.vertices later.items) (sym trail_is) (below i.past_below);
       future_below = subst (λ (l : List Cut). SuffixesBelow trail.vertices l) (sym emptied) (λ k x h. absurd (omega arith));
-      noted = λ t. absurd (false≢true t);
+      noted = coe 0 1 (k. NotesHold (IsSettledPage (family_of (setting_in d))) (record { present = false; past = sym notes k; future = notes_of (sym emptied k) }) (sym stands.same k))
+          (noted_changed (IsSettledPage (family_of (setting_in d))) (notes_in d) (book_in d) (retracted f d.trail.entries) i.noted);
     }

@@ -1,17 +1,17 @@
 -- Stacks of cuts, with the top last, against lists of cuts with the top first.
-use Rattle.std.proofs.Common.{◌≡◌, ℕ, zero, suc, ◌-◌, ◌+◌, ◌<◌, Bool, true, false, cond, ◌||◌, ◌==◌, List, [], ◌∷◌, ◌++◌, map, reverse, length, take, drop, slice_get, get_or, Option, Some, None, All, IfSome, arith, refl, sym, ap, ◌∙◌, subst, ne_eqb, eq-eqb, append-nil, append_assoc, take_all}
+use Rattle.std.proofs.Common.{◌≡◌, ℕ, zero, suc, ◌-◌, ◌+◌, ◌<◌, ◌≤◌, Bool, true, false, cond, ◌||◌, ◌==◌, List, [], ◌∷◌, ◌++◌, map, reverse, length, length-drop, take, drop, slice_get, get_or, Option, Some, None, All, IfSome, arith, refl, sym, ap, ◌∙◌, subst, ne_eqb, eq-eqb, append-nil, append_assoc, take_all, take_at, take-append-drop}
 use Rattle.std.specs.List.{AllByRecursion, list_any}
 use Rattle.std.proofs.lemmas.Bool.{cond-false, cond-true}
 use Rattle.std.specs.Option.{option_to_list}
 use Rattle.std.proofs.lemmas.List.Elements.{All-pop, All-push, All-same}
-use Rattle.std.proofs.lemmas.List.{map-append, reverse-append, take_more, drop_more, drop_all}
+use Rattle.std.proofs.lemmas.List.{map-append, reverse-append, take_more, drop_more, drop_all, length-map, length-reverse}
 use Rattle.vpg_trail.proofs.PageLemmas.{any-append, well_formed_parts}
 use Rattle.vpg_trail.specs.Page.{Entry as Step}
 use Rattle.vpg_trail.specs.Shown.{entry_of, VertexBelow}
 use Rattle.vpg_trail.specs.WellFormed.{IsWellFormed, LiftsStandAfter}
 use Rattle.vpg_trail.proofs.Lifting.{well_formed_lifts_stand}
 use Rattle.vpg_desk.specs.Book.{Kept, Refusal, Sealed, NotNewest, Overtaken, NotNext, refuses_undo, refuses_redo, has_serial}
-use Rattle.vpg_desk.specs.Cuts.{cut_of, cuts_of, serials_from_top, pages_of, SuffixesBelow}
+use Rattle.vpg_desk.specs.Cuts.{cut_of, cuts_of, notes_of, serials_from_top, pages_of, SuffixesBelow}
 use Rattle.vpg_desk.specs.Trail.{Cut as Saved, cuts_in_front_of, pages_over, spliced}
 use Rattle.vpg_desk.specs.declared.cuts.Cut.{Cut}
 use Rattle.vpg_desk.proofs.Changing.{cuts_of-push}
@@ -167,6 +167,24 @@ module _ (s : ℕ) (cuts : List Cut) (m : ℕ) (c : Cut) (within : m < length cu
       ∙ ap (λ (l : List Saved). cuts_of (drop (m + 1) cuts) ++ l) (ap (cuts_in_front_of s) below ∙ front_other s c (cuts_of (take m cuts)) n)
       ∙ sym (append_assoc (cuts_of (drop (m + 1) cuts)) (cut_of c ∷ []) (cuts_in_front_of s (cuts_of (take m cuts))))
       ∙ ap (λ (l : List Saved). l ++ cuts_in_front_of s (cuts_of (take m cuts))) (sym above)
+
+-- the notes of the cuts from n on are the nearest ones
+notes_from : (n : ℕ) (cuts : List Cut) → notes_of (drop n cuts) ≡ take (length (drop n cuts)) (notes_of cuts)
+notes_from n cuts =
+    sym (ap (take (length (drop n cuts))) split
+    ∙ take_at (notes_of (drop n cuts)) (notes_of (take n cuts)) (length (drop n cuts)) (length-map (reverse (drop n cuts)) (λ c. c.is_noted) ∙ length-reverse (drop n cuts)))
+  where
+    split : notes_of cuts ≡ notes_of (drop n cuts) ++ notes_of (take n cuts)
+    split =
+        ap notes_of (sym (take-append-drop n cuts)) ∙ ap (map (λ (c : Cut). c.is_noted)) (reverse-append (take n cuts) (drop n cuts))
+        ∙ map-append (λ (c : Cut). c.is_noted) (reverse (drop n cuts)) (reverse (take n cuts))
+
+-- so they are those that stay where the first n are brought to the end and dropped
+pub notes_left : (n rest : ℕ) (cuts rotated left : List Cut) → n ≤ length cuts → rest ≡ length cuts - n → rotated ≡ drop n cuts ++ take n cuts → left ≡ take rest rotated → notes_of left ≡ take (length left) (notes_of cuts)
+notes_left n rest cuts rotated left h r turned cut = subst (λ (l : List Cut). notes_of l ≡ take (length l) (notes_of cuts)) (sym same) (notes_from n cuts)
+  where
+    same : left ≡ drop n cuts
+    same = cut ∙ ap (take rest) turned ∙ take_at (drop n cuts) (take n cuts) rest (omega (arith, length-drop n cuts))
 
 pub front_start : (s : ℕ) (cuts : List Cut) → cuts_in_front_of s (cuts_of cuts) ≡ cuts_of (drop (length cuts) cuts) ++ cuts_in_front_of s (cuts_of (take (length cuts) cuts))
 front_start s cuts =

@@ -1,5 +1,5 @@
 -- What contracts see of the cuts that stand for past and future pages.
-use Rattle.std.specs.Prelude.{◌≡◌, ℕ, List, ◌∷◌, map, reverse, All}
+use Rattle.std.specs.Prelude.{◌≡◌, ℕ, Bool, List, ◌∷◌, map, reverse, All}
 use Rattle.vpg_trail.specs.Page.{Entry as Step}
 use Rattle.vpg_trail.specs.Shown.{entry_of, VertexBelow}
 use Rattle.vpg_desk.specs.Book.{Kept}
@@ -15,6 +15,10 @@ cuts_of cuts = map cut_of (reverse cuts)
 
 abbrev pub serials_from_top : List Cut → List ℕ
 serials_from_top cuts = map (λ c. c.serial) (reverse cuts)
+
+-- the notes of the pages that they lead to
+abbrev pub notes_of : List Cut → List Bool
+notes_of cuts = map (λ c. c.is_noted) (reverse cuts)
 
 -- the book by its cuts
 abbrev pub cut_book : List Cut → List Step → List Cut → ℕ → ℕ → CutBook

@@ -8,4 +8,6 @@ pub(crate) struct Cut {
     pub(crate) serial: u64,
     pub(crate) place: usize,
     pub(crate) suffix: Vec<Entry>,
+    // whether the page that it leads to is known to be settled
+    pub(crate) is_noted: bool,
 }

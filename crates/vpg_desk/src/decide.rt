@@ -7,7 +7,7 @@ ghost use Rattle.vpg_game.specs.Game.{IsAtLimit};
 ghost use Rattle.vpg_measure.specs.Games.{AreGamesOf, ArePageGames};
 ghost use Rattle.vpg_trail.specs.Page.{Decided, choices_of, decisions_of, decision_on};
 ghost use Rattle.vpg_trail.specs.Shown.{entry_of};
-ghost use Rattle.vpg_desk.specs.Cuts.{cuts_of, SuffixesBelow};
+ghost use Rattle.vpg_desk.specs.Cuts.{cuts_of, notes_of, SuffixesBelow};
 ghost use Rattle.vpg_desk.specs.Faults.{ClosesWith};
 
 use crate::cuts::Cut;
@@ -50,14 +50,17 @@ fn games_with(
     }
 }
 
-/// Puts a decision behind the present page, and keeps the page before it under the decision's serial.
+/// Puts a decision behind the present page, and keeps the page before it, which was known to be settled or not, under the
+/// decision's serial.
 fn push_decision(
     alloc: Global,
     past: &mut Vec<Cut>,
     trail: &mut Trail,
     decision: Decision,
+    was: bool,
 ) -> Result<(), AllocError>
     ensures past { OnOk result (cuts_of past.new.items ≡ record { serial = decision.serial; place = length trail.old.entries; suffix = [] } ∷ cuts_of past.old.items) }
+    ensures notes { OnOk result (notes_of past.new.items ≡ was ∷ notes_of past.old.items) }
     ensures below { OnOk result (SuffixesBelow trail.old.vertices past.old.items → SuffixesBelow trail.old.vertices past.new.items) }
     ensures trail { OnOk result (trail.new ≡ record { vertices = trail.old.vertices; entries = trail.old.entries ++ Decided decision ∷ [] }) }
     ensures err_past { OnErr result (past.new.items ≡ past.old.items) }
@@ -70,6 +73,7 @@ fn push_decision(
         serial: decision.serial,
         place,
         suffix: Vec::new(alloc),
+        is_noted: was,
     })
     .unwrap();
     Ok(())
@@ -124,7 +128,8 @@ impl Desk {
         if self.changes == MOST_CHANGES {
             return Err(DecideFault::TooManyChanges);
         }
-        push_decision(alloc, &mut self.past, &mut self.trail, decision)?;
+        let was = self.is_noted;
+        push_decision(alloc, &mut self.past, &mut self.trail, decision, was)?;
         self.future.clear();
         self.games = games;
         self.is_noted = false;

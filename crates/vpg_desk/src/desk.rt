@@ -131,8 +131,8 @@ impl Desk {
     }
 
     /// Whether both tables of the present page are progress tables. They are then the least ones. Once a commit of a settled harvest
-    /// has settled the page this is known, until the decisions change; else it is a pass over the kept edges, which ends at the
-    /// first vertex that a lift raises.
+    /// has settled a page this is known of it, also when undo or redo come back to it; else it is a pass over the kept edges, which
+    /// ends at the first vertex that a lift raises.
     pub fn settled(&self) -> bool
         ensures reply { Replies self.now Settled (IsSettled result) }
         ensures least { IsTrue result → (which : Side) → IsLeastUnder (setting_of self.now) (choices_of self.now.book.present) which (table_of which self.now.book.present (length (graph_of self.now.game))) }

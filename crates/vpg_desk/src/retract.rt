@@ -2,7 +2,7 @@
 ghost use Rattle.std.specs.Prelude.{◌≡◌, ◌+◌, ◌++◌, ◌∷◌, ◌≤◌, length, map, take, drop, All, IfOk, IfErr, OnOk, OnErr, IfSome};
 ghost use Rattle.vpg_trail.specs.Shown.{entry_of, VertexBelow};
 ghost use Rattle.vpg_trail.specs.WellFormed.{LiftsStandAfter};
-ghost use Rattle.vpg_desk.specs.Cuts.{cuts_of, SuffixesBelow};
+ghost use Rattle.vpg_desk.specs.Cuts.{cuts_of, notes_of, SuffixesBelow};
 
 use crate::cuts::Cut;
 use crate::desk::{Desk, MOST_CHANGES};
@@ -12,18 +12,21 @@ use crate::undo_token::Undo;
 use std::alloc::{AllocError, Global};
 use vpg_trail::{Entry, Trail, kept_after, place_of};
 
-/// Puts the suffix, whose lifts stand, in place of the entries from a place on, and keeps the page before it under the serial.
+/// Puts the suffix, whose lifts stand, in place of the entries from a place on, and keeps the page before it, which was known to be
+/// settled or not, under the serial.
 fn cut_out(
     past: &mut Vec<Cut>,
     trail: &mut Trail,
     serial: u64,
     place: usize,
     suffix: Vec<Entry>,
+    was: bool,
 ) -> Result<(), AllocError>
     requires place { place ≤ length trail.old.entries }
     requires vertices { All (λ e. VertexBelow trail.old.vertices (entry_of e)) suffix.items }
     requires lifts { LiftsStandAfter (take place trail.old.entries) (map entry_of suffix.items) }
     ensures past { OnOk result (cuts_of past.new.items ≡ record { serial = serial; place = place; suffix = drop place trail.old.entries } ∷ cuts_of past.old.items) }
+    ensures notes { OnOk result (notes_of past.new.items ≡ was ∷ notes_of past.old.items) }
     ensures below { OnOk result (SuffixesBelow trail.old.vertices past.old.items → SuffixesBelow trail.old.vertices past.new.items) }
     ensures trail { OnOk result (trail.new ≡ record { vertices = trail.old.vertices; entries = take place trail.old.entries ++ map entry_of suffix.items }) }
     ensures err_past { OnErr result (past.new.items ≡ past.old.items) }
@@ -35,6 +38,7 @@ fn cut_out(
         serial,
         place,
         suffix: removed,
+        is_noted: was,
     })
     .unwrap();
     Ok(())
@@ -74,7 +78,8 @@ impl Desk {
         let before = &entries[..place];
         let games = games_of_page(alloc, &self.game, &self.diagram, before, &kept, &self.games)?;
         let serial = self.changes + 1;
-        cut_out(&mut self.past, &mut self.trail, serial, place, kept)?;
+        let was = self.is_noted;
+        cut_out(&mut self.past, &mut self.trail, serial, place, kept, was)?;
         self.future.clear();
         self.games = games;
         self.is_noted = false;

@@ -1,6 +1,6 @@
 //! Spending tokens without going to another page.
-ghost use Rattle.std.specs.Prelude.{◌≡◌, ◌<◌, ◌≤◌, ℕ, length, drop};
-ghost use Rattle.vpg_desk.specs.Cuts.{cuts_of, SuffixesBelow};
+ghost use Rattle.std.specs.Prelude.{◌≡◌, ◌<◌, ◌≤◌, ℕ, length, take, drop};
+ghost use Rattle.vpg_desk.specs.Cuts.{cuts_of, notes_of, SuffixesBelow};
 ghost use Rattle.vpg_desk.specs.Trail.{cuts_in_front_of};
 
 use crate::cuts::Cut;
@@ -26,6 +26,7 @@ fn up_to(cuts: &[Cut], serial: u64) -> usize
 /// Drops the cut of this serial and those beyond it, where there is one.
 fn drop_up_to(cuts: &mut Vec<Cut>, serial: u64)
     ensures front { cuts_of cuts.new.items ≡ cuts_in_front_of serial (cuts_of cuts.old.items) }
+    ensures notes { notes_of cuts.new.items ≡ take (length cuts.new.items) (notes_of cuts.old.items) }
     ensures below { (n : ℕ) → SuffixesBelow n cuts.old.items → SuffixesBelow n cuts.new.items }
 {
     let n = up_to(cuts, serial);

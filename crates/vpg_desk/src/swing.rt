@@ -8,7 +8,7 @@ ghost use Rattle.vpg_measure.specs.Games.{AreGamesOf, ArePageGames};
 ghost use Rattle.vpg_trail.specs.Page.{choices_of};
 ghost use Rattle.vpg_trail.specs.WellFormed.{IsWellFormed};
 ghost use Rattle.vpg_desk.specs.Book.{refuses_redo, refuses_undo};
-ghost use Rattle.vpg_desk.specs.Cuts.{IsSwung, SuffixesBelow, cuts_of, pages_of, serials_from_top};
+ghost use Rattle.vpg_desk.specs.Cuts.{IsSwung, SuffixesBelow, cuts_of, notes_of, pages_of, serials_from_top};
 ghost use Rattle.vpg_desk.specs.Faults.{redo_refusal, undo_refusal};
 ghost use Rattle.vpg_desk.specs.Setting.{HasConflict};
 ghost use Rattle.vpg_desk.specs.State.{setting_between};
@@ -88,21 +88,26 @@ pub(crate) fn games_over(
     games_of_page(alloc, game, diagram, before, &cut.suffix, present)
 }
 
-/// Takes the nearest page of the one side in place of the present one, which becomes the nearest of the other side.
+/// Takes the nearest page of the one side in place of the present one, which was known to be settled or not, and becomes the nearest
+/// of the other side. Gives whether the page that is present now is known to be settled.
 pub(crate) fn swing(
     from: &mut Vec<Cut>,
     trail: &mut Trail,
     to: &mut Vec<Cut>,
-) -> Result<(), AllocError>
+    was: bool,
+) -> Result<bool, AllocError>
     requires some { 0 < length from.old.items }
     requires fits { FitOver trail.old.entries (cuts_of from.old.items) }
     requires below { SuffixesBelow trail.old.vertices from.old.items }
     requires well_formed { AllByRecursion (λ k. IsWellFormed k.page) (pages_of trail.old.entries from.old.items) }
     ensures swung { OnOk result (IsSwung from.old.items trail.old.entries to.old.items from.new.items trail.new.entries to.new.items) }
+    ensures note { IfOk result (λ note. notes_of from.old.items ≡ note ∷ notes_of from.new.items) }
+    ensures left { OnOk result (notes_of to.new.items ≡ was ∷ notes_of to.old.items) }
     ensures vertices { trail.new.vertices ≡ trail.old.vertices }
     ensures from_below { SuffixesBelow trail.old.vertices from.new.items }
     ensures to_below { SuffixesBelow trail.old.vertices to.old.items → SuffixesBelow trail.old.vertices to.new.items }
     ensures err_from { OnErr result (cuts_of from.new.items ≡ cuts_of from.old.items) }
+    ensures err_notes { OnErr result (notes_of from.new.items ≡ notes_of from.old.items) }
     ensures err_trail { OnErr result (trail.new ≡ trail.old) }
     ensures err_to { OnErr result (to.new.items ≡ to.old.items) }
 {
@@ -111,6 +116,7 @@ pub(crate) fn swing(
         serial,
         place,
         suffix,
+        is_noted,
     } = from.pop().unwrap();
     match trail.splice(place, suffix) {
         Ok(suffix) => {
@@ -118,15 +124,17 @@ pub(crate) fn swing(
                 serial,
                 place,
                 suffix,
+                is_noted: was,
             })
             .unwrap();
-            Ok(())
+            Ok(is_noted)
         }
         Err(refused) => {
             from.push(Cut {
                 serial,
                 place,
                 suffix: refused.value,
+                is_noted,
             })
             .unwrap();
             Err(AllocError)

@@ -71,9 +71,10 @@ impl Desk {
             &self.past,
             &self.games,
         )?;
-        swing(&mut self.past, &mut self.trail, &mut self.future)?;
+        let was = self.is_noted;
+        let is_noted = swing(&mut self.past, &mut self.trail, &mut self.future, was)?;
         self.games = games;
-        self.is_noted = false;
+        self.is_noted = is_noted;
         Ok(())
     }
 
@@ -96,9 +97,10 @@ impl Desk {
             &self.future,
             &self.games,
         )?;
-        swing(&mut self.future, &mut self.trail, &mut self.past)?;
+        let was = self.is_noted;
+        let is_noted = swing(&mut self.future, &mut self.trail, &mut self.past, was)?;
         self.games = games;
-        self.is_noted = false;
+        self.is_noted = is_noted;
         Ok(())
     }
 }

@@ -2,8 +2,9 @@
 use Rattle.std.proofs.Common.{◌≡◌, ℕ, ◌<◌, List, length, sym, subst}
 use Rattle.vpg_game.specs.declared.levels.Level.{Level}
 use Rattle.vpg_hope.specs.Arena.{Vertex as Node}
-use Rattle.vpg_measure.specs.Lifts.{IsTableOf, IsBelowTable, raised}
-use Rattle.vpg_measure.proofs.Rounds.{below_self, below_trans, raised_table, raised_above, raised_stays}
+use Rattle.vpg_measure.specs.Lifts.{IsTableOf, IsProgressTable, IsBelowTable, raised, after_rounds}
+use Rattle.vpg_measure.proofs.Monotone.{after_grows}
+use Rattle.vpg_measure.proofs.Rounds.{below_self, below_trans, after_stays, raised_table, raised_above, raised_stays}
 use Rattle.vpg_guess.specs.Kept.{IsRaisedFrom}
 
 module _ (levels : List Level) (arena : List Node) where
@@ -17,11 +18,13 @@ module _ (levels : List Level) (arena : List Node) where
     below = λ other t p h. b.below other t p (a.below other t p h);
   }
 
-  pub kept_above : (least old new : List ℕ) → old ≡ least → IsRaisedFrom levels arena old new → IsBelowTable least new
-  kept_above least old new e h = subst (λ table. IsBelowTable table new) e h.above
+  pub round_above : (old mid new : List ℕ) → IsTableOf levels arena old → IsRaisedFrom levels arena old mid → new ≡ after_rounds levels arena 1 mid →
+      IsBelowTable (after_rounds levels arena 1 old) new
+  round_above old mid new is kept e =
+      subst (λ table. IsBelowTable (after_rounds levels arena 1 old) table) (sym e) (after_grows levels arena 1 old mid is kept.table kept.above)
 
-  pub same_above : (least new : List ℕ) → new ≡ least → IsBelowTable least new
-  same_above least new e = subst (λ table. IsBelowTable least table) (sym e) (below_self least)
+  pub round_stays : (table : List ℕ) → IsTableOf levels arena table → IsProgressTable levels arena table → IsBelowTable (after_rounds levels arena 1 table) table
+  round_stays table is p = after_stays levels arena 1 table table is is p (below_self table)
 
   pub kept_raised : (table : List ℕ) (v : ℕ) → IsTableOf levels arena table → v < length arena → IsRaisedFrom levels arena table (raised levels arena table v)
   kept_raised table v is inside = record {

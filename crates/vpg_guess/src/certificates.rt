@@ -3,6 +3,7 @@ ghost use Rattle.std.specs.Prelude.{IfOk, IfSome};
 ghost use Rattle.vpg_measure.specs.Lifts.{IsTableOf};
 
 use crate::ground::{GuessGround, value_in};
+use crate::improve::Guess;
 use crate::part::Part;
 use crate::subgame::{Solved, Subgame};
 use crate::values::Evaluation;
@@ -86,9 +87,7 @@ fn raises_to(
 
 // Whether the bound of v follows from that of w.
 fn follows(ground: &GuessGround, bounds: &PerVertex<u64>, v: u32, w: u32) -> bool {
-    ground
-        .even
-        .reaches(&ground.graph, v, bounds.get(v), bounds.get(w))
+    ground.even.reaches(v, bounds.get(v), bounds.get(w))
 }
 
 // The game of the vertices to be raised: Odd has the edges over which the bound follows.
@@ -160,6 +159,90 @@ fn ranks_along(
     Ok(ranks)
 }
 
+// The vertices to be raised, and what is known of them.
+#[derive(Drop)]
+struct Straight<'a> {
+    ground: &'a GuessGround,
+    guess: &'a Guess,
+    raises: &'a Raises,
+    table: &'a [u64],
+    rising: PerVertex<bool>,
+}
+
+impl<'a> Straight<'a> {
+    // Odd's move over which the bound of v follows: that of the guess where Odd is taken to win; else out of the vertices to be raised;
+    // else to the one of the greatest present value.
+    fn move_from(&self, v: u32) -> Option<u32> {
+        let bounds = &self.raises.bounds;
+        if self.ground.even.top <= bounds.get(v)
+            && let Some(w) = self.guess.choice.get(v)
+            && follows(self.ground, bounds, v, w)
+        {
+            return Some(w);
+        }
+        self.greatest_from(v)
+    }
+
+    fn greatest_from(&self, v: u32) -> Option<u32> {
+        let mut chosen = None;
+        let mut greatest = 0;
+        for w in self.ground.graph.successors(v) {
+            if follows(self.ground, &self.raises.bounds, v, *w) {
+                if !self.rising.get(*w) {
+                    return Some(*w);
+                }
+                let value = value_in(self.table, *w);
+                if chosen.is_none() || greatest < value {
+                    chosen = Some(*w);
+                    greatest = value;
+                }
+            }
+        }
+        chosen
+    }
+
+    fn choices(&self, alloc: Global) -> Result<PerVertex<Option<u32>>, AllocError> {
+        let graph = &self.ground.graph;
+        let mut choice = PerVertex::of(alloc, graph.vertices(), None)?;
+        for v in &self.raises.exceeding {
+            if graph.owner(*v) == Player::Odd {
+                choice.set(*v, self.move_from(*v));
+            }
+        }
+        Ok(choice)
+    }
+}
+
+// Ranks along Odd's straight moves, where they show all bounds. No game is solved.
+fn straight_ranks(
+    alloc: Global,
+    ground: &GuessGround,
+    guess: &Guess,
+    raises: &Raises,
+    table: &[u64],
+    budget: &mut Budget,
+) -> Result<Option<PerVertex<u64>>, AllocError> {
+    let mut rising = PerVertex::of(alloc, ground.graph.vertices(), false)?;
+    for v in &raises.exceeding {
+        rising.set(*v, true);
+    }
+    let straight = Straight {
+        ground,
+        guess,
+        raises,
+        table,
+        rising,
+    };
+    let choice = straight.choices(alloc)?;
+    let ranks = ranks_along(alloc, ground, &choice, &raises.exceeding, budget)?;
+    for v in &raises.exceeding {
+        if ground.odd.top <= ranks.get(*v) {
+            return Ok(None);
+        }
+    }
+    Ok(Some(ranks))
+}
+
 // Ranks of what Odd wins, along its moves; what it does not win keeps its value.
 fn rank(
     alloc: Global,
@@ -205,15 +288,20 @@ fn ranked_top(
 fn ranked(
     alloc: Global,
     ground: &GuessGround,
-    values: &PerVertex<u64>,
+    guess: &Guess,
     table: &[u64],
     weight: u64,
     budget: &mut Budget,
 ) -> Result<Option<RankedBounds>, AllocError> {
     budget.spend(ground.graph.vertices() as usize);
-    let Raises { bounds, exceeding } = raises_to(alloc, ground, values, table, weight)?;
-    if exceeding.is_empty() {
+    let raises = raises_to(alloc, ground, &guess.values, table, weight)?;
+    if raises.exceeding.is_empty() {
         return Ok(None);
+    }
+    let straight = straight_ranks(alloc, ground, guess, &raises, table, budget)?;
+    let Raises { bounds, exceeding } = raises;
+    if let Some(ranks) = straight {
+        return Ok(Some(RankedBounds { bounds, ranks }));
     }
     let solved = raising_game(alloc, ground, &bounds, exceeding)?.solve(alloc, budget)?;
     Ok(Some(rank(alloc, ground, bounds, &solved, table, budget)?))
@@ -255,30 +343,66 @@ pub(crate) fn top_certificate(
     }
 }
 
-// Bounds and ranks for a guess at the part that moves, and the table elsewhere.
+// Writes numbers of a part's vertices to a table, each cut to the top.
+#[tactic(auto, using(vpg_measure::proofs::Rounds::table_set))]
+fn write_part(
+    shape: &Shape,
+    arena: &Arena,
+    part: &Part,
+    numbers: &PerVertex<u64>,
+    table: &mut Table,
+)
+    requires { IsTableOf shape.now arena.now table.old }
+    ensures { IsTableOf shape.now arena.now table.new }
+{
+    let mut place = 0u32;
+    for v in &part.vertices {
+        if *v < arena.vertices() {
+            table.set(*v, numbers.get(place).min(shape.top()));
+        }
+        place = place.saturating_add(1);
+    }
+}
+
+// A table of zeros.
+#[tactic(auto, using(vpg_measure::proofs::Rounds::table_set))]
+fn zeros(alloc: Global, shape: &Shape, arena: &Arena) -> Result<Table, AllocError>
+    ensures { IfOk result (λ table. IsTableOf shape.now arena.now table) }
+{
+    Table::zero(alloc, arena.vertices())
+}
+
+// The bounds and ranks of a part, and the table elsewhere.
+fn certificate_around(
+    alloc: Global,
+    shape: &Shape,
+    dual_shape: &Shape,
+    arena: &Arena,
+    part: &Part,
+    ranked: &RankedBounds,
+    table: &Table,
+) -> Result<Certificate, AllocError>
+    requires { IsTableOf shape.now arena.now table.now }
+    ensures bounds { IfOk result (λ certificate. IsTableOf shape.now arena.now certificate.bounds) }
+    ensures ranks { IfOk result (λ certificate. IsTableOf dual_shape.now arena.now certificate.ranks) }
+{
+    let mut bounds = table.copy(alloc)?;
+    write_part(shape, arena, part, &ranked.bounds, &mut bounds);
+    let mut ranks = zeros(alloc, dual_shape, arena)?;
+    write_part(dual_shape, arena, part, &ranked.ranks, &mut ranks);
+    Ok(Certificate { bounds, ranks })
+}
+
+// Bounds and ranks for a guess at a part.
 fn ranked_part(
     alloc: Global,
-    ground: &GuessGround,
-    moving: &[u32],
-    table: &[u64],
+    part: &Part,
     budget: &mut Budget,
 ) -> Result<Option<RankedBounds>, AllocError> {
-    let part = Part::of(alloc, ground, table, moving)?;
     let mut share = budget.take_half();
-    let values = part.guess(alloc, &mut share)?;
+    let guess = part.guess(alloc, &mut share)?;
     budget.give_back(share);
-    let Some(found) = ranked(alloc, &part.ground, &values, &part.table, 1, budget)? else {
-        return Ok(None);
-    };
-    let vertices = ground.graph.vertices();
-    let mut bounds = PerVertex::of(alloc, vertices, 0)?;
-    for v in 0..vertices {
-        bounds.set(v, value_in(table, v));
-    }
-    part.write(&found.bounds, &mut bounds);
-    let mut ranks = PerVertex::of(alloc, vertices, 0)?;
-    part.write(&found.ranks, &mut ranks);
-    Ok(Some(RankedBounds { bounds, ranks }))
+    ranked(alloc, &part.ground, &guess, &part.table, 1, budget)
 }
 
 /// Bounds and ranks for a guess at the part that moves, or nothing where it exceeds the table nowhere.
@@ -292,11 +416,15 @@ pub(crate) fn part_certificate(
     table: &Table,
     budget: &mut Budget,
 ) -> Result<Option<Certificate>, AllocError>
+    requires { IsTableOf shape.now arena.now table.now }
     ensures bounds { IfOk result (λ found. IfSome found (λ certificate. IsTableOf shape.now arena.now certificate.bounds)) }
     ensures ranks { IfOk result (λ found. IfSome found (λ certificate. IsTableOf dual_shape.now arena.now certificate.ranks)) }
 {
-    match ranked_part(alloc, ground, moving, table.values(), budget)? {
-        Some(ranked) => Ok(Some(certificate_of(alloc, shape, dual_shape, arena, &ranked)?)),
+    let part = Part::of(alloc, ground, table.values(), moving)?;
+    match ranked_part(alloc, &part, budget)? {
+        Some(ranked) => Ok(Some(certificate_around(
+            alloc, shape, dual_shape, arena, &part, &ranked, table,
+        )?)),
         None => Ok(None),
     }
 }
@@ -308,7 +436,7 @@ pub(crate) fn certificate(
     dual_shape: &Shape,
     arena: &Arena,
     ground: &GuessGround,
-    values: &PerVertex<u64>,
+    guess: &Guess,
     table: &Table,
     weight: u64,
     budget: &mut Budget,
@@ -316,7 +444,7 @@ pub(crate) fn certificate(
     ensures bounds { IfOk result (λ found. IfSome found (λ certificate. IsTableOf shape.now arena.now certificate.bounds)) }
     ensures ranks { IfOk result (λ found. IfSome found (λ certificate. IsTableOf dual_shape.now arena.now certificate.ranks)) }
 {
-    match ranked(alloc, ground, values, table.values(), weight, budget)? {
+    match ranked(alloc, ground, guess, table.values(), weight, budget)? {
         Some(ranked) => Ok(Some(certificate_of(alloc, shape, dual_shape, arena, &ranked)?)),
         None => Ok(None),
     }

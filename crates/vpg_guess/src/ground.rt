@@ -41,16 +41,18 @@ impl GuessGround {
         Ok(lost)
     }
 
+    /// The value that a vertex's owner moves to.
+    pub(crate) fn best(&self, table: &[u64], v: u32) -> u64 {
+        let successors = self.graph.successors(v);
+        match self.graph.owner(v) {
+            Player::Even => least_in(table, successors, self.even.top),
+            Player::Odd => greatest_in(table, successors),
+        }
+    }
+
     /// So many looks at each edge and vertex.
     pub(crate) fn looks(&self, each: u64) -> u64 {
         self.graph.size().saturating_mul(each)
-    }
-
-    /// The looks at edges and vertices in a turn behind a guess of so many values.
-    pub(crate) fn next_looks(&self, guessed: usize) -> u64 {
-        (guessed as u64)
-            .saturating_mul(16)
-            .saturating_add(self.looks(1) / 2)
     }
 
     /// Whether so many vertices are a small part of all.
@@ -88,6 +90,22 @@ impl GuessGround {
         }
         Ok(weights)
     }
+}
+
+fn least_in(table: &[u64], vertices: &[u32], top: u64) -> u64 {
+    let mut least = top;
+    for v in vertices {
+        least = least.min(value_in(table, *v));
+    }
+    least
+}
+
+fn greatest_in(table: &[u64], vertices: &[u32]) -> u64 {
+    let mut greatest = 0;
+    for v in vertices {
+        greatest = greatest.max(value_in(table, *v));
+    }
+    greatest
 }
 
 /// A vertex's value in a table.

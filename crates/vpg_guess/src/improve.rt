@@ -1,5 +1,6 @@
 //! The least values of Even's region, by strategy improvement: each strategy is valued exactly, and then changed where that is better.
-//! Only what leads to a changed choice is valued again, and only what moves to a changed value is looked at again.
+//! A better move lowers the value at once, and those of the vertices that move there: so most choices are found before the next
+//! valuing. Only what leads to a changed choice is valued again, and only what moves to a changed value is looked at again.
 use crate::even_cycles::Level;
 use crate::ground::{GuessGround, value_in};
 use crate::scale::Scale;
@@ -7,6 +8,16 @@ use crate::values::Evaluation;
 use std::alloc::{AllocError, Global};
 use vpg_game::Player;
 use vpg_regions::{Budget, Graph, PerVertex, Regions};
+
+/// A guess of values, and choices. Odd's are those that win, where its value is the top.
+#[derive(Drop)]
+pub(crate) struct Guess {
+    pub(crate) values: PerVertex<u64>,
+    pub(crate) choice: PerVertex<Option<u32>>,
+}
+
+/// How often lowering looks at all edges and vertices at most before strategies are valued again.
+const LOWERINGS: u64 = 8;
 
 /// How often moves round even cycles are taken at most. They may raise a value, too, and then come again and again.
 const MOST_TURNS: u32 = 64;
@@ -24,6 +35,9 @@ struct Improvement<'a> {
     open: PerVertex<bool>,
     mark: PerVertex<u32>,
     stamp: u32,
+    // those to be looked at
+    waits: PerVertex<bool>,
+    stack: Vec<u32>,
     evaluation: Evaluation,
 }
 
@@ -49,6 +63,8 @@ impl<'a> Improvement<'a> {
             open: PerVertex::of(alloc, vertices, false)?,
             mark: PerVertex::of(alloc, vertices, 0)?,
             stamp: 0,
+            waits: PerVertex::of(alloc, vertices, false)?,
+            stack: Vec::new(alloc),
             evaluation: Evaluation::new(alloc, vertices)?,
         })
     }
@@ -73,7 +89,7 @@ impl<'a> Improvement<'a> {
         let mut look = self.open_all(alloc, region)?;
         let mut turns = 0u32;
         for _ in 0..u64::MAX {
-            let mut changed = self.switch(alloc, &look, budget)?;
+            let mut changed = self.lower(alloc, &look, budget)?;
             if changed.is_empty() && turns < MOST_TURNS {
                 changed = self.switch_even_cycles(alloc, region, budget)?;
                 turns = turns.saturating_add(1);
@@ -126,37 +142,111 @@ impl<'a> Improvement<'a> {
         Ok(own)
     }
 
-    // Moves of these vertices to lesser values. Gives those that changed.
-    fn switch(
+    // Takes better moves from these vertices on, lowers values along, and gives Even's vertices that changed. What is not looked at
+    // for want of looks is looked at the next time.
+    fn lower(
         &mut self,
         alloc: Global,
         look: &[u32],
         budget: &mut Budget,
     ) -> Result<Vec<u32>, AllocError> {
+        self.stamp = self.stamp.saturating_add(1);
         let mut changed = Vec::new(alloc);
         for v in look {
-            budget.spend(self.graph.successors(*v).len());
-            let better = self.better(*v);
-            if better.is_some() {
-                self.choice.set(*v, better);
-                changed.push(*v)?;
-            }
+            self.add(*v)?;
         }
+        let mut turn = budget.take(self.graph.size().saturating_mul(LOWERINGS));
+        for _ in 0..u64::MAX {
+            if turn.is_spent() {
+                break;
+            }
+            let Some(v) = self.stack.pop() else {
+                break;
+            };
+            self.waits.set(v, false);
+            self.lower_from(v, &mut changed, &mut turn)?;
+        }
+        budget.give_back(turn);
         Ok(changed)
     }
 
-    // The move of least value, where that is less than the present one.
-    fn better(&self, v: u32) -> Option<u32> {
-        let weight = self.scale.weight(v);
-        let mut least = match self.choice.get(v) {
-            Some(w) => self.scale.cut(self.values.get(w), weight),
-            None => self.scale.top,
+    fn add(&mut self, v: u32) -> Result<(), AllocError> {
+        if !self.waits.get(v) {
+            self.waits.set(v, true);
+            self.stack.push(v)?;
+        }
+        Ok(())
+    }
+
+    fn lower_from(
+        &mut self,
+        v: u32,
+        changed: &mut Vec<u32>,
+        budget: &mut Budget,
+    ) -> Result<(), AllocError> {
+        budget.spend(self.graph.successors(v).len().saturating_add(1));
+        if self.falls(v, changed)? {
+            budget.spend(self.graph.predecessors(v).len());
+            self.wake(v)?;
+        }
+        Ok(())
+    }
+
+    // Those that move to v, whose value fell, are looked at where that may make theirs fall.
+    fn wake(&mut self, v: u32) -> Result<(), AllocError> {
+        let graph = self.graph;
+        let value = self.values.get(v);
+        for u in graph.predecessors(v) {
+            let limit = self.values.get(*u).saturating_sub(self.scale.step(*u));
+            if self.open.get(*u) && value < limit {
+                self.add(*u)?;
+            }
+        }
+        Ok(())
+    }
+
+    // Lowers the value of v where its moves allow that, and says whether they do.
+    fn falls(&mut self, v: u32, changed: &mut Vec<u32>) -> Result<bool, AllocError> {
+        let value = if self.graph.owner(v) == Player::Even {
+            let Some(w) = self.better(v) else {
+                return Ok(false);
+            };
+            self.choice.set(v, Some(w));
+            if self.mark.get(v) != self.stamp {
+                self.mark.set(v, self.stamp);
+                changed.push(v)?;
+            }
+            self.scale.prog(v, self.values.get(w))
+        } else {
+            self.greatest_over(v)
         };
+        if self.values.get(v) <= value {
+            return Ok(false);
+        }
+        self.values.set(v, value);
+        if !self.exceeds(v) {
+            self.open.set(v, false);
+        }
+        Ok(true)
+    }
+
+    // The greatest number over a move of Odd's.
+    fn greatest_over(&self, v: u32) -> u64 {
+        let mut greatest = 0;
+        for w in self.graph.successors(v) {
+            greatest = greatest.max(self.values.get(*w));
+        }
+        self.scale.prog(v, greatest)
+    }
+
+    // The move of least value, where it gives less than the present one.
+    fn better(&self, v: u32) -> Option<u32> {
+        let mut least = self.values.get(v).saturating_sub(self.scale.step(v));
         let mut better = None;
         for w in self.graph.successors(v) {
             let value = self.values.get(*w);
             if value < least {
-                least = self.scale.cut(value, weight);
+                least = value;
                 better = Some(*w);
             }
         }
@@ -296,11 +386,11 @@ pub(crate) fn guess_table(
     table: &[u64],
     vertices: &[u32],
     budget: &mut Budget,
-) -> Result<PerVertex<u64>, AllocError> {
+) -> Result<Guess, AllocError> {
     let region = even_region(alloc, ground, regions, table, vertices)?;
     let mut improvement = Improvement::new(alloc, ground, regions, table)?;
     improvement.lose(regions, vertices);
     improvement.run(alloc, &region, budget)?;
-    let Improvement { values, .. } = improvement;
-    Ok(values)
+    let Improvement { values, choice, .. } = improvement;
+    Ok(Guess { values, choice })
 }

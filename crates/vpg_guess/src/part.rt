@@ -1,6 +1,6 @@
 //! The part of a game that moves, under numbers of its own: all else is taken to keep its value.
 use crate::ground::{GuessGround, value_in};
-use crate::improve::guess_table;
+use crate::improve::{Guess, guess_table};
 use std::alloc::{AllocError, Global};
 use vpg_regions::{Budget, Draft, PerVertex, solve_part};
 
@@ -10,8 +10,8 @@ pub(crate) struct Part {
     pub(crate) ground: GuessGround,
     /// The values that the table has there.
     pub(crate) table: Vec<u64>,
-    // the vertices, by their numbers in the whole game
-    vertices: Vec<u32>,
+    /// The vertices, by their numbers in the whole game.
+    pub(crate) vertices: Vec<u32>,
     // those that move, by their numbers here
     moving: Vec<u32>,
 }
@@ -119,11 +119,7 @@ impl Part {
     }
 
     /// A guess of the values of what moves, tops with them.
-    pub(crate) fn guess(
-        &self,
-        alloc: Global,
-        budget: &mut Budget,
-    ) -> Result<PerVertex<u64>, AllocError> {
+    pub(crate) fn guess(&self, alloc: Global, budget: &mut Budget) -> Result<Guess, AllocError> {
         let lost = self.ground.lost(alloc, &self.table)?;
         let mut share = budget.take_half();
         let regions = solve_part(alloc, &self.ground.graph, &lost, &self.moving, &mut share)?;
@@ -136,14 +132,5 @@ impl Part {
             &self.moving,
             budget,
         )
-    }
-
-    /// Writes numbers of the part's vertices among those of all.
-    pub(crate) fn write(&self, numbers: &PerVertex<u64>, all: &mut PerVertex<u64>) {
-        let mut place = 0u32;
-        for v in &self.vertices {
-            all.set(*v, numbers.get(place));
-            place = place.saturating_add(1);
-        }
     }
 }

@@ -14,41 +14,59 @@ use vpg_regions::{Budget, PerVertex};
 /// Where more than one in so many of the vertices wait, they are looked at in the order of the vertices.
 const DENSE: usize = 64;
 
-/// How often a vertex rises in one turn before it is taken to climb.
-const CLIMBS: u32 = 4;
+/// Rounds go on while the number of waiting vertices falls by one in so many.
+const FALL: usize = 16;
 
-/// The vertices that are to be looked at: those whose lift may exceed their value. And how often each rose in this turn, and which
-/// were found to move in some turn.
+/// How often a vertex rises in the first turn before it is taken to climb.
+const CLIMBS: u32 = 2;
+
+/// The vertices that are to be looked at: those whose lift may exceed their value. And how often each rose in this turn, and in which
+/// turn each was found to move last.
 #[derive(Drop)]
 pub(crate) struct Waiting {
     waits: PerVertex<bool>,
+    count: usize,
+    // the least value over an edge that raises a vertex, where its value is a number over some edge
+    limits: PerVertex<u64>,
+    // those that wait, and others
     queue: VecDeque<u32>,
     raises: PerVertex<u32>,
-    moves: PerVertex<bool>,
+    // the last turn at whose end it moved; zero for none
+    moved: PerVertex<u32>,
+    turn: u32,
     // how often a vertex rises in a turn before it is taken to climb
     climbs: u32,
 }
 
 impl Waiting {
-    /// Nothing waits.
-    pub(crate) fn none(alloc: Global, ground: &GuessGround) -> Result<Waiting, AllocError> {
+    /// All wait that are below the top.
+    pub(crate) fn all(
+        alloc: Global,
+        ground: &GuessGround,
+        table: &[u64],
+    ) -> Result<Waiting, AllocError> {
         let vertices = ground.graph.vertices();
+        let mut waits = PerVertex::of(alloc, vertices, false)?;
+        let mut limits = PerVertex::of(alloc, vertices, u64::MAX)?;
+        let mut queue = VecDeque::new(alloc);
+        for v in 0..vertices {
+            let value = value_in(table, v);
+            if value < ground.even.top {
+                waits.set(v, true);
+                limits.set(v, ground.even.limit(v, value));
+                queue.push_back(v)?;
+            }
+        }
         Ok(Waiting {
-            waits: PerVertex::of(alloc, vertices, false)?,
-            queue: VecDeque::new(alloc),
+            waits,
+            count: queue.len(),
+            limits,
+            queue,
             raises: PerVertex::of(alloc, vertices, 0)?,
-            moves: PerVertex::of(alloc, vertices, false)?,
+            moved: PerVertex::of(alloc, vertices, 0)?,
+            turn: 0,
             climbs: CLIMBS,
         })
-    }
-
-    // A vertex at the top is never looked at.
-    fn add(&mut self, ground: &GuessGround, table: &[u64], v: u32) -> Result<(), AllocError> {
-        if !self.waits.get(v) && value_in(table, v) < ground.even.top {
-            self.waits.set(v, true);
-            self.queue.push_back(v)?;
-        }
-        Ok(())
     }
 
     // Whether v waited; it waits no more.
@@ -56,20 +74,27 @@ impl Waiting {
         let waited = self.waits.get(v);
         if waited {
             self.waits.set(v, false);
+            self.count = self.count.saturating_sub(1);
         }
         waited
     }
 
     // Whether so many wait that they are looked at faster in the order of the vertices.
     fn is_dense(&self) -> bool {
-        self.waits.count() as usize / DENSE < self.queue.len()
+        self.waits.count() as usize / DENSE < self.count
     }
 
-    // Those that move to v, which rose, are to be looked at again.
+    // Those that move to v, which rose, are to be looked at again where that may raise them.
     fn wake(&mut self, ground: &GuessGround, table: &[u64], v: u32) -> Result<(), AllocError> {
         self.raises.set(v, self.raises.get(v).saturating_add(1));
+        let value = value_in(table, v);
+        self.limits.set(v, ground.even.limit(v, value));
         for u in ground.graph.predecessors(v) {
-            self.add(ground, table, *u)?;
+            if !self.waits.get(*u) && self.limits.get(*u) <= value {
+                self.waits.set(*u, true);
+                self.count = self.count.saturating_add(1);
+                self.queue.push_back(*u)?;
+            }
         }
         Ok(())
     }
@@ -91,25 +116,55 @@ impl Waiting {
 
     // A turn begins: nothing rose yet.
     fn begin_turn(&mut self) {
+        self.turn = self.turn.saturating_add(1);
         for v in 0..self.raises.count() {
             self.raises.set(v, 0);
         }
     }
 
-    /// Those that wait or climbed when some turn ended; none where nothing waits.
-    pub(crate) fn moving(&mut self, alloc: Global) -> Result<Vec<u32>, AllocError> {
+    /// Those that wait or climbed when this turn ended, and from where moves lead there over others that did so when an earlier one
+    /// ended; none where nothing waits.
+    pub(crate) fn moving(
+        &mut self,
+        alloc: Global,
+        ground: &GuessGround,
+    ) -> Result<Vec<u32>, AllocError> {
         let mut moving = Vec::new(alloc);
-        if self.queue.is_empty() {
+        if self.count == 0 {
             return Ok(moving);
         }
         for v in 0..self.waits.count() {
-            if self.moves.get(v) || self.waits.get(v) || self.climbs <= self.raises.get(v) {
-                self.moves.set(v, true);
+            if self.waits.get(v) || self.climbs <= self.raises.get(v) {
+                self.moved.set(v, self.turn);
                 moving.push(v)?;
             }
         }
+        for at in 0..self.waits.count() as usize {
+            let v = match moving.get(at) {
+                Some(v) => *v,
+                None => break,
+            };
+            self.add_leading(ground, v, &mut moving)?;
+        }
         self.climbs = 1;
         Ok(moving)
+    }
+
+    // Those that move to v and moved when an earlier turn ended.
+    fn add_leading(
+        &mut self,
+        ground: &GuessGround,
+        v: u32,
+        moving: &mut Vec<u32>,
+    ) -> Result<(), AllocError> {
+        for u in ground.graph.predecessors(v) {
+            let moved = self.moved.get(*u);
+            if moved != 0 && moved != self.turn {
+                self.moved.set(*u, self.turn);
+                moving.push(*u)?;
+            }
+        }
+        Ok(())
     }
 }
 
@@ -140,7 +195,8 @@ fn look(
 {
     if waiting.takes(v) {
         budget.spend(ground.graph.successors(v).len().saturating_add(1));
-        if lift_vertex(shape, arena, table, v) {
+        let best = ground.best(table.values(), v);
+        if waiting.limits.get(v) <= best && lift_vertex(shape, arena, table, v) {
             waiting.wake(ground, table.values(), v)?;
         }
     }
@@ -167,7 +223,48 @@ fn look_round(
     Ok(())
 }
 
-// Lifts what waits, until nothing does or the budget is spent.
+// Lifts what waits, first come, first served, but not what these lifts wake.
+#[tactic(auto, using(crate::proofs::Kept::kept_then))]
+fn look_queue(
+    shape: &Shape,
+    arena: &Arena,
+    ground: &GuessGround,
+    waiting: &mut Waiting,
+    table: &mut Table,
+    budget: &mut Budget,
+) -> Result<(), AllocError>
+    requires { IsTableOf shape.now arena.now table.old }
+    ensures { IsRaisedFrom shape.now arena.now table.old table.new }
+{
+    for _ in 0..waiting.queue.len() {
+        let Some(v) = waiting.queue.pop_front() else {
+            break;
+        };
+        look(shape, arena, ground, waiting, table, v, budget)?;
+    }
+    Ok(())
+}
+
+// Lifts each vertex that waits.
+fn look_once(
+    shape: &Shape,
+    arena: &Arena,
+    ground: &GuessGround,
+    waiting: &mut Waiting,
+    table: &mut Table,
+    budget: &mut Budget,
+) -> Result<(), AllocError>
+    requires { IsTableOf shape.now arena.now table.old }
+    ensures { IsRaisedFrom shape.now arena.now table.old table.new }
+{
+    if waiting.is_dense() {
+        look_round(shape, arena, ground, waiting, table, budget)
+    } else {
+        look_queue(shape, arena, ground, waiting, table, budget)
+    }
+}
+
+// Lifts what waits, until nothing does, as many wait round after round, or the budget is spent.
 #[tactic(auto, using(crate::proofs::Kept::kept_then))]
 fn lift_waiting(
     shape: &Shape,
@@ -175,28 +272,31 @@ fn lift_waiting(
     ground: &GuessGround,
     waiting: &mut Waiting,
     table: &mut Table,
+    patience: u64,
     budget: &mut Budget,
 ) -> Result<(), AllocError>
     requires { IsTableOf shape.now arena.now table.old }
     ensures { IsRaisedFrom shape.now arena.now table.old table.new }
 {
+    let mut least = waiting.count;
+    let mut left = budget.left();
     for _ in 0..u64::MAX {
-        if budget.is_spent() {
+        if waiting.count == 0 || budget.is_spent() {
             break;
         }
-        if waiting.is_dense() {
-            look_round(shape, arena, ground, waiting, table, budget)?;
-        } else {
-            let Some(v) = waiting.queue.pop_front() else {
-                break;
-            };
-            look(shape, arena, ground, waiting, table, v, budget)?;
+        look_once(shape, arena, ground, waiting, table, budget)?;
+        if waiting.count < least.saturating_sub(least / FALL) {
+            least = waiting.count;
+            left = budget.left();
+        } else if budget.left().saturating_add(patience) < left {
+            break;
         }
     }
     Ok(())
 }
 
-/// Lifts until nothing waits, or so many edges and vertices were looked at, or the budget is spent.
+/// Lifts until nothing waits, or so many edges and vertices were looked at, or the budget is spent; or until so many were looked at
+/// as patience has, and as many wait as before.
 pub(crate) fn lift_remaining(
     shape: &Shape,
     arena: &Arena,
@@ -204,6 +304,7 @@ pub(crate) fn lift_remaining(
     waiting: &mut Waiting,
     table: &mut Table,
     looks: u64,
+    patience: u64,
     budget: &mut Budget,
 ) -> Result<(), AllocError>
     requires { IsTableOf shape.now arena.now table.old }
@@ -211,7 +312,7 @@ pub(crate) fn lift_remaining(
 {
     waiting.begin_turn();
     let mut turn = budget.take(looks);
-    lift_waiting(shape, arena, ground, waiting, table, &mut turn)?;
+    lift_waiting(shape, arena, ground, waiting, table, patience, &mut turn)?;
     budget.give_back(turn);
     Ok(())
 }

@@ -1,9 +1,11 @@
 //! Calls that look, and leave the desk.
+ghost use Rattle.std.specs.Arc.{arc_value};
 ghost use Rattle.std.specs.Prelude.{◌≡◌, ◌<◌, Bool, true, Some, None, length, IfOk, IfErr, OnOk, option_map};
 ghost use Rattle.std.specs.Bool.{Decides};
 ghost use mathlib.Core.List.{IsPrefix};
 ghost use Rattle.vpg_game.specs.Game.{graph_of};
-ghost use Rattle.vpg_trail.specs.Page.{Hopeful, Dual, decisions_of, table_of};
+ghost use Rattle.vpg_measure.specs.Games.{ArePageGames};
+ghost use Rattle.vpg_trail.specs.Page.{Hopeful, Dual, choices_of, decisions_of, table_of};
 ghost use Rattle.vpg_desk.specs.Headline.{Tells as PageTells};
 ghost use Rattle.vpg_desk.specs.History.{book_after};
 ghost use Rattle.vpg_desk.specs.Lawful.{PageIsBelow};
@@ -21,8 +23,8 @@ use crate::front::Front;
 use crate::log::{Log, admit, enter};
 use crate::terms::Terms;
 use std::alloc::Global;
-use std::sync::Wait;
-use vpg_measure::{Order, Verdict};
+use std::sync::{Arc, Wait};
+use vpg_measure::{Order, PageGames, Verdict};
 use vpg_trail::Page;
 
 impl<L: Terms> Log<L> {
@@ -159,6 +161,60 @@ impl<L: Terms> Log<L> {
         );
         *front = self.replay.newest.copy();
         Ok(page)
+    }
+
+    /// The present page, with what its decisions make of the game: the desk holds that, so nothing of it is made anew.
+    pub(crate) fn page_with_games<R: Wait>(
+        &mut self,
+        rt: &R,
+        alloc: Global,
+        row: &Row,
+        session: u32,
+        front: &mut Front<L>,
+    ) -> Result<(Page, Arc<PageGames>), Fault<L, Never>>
+        requires row { row.now ≡ L.shelves }
+        requires seen { IsPrefix front.old self.old }
+        ensures done { IfOk result (λ r. Extends (family_between L.game L.diagram) front.old session book.Page (book.PageIs r.0.entries) front.new) }
+        ensures decisions { IfOk result (λ r. r.0.decisions ≡ decisions_of r.0.entries) }
+        ensures hopeful { IfOk result (λ r. r.0.hopeful ≡ table_of Hopeful r.0.entries (length (graph_of L.game))) }
+        ensures dual { IfOk result (λ r. r.0.dual ≡ table_of Dual r.0.entries (length (graph_of L.game))) }
+        ensures games { IfOk result (λ r. ArePageGames L.game L.diagram (choices_of r.0.entries) (arc_value r.1)) }
+        ensures below { IfOk result (λ r. PageIsBelow (family_between L.game L.diagram) r.0.entries) }
+        ensures tells { IfOk result (λ r. PageTells (setting_between L.game L.diagram) r.0.entries) }
+        ensures setting { OnOk result (IsSetting (setting_between L.game L.diagram)) }
+        ensures reached { OnOk result (IsReached (setting_between L.game L.diagram) (book_after (family_between L.game L.diagram) book.opened front.new)) }
+        ensures fault { IfErr result (Tells (family_between L.game L.diagram) L.limit never_refused book.Page session front.old front.new) }
+    {
+        let asked = Asked::Page;
+        let place = match admit(
+            rt,
+            row,
+            &mut self.replay.chronicle,
+            &self.replay.newest,
+            front,
+            self.replay.room,
+            session,
+            &asked,
+        ) {
+            Ok(place) => place,
+            Err(fault) => return Err(fault),
+        };
+        let Ok(page) = self.replay.desk.page(alloc) else {
+            return Err(Fault::Memory);
+        };
+        let Ok(games) = self.replay.desk.games().clone() else {
+            return Err(Fault::Memory);
+        };
+        enter(
+            &mut self.replay.chronicle,
+            &mut self.replay.newest,
+            &place,
+            session,
+            &asked,
+            Answer::PageIs,
+        );
+        *front = self.replay.newest.copy();
+        Ok((page, games))
     }
 
     /// What lifters take along.

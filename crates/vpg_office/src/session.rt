@@ -1,10 +1,12 @@
 //! Sessions and their calls.
+ghost use Rattle.std.specs.Arc.{arc_value};
 ghost use Rattle.std.specs.Prelude.{◌≡◌, ◌<◌, ◌≤◌, true, length, IfOk, IfErr, OnOk};
 ghost use mathlib.Core.List.{IsPrefix};
 ghost use Rattle.vpg_desk.specs.Book as book;
 ghost use Rattle.vpg_desk.specs.Commit.{handed_in};
 ghost use Rattle.vpg_game.specs.Game.{graph_of};
-ghost use Rattle.vpg_trail.specs.Page.{Hopeful, Dual, decisions_of, table_of};
+ghost use Rattle.vpg_measure.specs.Games.{ArePageGames};
+ghost use Rattle.vpg_trail.specs.Page.{Hopeful, Dual, choices_of, decisions_of, table_of};
 ghost use Rattle.vpg_desk.specs.Headline.{Tells as PageTells};
 ghost use Rattle.vpg_desk.specs.History.{book_after};
 ghost use Rattle.vpg_desk.specs.Lawful.{PageIsBelow};
@@ -23,9 +25,9 @@ use crate::terms::Terms;
 use crate::undo_token::Undo;
 use std::alloc::Global;
 use std::marker::{Model, PhantomData};
-use std::sync::{MutexGuard, Wait};
+use std::sync::{Arc, MutexGuard, Wait};
 use vpg_desk::{CommitFault, DecideFault, RedoFault, RetractFault, UndoFault};
-use vpg_measure::{Harvest, Order, Verdict};
+use vpg_measure::{Harvest, Order, PageGames, Verdict};
 use vpg_trail::Page;
 
 /// A session of an office. It can't be copied. Contracts see its number, from 1 to 1,024.
@@ -311,6 +313,40 @@ impl<L: Terms> Session<L> {
             let mut log = office.log.lock(rt);
             if log.has(&office.row, front) {
                 let answer = log.page(rt, alloc, &office.row, number, front);
+                MutexGuard::unlock(log);
+                return answer;
+            }
+            MutexGuard::unlock(log);
+        }
+        unreachable!()
+    }
+
+    /// The present page, as `Desk::page`, with what its decisions make of the game, as `Desk::games`: one call, so the two are of one
+    /// page. The games are shared with the desk, and not made anew.
+    pub fn page_with_games<R: Wait>(
+        &mut self,
+        rt: &R,
+        alloc: Global,
+        office: &Office<L>,
+        front: &mut Front<L>,
+    ) -> Result<(Page, Arc<PageGames>), Fault<L, Never>>
+        ensures done { IfOk result (λ r. Extends (family_between L.game L.diagram) front.old self.old book.Page (book.PageIs r.0.entries) front.new) }
+        ensures decisions { IfOk result (λ r. r.0.decisions ≡ decisions_of r.0.entries) }
+        ensures hopeful { IfOk result (λ r. r.0.hopeful ≡ table_of Hopeful r.0.entries (length (graph_of L.game))) }
+        ensures dual { IfOk result (λ r. r.0.dual ≡ table_of Dual r.0.entries (length (graph_of L.game))) }
+        ensures games { IfOk result (λ r. ArePageGames L.game L.diagram (choices_of r.0.entries) (arc_value r.1)) }
+        ensures below { IfOk result (λ r. PageIsBelow (family_between L.game L.diagram) r.0.entries) }
+        ensures tells { IfOk result (λ r. PageTells (setting_between L.game L.diagram) r.0.entries) }
+        ensures setting { OnOk result (IsSetting (setting_between L.game L.diagram)) }
+        ensures reached { OnOk result (IsReached (setting_between L.game L.diagram) (book_after (family_between L.game L.diagram) book.opened front.new)) }
+        ensures fault { IfErr result (Tells (family_between L.game L.diagram) L.limit never_refused book.Page self.old front.old front.new) }
+        ensures same { self.new ≡ self.old }
+    {
+        let number = self.number;
+        'again: for _ in rt.forever() {
+            let mut log = office.log.lock(rt);
+            if log.has(&office.row, front) {
+                let answer = log.page_with_games(rt, alloc, &office.row, number, front);
                 MutexGuard::unlock(log);
                 return answer;
             }

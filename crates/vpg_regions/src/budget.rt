@@ -11,6 +11,11 @@ impl Budget {
         Budget { left }
     }
 
+    /// How many are left.
+    pub fn left(&self) -> u64 {
+        self.left
+    }
+
     pub fn is_spent(&self) -> bool {
         self.left == 0
     }

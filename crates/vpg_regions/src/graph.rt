@@ -8,17 +8,17 @@ use vpg_hope::Arena;
 #[derive(Drop)]
 struct Lists {
     // where each list ends
-    ends: Vec<usize>,
+    ends: Vec<u32>,
     items: Vec<u32>,
 }
 
 impl Lists {
     fn of(&self, v: u32) -> &[u32] {
-        let start = match (v as usize).checked_sub(1) {
+        let start = match v.checked_sub(1) {
             Some(before) => self.end(before),
             None => 0,
         };
-        let end = self.end(v as usize);
+        let end = self.end(v);
         if start <= end && end <= self.items.len() {
             &self.items[start..end]
         } else {
@@ -26,49 +26,58 @@ impl Lists {
         }
     }
 
-    fn end(&self, at: usize) -> usize {
-        match self.ends.get(at) {
-            Some(end) => *end,
+    fn end(&self, v: u32) -> usize {
+        match self.ends.get(v as usize) {
+            Some(end) => *end as usize,
             None => 0,
         }
     }
 
-    // In how many lists each vertex stands.
-    fn counts(&self, alloc: Global, vertices: u32) -> Result<PerVertex<usize>, AllocError> {
-        let mut counts = PerVertex::of(alloc, vertices, 0usize)?;
+    // The list of the next vertex ends here.
+    fn end_here(&mut self) -> Result<(), AllocError> {
+        self.ends
+            .push(u32::try_from(self.items.len()).unwrap_or(u32::MAX))?;
+        Ok(())
+    }
+
+    // For each vertex, in how many lists lesser ones stand.
+    fn places(&self, alloc: Global, vertices: u32) -> Result<Vec<u32>, AllocError> {
+        let mut places = vec![in alloc; 0u32; vertices as usize]?;
         for w in &self.items {
-            counts.set(*w, counts.get(*w).saturating_add(1));
+            let at = *w as usize;
+            if at < places.len() {
+                places[at] = places[at].saturating_add(1);
+            }
         }
-        Ok(counts)
+        let mut before = 0u32;
+        for v in 0..places.len() {
+            let count = places[v];
+            places[v] = before;
+            before = before.saturating_add(count);
+        }
+        Ok(places)
     }
 
     // For each vertex those in whose lists it stands.
     fn reversed(&self, alloc: Global, vertices: u32) -> Result<Lists, AllocError> {
-        let mut places = self.counts(alloc, vertices)?;
-        let mut before = 0usize;
-        for v in 0..vertices {
-            let count = places.get(v);
-            places.set(v, before);
-            before = before.saturating_add(count);
-        }
+        let mut ends = self.places(alloc, vertices)?;
         let mut items = vec![in alloc; 0u32; self.items.len()]?;
-        let mut ends = Vec::with_capacity(alloc, vertices as usize)?;
         for v in 0..vertices {
-            self.put_back(v, &mut places, &mut items);
-        }
-        for v in 0..vertices {
-            ends.push(places.get(v))?;
+            self.put_back(v, &mut ends, &mut items);
         }
         Ok(Lists { ends, items })
     }
 
     // Writes v to the next place of each of its list.
-    fn put_back(&self, v: u32, places: &mut PerVertex<usize>, items: &mut Vec<u32>) {
+    fn put_back(&self, v: u32, places: &mut Vec<u32>, items: &mut Vec<u32>) {
         for w in self.of(v) {
-            let place = places.get(*w);
-            places.set(*w, place.saturating_add(1));
-            if place < items.len() {
-                items[place] = v;
+            let at = *w as usize;
+            if at < places.len() {
+                let place = places[at] as usize;
+                places[at] = places[at].saturating_add(1);
+                if place < items.len() {
+                    items[place] = v;
+                }
             }
         }
     }
@@ -106,7 +115,7 @@ impl Draft {
     pub fn vertex(&mut self, owner: Player, priority: u32) -> Result<(), AllocError> {
         self.owners.push(owner)?;
         self.priorities.push(priority)?;
-        self.successors.ends.push(self.successors.items.len())?;
+        self.successors.end_here()?;
         self.count = self.count.saturating_add(1);
         Ok(())
     }

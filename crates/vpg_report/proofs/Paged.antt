@@ -8,9 +8,9 @@ use Rattle.vpg_guards.specs.declared.tri.Tri.{Tri}
 use Rattle.vpg_diagram.specs.DiagramText.{NamedDiagram}
 use Rattle.vpg_game.specs.Game.{NamedGame, unnamed, graph_of, vertex_ids}
 use Rattle.vpg_diagram.specs.FeatureDiagram.{feature_count}
-use Rattle.vpg_partial.specs.KnownLaws.{HasConflictOf}
 use Rattle.vpg_partial.specs.TableLaws.{AreChoicesOf, IsKnownTable}
 use Rattle.vpg_partial.proofs.Closing.{table_exists}
+use Rattle.vpg_measure.specs.Games.{GamesView, ArePageGames}
 use Rattle.vpg_measure.specs.TwoGames.{top_for, IsTableBelow}
 use Rattle.vpg_measure.proofs.TwoGames.{arena_length}
 use Rattle.vpg_trail.specs.Page.{Which, Hopeful, Dual, Decision, Entry, literal_of, decisions_of, choices_of, table_of}
@@ -26,7 +26,7 @@ use Rattle.vpg_script.specs.Script as script
 use Rattle.vpg_texts.specs.Plan.{IsPlanned, IsPlanFault}
 use Rattle.vpg_texts.specs.declared.showing.plans.PlanFault.TheVariants.{NotFull, NotSettled}
 use Rattle.vpg_texts.specs.Scene.{EntryIsWithin, IsShown, IsCounted, TellsKnown, scene_of}
-use Rattle.vpg_texts.specs.Text.{trail_text}
+use Rattle.vpg_texts.specs.Text.{products_text, trail_text}
 use Rattle.vpg_report.specs.Answers.{IsPlanAnswer, refused_line, room}
 use Rattle.vpg_report.specs.Engine.{EngineState, AnswersTo}
 use Rattle.vpg_report.proofs.Asked.{page_told}
@@ -37,6 +37,12 @@ entries_are : (desk : DeskState) (entries : List Entry) → Replies desk AsksPag
 entries_are desk entries (None, (refuses, told)) = cc told
 entries_are desk entries (Some r, (refuses, told)) = absurd (cc told)
 
+-- the games of the page, with the game, the diagram and the decisions as the code has them
+pub games_are : (desk : DeskState) (held games : GamesView) → ArePageGames desk.game desk.diagram (choices_of desk.book.present) held → games ≡ held → (game : NamedGame) (diagram : NamedDiagram) (decisions : List Decision) →
+    game ≡ desk.game → diagram ≡ desk.diagram → decisions ≡ decisions_of desk.book.present → ArePageGames game diagram (map literal_of decisions) games
+games_are desk held games are is game diagram decisions game_is diagram_is decisions_are =
+    coe 0 1 (k. ArePageGames ((sym game_is) k) ((sym diagram_is) k) (map literal_of ((sym decisions_are) k)) ((sym is) k)) are
+
 module _ (desk : DeskState) (tells : Tells (setting_of desk) desk.book.present) where
   pub named : (diagram : NamedDiagram) (decisions : List Decision) → diagram ≡ desk.diagram → decisions ≡ decisions_of desk.book.present →
       AreChoicesOf diagram.lines (map literal_of decisions)
@@ -44,12 +50,6 @@ module _ (desk : DeskState) (tells : Tells (setting_of desk) desk.book.present) 
       subst (λ (d : NamedDiagram). AreChoicesOf d.lines (map literal_of decisions)) (sym same)
       (subst (λ (ds : List Decision). AreChoicesOf desk.diagram.lines (map literal_of ds)) (sym is)
       (choices_inside (setting_of desk) (choices_of desk.book.present) tells.consistent))
-
-  pub consistent : (diagram : NamedDiagram) (decisions : List Decision) → diagram ≡ desk.diagram → decisions ≡ decisions_of desk.book.present →
-      HasConflictOf diagram.lines (map literal_of decisions) → ⊥
-  consistent diagram decisions same is conflict =
-      tells.consistent (inr (subst (λ (ds : List Decision). HasConflictOf desk.diagram.lines (map literal_of ds)) is
-      (subst (λ (d : NamedDiagram). HasConflictOf d.lines (map literal_of decisions)) same conflict)))
 
   module _ (setting : IsSetting (setting_of desk)) where
     known_exists : (known : List Tri) × IsKnownTable desk.diagram.lines (choices_of desk.book.present) known
@@ -97,10 +97,12 @@ module _ (limit : ℕ) (limit_is : limit ≡ room) (old new : EngineState) (sess
     decisions_here : decisions ≡ decisions_of entries
     decisions_here = decisions_are ∙ ap decisions_of (sym present)
 
-    pub products_answers : (text : List ℕ) × (TellsKnown (scene_of game diagram) decisions text × (after ≡ before ++ text)) → AnswersTo old (record { label = session; command = script.Products }) before after new
-    products_answers (text, (known, appended)) =
+    pub products_answers : (games : GamesView) → ArePageGames game diagram (map literal_of decisions) games → after ≡ before ++ products_text diagram.names games.known →
+        AnswersTo old (record { label = session; command = script.Products }) before after new
+    products_answers games are appended =
+        let text = products_text diagram.names games.known in
         page_told limit limit_is session old new script.Products entries text before after refl logged
-        (coe 0 1 (k. TellsKnown (scene_of (game_is k) (diagram_is k)) (decisions_here k) text) known, refl, held) appended
+        (coe 0 1 (k. TellsKnown (scene_of (game_is k) (diagram_is k)) (decisions_here k) text) (games.known, (are.known, refl)), refl, held) appended
 
     module _ (hopeful dual : List ℕ) (hopeful_is : hopeful ≡ table_of Hopeful old.client.desk.book.present (length (graph_of old.client.desk.game)))
         (dual_is : dual ≡ table_of Dual old.client.desk.book.present (length (graph_of old.client.desk.game))) where

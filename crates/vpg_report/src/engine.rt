@@ -28,7 +28,7 @@ use vpg_measure::{Harvest, Which};
 use vpg_office::{NotOpened, Redo, Site, Terms, Undo};
 use vpg_script::{Command, Request, ServeFault, Server};
 use vpg_settle::swept;
-use vpg_texts::{PlanFault, count, plan, products, show, trail};
+use vpg_texts::{PlanFault, count_over, plan_over, products_over, show_over, trail};
 
 /// How many calls the log of a run's office takes.
 pub(crate) const ROOM: u32 = 1_048_576;
@@ -347,11 +347,11 @@ impl<L: Terms> Engine<L> {
     ) -> Result<(), ServeFault>
         ensures { OnOk result (AnswersTo self.old (record { label = session; command = Show }) out.old.items out.new.items self.new) }
     {
-        let page = match self.client.page(rt, alloc, session) {
-            Ok(page) => page,
+        let (page, games) = match self.client.page_with_games(rt, alloc, session) {
+            Ok(both) => both,
             Err(fault) => return answer::unanswered(fault, out),
         };
-        show(alloc, &page, &self.game, &self.diagram, out)?;
+        show_over(alloc, &games, &page, &self.game, &self.diagram, out)?;
         Ok(())
     }
 
@@ -383,11 +383,11 @@ impl<L: Terms> Engine<L> {
     ) -> Result<(), ServeFault>
         ensures { OnOk result (AnswersTo self.old (record { label = session; command = Products }) out.old.items out.new.items self.new) }
     {
-        let page = match self.client.page(rt, alloc, session) {
-            Ok(page) => page,
+        let (_page, games) = match self.client.page_with_games(rt, alloc, session) {
+            Ok(both) => both,
             Err(fault) => return answer::unanswered(fault, out),
         };
-        products(alloc, &page, &self.game, &self.diagram, out)?;
+        products_over(alloc, &games, &self.diagram, out)?;
         Ok(())
     }
 
@@ -401,11 +401,11 @@ impl<L: Terms> Engine<L> {
     ) -> Result<(), ServeFault>
         ensures { OnOk result (AnswersTo self.old (record { label = session; command = Plan }) out.old.items out.new.items self.new) }
     {
-        let page = match self.client.page(rt, alloc, session) {
-            Ok(page) => page,
+        let (page, games) = match self.client.page_with_games(rt, alloc, session) {
+            Ok(both) => both,
             Err(fault) => return answer::unanswered(fault, out),
         };
-        match plan(alloc, &page, &self.game, &self.diagram, out) {
+        match plan_over(alloc, &games, &page, &self.game, &self.diagram, out) {
             Ok(()) => Ok(()),
             Err(PlanFault::NotFull) => answer::refused(b"NotFull", out),
             Err(PlanFault::NotSettled) => answer::refused(b"NotSettled", out),
@@ -423,11 +423,11 @@ impl<L: Terms> Engine<L> {
     ) -> Result<(), ServeFault>
         ensures { OnOk result (AnswersTo self.old (record { label = session; command = Count }) out.old.items out.new.items self.new) }
     {
-        let page = match self.client.page(rt, alloc, session) {
-            Ok(page) => page,
+        let (page, games) = match self.client.page_with_games(rt, alloc, session) {
+            Ok(both) => both,
             Err(fault) => return answer::unanswered(fault, out),
         };
-        count(alloc, &page, &self.game, &self.diagram, out)?;
+        count_over(alloc, &games, &page, &self.game, &self.diagram, out)?;
         Ok(())
     }
 

@@ -1,12 +1,15 @@
 -- What is counted of a page.
-use Rattle.std.proofs.Common.{◌≡◌, ℕ, ◌≤◌, List, ◌++◌, length, All, ap, ◌∙◌, append_assoc}
+use Rattle.std.proofs.Common.{◌≡◌, ℕ, ◌≤◌, Bool, List, ◌++◌, length, All, ap, ◌∙◌, append_assoc}
 use Rattle.std.specs.Prelude.{map}
+use Rattle.std.specs.Bool.{Decides}
 use Rattle.vpg_diagram.specs.DiagramText.{NamedDiagram}
 use Rattle.vpg_game.specs.Game.{NamedGame, graph_of}
+use Rattle.vpg_game.specs.Levels.{top_of}
+use Rattle.vpg_guards.specs.Known.{AreAllKnown}
 use Rattle.vpg_measure.specs.Games.{GamesView, ArePageGames}
 use Rattle.vpg_measure.specs.TwoGames.{top_for}
 use Rattle.vpg_trail.specs.Page.{Hopeful, Dual, Decision, literal_of}
-use Rattle.vpg_texts.specs.Scene.{CountsOver, IsCounted, scene_of}
+use Rattle.vpg_texts.specs.Scene.{AreSettledTables, IsCounted, scene_of}
 use Rattle.vpg_texts.specs.Text.{count_text}
 use Rattle.vpg_texts.proofs.Settled.{settled_tells}
 use Rattle.vpg_texts.proofs.Shown.{tells}
@@ -19,8 +22,9 @@ three_parts before one two three x y z first second third =
 pub counts : (game : NamedGame) (diagram : NamedDiagram) (decisions : List Decision) (games : GamesView) → ArePageGames game diagram (map literal_of decisions) games →
     (hopeful dual text : List ℕ) → length hopeful ≡ length game.vertices → length dual ≡ length game.vertices →
     All (λ n. n ≤ top_for Hopeful (graph_of game)) hopeful → All (λ n. n ≤ top_for Dual (graph_of game)) dual →
-    CountsOver games hopeful dual text → IsCounted (scene_of game diagram) decisions hopeful dual text
-counts game diagram decisions games are hopeful dual text hopeful_len dual_len hopeful_within dual_within (full, settled, full_is, settled_is, text_is) = (
+    (full settled : Bool) → Decides full (AreAllKnown (length games.known) games.known) → Decides settled (AreSettledTables games hopeful dual) →
+    text ≡ count_text (top_of games.hopeful_levels) (top_of games.dual_levels) full settled hopeful dual → IsCounted (scene_of game diagram) decisions hopeful dual text
+counts game diagram decisions games are hopeful dual text hopeful_len dual_len hopeful_within dual_within full settled full_is settled_is text_is = (
   games.known,
   (
     are.known,

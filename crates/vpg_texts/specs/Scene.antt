@@ -7,7 +7,6 @@ use Rattle.vpg_guards.specs.Known.{kleene, AreAllKnown}
 use Rattle.vpg_diagram.specs.FeatureDiagram.{Line}
 use Rattle.vpg_diagram.specs.DiagramText.{NamedDiagram}
 use Rattle.vpg_game.specs.Game.{NamedGame, graph_of, vertex_ids}
-use Rattle.vpg_game.specs.Levels.{top_of}
 use Rattle.vpg_partial.specs.TableLaws.{IsKnownTable}
 use Rattle.vpg_game.specs.Guarded.{GuardedGame}
 use Rattle.vpg_measure.specs.Games.{GamesView, games_levels, games_arena}
@@ -48,12 +47,6 @@ AreSettledTables games hopeful dual = (which : Which) → IsProgressTable (games
 -- under what is known, both are progress tables of their games
 abbrev pub AreProgressTables : List Tri → GuardedGame Formula → (hopeful dual : List ℕ) → Type 0
 AreProgressTables known game hopeful dual = (table : Which) → IsProgressOf (kleene known) table game (table_in hopeful dual table)
-
--- The text counts the verdicts by two tables, over these games of a page.
-abbrev pub CountsOver : GamesView → (hopeful dual text : List ℕ) → Type 0
-CountsOver games hopeful dual text =
-    (full : Bool) × (settled : Bool) × Decides full (AreAllKnown (length games.known) games.known) × Decides settled (AreSettledTables games hopeful dual)
-    × (text ≡ count_text (top_of games.hopeful_levels) (top_of games.dual_levels) full settled hopeful dual)
 
 -- Under what is known, the text is made of whether each feature is known, and of whether both tables are progress tables.
 pub record TellsUnder (scene : Scene) (known : List Tri) (hopeful dual : List ℕ) (text_of : (full settled : Bool) → List ℕ) (text : List ℕ) : Type 0 where

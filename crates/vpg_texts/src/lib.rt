@@ -6,8 +6,8 @@
 //! answers.
 //!
 //! What the page's decisions make of its game they make once, as `PageGames`. Who holds that already, as a desk does, takes
-//! `show_over`, `products_over` and `plan_over`, which write the same and look at no guard. A game with a priority of 65,536 has no
-//! dual and so no page: it is answered as for want of memory.
+//! `show_over`, `products_over`, `plan_over` and `count_over`, which write the same and look at no guard. A game with a priority of
+//! 65,536 has no dual and so no page: it is answered as for want of memory.
 //!
 //! The texts are defined in `specs/Text`, what they tell of a page in `specs/Scene` and `specs/Plan`. All are this project's own.
 #![tactic(auto)]
@@ -16,6 +16,6 @@ mod showing;
 mod text;
 
 pub use showing::{
-    PlanFault, count, plan, plan_over, products, products_over, show, show_over, trail,
+    PlanFault, count, count_over, plan, plan_over, products, products_over, show, show_over, trail,
 };
 pub use text::{blank_name, blank_number};

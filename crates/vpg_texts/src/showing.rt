@@ -12,7 +12,7 @@ mod known;
 mod page;
 mod plans;
 
-pub use counts::count;
+pub use counts::{count, count_over};
 pub use entries::trail;
 pub use known::{products, products_over};
 pub use page::{show, show_over};

@@ -1,8 +1,8 @@
 -- The status that the program ends with.
 use Rattle.std.specs.Prelude.{ℕ, Result, Ok, Err}
-use Rattle.vpgdesk.specs.declared.fault.End.{End}
-use Rattle.vpgdesk.specs.declared.fault.End.TheVariants as ends
-use Rattle.vpgdesk.specs.declared.fault.Fault.{Fault}
+use Rattle.vpgdesk.specs.declared.ending.End.{End}
+use Rattle.vpgdesk.specs.declared.ending.End.TheVariants as ends
+use Rattle.vpg_family.specs.declared.fault.Fault.{Fault}
 
 -- 1 where it fails, 2 where the words are wrong
 abbrev pub status_of : Result End Fault → ℕ

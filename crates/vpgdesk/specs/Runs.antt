@@ -6,6 +6,7 @@ use Rattle.vpg_game.specs.Game.{NamedGame}
 use Rattle.vpg_desk.specs.State.{IsOpened}
 use Rattle.vpg_desk.specs.declared.fault.OpenFault.{OpenFault}
 use Rattle.vpg_desk.specs.declared.fault.OpenFault.TheVariants as opens
+use Rattle.vpg_family.specs.Families.{TellsConflict}
 use Rattle.vpg_report.specs.Engine.{IsOpenRefusal}
 use Rattle.vpg_report.specs.Output.{Outcome}
 use Rattle.vpg_report.specs.Results.{Opens}
@@ -13,14 +14,8 @@ use Rattle.vpg_report.specs.Run.{answering, begun}
 use Rattle.vpg_texts.specs.Scene.{scene_of}
 use Rattle.vpg_report.specs.declared.runs.RunFault.{RunFault}
 use Rattle.vpg_report.specs.declared.runs.RunFault.TheVariants as stops
-use Rattle.vpgdesk.specs.declared.fault.Fault.{Fault}
-use Rattle.vpgdesk.specs.declared.fault.Fault.TheVariants as told
-
--- what is told of a conflict of this feature: its name, where there is memory for it
-abbrev pub TellsConflict : List (List ℕ) → ℕ → Fault → Type 0
-TellsConflict names f (told.Conflict name) = slice_get names f ≡ Some (string_bytes name)
-TellsConflict names f told.Memory = ⊤
-TellsConflict names f fault = ⊥
+use Rattle.vpg_family.specs.declared.fault.Fault.{Fault}
+use Rattle.vpg_family.specs.declared.fault.Fault.TheVariants as told
 
 -- what is told of an office that isn't opened
 abbrev pub TellsOpening : List (List ℕ) → OpenFault → Fault → Type 0

@@ -12,22 +12,13 @@
 ghost use Rattle.std.specs.Io.KnownBytes.{Appends};
 ghost use Rattle.std.specs.Prelude.{◌≡◌, true, Err, OnOk, OnErr};
 
-mod counts;
-mod drawing;
-mod family;
-mod fault;
-mod files;
-mod telling;
+mod ending;
+mod running;
 #[cfg(test)]
 mod tests;
-mod words;
 
-use crate::drawing::{Subject, drawn};
-use crate::family::Family;
-use crate::fault::{End, Fault, status};
-use crate::files::{open_script, read_family, read_texts};
-use crate::telling::line_of;
-use crate::words::{Paths, Task};
+use crate::ending::{End, status};
+use crate::running::run_script;
 use clap::error::ErrorKind;
 use std::alloc::Global;
 use std::io::IsTerminal;
@@ -35,7 +26,11 @@ use std::process::ExitCode;
 use std::sync::Wait;
 use std::thread::Threads;
 use std::{env, io};
+use vpg_family::{
+    Family, Fault, Paths, Subject, drawn, line_of, open_script, read_family, read_texts,
+};
 use vpg_script::{Device, Sink};
+use vpg_words::{Task, not_text, read};
 
 /// The diagram that is built in: a root with two features, each of which may be left out.
 const DIAGRAM: &str = "root r\noptional r f\noptional r g\n";
@@ -71,7 +66,7 @@ fn run_built_in<T: Threads + Wait + Sync>(
     }
     let mut reader = Device::reader(rt.stdin().lock());
     let mut writer = Device::writer(rt.stdout().lock());
-    family.run(threads, alloc, &mut reader, &mut writer, 1)
+    run_script(threads, alloc, family, &mut reader, &mut writer, 1)
 }
 
 /// Writes a picture of a family.
@@ -99,9 +94,10 @@ fn carry_out<T: Threads + Wait + Sync>(
             let mut reader = Device::reader(open_script(rt, script)?);
             let mut writer = Device::writer(rt.stdout().lock());
             // The parser takes no other number.
-            family.run(
+            run_script(
                 threads,
                 alloc,
+                family,
                 &mut reader,
                 &mut writer,
                 (*lifters).clamp(1, 64),
@@ -157,9 +153,9 @@ fn obey<T: Threads + Wait + Sync>(
     let words: Vec<String> = match env::args(rt) {
         Ok(words) => words.collect(alloc)?,
         Err(error) if error.kind() == io::ErrorKind::OutOfMemory => return Err(Fault::Memory),
-        Err(_) => return print(rt, &words::not_text(alloc)?),
+        Err(_) => return print(rt, &not_text(alloc)?),
     };
-    match words::read(alloc, &words) {
+    match read(alloc, &words) {
         Ok(task) => {
             carry_out(rt, threads, alloc, &task)?;
             Ok(End::Done)

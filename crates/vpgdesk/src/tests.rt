@@ -1,5 +1,141 @@
-//! What no clause says: what the words of the command line ask for, which fault is told first, and that the texts are those of `docs/FORMATS.md`.
+//! What no clause says: what is told of the end of a script, with which text. The family of most rows is the one that is built in.
+use crate::running::run_script;
+use crate::{DIAGRAM, GAME};
+use std::alloc::Global;
+use std::io::{self, Read, Write};
+use std::sync::Wait;
+use std::test::*;
+use std::thread::Threads;
+use vpg_family::{Family, Fault, line_of};
+use vpg_script::Device;
 
-mod faults;
-mod files;
-mod words;
+/// A family, a script, and what is written to standard output, or else to standard error.
+struct Row {
+    diagram: &'static str,
+    game: &'static str,
+    script: &'static str,
+    written: &'static str,
+}
+
+static ROWS: [Row; 4] = [
+    Row {
+        diagram: DIAGRAM,
+        game: GAME,
+        script: "select r\nproducts",
+        written: "done 1\nin r\nout\nopen f g\n",
+    },
+    // The diagram contradicts itself. The fault of the line is told only of an office that is opened.
+    Row {
+        diagram: "root r\nmandatory r a\nexcludes r a\n",
+        game: "0 0 0 0;",
+        script: "frob",
+        written: "vpgdesk: Conflict r\n",
+    },
+    Row {
+        diagram: DIAGRAM,
+        game: GAME,
+        script: "show\nfrob",
+        written: "vpgdesk: script Line 2 Word\n",
+    },
+    Row {
+        diagram: DIAGRAM,
+        game: GAME,
+        script: "# none\r\nundo x\nfrob",
+        written: "vpgdesk: script Line 2 Args\n",
+    },
+];
+
+/// What a row's script writes.
+fn answer<T: Threads + Wait + Sync>(rt: &T, alloc: Global, row: &Row) -> Result<Vec<u8>, Fault> {
+    let family = Family::read(alloc, row.diagram.as_bytes(), row.game.as_bytes())?;
+    let mut reader = Device::reader(row.script.as_bytes());
+    let mut writer = Device::writer(Vec::new(alloc));
+    run_script(rt, alloc, family, &mut reader, &mut writer, 1)?;
+    Ok(writer.into_writer())
+}
+
+fn holds<T: Threads + Wait + Sync>(rt: &T, alloc: Global, row: &Row) -> bool {
+    let written = match answer(rt, alloc, row) {
+        Ok(text) => Ok(text),
+        Err(fault) => line_of(alloc, &fault),
+    };
+    written.is_ok_and(|text| text.as_slice() == row.written.as_bytes())
+}
+
+/// The place of the first row that doesn't hold.
+fn first_wrong<T: Threads + Wait + Sync>(rt: &T, alloc: Global) -> Option<usize> {
+    for k in 0..ROWS.len() {
+        if !holds(rt, alloc, &ROWS[k]) {
+            return Some(k);
+        }
+    }
+    None
+}
+
+#[test]
+fn scripts_and_how_they_end(rt: HostRuntime) -> Result<(), Fail> {
+    assert_eq!(rt; first_wrong(&rt, rt.alloc()), None);
+    Ok(())
+}
+
+/// Fails at the first call, whether it is to read or to write.
+#[derive(Drop)]
+struct Broken;
+
+impl Read for Broken {
+    fn read(&mut self, _buf: &mut [u8]) -> io::Result<usize> {
+        Err(io::ErrorKind::Other.into())
+    }
+}
+
+impl Write for Broken {
+    fn write(&mut self, _buf: &[u8]) -> io::Result<usize> {
+        Err(io::ErrorKind::Other.into())
+    }
+
+    fn flush(&mut self) -> io::Result<()> {
+        Ok(())
+    }
+}
+
+/// How a script ends whose answers go to a broken device.
+fn unwritten<T: Threads + Wait + Sync>(rt: &T, alloc: Global, script: &str) -> Result<(), Fault> {
+    let family = Family::read(alloc, DIAGRAM.as_bytes(), GAME.as_bytes())?;
+    let mut reader = Device::reader(script.as_bytes());
+    run_script(
+        rt,
+        alloc,
+        family,
+        &mut reader,
+        &mut Device::writer(Broken),
+        1,
+    )
+}
+
+/// How a script ends that comes from a broken device.
+fn unread<T: Threads + Wait + Sync>(rt: &T, alloc: Global) -> Result<(), Fault> {
+    let family = Family::read(alloc, DIAGRAM.as_bytes(), GAME.as_bytes())?;
+    let mut writer = Device::writer(Vec::new(alloc));
+    run_script(
+        rt,
+        alloc,
+        family,
+        &mut Device::reader(Broken),
+        &mut writer,
+        1,
+    )
+}
+
+#[test]
+fn broken_devices(rt: HostRuntime) -> Result<(), Fail> {
+    assert!(rt; matches!(unread(&rt, rt.alloc()), Err(Fault::Read)));
+    assert!(rt;
+        matches!(
+            unwritten(&rt, rt.alloc(), "# none\nshow\nfrob"),
+            Err(Fault::Write)
+        )
+    );
+    // Where nothing is written a broken device is no failure.
+    assert!(rt; unwritten(&rt, rt.alloc(), "# none\n").is_ok());
+    Ok(())
+}

@@ -2,12 +2,12 @@
 ghost use Rattle.std.specs.Prelude.{◌≡◌, ◌≤◌, ◌++◌, ℕ, List, length, map, All, OnOk, OnErr};
 ghost use Rattle.vpg_diagram.specs.FeatureDiagram.{feature_count};
 ghost use Rattle.vpg_game.specs.Game.{graph_of};
-ghost use Rattle.vpg_measure.specs.Lifts.{IsTableOf};
+ghost use Rattle.vpg_measure.specs.Games.{ArePageGames};
 ghost use Rattle.vpg_measure.specs.TwoGames.{top_for};
 ghost use Rattle.vpg_partial.specs.Known.{literal_of};
 ghost use Rattle.vpg_partial.specs.KnownLaws.{HasConflictOf};
 ghost use Rattle.vpg_partial.specs.TableLaws.{AreChoicesOf};
-ghost use Rattle.vpg_texts.specs.Scene.{CountsOver, IsCounted, scene_of};
+ghost use Rattle.vpg_texts.specs.Scene.{IsCounted, scene_of};
 
 use crate::showing::games_of;
 use crate::showing::page::is_settled;
@@ -15,26 +15,30 @@ use crate::text;
 use std::alloc::{AllocError, Global};
 use vpg_diagram::Diagram;
 use vpg_game::GuardedGame;
-use vpg_measure::{PageGames, Table, Which};
+use vpg_measure::{PageGames, Which};
 use vpg_trail::Page;
 
-/// Appends the counts of two tables, over what the decisions make of the game.
-fn count_over(
+/// Appends the counts of a page as `count` does, over what its decisions make of its game: no guard is looked at.
+pub fn count_over(
     alloc: Global,
     games: &PageGames,
-    hopeful: &Table,
-    dual: &Table,
+    page: &Page,
+    game: &GuardedGame,
+    diagram: &Diagram,
     out: &mut Vec<u8>,
 ) -> Result<(), AllocError>
-    requires hopeful { IsTableOf games.now.hopeful_levels games.now.hopeful_arena hopeful.now }
-    requires dual { IsTableOf games.now.dual_levels games.now.dual_arena dual.now }
-    ensures counted { OnOk result ((text : List ℕ) × (CountsOver games.now hopeful.now dual.now text × (out.new.items ≡ out.old.items ++ text))) }
+    requires games { ArePageGames game.now diagram.now (map literal_of page.now.decisions) games.now }
+    requires hopeful { length page.now.hopeful ≡ length game.now.vertices }
+    requires dual { length page.now.dual ≡ length game.now.vertices }
+    requires hopeful_within { All (λ n. n ≤ top_for Which.Hopeful (graph_of game.now)) page.now.hopeful }
+    requires dual_within { All (λ n. n ≤ top_for Which.Dual (graph_of game.now)) page.now.dual }
+    ensures counted { OnOk result ((text : List ℕ) × (IsCounted (scene_of game.now diagram.now) page.now.decisions page.now.hopeful page.now.dual text × (out.new.items ≡ out.old.items ++ text))) }
     ensures unchanged { OnErr result (out.new.items ≡ out.old.items) }
 {
     let full = games.known().is_full();
-    let settled = is_settled(games, hopeful, dual);
+    let settled = is_settled(games, &page.hopeful, &page.dual);
     let mut text = Vec::new(alloc);
-    text::count(games, full, settled, hopeful, dual, &mut text)?;
+    text::count(games, full, settled, &page.hopeful, &page.dual, &mut text)?;
     out.extend_from_slice(&text)
 }
 
@@ -59,5 +63,5 @@ pub fn count(
     ensures unchanged { OnErr result (out.new.items ≡ out.old.items) }
 {
     let games = games_of(alloc, game, diagram, page.decisions.as_slice())?;
-    count_over(alloc, &games, &page.hopeful, &page.dual, out)
+    count_over(alloc, &games, page, game, diagram, out)
 }

@@ -13,6 +13,6 @@ splice-requires-clause-lifts c =
 
 pub returns-in-Err-clause-from_below : goal.returns-in-Err-clause-from_below
 returns-in-Err-clause-from_below c =
-    let pushes : c.push-in-Err.new.self.items ≡ c.pop.new.self.items ++ record { serial = c.unwrap-serial.result.serial; place = c.unwrap-serial.result.place; suffix = c.in-Err.refused.value } ∷ [] = search rules in
+    let pushes : c.push-in-Err.new.self.items ≡ c.pop.new.self.items ++ record { serial = c.unwrap-serial.result.serial; place = c.unwrap-serial.result.place; suffix = c.in-Err.refused.value; is_noted = c.unwrap-serial.result.is_noted } ∷ [] = search rules in
     put_back_below c.args.trail.now.vertices c.args.from.now.items c.pop.new.self.items c.push-in-Err.new.self.items c.pop.result c.unwrap-serial.result
-    (record { serial = c.unwrap-serial.result.serial; place = c.unwrap-serial.result.place; suffix = c.in-Err.refused.value }) c.pop.ensures.items c.unwrap-serial.ensures pushes c.in-Err.ensures.back c.requires.below
+    (record { serial = c.unwrap-serial.result.serial; place = c.unwrap-serial.result.place; suffix = c.in-Err.refused.value; is_noted = c.unwrap-serial.result.is_noted }) c.pop.ensures.items c.unwrap-serial.ensures pushes c.in-Err.ensures.back c.requires.below

@@ -12,7 +12,7 @@ use Rattle.vpg_desk.specs.DeskFields.{desk_of}
 use Rattle.vpg_desk.specs.Faults.{decide_refusal, ClosesWith}
 use Rattle.vpg_desk.specs.State.{DeskState, Replies, IsStep}
 use Rattle.vpg_desk.specs.declared.fault.DecideFault.TheVariants.{Memory}
-use Rattle.vpg_desk.specs.Cuts.{cuts_of, SuffixesBelow}
+use Rattle.vpg_desk.specs.Cuts.{cuts_of, notes_of, SuffixesBelow}
 use Rattle.vpg_desk.specs.declared.cuts.Cut.{Cut}
 use Rattle.vpg_desk.proofs.Unchanged.{still_desk}
 use Rattle.vpg_desk.proofs.Shared.{held_at}
@@ -75,7 +75,7 @@ pub invariant_of-self-2 : goal.invariant_of-self-2
 invariant_of-self-2 c =
     let at = (goal.at.invariant_of-self-2 c).After-clear in
     decided_desk c.self.inside c.self.invariant c.args.session c.args.feature c.args.value c.in_ok-games.games c.push_decision.new.past c.push_decision.new.trail c.clear.new.self
-    c.in_ok-push_decision.ensures.past c.in_ok-push_decision.ensures.below c.in_ok-push_decision.ensures.trail c.clear.ensures.items (accepted at) (games_are at)
+    c.in_ok-push_decision.ensures.past c.in_ok-push_decision.ensures.notes c.in_ok-push_decision.ensures.below c.in_ok-push_decision.ensures.trail c.clear.ensures.items (accepted at) (games_are at)
 
 pub returns-clause-accepted : goal.returns-clause-accepted
 returns-clause-accepted c =
@@ -83,7 +83,7 @@ returns-clause-accepted c =
     subst (λ (n : ℕ). IsStep c.args.self.now c.args.session (Decide c.args.feature c.args.value) (Changed n) (desk_of (record { game = c.self.inside.game; diagram = c.self.inside.diagram; games = c.in_ok-games.games; trail = c.push_decision.new.trail; past = c.push_decision.new.past; future = c.clear.new.self; changes = c.self.inside.changes + 1; tokens = c.self.inside.tokens + 1; is_noted = false }))) (sym c.of.ensures)
     (subst (λ (s : DeskState). IsStep s c.args.session (Decide c.args.feature c.args.value) (Changed (c.self.inside.changes + 1)) (desk_of (record { game = c.self.inside.game; diagram = c.self.inside.diagram; games = c.in_ok-games.games; trail = c.push_decision.new.trail; past = c.push_decision.new.past; future = c.clear.new.self; changes = c.self.inside.changes + 1; tokens = c.self.inside.tokens + 1; is_noted = false }))) c.self.view_is
     (decided_step c.self.inside c.self.invariant c.args.session c.args.feature c.args.value c.in_ok-games.games c.push_decision.new.past c.push_decision.new.trail c.clear.new.self
-    c.in_ok-push_decision.ensures.past c.in_ok-push_decision.ensures.below c.in_ok-push_decision.ensures.trail c.clear.ensures.items (accepted at) (games_are at)))
+    c.in_ok-push_decision.ensures.past c.in_ok-push_decision.ensures.notes c.in_ok-push_decision.ensures.below c.in_ok-push_decision.ensures.trail c.clear.ensures.items (accepted at) (games_are at)))
 
 -- want of memory comes only of a known feature that isn't decided
 unrefused : {T E X : Type 0} (fault : E) (r : Result T E) → X → IfErr r (λ f. f ≡ fault → X)
@@ -110,5 +110,5 @@ games_with-requires-clause-held c =
 pub invariant_of-self : goal.invariant_of-self
 invariant_of-self c =
     let same = c.in_err-push_decision.ensures.err_past in
-    still_desk c.self.inside c.self.invariant c.push_decision.new.trail c.push_decision.new.past c.self.inside.future c.in_err-push_decision.ensures.err_trail (ap cuts_of same) refl
+    still_desk c.self.inside c.self.invariant c.push_decision.new.trail c.push_decision.new.past c.self.inside.future c.in_err-push_decision.ensures.err_trail (ap cuts_of same) refl (ap notes_of same) refl
     (subst (λ (l : List Cut). SuffixesBelow c.self.inside.trail.vertices l) (sym same) c.self.invariant.past_below) c.self.invariant.future_below

@@ -12,7 +12,7 @@ front : (c : After-drop_up_to) → cuts_of c.drop_up_to.new.cuts.items ≡ cuts_
 front c = c.drop_up_to.ensures.front ∙ ap (λ n. cuts_in_front_of n (cuts_of c.self.inside.future.items)) c.spend.ensures
 
 pub invariant_of-self : goal.invariant_of-self
-invariant_of-self c = forgotten_desk c.self.inside c.self.invariant c.args.token c.drop_up_to.new.cuts (front (goal.at.invariant_of-self c).After-drop_up_to) (c.drop_up_to.ensures.below c.self.inside.trail.vertices c.self.invariant.future_below)
+invariant_of-self c = forgotten_desk c.self.inside c.self.invariant c.args.token c.drop_up_to.new.cuts (front (goal.at.invariant_of-self c).After-drop_up_to) c.drop_up_to.ensures.notes (c.drop_up_to.ensures.below c.self.inside.trail.vertices c.self.invariant.future_below)
 
 pub returns : goal.returns
 returns c session =

@@ -27,4 +27,4 @@ with_note-requires c noted =
     (c.in_ok-order.ensures.game ∙ c.in_ok-game.ensures.cases) (c.in_ok-order.ensures.diagram ∙ c.in_ok-diagram.ensures.cases)
     (ap (map literal_of) c.in_ok-order.ensures.decisions ∙ choices (goal.at.with_note-requires c).In_ok-diagram)
     (c.in_ok-order.ensures.hopeful ∙ c.in_ok-hopeful.ensures ∙ c.hopeful.ensures) (c.in_ok-order.ensures.dual ∙ c.in_ok-dual.ensures ∙ c.dual.ensures)
-    (c.self.invariant.noted noted)
+    (c.self.invariant.noted.present noted)

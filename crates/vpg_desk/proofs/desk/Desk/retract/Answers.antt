@@ -12,7 +12,7 @@ use Rattle.vpg_desk.specs.DeskFields.{desk_of}
 use Rattle.vpg_desk.specs.Setting.{HasConflict}
 use Rattle.vpg_desk.specs.State.{DeskState, Replies, IsStep, setting_between}
 use Rattle.vpg_desk.specs.declared.fault.RetractFault.TheVariants.{Memory}
-use Rattle.vpg_desk.specs.Cuts.{cuts_of, SuffixesBelow}
+use Rattle.vpg_desk.specs.Cuts.{cuts_of, notes_of, SuffixesBelow}
 use Rattle.vpg_desk.specs.declared.cuts.Cut.{Cut}
 use Rattle.vpg_desk.proofs.Unchanged.{still_desk}
 use Rattle.vpg_desk.proofs.Shared.{held_at}
@@ -71,7 +71,7 @@ pub invariant_of-self-2 : goal.invariant_of-self-2
 invariant_of-self-2 c =
     let at = (goal.at.invariant_of-self-2 c).After-deref-4 in
     retracted_desk c.self.inside c.self.invariant c.args.feature (accepted (goal.at.invariant_of-self-2 c).After-vertices) c.args.session c.in-Some.place (map entry_of c.in_ok-kept.kept.items) c.in_ok-games.games c.cut_out.new.past c.cut_out.new.trail c.clear.new.self
-    (omega (arith, c.in-Some.ensures.place, length-map c.entries-entries.result.now entry_of, ap length c.entries-entries.ensures.entries)) (left at c.in_ok-kept.ensures.kept) c.in_ok-cut_out.ensures.past c.in_ok-cut_out.ensures.below c.in_ok-cut_out.ensures.trail c.clear.ensures.items
+    (omega (arith, c.in-Some.ensures.place, length-map c.entries-entries.result.now entry_of, ap length c.entries-entries.ensures.entries)) (left at c.in_ok-kept.ensures.kept) c.in_ok-cut_out.ensures.past c.in_ok-cut_out.ensures.notes c.in_ok-cut_out.ensures.below c.in_ok-cut_out.ensures.trail c.clear.ensures.items
     (coe 0 1 (k. ArePageGames (c.deref-2.ensures k) (c.deref-3.ensures k) (choices_of (shown at c.in_ok-kept.ensures.kept k)) (arc_value c.in_ok-games.games)) c.in_ok-games.ensures)
 
 pub returns-clause-accepted : goal.returns-clause-accepted
@@ -80,7 +80,7 @@ returns-clause-accepted c =
     subst (λ (n : ℕ). IsStep c.args.self.now c.args.session (Retract c.args.feature) (Changed n) (desk_of (record { game = c.self.inside.game; diagram = c.self.inside.diagram; games = c.in_ok-games.games; trail = c.cut_out.new.trail; past = c.cut_out.new.past; future = c.clear.new.self; changes = c.self.inside.changes + 1; tokens = c.self.inside.tokens + 1; is_noted = false }))) (sym c.of.ensures)
     (subst (λ (s : DeskState). IsStep s c.args.session (Retract c.args.feature) (Changed (c.self.inside.changes + 1)) (desk_of (record { game = c.self.inside.game; diagram = c.self.inside.diagram; games = c.in_ok-games.games; trail = c.cut_out.new.trail; past = c.cut_out.new.past; future = c.clear.new.self; changes = c.self.inside.changes + 1; tokens = c.self.inside.tokens + 1; is_noted = false }))) c.self.view_is
     (retracted_step c.self.inside c.self.invariant c.args.feature (accepted (goal.at.returns-clause-accepted c).After-vertices) c.args.session c.in-Some.place (map entry_of c.in_ok-kept.kept.items) c.in_ok-games.games c.cut_out.new.past c.cut_out.new.trail c.clear.new.self
-    (omega (arith, c.in-Some.ensures.place, length-map c.entries-entries.result.now entry_of, ap length c.entries-entries.ensures.entries)) (left at c.in_ok-kept.ensures.kept) c.in_ok-cut_out.ensures.past c.in_ok-cut_out.ensures.below c.in_ok-cut_out.ensures.trail c.clear.ensures.items
+    (omega (arith, c.in-Some.ensures.place, length-map c.entries-entries.result.now entry_of, ap length c.entries-entries.ensures.entries)) (left at c.in_ok-kept.ensures.kept) c.in_ok-cut_out.ensures.past c.in_ok-cut_out.ensures.notes c.in_ok-cut_out.ensures.below c.in_ok-cut_out.ensures.trail c.clear.ensures.items
     (coe 0 1 (k. ArePageGames (c.deref-2.ensures k) (c.deref-3.ensures k) (choices_of (shown at c.in_ok-kept.ensures.kept k)) (arc_value c.in_ok-games.games)) c.in_ok-games.ensures)))
 
 -- want of memory comes where nothing else refuses
@@ -107,5 +107,5 @@ games_of_page-requires-clause-held c =
 pub invariant_of-self : goal.invariant_of-self
 invariant_of-self c =
     let same = c.in_err-cut_out.ensures.err_past in
-    still_desk c.self.inside c.self.invariant c.cut_out.new.trail c.cut_out.new.past c.self.inside.future c.in_err-cut_out.ensures.err_trail (ap cuts_of same) refl
+    still_desk c.self.inside c.self.invariant c.cut_out.new.trail c.cut_out.new.past c.self.inside.future c.in_err-cut_out.ensures.err_trail (ap cuts_of same) refl (ap notes_of same) refl
     (subst (λ (l : List Cut). SuffixesBelow c.self.inside.trail.vertices l) (sym same) c.self.invariant.past_below) c.self.invariant.future_below

@@ -1,10 +1,10 @@
-use Rattle.std.proofs.Common.{◌≡◌, ◌∙◌, ◌∷◌, IfSome, IfErr, List, None, Result, Ok, Err, ap, sym, subst, false}
+use Rattle.std.proofs.Common.{◌≡◌, ◌∙◌, ◌∷◌, IfSome, IfErr, List, None, Result, Ok, Err, ap, sym, subst}
 use Rattle.std.specs.Arc.{arc_value}
 use Rattle.std.specs.List.{AllByRecursion}
 use Rattle.vpg_measure.specs.Games.{ArePageGames}
 use Rattle.vpg_trail.specs.Page.{choices_of}
 use Rattle.vpg_desk.specs.Book.{Undo, Undone, Refused, refuses_undo}
-use Rattle.vpg_desk.specs.Cuts.{cuts_of, pages_of, serials_from_top}
+use Rattle.vpg_desk.specs.Cuts.{cuts_of, notes_of, pages_of, serials_from_top}
 use Rattle.vpg_desk.specs.DeskFields.{desk_of}
 use Rattle.vpg_desk.specs.Faults.{undo_refusal}
 use Rattle.vpg_desk.specs.Setting.{HasConflict}
@@ -41,13 +41,13 @@ known c cut further e =
 pub invariant_of-self-2 : goal.invariant_of-self-2
 invariant_of-self-2 c =
     let at = (goal.at.invariant_of-self-2 c).After-swing in
-    undone_desk c.self.inside c.self.invariant c.args.serial c.in_ok-games.games c.swing.new.from c.swing.new.to c.swing.new.trail c.swing.ensures.vertices c.swing.ensures.from_below (c.swing.ensures.to_below c.self.invariant.future_below) (accepted at) c.in_ok-swing.ensures.swung (known at)
+    undone_desk c.self.inside c.self.invariant c.args.serial c.in_ok-games.games c.in_ok-is_noted.is_noted c.swing.new.from c.swing.new.to c.swing.new.trail c.swing.ensures.vertices c.swing.ensures.from_below (c.swing.ensures.to_below c.self.invariant.future_below) (accepted at) c.in_ok-is_noted.ensures.swung (known at) c.in_ok-is_noted.ensures.note c.in_ok-is_noted.ensures.left
 
 pub returns-clause-accepted : goal.returns-clause-accepted
 returns-clause-accepted c session =
     let at = (goal.at.returns-clause-accepted c).After-swing in
-    subst (λ (s : DeskState). IsStep s session (Undo c.args.serial) (Undone c.args.serial) (desk_of (record c.self.inside { games = c.in_ok-games.games; trail = c.swing.new.trail; past = c.swing.new.from; future = c.swing.new.to; is_noted = false }))) c.self.view_is
-    (undone_step c.self.inside c.self.invariant c.args.serial c.in_ok-games.games c.swing.new.from c.swing.new.to c.swing.new.trail c.swing.ensures.vertices c.swing.ensures.from_below (c.swing.ensures.to_below c.self.invariant.future_below) (accepted at) c.in_ok-swing.ensures.swung (known at) session)
+    subst (λ (s : DeskState). IsStep s session (Undo c.args.serial) (Undone c.args.serial) (desk_of (record c.self.inside { games = c.in_ok-games.games; trail = c.swing.new.trail; past = c.swing.new.from; future = c.swing.new.to; is_noted = c.in_ok-is_noted.is_noted }))) c.self.view_is
+    (undone_step c.self.inside c.self.invariant c.args.serial c.in_ok-games.games c.in_ok-is_noted.is_noted c.swing.new.from c.swing.new.to c.swing.new.trail c.swing.ensures.vertices c.swing.ensures.from_below (c.swing.ensures.to_below c.self.invariant.future_below) (accepted at) c.in_ok-is_noted.ensures.swung (known at) session)
 
 pub returns-in-Some-clause-last : goal.returns-in-Some-clause-last
 returns-in-Some-clause-last c m =
@@ -65,10 +65,10 @@ returns-in_err-games-clause-last c =
     (subst (λ (s : DeskState). Replies s (Undo c.args.serial) (Undone c.args.serial)) c.self.view_is
     (undo_accepted c.self.inside c.self.invariant c.args.serial (ap (λ (l : List Cut). refuses_undo c.args.serial (serials_from_top l)) (sym c.deref.ensures.value) ∙ c.in_default.ensures)))
 
-pub returns-in_err-swing-clause-last : goal.returns-in_err-swing-clause-last
-returns-in_err-swing-clause-last c =
-    unrefused Memory c.from_residual-in_err-swing.result
-    (subst (λ (s : DeskState). Replies s (Undo c.args.serial) (Undone c.args.serial)) c.self.view_is (undo_accepted c.self.inside c.self.invariant c.args.serial (accepted (goal.at.returns-in_err-swing-clause-last c).After-swing)))
+pub returns-in_err-is_noted-clause-last : goal.returns-in_err-is_noted-clause-last
+returns-in_err-is_noted-clause-last c =
+    unrefused Memory c.from_residual-in_err-is_noted.result
+    (subst (λ (s : DeskState). Replies s (Undo c.args.serial) (Undone c.args.serial)) c.self.view_is (undo_accepted c.self.inside c.self.invariant c.args.serial (accepted (goal.at.returns-in_err-is_noted-clause-last c).After-swing)))
 
 pub returns-in-Some-clause-newer : goal.returns-in-Some-clause-newer
 returns-in-Some-clause-newer c n e =
@@ -80,5 +80,6 @@ games_over-requires-clause-held c =
 
 pub invariant_of-self : goal.invariant_of-self
 invariant_of-self c =
-    still_desk c.self.inside c.self.invariant c.swing.new.trail c.swing.new.from c.swing.new.to c.in_err-swing.ensures.err_trail c.in_err-swing.ensures.err_from (ap cuts_of c.in_err-swing.ensures.err_to)
+    still_desk c.self.inside c.self.invariant c.swing.new.trail c.swing.new.from c.swing.new.to c.in_err-is_noted.ensures.err_trail c.in_err-is_noted.ensures.err_from (ap cuts_of c.in_err-is_noted.ensures.err_to)
+    c.in_err-is_noted.ensures.err_notes (ap notes_of c.in_err-is_noted.ensures.err_to)
     c.swing.ensures.from_below (c.swing.ensures.to_below c.self.invariant.future_below)

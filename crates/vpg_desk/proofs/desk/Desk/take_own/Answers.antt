@@ -79,4 +79,4 @@ returns-in_err-extend-clause-last c = unrefused Memory c.from_residual-in_err-ex
 
 pub invariant_of-self : goal.invariant_of-self
 invariant_of-self c =
-    still_desk c.self.inside c.self.invariant c.extend.new.self c.self.inside.past c.self.inside.future c.in_err-extend.ensures.err refl refl c.self.invariant.past_below c.self.invariant.future_below
+    still_desk c.self.inside c.self.invariant c.extend.new.self c.self.inside.past c.self.inside.future c.in_err-extend.ensures.err refl refl refl refl c.self.invariant.past_below c.self.invariant.future_below

@@ -12,54 +12,54 @@ use Rattle.vpg_script.specs.Script as script
 use Rattle.vpg_report.specs.EngineFields.{engine_in}
 use Rattle.vpg_report.proofs.Asked.{on_view, both_on, log_full}
 use Rattle.vpg_report.proofs.Enduring.{endures, stays, unless_stray_any}
-use Rattle.vpg_report.proofs.Paged.{named, consistent, table_length, table_within, entries_are_within, show_answers, trail_answers, products_answers, plan_answers, not_full, not_settled}
+use Rattle.vpg_report.proofs.Paged.{games_are, named, table_length, table_within, entries_are_within, show_answers, trail_answers, products_answers, plan_answers, not_full, not_settled}
 use Rattle.vpg_report.proofs.engine.Engine.plan.Goals as goal
 
-pub plan-requires-clause-named : goal.plan-requires-clause-named
-plan-requires-clause-named g c =
-    named c.self.inside.client.desk c.in-Ok.ensures.tells c.deref-2.result.now c.in-Ok.page.decisions (c.deref-2.ensures ∙ c.self.invariant.diagram) c.in-Ok.ensures.decisions
+pub plan_over-requires-clause-games : goal.plan_over-requires-clause-games
+plan_over-requires-clause-games g c =
+    games_are c.self.inside.client.desk _ c.deref.result.now c.in-Ok.ensures.games c.deref.ensures c.deref-2.result.now c.deref-3.result.now c.in-Ok.both.0.decisions (c.deref-2.ensures ∙ c.self.invariant.game) (c.deref-3.ensures ∙ c.self.invariant.diagram) c.in-Ok.ensures.decisions
 
-pub plan-requires-clause-consistent : goal.plan-requires-clause-consistent
-plan-requires-clause-consistent g c =
-    consistent c.self.inside.client.desk c.in-Ok.ensures.tells c.deref-2.result.now c.in-Ok.page.decisions (c.deref-2.ensures ∙ c.self.invariant.diagram) c.in-Ok.ensures.decisions
+pub plan_over-requires-clause-named : goal.plan_over-requires-clause-named
+plan_over-requires-clause-named g c =
+    named c.self.inside.client.desk c.in-Ok.ensures.tells c.deref-3.result.now c.in-Ok.both.0.decisions (c.deref-3.ensures ∙ c.self.invariant.diagram) c.in-Ok.ensures.decisions
 
-pub plan-requires-clause-hopeful : goal.plan-requires-clause-hopeful
-plan-requires-clause-hopeful g c =
-    table_length c.self.inside.client.desk c.in-Ok.ensures.tells c.in-Ok.ensures.setting c.deref.result.now Hopeful c.in-Ok.page.hopeful (c.deref.ensures ∙ c.self.invariant.game) c.in-Ok.ensures.hopeful
+pub plan_over-requires-clause-hopeful : goal.plan_over-requires-clause-hopeful
+plan_over-requires-clause-hopeful g c =
+    table_length c.self.inside.client.desk c.in-Ok.ensures.tells c.in-Ok.ensures.setting c.deref-2.result.now Hopeful c.in-Ok.both.0.hopeful (c.deref-2.ensures ∙ c.self.invariant.game) c.in-Ok.ensures.hopeful
 
-pub plan-requires-clause-dual : goal.plan-requires-clause-dual
-plan-requires-clause-dual g c =
-    table_length c.self.inside.client.desk c.in-Ok.ensures.tells c.in-Ok.ensures.setting c.deref.result.now Dual c.in-Ok.page.dual (c.deref.ensures ∙ c.self.invariant.game) c.in-Ok.ensures.dual
+pub plan_over-requires-clause-dual : goal.plan_over-requires-clause-dual
+plan_over-requires-clause-dual g c =
+    table_length c.self.inside.client.desk c.in-Ok.ensures.tells c.in-Ok.ensures.setting c.deref-2.result.now Dual c.in-Ok.both.0.dual (c.deref-2.ensures ∙ c.self.invariant.game) c.in-Ok.ensures.dual
 
-pub plan-requires-clause-hopeful_within : goal.plan-requires-clause-hopeful_within
-plan-requires-clause-hopeful_within g c =
-    table_within c.self.inside.client.desk c.in-Ok.ensures.tells c.in-Ok.ensures.setting c.deref.result.now Hopeful c.in-Ok.page.hopeful (c.deref.ensures ∙ c.self.invariant.game) c.in-Ok.ensures.hopeful
+pub plan_over-requires-clause-hopeful_within : goal.plan_over-requires-clause-hopeful_within
+plan_over-requires-clause-hopeful_within g c =
+    table_within c.self.inside.client.desk c.in-Ok.ensures.tells c.in-Ok.ensures.setting c.deref-2.result.now Hopeful c.in-Ok.both.0.hopeful (c.deref-2.ensures ∙ c.self.invariant.game) c.in-Ok.ensures.hopeful
 
-pub plan-requires-clause-dual_within : goal.plan-requires-clause-dual_within
-plan-requires-clause-dual_within g c =
-    table_within c.self.inside.client.desk c.in-Ok.ensures.tells c.in-Ok.ensures.setting c.deref.result.now Dual c.in-Ok.page.dual (c.deref.ensures ∙ c.self.invariant.game) c.in-Ok.ensures.dual
+pub plan_over-requires-clause-dual_within : goal.plan_over-requires-clause-dual_within
+plan_over-requires-clause-dual_within g c =
+    table_within c.self.inside.client.desk c.in-Ok.ensures.tells c.in-Ok.ensures.setting c.deref-2.result.now Dual c.in-Ok.both.0.dual (c.deref-2.ensures ∙ c.self.invariant.game) c.in-Ok.ensures.dual
 
-pub returns-in-Ok-plan : goal.returns-in-Ok-plan
-returns-in-Ok-plan g c =
+pub returns-in-Ok-plan_over : goal.returns-in-Ok-plan_over
+returns-in-Ok-plan_over g c =
     let e = c.self.inside in
     let old = engine_in e.client e.undos.items e.redos.items e.harvests.items in
-    on_view {E = ServeFault} (Ok tt) _ old _ _ _ _ _ c.self.view_is (λ told. plan_answers g.L.Terms.limit c.self.invariant.room_is old _ c.args.session c.deref.result.now c.deref-2.result.now c.args.out.now.items _ (c.deref.ensures ∙ c.self.invariant.game) (c.deref-2.ensures ∙ c.self.invariant.diagram) c.in-Ok.page.entries c.in-Ok.ensures.accepted refl c.in-Ok.page.decisions c.in-Ok.ensures.decisions c.in-Ok.page.hopeful c.in-Ok.page.dual c.in-Ok.ensures.hopeful c.in-Ok.ensures.dual told) c.in-Ok-plan.ensures.planned
+    on_view {E = ServeFault} (Ok tt) _ old _ _ _ _ _ c.self.view_is (λ told. plan_answers g.L.Terms.limit c.self.invariant.room_is old _ c.args.session c.deref-2.result.now c.deref-3.result.now c.args.out.now.items _ (c.deref-2.ensures ∙ c.self.invariant.game) (c.deref-3.ensures ∙ c.self.invariant.diagram) c.in-Ok.both.0.entries c.in-Ok.ensures.accepted refl c.in-Ok.both.0.decisions c.in-Ok.ensures.decisions c.in-Ok.both.0.hopeful c.in-Ok.both.0.dual c.in-Ok.ensures.hopeful c.in-Ok.ensures.dual told) c.in-Ok-plan_over.ensures.planned
 
 pub returns-in-Err-NotFull : goal.returns-in-Err-NotFull
 returns-in-Err-NotFull g c =
     let e = c.self.inside in
     let old = engine_in e.client e.undos.items e.redos.items e.harvests.items in
-    let fault = subst (λ (f : PlanFault). IsPlanFault (scene_of c.deref.result.now c.deref-2.result.now) c.in-Ok.page.decisions c.in-Ok.page.hopeful c.in-Ok.page.dual f) c.in-Err-NotFull.field-0-is c.in-Err-NotFull.ensures.refused in
+    let fault = subst (λ (f : PlanFault). IsPlanFault (scene_of c.deref-2.result.now c.deref-3.result.now) c.in-Ok.both.0.decisions c.in-Ok.both.0.hopeful c.in-Ok.both.0.dual f) c.in-Err-NotFull.field-0-is c.in-Err-NotFull.ensures.refused in
     on_view c.refused.result _ old _ _ _ _ _ c.self.view_is
-    (λ told. not_full g.L.Terms.limit c.self.invariant.room_is old _ c.args.session c.deref.result.now c.deref-2.result.now c.args.out.now.items _ (c.deref.ensures ∙ c.self.invariant.game) (c.deref-2.ensures ∙ c.self.invariant.diagram) c.in-Ok.page.entries c.in-Ok.ensures.accepted refl c.in-Ok.page.decisions c.in-Ok.ensures.decisions c.in-Ok.page.hopeful c.in-Ok.page.dual c.in-Ok.ensures.hopeful c.in-Ok.ensures.dual fault (told ∙ ap (λ (before : List ℕ). before ++ refused_line (codes "NotFull")) c.in-Err-NotFull.ensures.unchanged)) c.refused.ensures
+    (λ told. not_full g.L.Terms.limit c.self.invariant.room_is old _ c.args.session c.deref-2.result.now c.deref-3.result.now c.args.out.now.items _ (c.deref-2.ensures ∙ c.self.invariant.game) (c.deref-3.ensures ∙ c.self.invariant.diagram) c.in-Ok.both.0.entries c.in-Ok.ensures.accepted refl c.in-Ok.both.0.decisions c.in-Ok.ensures.decisions c.in-Ok.both.0.hopeful c.in-Ok.both.0.dual c.in-Ok.ensures.hopeful c.in-Ok.ensures.dual fault (told ∙ ap (λ (before : List ℕ). before ++ refused_line (codes "NotFull")) c.in-Err-NotFull.ensures.unchanged)) c.refused.ensures
 
 pub returns-in-Err-NotSettled : goal.returns-in-Err-NotSettled
 returns-in-Err-NotSettled g c =
     let e = c.self.inside in
     let old = engine_in e.client e.undos.items e.redos.items e.harvests.items in
-    let fault = subst (λ (f : PlanFault). IsPlanFault (scene_of c.deref.result.now c.deref-2.result.now) c.in-Ok.page.decisions c.in-Ok.page.hopeful c.in-Ok.page.dual f) c.in-Err-NotSettled.field-0-is c.in-Err-NotSettled.ensures.refused in
+    let fault = subst (λ (f : PlanFault). IsPlanFault (scene_of c.deref-2.result.now c.deref-3.result.now) c.in-Ok.both.0.decisions c.in-Ok.both.0.hopeful c.in-Ok.both.0.dual f) c.in-Err-NotSettled.field-0-is c.in-Err-NotSettled.ensures.refused in
     on_view c.refused-in-Err-NotSettled.result _ old _ _ _ _ _ c.self.view_is
-    (λ told. not_settled g.L.Terms.limit c.self.invariant.room_is old _ c.args.session c.deref.result.now c.deref-2.result.now c.args.out.now.items _ (c.deref.ensures ∙ c.self.invariant.game) (c.deref-2.ensures ∙ c.self.invariant.diagram) c.in-Ok.page.entries c.in-Ok.ensures.accepted refl c.in-Ok.page.decisions c.in-Ok.ensures.decisions c.in-Ok.page.hopeful c.in-Ok.page.dual c.in-Ok.ensures.hopeful c.in-Ok.ensures.dual fault (told ∙ ap (λ (before : List ℕ). before ++ refused_line (codes "NotSettled")) c.in-Err-NotSettled.ensures.unchanged)) c.refused-in-Err-NotSettled.ensures
+    (λ told. not_settled g.L.Terms.limit c.self.invariant.room_is old _ c.args.session c.deref-2.result.now c.deref-3.result.now c.args.out.now.items _ (c.deref-2.ensures ∙ c.self.invariant.game) (c.deref-3.ensures ∙ c.self.invariant.diagram) c.in-Ok.both.0.entries c.in-Ok.ensures.accepted refl c.in-Ok.both.0.decisions c.in-Ok.ensures.decisions c.in-Ok.both.0.hopeful c.in-Ok.both.0.dual c.in-Ok.ensures.hopeful c.in-Ok.ensures.dual fault (told ∙ ap (λ (before : List ℕ). before ++ refused_line (codes "NotSettled")) c.in-Err-NotSettled.ensures.unchanged)) c.refused-in-Err-NotSettled.ensures
 
 pub returns-in-Err : goal.returns-in-Err
 returns-in-Err g c =

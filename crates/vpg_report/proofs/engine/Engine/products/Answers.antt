@@ -12,22 +12,21 @@ use Rattle.vpg_script.specs.Script as script
 use Rattle.vpg_report.specs.EngineFields.{engine_in}
 use Rattle.vpg_report.proofs.Asked.{on_view, both_on, log_full}
 use Rattle.vpg_report.proofs.Enduring.{endures, stays, unless_stray_any}
-use Rattle.vpg_report.proofs.Paged.{named, consistent, table_length, table_within, entries_are_within, show_answers, trail_answers, products_answers, plan_answers, not_full, not_settled}
+use Rattle.vpg_report.proofs.Paged.{games_are, table_length, table_within, entries_are_within, show_answers, trail_answers, products_answers, plan_answers, not_full, not_settled}
 use Rattle.vpg_report.proofs.engine.Engine.products.Goals as goal
 
-pub products-requires-clause-named : goal.products-requires-clause-named
-products-requires-clause-named g c =
-    named c.self.inside.client.desk c.in-Ok.ensures.tells c.deref-2.result.now c.in-Ok.page.decisions (c.deref-2.ensures ∙ c.self.invariant.diagram) c.in-Ok.ensures.decisions
-
-pub products-requires-clause-consistent : goal.products-requires-clause-consistent
-products-requires-clause-consistent g c =
-    consistent c.self.inside.client.desk c.in-Ok.ensures.tells c.deref-2.result.now c.in-Ok.page.decisions (c.deref-2.ensures ∙ c.self.invariant.diagram) c.in-Ok.ensures.decisions
+pub products_over-requires : goal.products_over-requires
+products_over-requires g c =
+    (games_are c.self.inside.client.desk _ c.deref.result.now c.in-Ok.ensures.games c.deref.ensures c.self.inside.client.desk.game c.deref-2.result.now c.in-Ok.both.0.decisions refl (c.deref-2.ensures ∙ c.self.invariant.diagram) c.in-Ok.ensures.decisions).known.length_is
 
 pub returns : goal.returns
 returns g c =
     let e = c.self.inside in
     let old = engine_in e.client e.undos.items e.redos.items e.harvests.items in
-    on_view {E = ServeFault} (Ok tt) _ old _ _ _ _ _ c.self.view_is (λ told. products_answers g.L.Terms.limit c.self.invariant.room_is old _ c.args.session c.deref.result.now c.deref-2.result.now c.args.out.now.items _ (c.deref.ensures ∙ c.self.invariant.game) (c.deref-2.ensures ∙ c.self.invariant.diagram) c.in-Ok.page.entries c.in-Ok.ensures.accepted refl c.in-Ok.page.decisions c.in-Ok.ensures.decisions told) c.in_ok-products.ensures.products
+    let desk = e.client.desk in
+    let diagram_is = c.deref-2.ensures ∙ c.self.invariant.diagram in
+    let are = games_are desk _ c.deref.result.now c.in-Ok.ensures.games c.deref.ensures desk.game c.deref-2.result.now c.in-Ok.both.0.decisions refl diagram_is c.in-Ok.ensures.decisions in
+    on_view {E = ServeFault} (Ok tt) _ old _ _ _ _ _ c.self.view_is (λ told. products_answers g.L.Terms.limit c.self.invariant.room_is old _ c.args.session desk.game c.deref-2.result.now c.args.out.now.items _ refl diagram_is c.in-Ok.both.0.entries c.in-Ok.ensures.accepted refl c.in-Ok.both.0.decisions c.in-Ok.ensures.decisions c.deref.result.now are told) c.in_ok-products_over.ensures.products
 
 pub returns-in-Err : goal.returns-in-Err
 returns-in-Err g c =

@@ -12,38 +12,38 @@ use Rattle.vpg_script.specs.Script as script
 use Rattle.vpg_report.specs.EngineFields.{engine_in}
 use Rattle.vpg_report.proofs.Asked.{on_view, both_on, log_full}
 use Rattle.vpg_report.proofs.Enduring.{endures, stays, unless_stray_any}
-use Rattle.vpg_report.proofs.Paged.{named, consistent, table_length, table_within, entries_are_within, show_answers, trail_answers, products_answers, plan_answers, not_full, not_settled}
+use Rattle.vpg_report.proofs.Paged.{games_are, named, table_length, table_within, entries_are_within, show_answers, trail_answers, products_answers, plan_answers, not_full, not_settled}
 use Rattle.vpg_report.proofs.engine.Engine.show.Goals as goal
 
-pub show-requires-clause-named : goal.show-requires-clause-named
-show-requires-clause-named g c =
-    named c.self.inside.client.desk c.in-Ok.ensures.tells c.deref-2.result.now c.in-Ok.page.decisions (c.deref-2.ensures ∙ c.self.invariant.diagram) c.in-Ok.ensures.decisions
+pub show_over-requires-clause-games : goal.show_over-requires-clause-games
+show_over-requires-clause-games g c =
+    games_are c.self.inside.client.desk _ c.deref.result.now c.in-Ok.ensures.games c.deref.ensures c.deref-2.result.now c.deref-3.result.now c.in-Ok.both.0.decisions (c.deref-2.ensures ∙ c.self.invariant.game) (c.deref-3.ensures ∙ c.self.invariant.diagram) c.in-Ok.ensures.decisions
 
-pub show-requires-clause-consistent : goal.show-requires-clause-consistent
-show-requires-clause-consistent g c =
-    consistent c.self.inside.client.desk c.in-Ok.ensures.tells c.deref-2.result.now c.in-Ok.page.decisions (c.deref-2.ensures ∙ c.self.invariant.diagram) c.in-Ok.ensures.decisions
+pub show_over-requires-clause-named : goal.show_over-requires-clause-named
+show_over-requires-clause-named g c =
+    named c.self.inside.client.desk c.in-Ok.ensures.tells c.deref-3.result.now c.in-Ok.both.0.decisions (c.deref-3.ensures ∙ c.self.invariant.diagram) c.in-Ok.ensures.decisions
 
-pub show-requires-clause-hopeful : goal.show-requires-clause-hopeful
-show-requires-clause-hopeful g c =
-    table_length c.self.inside.client.desk c.in-Ok.ensures.tells c.in-Ok.ensures.setting c.deref.result.now Hopeful c.in-Ok.page.hopeful (c.deref.ensures ∙ c.self.invariant.game) c.in-Ok.ensures.hopeful
+pub show_over-requires-clause-hopeful : goal.show_over-requires-clause-hopeful
+show_over-requires-clause-hopeful g c =
+    table_length c.self.inside.client.desk c.in-Ok.ensures.tells c.in-Ok.ensures.setting c.deref-2.result.now Hopeful c.in-Ok.both.0.hopeful (c.deref-2.ensures ∙ c.self.invariant.game) c.in-Ok.ensures.hopeful
 
-pub show-requires-clause-dual : goal.show-requires-clause-dual
-show-requires-clause-dual g c =
-    table_length c.self.inside.client.desk c.in-Ok.ensures.tells c.in-Ok.ensures.setting c.deref.result.now Dual c.in-Ok.page.dual (c.deref.ensures ∙ c.self.invariant.game) c.in-Ok.ensures.dual
+pub show_over-requires-clause-dual : goal.show_over-requires-clause-dual
+show_over-requires-clause-dual g c =
+    table_length c.self.inside.client.desk c.in-Ok.ensures.tells c.in-Ok.ensures.setting c.deref-2.result.now Dual c.in-Ok.both.0.dual (c.deref-2.ensures ∙ c.self.invariant.game) c.in-Ok.ensures.dual
 
-pub show-requires-clause-hopeful_within : goal.show-requires-clause-hopeful_within
-show-requires-clause-hopeful_within g c =
-    table_within c.self.inside.client.desk c.in-Ok.ensures.tells c.in-Ok.ensures.setting c.deref.result.now Hopeful c.in-Ok.page.hopeful (c.deref.ensures ∙ c.self.invariant.game) c.in-Ok.ensures.hopeful
+pub show_over-requires-clause-hopeful_within : goal.show_over-requires-clause-hopeful_within
+show_over-requires-clause-hopeful_within g c =
+    table_within c.self.inside.client.desk c.in-Ok.ensures.tells c.in-Ok.ensures.setting c.deref-2.result.now Hopeful c.in-Ok.both.0.hopeful (c.deref-2.ensures ∙ c.self.invariant.game) c.in-Ok.ensures.hopeful
 
-pub show-requires-clause-dual_within : goal.show-requires-clause-dual_within
-show-requires-clause-dual_within g c =
-    table_within c.self.inside.client.desk c.in-Ok.ensures.tells c.in-Ok.ensures.setting c.deref.result.now Dual c.in-Ok.page.dual (c.deref.ensures ∙ c.self.invariant.game) c.in-Ok.ensures.dual
+pub show_over-requires-clause-dual_within : goal.show_over-requires-clause-dual_within
+show_over-requires-clause-dual_within g c =
+    table_within c.self.inside.client.desk c.in-Ok.ensures.tells c.in-Ok.ensures.setting c.deref-2.result.now Dual c.in-Ok.both.0.dual (c.deref-2.ensures ∙ c.self.invariant.game) c.in-Ok.ensures.dual
 
 pub returns : goal.returns
 returns g c =
     let e = c.self.inside in
     let old = engine_in e.client e.undos.items e.redos.items e.harvests.items in
-    on_view {E = ServeFault} (Ok tt) _ old _ _ _ _ _ c.self.view_is (λ told. show_answers g.L.Terms.limit c.self.invariant.room_is old _ c.args.session c.deref.result.now c.deref-2.result.now c.args.out.now.items _ (c.deref.ensures ∙ c.self.invariant.game) (c.deref-2.ensures ∙ c.self.invariant.diagram) c.in-Ok.page.entries c.in-Ok.ensures.accepted refl c.in-Ok.page.decisions c.in-Ok.ensures.decisions c.in-Ok.page.hopeful c.in-Ok.page.dual c.in-Ok.ensures.hopeful c.in-Ok.ensures.dual told) c.in_ok-show.ensures.shown
+    on_view {E = ServeFault} (Ok tt) _ old _ _ _ _ _ c.self.view_is (λ told. show_answers g.L.Terms.limit c.self.invariant.room_is old _ c.args.session c.deref-2.result.now c.deref-3.result.now c.args.out.now.items _ (c.deref-2.ensures ∙ c.self.invariant.game) (c.deref-3.ensures ∙ c.self.invariant.diagram) c.in-Ok.both.0.entries c.in-Ok.ensures.accepted refl c.in-Ok.both.0.decisions c.in-Ok.ensures.decisions c.in-Ok.both.0.hopeful c.in-Ok.both.0.dual c.in-Ok.ensures.hopeful c.in-Ok.ensures.dual told) c.in_ok-show_over.ensures.shown
 
 pub returns-in-Err : goal.returns-in-Err
 returns-in-Err g c =

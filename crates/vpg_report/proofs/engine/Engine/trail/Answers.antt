@@ -12,7 +12,7 @@ use Rattle.vpg_script.specs.Script as script
 use Rattle.vpg_report.specs.EngineFields.{engine_in}
 use Rattle.vpg_report.proofs.Asked.{on_view, both_on, log_full}
 use Rattle.vpg_report.proofs.Enduring.{endures, stays, unless_stray_any}
-use Rattle.vpg_report.proofs.Paged.{named, consistent, table_length, table_within, entries_are_within, show_answers, trail_answers, products_answers, plan_answers, not_full, not_settled}
+use Rattle.vpg_report.proofs.Paged.{entries_are_within, trail_answers}
 use Rattle.vpg_report.proofs.engine.Engine.trail.Goals as goal
 
 pub trail-requires : goal.trail-requires

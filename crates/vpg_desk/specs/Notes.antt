@@ -1,0 +1,21 @@
+-- Notes of a book's pages: which of them are known to be so, as settled.
+use Rattle.std.specs.Prelude.{Bool, List, [], ◌∷◌, IsTrue, ⊤}
+use Rattle.vpg_trail.specs.Page.{Entry}
+use Rattle.vpg_desk.specs.Book.{Book, Kept}
+
+-- the present page's, and those of the past and future pages, the nearest first
+pub record Notes : Type 0 where
+  pub present : Bool
+  pub past : List Bool
+  pub future : List Bool
+
+-- each page with a note is so
+abbrev pub NotedAre : (List Entry → Type 0) → List Bool → List Kept → Type 0
+NotedAre P [] pages = ⊤
+NotedAre P (note ∷ notes) [] = ⊤
+NotedAre P (note ∷ notes) (k ∷ pages) = (IsTrue note → P k.page) × NotedAre P notes pages
+
+pub record NotesHold (P : List Entry → Type 0) (notes : Notes) (book : Book) : Type 0 where
+  pub present : IsTrue notes.present → P book.present
+  pub past : NotedAre P notes.past book.past
+  pub future : NotedAre P notes.future book.future

@@ -1,0 +1,3 @@
+pub mod Contradictions
+pub mod Counting
+pub mod Naming

@@ -1,0 +1,103 @@
+-- The texts of a family, the words that name a product, and what is told where they are refused.
+use Rattle.std.specs.Prelude.{◌≡◌, ◌≢◌, ℕ, ⊤, Bool, List, map, take, Some, slice_get, All, Contains}
+use Rattle.std.specs.List.{list_any}
+use Rattle.std.specs.Str.{bytes_eq}
+use Rattle.std.specs.String.{string_bytes}
+use Rattle.vpg_guards.specs.Names.{Lacks}
+use Rattle.vpg_diagram.specs.DiagramText.{NamedDiagram, IsTextOf}
+use Rattle.vpg_diagram.specs.FeatureDiagram.{IsProduct}
+use Rattle.vpg_diagram.specs.TextFaults.{IsFirstFault}
+use Rattle.vpg_diagram.specs.declared.fault.DiagramFault.TheVariants as of_diagram
+use Rattle.vpg_game.specs.Game.{NamedGame, SpellsGame}
+use Rattle.vpg_game.specs.Refused.{IsRefused}
+use Rattle.vpg_game.specs.declared.fault.GameFault.TheVariants as of_game
+use Rattle.vpg_hope.specs.Plain.{projection, plain_text}
+use Rattle.vpg_family.specs.declared.fault.Fault.{Fault}
+use Rattle.vpg_family.specs.declared.fault.Fault.TheVariants as told
+
+-- what is told of a text that is no diagram: want of memory is no fault of the diagram
+abbrev pub IsDiagramFault : List ℕ → Fault → Type 0
+IsDiagramFault text (told.Diagram fault) = (fault ≢ of_diagram.Memory) × IsFirstFault text fault
+IsDiagramFault text told.Memory = ⊤
+IsDiagramFault text fault = ⊥
+
+-- what is told of a text that is no game over these names: want of memory is no fault of the game
+abbrev pub IsGameFault : List (List ℕ) → List ℕ → Fault → Type 0
+IsGameFault names text (told.Game fault) = (fault ≢ of_game.Memory) × IsRefused names text fault
+IsGameFault names text told.Memory = ⊤
+IsGameFault names text fault = ⊥
+
+-- the texts spell the diagram, and the game over its features
+pub record SpellsFamily (diagram_text game_text : List ℕ) (diagram : NamedDiagram) (game : NamedGame) : Type 0 where
+  pub diagram_spelled : IsTextOf diagram_text diagram
+  pub game_spelled : SpellsGame diagram.names game_text game
+
+-- What is told of two texts that are no family: a fault of the game only where the diagram has none.
+abbrev pub IsFamilyFault : List ℕ → List ℕ → Fault → Type 0
+IsFamilyFault diagram_text game_text (told.Game fault) = (diagram : NamedDiagram) × (IsTextOf diagram_text diagram × IsGameFault diagram.names game_text (told.Game fault))
+IsFamilyFault diagram_text game_text fault = IsDiagramFault diagram_text fault
+
+-- some diagram is spelled by the text
+abbrev pub IsSomeDiagram : List ℕ → Type 0
+IsSomeDiagram text = (diagram : NamedDiagram) × IsTextOf text diagram
+
+-- What is told of two files that are no family, whatever their texts are: a fault of the game only where some text spells the diagram.
+abbrev pub IsUnread : Fault → Type 0
+IsUnread told.DiagramUnreadable = ⊤
+IsUnread (told.Diagram fault) = (text : List ℕ) × IsDiagramFault text (told.Diagram fault)
+IsUnread told.GameUnreadable = (text : List ℕ) × IsSomeDiagram text
+IsUnread (told.Game fault) = (diagram_text : List ℕ) × (game_text : List ℕ) × IsFamilyFault diagram_text game_text (told.Game fault)
+IsUnread told.Memory = ⊤
+IsUnread fault = ⊥
+
+-- the family of some texts
+abbrev pub IsSpelled : NamedDiagram → NamedGame → Type 0
+IsSpelled diagram game = (diagram_text game_text : List ℕ) × SpellsFamily diagram_text game_text diagram game
+
+-- what is told of a conflict of this feature: its name, where there is memory for it
+abbrev pub TellsConflict : List (List ℕ) → ℕ → Fault → Type 0
+TellsConflict names f (told.Conflict name) = slice_get names f ≡ Some (string_bytes name)
+TellsConflict names f told.Memory = ⊤
+TellsConflict names f fault = ⊥
+
+-- ---- the words that name a product
+
+-- each word is one of the names
+abbrev pub AreKnown : List (List ℕ) → List (List ℕ) → Type 0
+AreKnown names words = All (Contains names) words
+
+-- the set that the words name: for each name whether it is one of the words
+abbrev pub set_of : List (List ℕ) → List (List ℕ) → List Bool
+set_of names words = map (λ name. list_any (bytes_eq name) words) names
+
+-- the words name features alone, and these ones
+pub record IsNamedSet (names words : List (List ℕ)) (set : List Bool) : Type 0 where
+  pub known : AreKnown names words
+  pub set_is : set ≡ set_of names words
+
+-- the name is the first of the words that names no feature
+abbrev pub IsFirstUnknown : List (List ℕ) → List (List ℕ) → List ℕ → Type 0
+IsFirstUnknown names words name = (n : ℕ) × (slice_get words n ≡ Some name) × AreKnown names (take n words) × Lacks names name
+
+-- what is told of a word that names no feature
+abbrev pub IsUnknown : List (List ℕ) → List ℕ → Fault → Type 0
+IsUnknown names word (told.UnknownFeature name) = (string_bytes name ≡ word) × Lacks names word
+IsUnknown names word told.Memory = ⊤
+IsUnknown names word fault = ⊥
+
+-- what is told of words of which one names no feature
+abbrev pub TellsUnknown : List (List ℕ) → List (List ℕ) → Fault → Type 0
+TellsUnknown names words (told.UnknownFeature name) = IsFirstUnknown names words (string_bytes name)
+TellsUnknown names words told.Memory = ⊤
+TellsUnknown names words fault = ⊥
+
+-- the words name the features of a product, and the text is that of its game
+pub record IsProjected (diagram : NamedDiagram) (game : NamedGame) (words : List (List ℕ)) (text : List ℕ) : Type 0 where
+  pub known : AreKnown diagram.names words
+  pub product : IsProduct diagram.lines (set_of diagram.names words)
+  pub text_is : text ≡ plain_text (projection (set_of diagram.names words) game)
+
+-- What is told of words that name no product: that their features are none only where each names a feature.
+abbrev pub IsNotProjected : NamedDiagram → List (List ℕ) → Fault → Type 0
+IsNotProjected diagram words told.NotAProduct = AreKnown diagram.names words × (¬ IsProduct diagram.lines (set_of diagram.names words))
+IsNotProjected diagram words fault = TellsUnknown diagram.names words fault

@@ -1,0 +1,70 @@
+-- The line that tells of a fault.
+use Rattle.std.specs.Prelude.{ℕ, ◌||◌, ◌==◌, nat_lt, if◌then◌else◌, List, [], ◌∷◌, ◌++◌, map, codes}
+use Rattle.std.specs.String.{string_bytes}
+use Rattle.vpg_guards.specs.declared.fault.GuardFault.{GuardFault}
+use Rattle.vpg_guards.specs.declared.fault.GuardFault.TheVariants as guard
+use Rattle.vpg_game.specs.declared.fault.GameFault.{GameFault}
+use Rattle.vpg_game.specs.declared.fault.GameFault.TheVariants as game
+use Rattle.vpg_diagram.specs.declared.fault.DiagramFault.{DiagramFault}
+use Rattle.vpg_diagram.specs.declared.fault.DiagramFault.TheVariants as diagram
+use Rattle.vpg_script.specs.declared.command.LineFault.{LineFault}
+use Rattle.vpg_script.specs.declared.command.LineFault.TheVariants as stops
+use Rattle.vpg_family.specs.Counts.{labelled}
+use Rattle.vpg_family.specs.declared.fault.Fault.{Fault}
+use Rattle.vpg_family.specs.declared.fault.Fault.TheVariants as told
+
+-- a byte of a word: `?` where it is a control character
+abbrev pub shown_byte : ℕ → ℕ
+shown_byte byte = if nat_lt byte 32 || (byte == 127) then 63 else byte
+
+abbrev pub guard_text : GuardFault → List ℕ
+guard_text (guard.Syntax at) = labelled (codes "Syntax") at
+guard_text (guard.UnknownFeature at) = labelled (codes "UnknownFeature") at
+guard_text (guard.TooDeep at) = labelled (codes "TooDeep") at
+guard_text guard.Memory = codes "Memory"
+
+abbrev pub game_text : GameFault → List ℕ
+game_text (game.Syntax at) = labelled (codes "Syntax") at
+game_text (game.BadOwner at) = labelled (codes "BadOwner") at
+game_text (game.PriorityTooLarge at) = labelled (codes "PriorityTooLarge") at
+game_text (game.TooMany at) = labelled (codes "TooMany") at
+game_text (game.Guard at fault) = labelled (codes "Guard") at ++ 32 ∷ guard_text fault
+game_text (game.DoubleVertex id) = labelled (codes "DoubleVertex") id
+game_text (game.MissingVertex id) = labelled (codes "MissingVertex") id
+game_text game.TooWide = codes "TooWide"
+game_text game.Memory = codes "Memory"
+
+abbrev pub diagram_text : DiagramFault → List ℕ
+diagram_text (diagram.Syntax line) = labelled (codes "Syntax") line
+diagram_text diagram.NoRoot = codes "NoRoot"
+diagram_text (diagram.TwoRoots line) = labelled (codes "TwoRoots") line
+diagram_text (diagram.UnknownFeature line) = labelled (codes "UnknownFeature") line
+diagram_text (diagram.TwoParents line) = labelled (codes "TwoParents") line
+diagram_text (diagram.TooMany line) = labelled (codes "TooMany") line
+diagram_text (diagram.BadRange line) = labelled (codes "BadRange") line
+diagram_text diagram.Memory = codes "Memory"
+
+abbrev pub line_text : LineFault → List ℕ
+line_text stops.Word = codes "Word"
+line_text stops.Args = codes "Args"
+line_text stops.TooLong = codes "TooLong"
+
+abbrev pub fault_text : Fault → List ℕ
+fault_text told.DiagramUnreadable = codes "diagram unreadable"
+fault_text (told.Diagram fault) = codes "diagram " ++ diagram_text fault
+fault_text told.GameUnreadable = codes "game unreadable"
+fault_text (told.Game fault) = codes "game " ++ game_text fault
+fault_text told.ScriptUnreadable = codes "script unreadable"
+fault_text told.AtLimit = codes "game AtLimit"
+fault_text (told.Conflict feature) = codes "Conflict " ++ string_bytes feature
+fault_text (told.Line number fault) = labelled (codes "script Line") number ++ 32 ∷ line_text fault
+fault_text told.Read = codes "script Read"
+fault_text told.Write = codes "Write"
+fault_text (told.UnknownFeature name) = codes "UnknownFeature " ++ map shown_byte (string_bytes name)
+fault_text told.NotAProduct = codes "NotAProduct"
+fault_text told.Memory = codes "Memory"
+fault_text told.Stray = codes "script Stray"
+
+-- `vpgdesk: `, the fault, and a line feed
+abbrev pub fault_line : Fault → List ℕ
+fault_line fault = codes "vpgdesk: " ++ fault_text fault ++ 10 ∷ []

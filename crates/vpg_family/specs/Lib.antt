@@ -1,0 +1,4 @@
+pub mod Counts
+pub mod Families
+pub mod Faults
+pub mod Pictures

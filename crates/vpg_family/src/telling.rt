@@ -1,0 +1,147 @@
+//! The line that tells of a fault.
+ghost use Rattle.std.specs.Prelude.{◌≡◌, ◌∷◌, ◌++◌, map, codes, IfOk, OnOk};
+ghost use Rattle.vpg_family.specs.Counts.{labelled};
+ghost use Rattle.vpg_family.specs.Faults.{shown_byte, guard_text, game_text, diagram_text, line_text, fault_text, fault_line};
+
+use crate::counts::put_labelled;
+use crate::fault::Fault;
+use std::alloc::{AllocError, Global};
+use vpg_diagram::DiagramFault;
+use vpg_game::GameFault;
+use vpg_guards::GuardFault;
+use vpg_script::LineFault;
+
+/// A byte of a word as it is shown: `?` where it is a control character.
+fn shown_byte(byte: u8) -> u8
+    ensures { result ≡ shown_byte byte }
+{
+    if byte < b' ' || byte == 127 {
+        b'?'
+    } else {
+        byte
+    }
+}
+
+/// Appends a word as it is shown.
+fn put_shown(word: &[u8], out: &mut Vec<u8>) -> Result<(), AllocError>
+    ensures { OnOk result (out.new.items ≡ out.old.items ++ map shown_byte word.now) }
+{
+    for byte in word {
+        out.push(shown_byte(*byte))?;
+    }
+    Ok(())
+}
+
+fn put_guard_fault(fault: GuardFault, out: &mut Vec<u8>) -> Result<(), AllocError>
+    ensures { OnOk result (out.new.items ≡ out.old.items ++ guard_text fault) }
+{
+    match fault {
+        GuardFault::Syntax { at } => put_labelled(b"Syntax", at as u64, out),
+        GuardFault::UnknownFeature { at } => put_labelled(b"UnknownFeature", at as u64, out),
+        GuardFault::TooDeep { at } => put_labelled(b"TooDeep", at as u64, out),
+        GuardFault::Memory => out.extend_from_slice(b"Memory"),
+    }
+}
+
+fn put_game_fault(fault: GameFault, out: &mut Vec<u8>) -> Result<(), AllocError>
+    ensures { OnOk result (out.new.items ≡ out.old.items ++ game_text fault) }
+{
+    match fault {
+        GameFault::Syntax { at } => put_labelled(b"Syntax", at as u64, out),
+        GameFault::BadOwner { at } => put_labelled(b"BadOwner", at as u64, out),
+        GameFault::PriorityTooLarge { at } => put_labelled(b"PriorityTooLarge", at as u64, out),
+        GameFault::TooMany { at } => put_labelled(b"TooMany", at as u64, out),
+        GameFault::Guard { at, fault } => {
+            put_labelled(b"Guard", at as u64, out)?;
+            out.push(b' ')?;
+            put_guard_fault(fault, out)
+        }
+        GameFault::DoubleVertex { id } => put_labelled(b"DoubleVertex", id as u64, out),
+        GameFault::MissingVertex { id } => put_labelled(b"MissingVertex", id as u64, out),
+        GameFault::TooWide => out.extend_from_slice(b"TooWide"),
+        GameFault::Memory => out.extend_from_slice(b"Memory"),
+    }
+}
+
+fn put_diagram_fault(fault: DiagramFault, out: &mut Vec<u8>) -> Result<(), AllocError>
+    ensures { OnOk result (out.new.items ≡ out.old.items ++ diagram_text fault) }
+{
+    match fault {
+        DiagramFault::Syntax { line } => put_labelled(b"Syntax", line as u64, out),
+        DiagramFault::NoRoot => out.extend_from_slice(b"NoRoot"),
+        DiagramFault::TwoRoots { line } => put_labelled(b"TwoRoots", line as u64, out),
+        DiagramFault::UnknownFeature { line } => put_labelled(b"UnknownFeature", line as u64, out),
+        DiagramFault::TwoParents { line } => put_labelled(b"TwoParents", line as u64, out),
+        DiagramFault::TooMany { line } => put_labelled(b"TooMany", line as u64, out),
+        DiagramFault::BadRange { line } => put_labelled(b"BadRange", line as u64, out),
+        DiagramFault::Memory => out.extend_from_slice(b"Memory"),
+    }
+}
+
+fn put_line_fault(fault: LineFault, out: &mut Vec<u8>) -> Result<(), AllocError>
+    ensures { OnOk result (out.new.items ≡ out.old.items ++ line_text fault) }
+{
+    match fault {
+        LineFault::Word => out.extend_from_slice(b"Word"),
+        LineFault::Args => out.extend_from_slice(b"Args"),
+        LineFault::TooLong => out.extend_from_slice(b"TooLong"),
+    }
+}
+
+/// Appends which line of a script has which fault.
+fn put_line(line: u64, fault: LineFault, out: &mut Vec<u8>) -> Result<(), AllocError>
+    ensures { OnOk result (out.new.items ≡ out.old.items ++ labelled (codes "script Line") line ++ 32 ∷ line_text fault) }
+{
+    put_labelled(b"script Line", line, out)?;
+    out.push(b' ')?;
+    put_line_fault(fault, out)
+}
+
+/// Appends that a word names no feature.
+fn put_unknown(word: &[u8], out: &mut Vec<u8>) -> Result<(), AllocError>
+    ensures { OnOk result (out.new.items ≡ out.old.items ++ codes "UnknownFeature " ++ map shown_byte word.now) }
+{
+    out.extend_from_slice(b"UnknownFeature ")?;
+    put_shown(word, out)
+}
+
+fn put_fault(fault: &Fault, out: &mut Vec<u8>) -> Result<(), AllocError>
+    ensures { OnOk result (out.new.items ≡ out.old.items ++ fault_text fault.now) }
+{
+    match fault {
+        Fault::DiagramUnreadable => out.extend_from_slice(b"diagram unreadable"),
+        Fault::Diagram { fault } => {
+            out.extend_from_slice(b"diagram ")?;
+            put_diagram_fault(*fault, out)
+        }
+        Fault::GameUnreadable => out.extend_from_slice(b"game unreadable"),
+        Fault::Game { fault } => {
+            out.extend_from_slice(b"game ")?;
+            put_game_fault(*fault, out)
+        }
+        Fault::ScriptUnreadable => out.extend_from_slice(b"script unreadable"),
+        Fault::AtLimit => out.extend_from_slice(b"game AtLimit"),
+        Fault::Conflict { feature } => {
+            out.extend_from_slice(b"Conflict ")?;
+            out.extend_from_slice(feature.as_bytes())
+        }
+        Fault::Line { line, fault } => put_line(*line, *fault, out),
+        Fault::Read => out.extend_from_slice(b"script Read"),
+        Fault::Write => out.extend_from_slice(b"Write"),
+        Fault::UnknownFeature { name } => put_unknown(name.as_bytes(), out),
+        Fault::NotAProduct => out.extend_from_slice(b"NotAProduct"),
+        Fault::Memory => out.extend_from_slice(b"Memory"),
+        Fault::Stray => out.extend_from_slice(b"script Stray"),
+    }
+}
+
+/// The line that tells of a fault: `vpgdesk: `, the fault, and a line feed.
+pub fn line_of(alloc: Global, fault: &Fault) -> Result<Vec<u8>, AllocError>
+    ensures { IfOk result (λ line. line.items ≡ fault_line fault.now) }
+{
+    let mut line = Vec::new(alloc);
+    line.extend_from_slice(b"vpgdesk: ")?;
+    put_fault(fault, &mut line)?;
+    line.push(b'\n')?;
+    Ok(line)
+}

@@ -1,0 +1,70 @@
+//! What help says.
+
+/// What the program is for, in a few lines.
+pub(crate) const ABOUT: &str = "\
+Configures a product family whose behaviour is a variability parity game.
+
+The family is a parity game whose edges carry guards over features, and a
+feature diagram that says which sets of features are products. A script selects
+and excludes features, takes decisions back, and settles two tables of progress
+measures. They show for each vertex whether it is hopeless (Even wins it in no
+product that is left) and whether it is sure (Odd wins it in none). What cannot
+be shown is called possible, or unsure.";
+
+/// What the words leave open: scripts, statuses, examples.
+pub(crate) const AFTER: &str = "\
+Without a command a script is read from standard input and carried out on a
+small family that is built in: the features r (the root), f and g, and the
+vertices 0 and 1.
+
+Scripts, one command a line (F a feature, S a change's number, V a vertex, K a
+harvest's number, N a number):
+  select F, exclude F    decide that F is in or out
+  retract F              take that decision back
+  undo [S], redo [S]     the latest change, or the change S
+  keep S                 give up the right to undo S and all before it
+  forget S               give up the right to redo S and all behind it
+  settle [N]             raise both tables until they are settled, or in at most
+                         N sweeps
+  lift hopeful V         raise one vertex of one table;
+  lift dual V            the same of the other
+  harvest, commit K      settle copies of the tables; take them into the page
+  show, trail            verdicts; the page's entries
+  products, plan         known features; Even's moves, where all is known
+  count                  how many vertices have which verdict; whether the page
+                         is settled, and full
+  # ..                   a comment
+  N: COMMAND             session N (1 to 64) gives the command
+
+Status: 0; 1 where the input is refused or something fails (an answer
+`refused ..` to a line leaves 0), told by one line on standard error; 2 where
+the words are wrong.
+
+Examples:
+  printf 'exclude f\\nsettle\\nshow\\n' | vpgdesk
+  cd examples/elevator
+  vpgdesk check game diagram
+  vpgdesk run game diagram script
+  vpgdesk project game diagram lift sensor overload
+  vpgdesk draw game diagram | dot -Tsvg > game.svg
+
+All formats, commands, answers and faults: docs/FORMATS.md";
+
+/// The same in one line each.
+pub(crate) const SHORT_AFTER: &str = "\
+Without a command a script is read from standard input, on a small family that
+is built in. `vpgdesk --help` tells of scripts, statuses and examples.";
+
+pub(crate) const GAME_HELP: &str = "A parity game in PGSolver's format with guards, `0 2 1 1[f];`";
+
+pub(crate) const DIAGRAM_HELP: &str =
+    "A feature diagram, a line each: `root r`, `optional r f`, ..";
+
+pub(crate) const SCRIPT_HELP: &str = "One command a line, as `select f`, `settle` or `show`";
+
+pub(crate) const LIFTERS_HELP: &str = "How many threads raise the tables, 1 to 64";
+
+pub(crate) const FEATURE_HELP: &str =
+    "The features of the product, all of them, the root among them";
+
+pub(crate) const FEATURES_HELP: &str = "Draw the feature diagram in place of the game";

@@ -1,0 +1,179 @@
+//! How words are read.
+use crate::help::{
+    ABOUT, AFTER, DIAGRAM_HELP, FEATURE_HELP, FEATURES_HELP, GAME_HELP, LIFTERS_HELP, SCRIPT_HELP,
+    SHORT_AFTER,
+};
+use crate::task::Task;
+use clap::builder::ValueParser;
+use clap::error::ErrorKind;
+use clap::{Arg, ArgAction, ArgMatches, Command, Error};
+use std::alloc::{AllocError, Global};
+use vpg_family::{Paths, Subject};
+
+/// A file that has to be named.
+fn file<'a>(alloc: Global, id: &'a str, help: &'a str) -> Arg<'a> {
+    Arg::new(alloc, id).required(true).help(help)
+}
+
+/// An option without a value.
+fn flag<'a>(alloc: Global, name: &'a str, help: &'a str) -> Arg<'a> {
+    Arg::new(alloc, name)
+        .long(name)
+        .action(ArgAction::SetTrue)
+        .help(help)
+}
+
+/// A command over the two files of a family.
+fn over_family<'a>(
+    alloc: Global,
+    name: &'a str,
+    about: &'a str,
+) -> Result<Command<'a>, AllocError> {
+    Command::new(alloc, name)
+        .about(about)
+        .arg(file(alloc, "GAME", GAME_HELP))?
+        .arg(file(alloc, "DIAGRAM", DIAGRAM_HELP))
+}
+
+fn run_command<'a>(alloc: Global) -> Result<Command<'a>, AllocError> {
+    over_family(alloc, "run", "Carries a script out on a family")?
+        .arg(file(alloc, "SCRIPT", SCRIPT_HELP))?
+        .arg(
+            Arg::new(alloc, "lifters")
+                .long("lifters")
+                .value_name("N")
+                .value_parser(ValueParser::unsigned(1, 64))
+                .default_value("1")
+                .help(LIFTERS_HELP),
+        )
+}
+
+fn project_command<'a>(alloc: Global) -> Result<Command<'a>, AllocError> {
+    over_family(
+        alloc,
+        "project",
+        "Writes the plain parity game of one product",
+    )?
+    .arg(file(alloc, "FEATURE", FEATURE_HELP).num_args(1..))
+}
+
+fn draw_command<'a>(alloc: Global) -> Result<Command<'a>, AllocError> {
+    over_family(alloc, "draw", "Draws the game as a Graphviz text")?.arg(flag(
+        alloc,
+        "features",
+        FEATURES_HELP,
+    ))
+}
+
+/// All that the program may be called with.
+fn command<'a>(alloc: Global) -> Result<Command<'a>, AllocError> {
+    Command::new(alloc, "vpgdesk")
+        .version("0.1.0")
+        .about("Configures a product family whose behaviour is a variability parity game")
+        .long_about(ABOUT)
+        .after_help(SHORT_AFTER)
+        .after_long_help(AFTER)
+        .subcommand(run_command(alloc)?)?
+        .subcommand(project_command(alloc)?)?
+        .subcommand(over_family(
+            alloc,
+            "check",
+            "Counts vertices, edges, features and measures",
+        )?)?
+        .subcommand(draw_command(alloc)?)
+}
+
+/// What is told of words that no text in UTF-8 spells.
+pub fn not_text(alloc: Global) -> Result<Error, AllocError> {
+    command(alloc)?.error(ErrorKind::ValueValidation, "a word is not text in UTF-8")
+}
+
+/// What is told where a command lacks a word. The parser refuses such words before.
+fn lacking(alloc: Global) -> Result<Error, AllocError> {
+    command(alloc)?.error(ErrorKind::MissingRequiredArgument, "a word is missing")
+}
+
+/// What is told of a number with a sign.
+fn signed(alloc: Global) -> Result<Error, AllocError> {
+    command(alloc)?.error(
+        ErrorKind::ValueValidation,
+        "the number of lifters is digits alone",
+    )
+}
+
+/// Whether the number of lifters has a sign before its digits. The parser takes it so.
+fn has_sign(matches: &ArgMatches<'_>) -> bool {
+    match matches.get_str("lifters") {
+        Some(word) => word.starts_with('+'),
+        None => false,
+    }
+}
+
+/// The files that a command names. It has them where it was accepted.
+fn paths_of<'a>(matches: &ArgMatches<'a>) -> Option<Paths<'a>> {
+    Some(Paths {
+        game: matches.get_str("GAME")?,
+        diagram: matches.get_str("DIAGRAM")?,
+    })
+}
+
+fn features<'a>(alloc: Global, matches: &ArgMatches<'a>) -> Result<Vec<&'a str>, AllocError> {
+    let mut features = Vec::new(alloc);
+    if let Some(words) = matches.get_strs("FEATURE") {
+        features.extend_from_slice(words)?;
+    }
+    Ok(features)
+}
+
+fn subject(matches: &ArgMatches<'_>) -> Subject {
+    if matches.get_flag("features") {
+        Subject::Features
+    } else {
+        Subject::Game
+    }
+}
+
+/// The task of a command over a family, `None` where it lacks a word.
+fn task_of<'a>(
+    alloc: Global,
+    name: &str,
+    matches: &ArgMatches<'a>,
+) -> Result<Option<Task<'a>>, AllocError> {
+    let Some(paths) = paths_of(matches) else {
+        return Ok(None);
+    };
+    match name {
+        "run" => Ok(
+            matches.get_str("SCRIPT").map(|script| Task::Run {
+                paths,
+                script,
+                lifters: matches.get_one("lifters").unwrap_or(1),
+            }),
+        ),
+        "project" => Ok(Some(Task::Project {
+            paths,
+            features: features(alloc, matches)?,
+        })),
+        "check" => Ok(Some(Task::Check { paths })),
+        "draw" => Ok(Some(Task::Draw {
+            paths,
+            subject: subject(matches),
+        })),
+        _ => Ok(None),
+    }
+}
+
+/// What the words ask for, the first of them being the program's name; else what is told of them, help and the version among it.
+pub fn read<'a>(alloc: Global, words: &'a [String]) -> Result<Task<'a>, Error> {
+    let matches = command(alloc)?.try_get_matches_from(words)?;
+    let Some((name, inner)) = matches.subcommand() else {
+        return Ok(Task::BuiltIn);
+    };
+    if has_sign(inner) {
+        return Err(signed(alloc)?);
+    }
+    match task_of(alloc, name, inner)? {
+        Some(task) => Ok(task),
+        None => Err(lacking(alloc)?),
+    }
+}

@@ -1,7 +1,0 @@
-use Rattle.std.proofs.Common.{take}
-use Rattle.vpgdesk.specs.Families.{IsNamedSet}
-use Rattle.vpgdesk.proofs.Naming.{texts}
-use Rattle.vpgdesk.proofs.family.features_named.Given as goal
-
-abbrev pub invariant-loop-word : goal.invariant-loop-word
-invariant-loop-word l = IsNamedSet l.names (take l.word-index (texts l.words)) l.set.items

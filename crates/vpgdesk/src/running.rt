@@ -1,0 +1,70 @@
+//! Scripts that are carried out at an office of a family.
+ghost use Rattle.std.specs.Arc.{arc_value};
+ghost use Rattle.std.specs.Prelude.{◌≡◌, ◌≤◌, ◌⊎◌, ℕ, true, IsErrOf};
+ghost use Rattle.vpg_diagram.specs.FeatureDiagram.{feature_count};
+ghost use Rattle.vpgdesk.specs.Runs.{TellsOpening, IsRun, UnlessScriptFails, UnlessOutputFails};
+
+use std::alloc::Global;
+use std::sync::Wait;
+use std::thread::Threads;
+use vpg_desk::OpenFault;
+use vpg_diagram::Diagram;
+use vpg_family::{Family, Fault, conflict};
+use vpg_report::{RunFault, run};
+use vpg_script::{Sink, Source};
+
+/// What is told of a refused opening. A conflict names the root.
+fn not_opened(alloc: Global, diagram: &Diagram, fault: OpenFault) -> Fault
+    requires root { (f : ℕ) → fault ≡ OpenFault.Conflict f → f ≡ 0 }
+    ensures { TellsOpening diagram.now.names fault result }
+{
+    match fault {
+        OpenFault::AtLimit => Fault::AtLimit,
+        OpenFault::Conflict { feature } => conflict(alloc, diagram, feature),
+        OpenFault::Memory => Fault::Memory,
+    }
+}
+
+/// Carries a script out at an office of the family.
+pub(crate) fn run_script<T: Threads + Wait + Sync, R: Source, W: Sink>(
+    rt: &T,
+    alloc: Global,
+    family: Family,
+    reader: &mut R,
+    writer: &mut W,
+    lifters: u32,
+) -> Result<(), Fault>
+    requires unread { R.calls reader.old ≡ 0 }
+    requires lifters { (1 ≤ lifters) × (lifters ≤ 64) }
+    requires features { (arc_value family.game).features ≡ feature_count (arc_value family.diagram).lines }
+
+    // What is written are the answers to the script's lines by an office on the family, and the result tells how they end.
+    ensures output { IsRun (arc_value family.diagram) (arc_value family.game) lifters (R.remaining reader.old) (R.remaining reader.new) (W.contents writer.old) (W.contents writer.new) result }
+
+    // Read and Write come only where the device failed, or the script was read 16,777,216 times.
+    ensures read { IsErrOf result Fault.Read → (R.has_failed reader.new ≡ true) ⊎ (R.calls reader.new ≡ 16777216) }
+    ensures write { IsErrOf result Fault.Write → W.has_failed writer.new ≡ true }
+
+    // A device that failed is told.
+    ensures readable { UnlessScriptFails result (R.has_failed reader.new ≡ R.has_failed reader.old) }
+    ensures writable { UnlessOutputFails result (W.has_failed writer.new ≡ W.has_failed writer.old) }
+{
+    let diagram = family.diagram.clone()?;
+    match run(
+        rt,
+        alloc,
+        family.game,
+        family.diagram,
+        reader,
+        writer,
+        lifters,
+    ) {
+        Ok(()) => Ok(()),
+        Err(RunFault::Line { line, fault }) => Err(Fault::Line { line, fault }),
+        Err(RunFault::Read) => Err(Fault::Read),
+        Err(RunFault::Write) => Err(Fault::Write),
+        Err(RunFault::Open { fault }) => Err(not_opened(alloc, &diagram, fault)),
+        Err(RunFault::Memory) => Err(Fault::Memory),
+        Err(RunFault::Stray) => Err(Fault::Stray),
+    }
+}
