@@ -1,7 +1,7 @@
 use Rattle.std.proofs.Common.{◌≡◌, ◌++◌, drop, take}
 use Rattle.vpg_diagram.specs.DiagramReading.{are_new}
 use Rattle.vpg_diagram.specs.FormView.{texts}
-use Rattle.vpg_diagram.proofs.reading.are_new.Given as goal
+use Rattle.vpg_diagram.proofs.reading.are_unseen.Given as goal
 
 -- the words so far are seen, and the rest decides
 abbrev pub invariant-loop-word : goal.invariant-loop-word

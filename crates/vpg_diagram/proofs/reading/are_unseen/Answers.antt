@@ -1,6 +1,6 @@
 use Rattle.std.proofs.Common.{ℕ, List, [], Bor, is_some, sym, ap, ◌∙◌}
 use Rattle.vpg_diagram.proofs.ReadCodeLemmas.{place_is, is_named, is_seen, seen_more, rest_more}
-use Rattle.vpg_diagram.proofs.reading.are_new.Goals as goal
+use Rattle.vpg_diagram.proofs.reading.are_unseen.Goals as goal
 
 abbrev no_word : Bor (List ℕ)
 no_word = record { ref_ptr = (0, 0); now = [] }
