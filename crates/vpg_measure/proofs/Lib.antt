@@ -27,6 +27,7 @@ pub mod RaisedTables
 pub mod Refuted
 pub mod Rounds
 pub mod Shapes
+pub mod SideGames
 pub mod Signature
 pub mod Supported
 pub mod TwoGames
