@@ -28,6 +28,7 @@ pub mod Refuted
 pub mod Rounds
 pub mod Shapes
 pub mod Signature
+pub mod Staying
 pub mod Supported
 pub mod TwoGames
 pub mod Verdicts
