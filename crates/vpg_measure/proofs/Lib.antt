@@ -29,6 +29,7 @@ pub mod Rounds
 pub mod Shapes
 pub mod SideGames
 pub mod Signature
+pub mod Staying
 pub mod Supported
 pub mod TwoGames
 pub mod Verdicts
