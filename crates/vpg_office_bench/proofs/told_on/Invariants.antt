@@ -1,5 +1,5 @@
 use Rattle.std.specs.Arc.{arc_value}
-use Rattle.vpg_office_bench.proofs.told_of.Given as goal
+use Rattle.vpg_office_bench.proofs.told_on.Given as goal
 
 -- the row and the ledger that were just made
 abbrev pub ghosts-open_and_work-L-Terms : goal.ghosts-open_and_work-L-Terms
