@@ -68,7 +68,7 @@ pub trait Server {
 }
 
 /// Why a script isn't carried out to its end.
-#[derive(Clone, Copy, Debug, Error)]
+#[derive(Clone, Copy, Debug, PartialEq, Eq, Error)]
 pub enum ScriptFault {
     /// The line of this number, from 1, has a fault.
     #[error("Line {line} {fault}")]
