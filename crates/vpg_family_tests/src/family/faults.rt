@@ -1,8 +1,8 @@
 //! Which fault is told, and with which text.
 use super::{DIAGRAM, GAME};
-use crate::{Family, Fault, Subject, drawn, line_of};
 use std::alloc::Global;
 use std::test::*;
+use vpg_family::{Family, Fault, Subject, drawn, line_of};
 
 /// A diagram that contradicts itself, and a game that Even wins.
 const NONE: &str = "root r\nmandatory r a\nexcludes r a\n";

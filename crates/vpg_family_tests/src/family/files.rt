@@ -1,9 +1,9 @@
 //! Which fault of which file is told first.
 use super::{DIAGRAM, GAME};
-use crate::{Fault, Paths, line_of, open_script, read_family};
 use std::alloc::Global;
 use std::fs;
 use std::test::*;
+use vpg_family::{Fault, Paths, line_of, open_script, read_family};
 
 /// The files of a game and a diagram, and what is told of them.
 struct Row {

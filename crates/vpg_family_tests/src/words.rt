@@ -1,12 +1,13 @@
 //! What the words of the command line ask for.
-use crate::{Task, not_text, read};
+use clap::Error;
 use clap::error::ErrorKind;
 use std::alloc::{AllocError, Global};
 use std::test::*;
 use vpg_family::Subject;
+use vpg_words::{Task, not_text, read};
 
 /// How words are taken.
-#[derive(Clone, Copy, Debug, PartialEq, Eq)]
+#[derive(Clone, Copy, PartialEq, Eq)]
 enum Taken {
     BuiltIn,
     /// With so many lifters.
@@ -214,15 +215,28 @@ static CALLS: [Call; 46] = [
     },
 ];
 
+/// Appends a word of its own to a line.
+fn add(alloc: Global, word: &str, line: &mut Vec<String>) -> Result<(), AllocError> {
+    line.push(String::from_str(alloc, word)?)?;
+    Ok(())
+}
+
+/// Appends the program's name and the words behind it.
+fn add_all(alloc: Global, words: &str, line: &mut Vec<String>) -> Result<(), AllocError> {
+    add(alloc, "vpgdesk", line)?;
+    if words.is_empty() {
+        return Ok(());
+    }
+    for word in words.split(' ') {
+        add(alloc, word, line)?;
+    }
+    Ok(())
+}
+
 /// The program's name and the words behind it.
 fn line(alloc: Global, words: &str) -> Result<Vec<String>, AllocError> {
     let mut line = Vec::new(alloc);
-    line.push(String::from_str(alloc, "vpgdesk")?)?;
-    if !words.is_empty() {
-        for word in words.split(' ') {
-            line.push(String::from_str(alloc, word)?)?;
-        }
-    }
+    add_all(alloc, words, &mut line)?;
     Ok(line)
 }
 
@@ -236,98 +250,151 @@ fn task_taken(task: &Task<'_>) -> Taken {
     }
 }
 
+/// How words that ask for no task are taken, `None` for want of memory.
+fn told_taken(told: &Error) -> Option<Taken> {
+    if told.kind() == ErrorKind::OutOfMemory {
+        None
+    } else if told.use_stderr() {
+        Some(Taken::Wrong)
+    } else {
+        Some(Taken::Shown)
+    }
+}
+
+fn line_taken(alloc: Global, line: &[String]) -> Option<Taken> {
+    match read(alloc, line) {
+        Ok(task) => Some(task_taken(&task)),
+        Err(told) => told_taken(&told),
+    }
+}
+
 fn how_taken(alloc: Global, words: &str) -> Option<Taken> {
     let line = line(alloc, words).ok()?;
-    match read(alloc, &line) {
-        Ok(task) => Some(task_taken(&task)),
-        Err(told) if told.kind() == ErrorKind::OutOfMemory => None,
-        Err(told) if told.use_stderr() => Some(Taken::Wrong),
-        Err(_) => Some(Taken::Shown),
+    line_taken(alloc, &line)
+}
+
+/// The first words that are taken otherwise.
+fn first_wrong(alloc: Global) -> Option<&'static str> {
+    for call in &CALLS {
+        if how_taken(alloc, call.words) != Some(call.taken) {
+            return Some(call.words);
+        }
     }
+    None
 }
 
 #[test]
 fn words_are_taken(rt: HostRuntime) -> Result<(), Fail> {
-    for call in &CALLS {
-        assert_eq!(rt;
-            how_taken(rt.alloc(), call.words),
-            Some(call.taken),
-            "{}",
-            call.words
-        );
-    }
+    assert_eq!(rt; first_wrong(rt.alloc()), None);
     Ok(())
 }
 
-/// Whether the words ask for a run with just these paths, in this order, and this script.
-fn asks_for_run(alloc: Global, words: &[String], game: &str, diagram: &str, wanted: &str) -> bool {
-    match read(alloc, words) {
-        Ok(Task::Run { paths, script, .. }) => paths.game == game
+fn is_run(task: &Task<'_>, game: &str, diagram: &str, wanted: &str) -> bool {
+    match task {
+        Task::Run { paths, script, .. } => paths.game == game
             && paths.diagram == diagram
-            && script == wanted,
+            && *script == wanted,
         _ => false,
+    }
+}
+
+/// Whether the words ask for a run with just these paths, in this order, and this script.
+fn asks_for_run(alloc: Global, words: &str, game: &str, diagram: &str, wanted: &str) -> bool {
+    let Ok(line) = line(alloc, words) else {
+        return false;
+    };
+    match read(alloc, &line) {
+        Ok(task) => is_run(&task, game, diagram, wanted),
+        Err(_) => false,
     }
 }
 
 #[test]
 fn files_stand_in_their_order(rt: HostRuntime) -> Result<(), Fail> {
-    let line = line(rt.alloc(), "run a b c")?;
-    assert!(rt; asks_for_run(rt.alloc(), &line, "a", "b", "c"));
+    assert!(rt; asks_for_run(rt.alloc(), "run a b c", "a", "b", "c"));
     Ok(())
 }
 
-/// Whether the words ask for the product of just these features, in this order.
-fn asks_for_product(alloc: Global, words: &[String], wanted: &[&str]) -> bool {
-    match read(alloc, words) {
-        Ok(Task::Project { paths, features }) => paths.game == "a"
+fn is_product(task: &Task<'_>, wanted: &[&str]) -> bool {
+    match task {
+        Task::Project { paths, features } => paths.game == "a"
             && paths.diagram == "b"
             && features.as_slice() == wanted,
         _ => false,
     }
 }
 
-/// Whether the words ask for the counts of just these files.
-fn asks_for_counts(alloc: Global, words: &[String]) -> bool {
-    match read(alloc, words) {
-        Ok(Task::Check { paths }) => paths.game == "a" && paths.diagram == "b",
+/// Whether the words ask for the product of just these features, in this order.
+fn asks_for_product(alloc: Global, words: &str, wanted: &[&str]) -> bool {
+    let Ok(line) = line(alloc, words) else {
+        return false;
+    };
+    match read(alloc, &line) {
+        Ok(task) => is_product(&task, wanted),
+        Err(_) => false,
+    }
+}
+
+fn is_count(task: &Task<'_>) -> bool {
+    match task {
+        Task::Check { paths } => paths.game == "a" && paths.diagram == "b",
         _ => false,
+    }
+}
+
+/// Whether the words ask for the counts of just these files.
+fn asks_for_counts(alloc: Global, words: &str) -> bool {
+    let Ok(line) = line(alloc, words) else {
+        return false;
+    };
+    match read(alloc, &line) {
+        Ok(task) => is_count(&task),
+        Err(_) => false,
     }
 }
 
 #[test]
 fn features_stand_in_their_order(rt: HostRuntime) -> Result<(), Fail> {
-    let words = line(rt.alloc(), "project a b r f f x")?;
-    assert!(rt; asks_for_product(rt.alloc(), &words, &["r", "f", "f", "x"]));
-    let words = line(rt.alloc(), "project a b -- r -- -f")?;
-    assert!(rt; asks_for_product(rt.alloc(), &words, &["r", "--", "-f"]));
-    let words = line(rt.alloc(), "check a b")?;
-    assert!(rt; asks_for_counts(rt.alloc(), &words));
+    assert!(rt; asks_for_product(rt.alloc(), "project a b r f f x", &["r", "f", "f", "x"]));
+    assert!(rt; asks_for_product(rt.alloc(), "project a b -- r -- -f", &["r", "--", "-f"]));
+    assert!(rt; asks_for_counts(rt.alloc(), "check a b"));
     Ok(())
+}
+
+/// What is told of words that ask for no task.
+fn told(alloc: Global, words: &str) -> Option<String> {
+    let line = line(alloc, words).ok()?;
+    read(alloc, &line).err()?.to_string(alloc).ok()
+}
+
+fn is_version_told(alloc: Global) -> bool {
+    told(alloc, "--version").is_some_and(|text| text.as_str() == "vpgdesk 0.1.0\n")
+}
+
+fn is_help_told(alloc: Global) -> bool {
+    told(alloc, "--help").is_some_and(|text| text.contains("Usage: vpgdesk [COMMAND]")
+        && text.contains("docs/FORMATS.md")
+        && text.contains("retract F"))
+}
+
+/// Whether words that are not text go to standard error, and are told so.
+fn is_wrong_text_told(alloc: Global, wrong: &Error) -> bool {
+    wrong.use_stderr()
+        && wrong.to_string(alloc).is_ok_and(|text| {
+            text.starts_with("error: a word is not text in UTF-8\n")
+        })
+}
+
+fn is_not_text_told(alloc: Global) -> bool {
+    not_text(alloc).is_ok_and(|wrong| is_wrong_text_told(alloc, &wrong))
 }
 
 /// The texts of help, of the version and of words that are not UTF-8.
 #[test]
 fn told_texts(rt: HostRuntime) -> Result<(), Fail> {
-    let alloc = rt.alloc();
-    let asked = line(alloc, "--version")?;
-    let version = read(alloc, &asked).err().map(|told| told.to_string(alloc));
-    assert!(rt;
-        version.is_some_and(|text| text.is_ok_and(|text| text.as_str() == "vpgdesk 0.1.0\n"))
-    );
-    let asked = line(alloc, "--help")?;
-    let help = read(alloc, &asked).err().map(|told| told.to_string(alloc));
-    assert!(rt;
-        help.is_some_and(|text| text.is_ok_and(|text| text.contains("Usage: vpgdesk [COMMAND]")
-            && text.contains("docs/FORMATS.md")
-            && text.contains("retract F")))
-    );
-    let wrong = not_text(alloc)?;
-    assert!(rt; wrong.use_stderr());
-    assert!(rt;
-        wrong
-            .to_string(alloc)?
-            .starts_with("error: a word is not text in UTF-8\n")
-    );
+    assert!(rt; is_version_told(rt.alloc()));
+    assert!(rt; is_help_told(rt.alloc()));
+    assert!(rt; is_not_text_told(rt.alloc()));
     Ok(())
 }
 
@@ -344,21 +411,24 @@ static HELPS: [&str; 7] = [
     "draw --help",
 ];
 
-/// The widest line of what is told of words.
-fn width_of(alloc: Global, words: &str) -> Option<usize> {
-    let asked = line(alloc, words).ok()?;
-    let told = read(alloc, &asked).err()?.to_string(alloc).ok()?;
-    told.lines().map(|line| line.chars().count()).max()
+/// Whether something is told of words, and no line of it is wider than a terminal.
+fn is_narrow(alloc: Global, words: &str) -> bool {
+    told(alloc, words).is_some_and(|told| !told.is_empty()
+        && told.lines().all(|line| line.chars().count() <= COLUMNS))
+}
+
+/// The first words of which nothing is told, or a wider line.
+fn first_wide(alloc: Global) -> Option<&'static str> {
+    for words in HELPS {
+        if !is_narrow(alloc, words) {
+            return Some(words);
+        }
+    }
+    None
 }
 
 #[test]
 fn help_is_no_wider_than_a_terminal(rt: HostRuntime) -> Result<(), Fail> {
-    for words in HELPS {
-        let width = width_of(rt.alloc(), words);
-        assert!(rt;
-            width.is_some_and(|width| width <= COLUMNS),
-            "{words}: {width:?}"
-        );
-    }
+    assert_eq!(rt; first_wide(rt.alloc()), None);
     Ok(())
 }
