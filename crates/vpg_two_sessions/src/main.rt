@@ -9,7 +9,7 @@ ghost use Rattle.std.specs.Prelude.{◌≡◌, ◌≤◌, vec_len, vec_capacity}
 ghost use Rattle.vpg_diagram.specs.FeatureDiagram.{feature_count};
 
 use crate::watcher::{follow, wait_for_watcher};
-use anyhow::bail;
+use anyhow::{Result, bail};
 use std::alloc::Global;
 use std::marker::Brand;
 use std::sync::atomic::AtomicU64;
@@ -29,7 +29,7 @@ const GAME: &[u8] = b"parity 1; 0 1 0 1[f],0; 1 2 1 0[g],1;";
 const F: u16 = 1;
 
 /// What came of a day.
-#[derive(Drop)]
+#[derive(Clone, Copy)]
 struct Day {
     /// How many lifts the commit added.
     added: Option<u32>,
@@ -48,31 +48,46 @@ struct Seat<L: Terms> {
     front: Front<L>,
 }
 
+/// A further session.
+fn joined<L: Terms, R: Wait>(rt: &R, office: &Office<L>) -> Option<Seat<L>> {
+    let (session, front) = office.join(rt).ok()?;
+    Some(Seat { session, front })
+}
+
 /// Takes an order, lifts until both tables are settled, and commits.
 fn lifts<L: Terms, R: Wait>(
     rt: &R,
     alloc: Global,
     office: &Office<L>,
-    seat: Seat<L>,
-) -> (Seat<L>, Option<u32>) {
-    let mut seat = seat;
+    seat: &mut Seat<L>,
+) -> Option<u32> {
     let Ok(order) = seat.session.order(rt, alloc, office, &mut seat.front) else {
-        return (seat, None);
+        return None;
     };
     let harvest = Harvest::alone(order, 1000);
     match seat
         .session
         .commit(rt, alloc, office, &mut seat.front, harvest)
     {
-        Ok(added) => (seat, Some(added)),
+        Ok(added) => Some(added),
         Err(returned) => {
             let Returned {
                 fault: _fault,
                 value: _harvest,
             } = returned;
-            (seat, None)
+            None
         }
     }
+}
+
+/// As `lifts`, by a session of its own.
+fn lifts_once<L: Terms, R: Wait>(
+    rt: &R,
+    alloc: Global,
+    office: &Office<L>,
+    mut seat: Seat<L>,
+) -> Option<u32> {
+    lifts(rt, alloc, office, &mut seat)
 }
 
 /// Decides f out.
@@ -80,15 +95,14 @@ fn decides<L: Terms, R: Wait>(
     rt: &R,
     alloc: Global,
     office: &Office<L>,
-    seat: Seat<L>,
-) -> (Seat<L>, Option<Undo<L>>) {
-    let mut seat = seat;
+    seat: &mut Seat<L>,
+) -> Option<Undo<L>> {
     match seat
         .session
         .decide(rt, alloc, office, &mut seat.front, F, false)
     {
-        Ok(undo) => (seat, Some(undo)),
-        Err(_fault) => (seat, None),
+        Ok(undo) => Some(undo),
+        Err(_fault) => None,
     }
 }
 
@@ -98,16 +112,14 @@ fn works<L: Terms + Send + Sync, R: Threads + Wait + Sync>(
     alloc: Global,
     office: &Office<L>,
     lifter: Seat<L>,
-    decider: Seat<L>,
-) -> (Option<u32>, Seat<L>, Option<Undo<L>>) {
+    decider: &mut Seat<L>,
+) -> (Option<u32>, Option<Undo<L>>) {
     let (lifted, decided) = join(
         rt,
-        || lifts(rt, alloc, office, lifter),
+        || lifts_once(rt, alloc, office, lifter),
         || decides(rt, alloc, office, decider),
     );
-    let (_lifter, added) = lifted;
-    let (decider, undo) = decided;
-    (added, decider, undo)
+    (lifted, decided)
 }
 
 /// Takes the decision back.
@@ -135,15 +147,32 @@ fn settles_and_undoes<L: Terms, R: Wait>(
     rt: &R,
     alloc: Global,
     office: &Office<L>,
-    seat: Seat<L>,
+    seat: &mut Seat<L>,
     undo: Undo<L>,
     seen: &AtomicU64,
 ) -> (Option<Undo<L>>, Option<Redo<L>>) {
-    let (mut seat, _added) = lifts(rt, alloc, office, seat);
+    let _added = lifts(rt, alloc, office, seat);
     wait_for_watcher(seen, seat.front.len());
-    let tokens = undoes(rt, alloc, office, &mut seat, undo);
+    let tokens = undoes(rt, alloc, office, seat, undo);
     wait_for_watcher(seen, seat.front.len());
     tokens
+}
+
+/// Two sessions work, and the decision is taken back: how many lifts were added, and the tokens that are left.
+fn work_in_two<L: Terms + Send + Sync, R: Threads + Wait + Sync>(
+    rt: &R,
+    alloc: Global,
+    office: &Office<L>,
+    seen: &AtomicU64,
+) -> Option<(Option<u32>, Option<Undo<L>>, Option<Redo<L>>)> {
+    let lifter = joined(rt, office)?;
+    let mut decider = joined(rt, office)?;
+    let (added, undo) = works(rt, alloc, office, lifter, &mut decider);
+    let (undo, redo) = match undo {
+        Some(undo) => settles_and_undoes(rt, alloc, office, &mut decider, undo, seen),
+        None => (None, None),
+    };
+    Some((added, undo, redo))
 }
 
 /// Ends the office with the tokens that are left.
@@ -188,22 +217,9 @@ fn spend_day<L: Terms + Send + Sync, R: Threads + Wait + Sync>(
         let _further = office.end(rt, &mut front, undos, Vec::new(alloc));
         return None;
     };
-    let (Ok((one, first)), Ok((two, second))) = (office.join(rt), office.join(rt)) else {
+    let Some((added, undo, redo)) = work_in_two(rt, alloc, &office, seen) else {
         let _further = office.end(rt, &mut front, undos, redos);
         return None;
-    };
-    let lifter = Seat {
-        session: one,
-        front: first,
-    };
-    let decider = Seat {
-        session: two,
-        front: second,
-    };
-    let (added, decider, undo) = works(rt, alloc, &office, lifter, decider);
-    let (undo, redo) = match undo {
-        Some(undo) => settles_and_undoes(rt, alloc, &office, decider, undo, seen),
-        None => (None, None),
     };
     let undone = redo.is_some();
     let further = ends(rt, office, &mut front, undos, redos, undo, redo);
@@ -272,26 +288,39 @@ fn open_and_work<L: Terms + Send + Sync, R: Threads + Wait + Sync + Print>(
     }
 }
 
-fn main(rt: HostRuntime) -> anyhow::Result<()> {
-    let alloc = rt.alloc();
+fn diagram_of(alloc: Global) -> Result<Arc<Diagram>> {
     let diagram = Diagram::read(alloc, DIAGRAM)?;
+    Ok(Arc::new(alloc, diagram)?)
+}
+
+fn game_of(alloc: Global, diagram: &Diagram) -> Result<Arc<GuardedGame>> {
     let game = GuardedGame::read(alloc, GAME, diagram.names())?;
+    Ok(Arc::new(alloc, game)?)
+}
+
+/// Tells what came of a day.
+fn tell(rt: &HostRuntime, day: Day) -> Result<()> {
+    if let Some(added) = day.added {
+        println!(rt; "added {added}")?;
+    }
+    println!(rt;
+        "undone {}\ncalls {}\nfurther {}",
+        day.undone, day.calls, day.further
+    )?;
+    Ok(())
+}
+
+fn main(rt: HostRuntime) -> Result<()> {
+    let alloc = rt.alloc();
+    let diagram = diagram_of(alloc)?;
+    let game = game_of(alloc, &diagram)?;
     if game.features() != diagram.features() {
         bail!("the game is of another diagram");
     }
-    let (game, diagram) = (Arc::new(alloc, game)?, Arc::new(alloc, diagram)?);
     let site = Site::new(alloc)?;
     match open_and_work::<Brand, HostRuntime>(&rt, alloc, site, game, diagram, 100) {
-        Ok(Some(day)) => {
-            if let Some(added) = day.added {
-                println!(rt; "added {added}")?;
-            }
-            println!(rt; "undone {}", day.undone)?;
-            println!(rt; "calls {}", day.calls)?;
-            println!(rt; "further {}", day.further)?;
-        }
-        Ok(None) => println!(rt; "no memory")?,
+        Ok(Some(day)) => tell(&rt, day),
+        Ok(None) => Ok(println!(rt; "no memory")?),
         Err(fault) => bail!("{fault}"),
     }
-    Ok(())
 }
