@@ -16,9 +16,10 @@ use Rattle.vpg_desk.specs.DeskFields.{desk_of, setting_in}
 use Rattle.vpg_desk.specs.Faults.{decide_refusal, ClosesWith}
 use Rattle.vpg_desk.specs.State.{DeskState, Replies, IsStep}
 use Rattle.vpg_desk.specs.declared.fault.DecideFault.TheVariants.{Memory}
-use Rattle.vpg_desk.specs.Cuts.{cuts_of, notes_of, SuffixesBelow}
+use Rattle.vpg_desk.specs.Cuts.{cuts_of, notes_of, cut_book, SuffixesBelow}
+use Rattle.vpg_desk.specs.Trail.{book_of}
 use Rattle.vpg_desk.specs.declared.cuts.Cut.{Cut}
-use Rattle.vpg_desk.proofs.Unchanged.{still_desk}
+use Rattle.vpg_desk.proofs.Unchanged.{still_desk, on_err}
 use Rattle.vpg_desk.proofs.Shared.{held_at, features_at, limit_at}
 use Rattle.vpg_desk.proofs.Decided.{decide_unknown, decide_already, decide_too_many, decide_accepted, closes_refuses, decisions_inside, limits, decided_step, decided_desk}
 use Rattle.vpg_desk.proofs.StillSettled.{settled_with}
@@ -135,3 +136,9 @@ games_with-requires-clause-features c = features_at c.self.inside c.self.invaria
 
 pub games_with-requires-clause-not_at_limit : goal.games_with-requires-clause-not_at_limit
 games_with-requires-clause-not_at_limit c = limit_at c.self.inside c.self.invariant c.deref-2.result.now c.deref-2.ensures
+
+pub returns-in_err-push_decision-clause-err : goal.returns-in_err-push_decision-clause-err
+returns-in_err-push_decision-clause-err c =
+    on_err c.from_residual-in_err-push_decision.result
+    ((λ k. record { game = arc_value c.self.inside.game; diagram = arc_value c.self.inside.diagram; book = book_of (cut_book (c.in_err-push_decision.ensures.err_past k) (c.in_err-push_decision.ensures.err_trail k).entries c.self.inside.future.items c.self.inside.changes c.self.inside.tokens) })
+    ∙ c.self.view_is)

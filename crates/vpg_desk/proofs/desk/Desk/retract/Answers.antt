@@ -12,9 +12,10 @@ use Rattle.vpg_desk.specs.DeskFields.{desk_of}
 use Rattle.vpg_desk.specs.Setting.{HasConflict}
 use Rattle.vpg_desk.specs.State.{DeskState, Replies, IsStep, setting_between}
 use Rattle.vpg_desk.specs.declared.fault.RetractFault.TheVariants.{Memory}
-use Rattle.vpg_desk.specs.Cuts.{cuts_of, notes_of, SuffixesBelow}
+use Rattle.vpg_desk.specs.Cuts.{cuts_of, notes_of, cut_book, SuffixesBelow}
+use Rattle.vpg_desk.specs.Trail.{book_of}
 use Rattle.vpg_desk.specs.declared.cuts.Cut.{Cut}
-use Rattle.vpg_desk.proofs.Unchanged.{still_desk}
+use Rattle.vpg_desk.proofs.Unchanged.{still_desk, on_err}
 use Rattle.vpg_desk.proofs.Shared.{held_at, features_at, limit_at}
 use Rattle.vpg_desk.proofs.Decided.{limits}
 use Rattle.vpg_desk.proofs.Retracted.{retract_unknown, retract_not_decided, retract_too_many, retracted_parts, retract_accepted, retracted_consistent, retracted_step, retracted_desk}
@@ -141,3 +142,9 @@ returns-then-self-eq-MOST_CHANGES-clause-refused c =
 
 pub cut_out-requires-clause-vertices : goal.cut_out-requires-clause-vertices
 cut_out-requires-clause-vertices c = subst (λ (n : ℕ). All (λ e. VertexBelow n (entry_of e)) c.in_ok-kept.kept.items) c.vertices.ensures c.in_ok-kept.ensures.vertices
+
+pub returns-in_err-cut_out-clause-err : goal.returns-in_err-cut_out-clause-err
+returns-in_err-cut_out-clause-err c =
+    on_err c.from_residual-in_err-cut_out.result
+    ((λ k. record { game = arc_value c.self.inside.game; diagram = arc_value c.self.inside.diagram; book = book_of (cut_book (c.in_err-cut_out.ensures.err_past k) (c.in_err-cut_out.ensures.err_trail k).entries c.self.inside.future.items c.self.inside.changes c.self.inside.tokens) })
+    ∙ c.self.view_is)
