@@ -1,5 +1,6 @@
 -- A desk whose parts a refused call gives back.
-use Rattle.std.proofs.Common.{◌≡◌, length, sym, subst, Vec, Global}
+use Rattle.std.proofs.Common.{◌≡◌, Result, Ok, Err, length, sym, subst, Vec, Global}
+use Rattle.std.specs.Prelude.{OnErr}
 use Rattle.std.specs.Arc.{arc_value}
 use Rattle.vpg_game.specs.Game.{graph_of}
 use Rattle.vpg_measure.specs.Games.{ArePageGames}
@@ -30,3 +31,8 @@ still_desk d i trail past future t p f past_notes future_notes past_below future
   past_below = subst (λ (x : Track). SuffixesBelow x.vertices past.items) (sym t) past_below;
   future_below = subst (λ (x : Track). SuffixesBelow x.vertices future.items) (sym t) future_below;
 }
+
+-- what holds anyway holds where a call is refused
+pub on_err : {T E X : Type 0} (r : Result T E) → X → OnErr r X
+on_err (Ok t) x = tt
+on_err (Err f) x = x

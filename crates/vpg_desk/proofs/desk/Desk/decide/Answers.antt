@@ -16,10 +16,11 @@ use Rattle.vpg_desk.specs.DeskFields.{desk_of, setting_in}
 use Rattle.vpg_desk.specs.Faults.{decide_refusal, ClosesWith}
 use Rattle.vpg_desk.specs.State.{DeskState, Replies, IsStep}
 use Rattle.vpg_desk.specs.declared.fault.DecideFault.TheVariants.{Memory}
-use Rattle.vpg_desk.specs.Cuts.{cuts_of, notes_of, SuffixesBelow}
+use Rattle.vpg_desk.specs.Cuts.{cuts_of, notes_of, cut_book, SuffixesBelow}
+use Rattle.vpg_desk.specs.Trail.{book_of}
 use Rattle.vpg_desk.specs.declared.cuts.Cut.{Cut}
-use Rattle.vpg_desk.proofs.Unchanged.{still_desk}
-use Rattle.vpg_desk.proofs.Shared.{held_at}
+use Rattle.vpg_desk.proofs.Unchanged.{still_desk, on_err}
+use Rattle.vpg_desk.proofs.Shared.{held_at, features_at, limit_at}
 use Rattle.vpg_desk.proofs.Decided.{decide_unknown, decide_already, decide_too_many, decide_accepted, closes_refuses, decisions_inside, limits, decided_step, decided_desk}
 use Rattle.vpg_desk.proofs.StillSettled.{settled_with}
 use Rattle.vpg_desk.proofs.desk.Desk.decide.Goals as goal
@@ -129,3 +130,15 @@ invariant_of-self c =
     let same = c.in_err-push_decision.ensures.err_past in
     still_desk c.self.inside c.self.invariant c.push_decision.new.trail c.push_decision.new.past c.self.inside.future c.in_err-push_decision.ensures.err_trail (ap cuts_of same) refl (ap notes_of same) refl
     (subst (λ (l : List Cut). SuffixesBelow c.self.inside.trail.vertices l) (sym same) c.self.invariant.past_below) c.self.invariant.future_below
+
+pub games_with-requires-clause-features : goal.games_with-requires-clause-features
+games_with-requires-clause-features c = features_at c.self.inside c.self.invariant c.deref-2.result.now c.deref-3.result.now c.deref-2.ensures c.deref-3.ensures
+
+pub games_with-requires-clause-not_at_limit : goal.games_with-requires-clause-not_at_limit
+games_with-requires-clause-not_at_limit c = limit_at c.self.inside c.self.invariant c.deref-2.result.now c.deref-2.ensures
+
+pub returns-in_err-push_decision-clause-err : goal.returns-in_err-push_decision-clause-err
+returns-in_err-push_decision-clause-err c =
+    on_err c.from_residual-in_err-push_decision.result
+    ((λ k. record { game = arc_value c.self.inside.game; diagram = arc_value c.self.inside.diagram; book = book_of (cut_book (c.in_err-push_decision.ensures.err_past k) (c.in_err-push_decision.ensures.err_trail k).entries c.self.inside.future.items c.self.inside.changes c.self.inside.tokens) })
+    ∙ c.self.view_is)

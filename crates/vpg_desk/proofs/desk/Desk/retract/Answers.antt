@@ -1,25 +1,26 @@
-use Rattle.std.proofs.Common.{◌≡◌, IfErr, Result, Ok, Err, ◌∙◌, ◌+◌, ◌<◌, ◌++◌, ℕ, List, [], length, map, filter, not, take, drop, sym, ap, subst, arith, false, refl}
+use Rattle.std.proofs.Common.{◌≡◌, IfErr, Result, Ok, Err, ◌∙◌, ◌+◌, ◌<◌, ◌≤◌, ◌++◌, ℕ, List, All, [], length, map, filter, not, take, drop, sym, ap, subst, arith, false, refl}
 use Rattle.std.specs.Arc.{arc_value}
 use Rattle.std.proofs.lemmas.List.{take-map, length-map}
 use Rattle.vpg_diagram.specs.DiagramText.{NamedDiagram}
 use Rattle.vpg_diagram.specs.FeatureDiagram.{feature_count}
 use Rattle.vpg_measure.specs.Games.{ArePageGames}
 use Rattle.vpg_trail.specs.Page.{Entry as Step, choices_of, has_decided, assumes, reset_all, before_decision, after_decision, retracted}
-use Rattle.vpg_trail.specs.Shown.{entry_of}
+use Rattle.vpg_trail.specs.Shown.{entry_of, VertexBelow}
 use Rattle.vpg_trail.specs.WellFormed.{LiftsStandAfter}
-use Rattle.vpg_desk.specs.Book.{Retract, Changed}
+use Rattle.vpg_desk.specs.Book.{Retract, Changed, Refused, UnknownFeature, NotDecided, TooManyChanges}
 use Rattle.vpg_desk.specs.DeskFields.{desk_of}
 use Rattle.vpg_desk.specs.Setting.{HasConflict}
 use Rattle.vpg_desk.specs.State.{DeskState, Replies, IsStep, setting_between}
 use Rattle.vpg_desk.specs.declared.fault.RetractFault.TheVariants.{Memory}
-use Rattle.vpg_desk.specs.Cuts.{cuts_of, notes_of, SuffixesBelow}
+use Rattle.vpg_desk.specs.Cuts.{cuts_of, notes_of, cut_book, SuffixesBelow}
+use Rattle.vpg_desk.specs.Trail.{book_of}
 use Rattle.vpg_desk.specs.declared.cuts.Cut.{Cut}
-use Rattle.vpg_desk.proofs.Unchanged.{still_desk}
-use Rattle.vpg_desk.proofs.Shared.{held_at}
+use Rattle.vpg_desk.proofs.Unchanged.{still_desk, on_err}
+use Rattle.vpg_desk.proofs.Shared.{held_at, features_at, limit_at}
 use Rattle.vpg_desk.proofs.Decided.{limits}
-use Rattle.vpg_desk.proofs.Retracted.{retracted_parts, retract_accepted, retracted_consistent, retracted_step, retracted_desk}
+use Rattle.vpg_desk.proofs.Retracted.{retract_unknown, retract_not_decided, retract_too_many, retracted_parts, retract_accepted, retracted_consistent, retracted_step, retracted_desk}
 use Rattle.vpg_desk.proofs.desk.Desk.retract.Goals as goal
-use Rattle.vpg_desk.proofs.desk.Desk.retract.Goals.{After-vertices, After-deref-4}
+use Rattle.vpg_desk.proofs.desk.Desk.retract.Goals.{After-features, After-vertices, After-deref-4}
 
 accepted : (c : After-vertices) → Replies (desk_of c.self.inside) (Retract c.args.feature) (Changed (c.self.inside.changes + 1))
 accepted c =
@@ -109,3 +110,41 @@ invariant_of-self c =
     let same = c.in_err-cut_out.ensures.err_past in
     still_desk c.self.inside c.self.invariant c.cut_out.new.trail c.cut_out.new.past c.self.inside.future c.in_err-cut_out.ensures.err_trail (ap cuts_of same) refl (ap notes_of same) refl
     (subst (λ (l : List Cut). SuffixesBelow c.self.inside.trail.vertices l) (sym same) c.self.invariant.past_below) c.self.invariant.future_below
+
+pub games_of_page-requires-clause-features : goal.games_of_page-requires-clause-features
+games_of_page-requires-clause-features c = features_at c.self.inside c.self.invariant c.deref-2.result.now c.deref-3.result.now c.deref-2.ensures c.deref-3.ensures
+
+pub games_of_page-requires-clause-not_at_limit : goal.games_of_page-requires-clause-not_at_limit
+games_of_page-requires-clause-not_at_limit c = limit_at c.self.inside c.self.invariant c.deref-2.result.now c.deref-2.ensures
+
+pub cut_out-requires-clause-place : goal.cut_out-requires-clause-place
+cut_out-requires-clause-place c = omega (arith, c.in-Some.ensures.place, length-map c.entries-entries.result.now entry_of, ap length c.entries-entries.ensures.entries)
+
+count : (c : After-features) → c.features.result ≡ feature_count (arc_value c.self.inside.diagram).lines
+count c = c.features.ensures.count ∙ ap (λ (x : NamedDiagram). feature_count x.lines) c.deref.ensures
+
+pub returns-then-feature-features-clause-refused : goal.returns-then-feature-features-clause-refused
+returns-then-feature-features-clause-refused c =
+    subst (λ (s : DeskState). Replies s (Retract c.args.feature) (Refused UnknownFeature)) c.self.view_is
+    (retract_unknown c.self.inside c.args.feature (subst (λ (n : ℕ). n ≤ c.args.feature) (count (goal.at.returns-then-feature-features-clause-refused c).After-features) c.if-feature-features.true))
+
+pub returns-in_default-clause-refused : goal.returns-in_default-clause-refused
+returns-in_default-clause-refused c =
+    subst (λ (s : DeskState). Replies s (Retract c.args.feature) (Refused NotDecided)) c.self.view_is
+    (retract_not_decided c.self.inside c.args.feature (subst (λ (n : ℕ). c.args.feature < n) (count (goal.at.returns-in_default-clause-refused c).After-features) c.if-feature-features.false)
+    (sym (c.in_default.ensures.decided ∙ ap (has_decided c.args.feature) c.entries-entries.ensures.entries)))
+
+pub returns-then-self-eq-MOST_CHANGES-clause-refused : goal.returns-then-self-eq-MOST_CHANGES-clause-refused
+returns-then-self-eq-MOST_CHANGES-clause-refused c =
+    subst (λ (s : DeskState). Replies s (Retract c.args.feature) (Refused TooManyChanges)) c.self.view_is
+    (retract_too_many c.self.inside c.args.feature (subst (λ (n : ℕ). c.args.feature < n) (count (goal.at.returns-then-self-eq-MOST_CHANGES-clause-refused c).After-features) c.if-feature-features.false)
+    (sym (c.in-Some.ensures.decided ∙ ap (has_decided c.args.feature) c.entries-entries.ensures.entries)) c.if-self-eq-MOST_CHANGES.true)
+
+pub cut_out-requires-clause-vertices : goal.cut_out-requires-clause-vertices
+cut_out-requires-clause-vertices c = subst (λ (n : ℕ). All (λ e. VertexBelow n (entry_of e)) c.in_ok-kept.kept.items) c.vertices.ensures c.in_ok-kept.ensures.vertices
+
+pub returns-in_err-cut_out-clause-err : goal.returns-in_err-cut_out-clause-err
+returns-in_err-cut_out-clause-err c =
+    on_err c.from_residual-in_err-cut_out.result
+    ((λ k. record { game = arc_value c.self.inside.game; diagram = arc_value c.self.inside.diagram; book = book_of (cut_book (c.in_err-cut_out.ensures.err_past k) (c.in_err-cut_out.ensures.err_trail k).entries c.self.inside.future.items c.self.inside.changes c.self.inside.tokens) })
+    ∙ c.self.view_is)

@@ -1,4 +1,4 @@
-use Rattle.std.proofs.Common.{◌≡◌, ◌∙◌, ◌∷◌, IfSome, IfErr, List, None, Result, Ok, Err, ap, sym, subst}
+use Rattle.std.proofs.Common.{length, ◌<◌, ◌≡◌, ◌∙◌, ◌∷◌, IfSome, IfErr, List, None, Result, Ok, Err, ap, sym, subst}
 use Rattle.std.specs.Arc.{arc_value}
 use Rattle.std.specs.List.{AllByRecursion}
 use Rattle.vpg_measure.specs.Games.{ArePageGames}
@@ -13,7 +13,8 @@ use Rattle.vpg_desk.specs.Trail.{Cut as Saved, spliced}
 use Rattle.vpg_desk.specs.declared.cuts.Cut.{Cut}
 use Rattle.vpg_desk.specs.declared.fault.RedoFault.TheVariants.{Memory}
 use Rattle.vpg_desk.proofs.Unchanged.{still_desk}
-use Rattle.vpg_desk.proofs.Shared.{held_at}
+use Rattle.vpg_desk.proofs.Shared.{held_at, features_at, limit_at}
+use Rattle.vpg_desk.proofs.Nearest.{some_future}
 use Rattle.vpg_desk.proofs.Swung.{redo_refused, redo_accepted, nearest_below, future_consistent, future_well_formed, redone_step, redone_desk}
 use Rattle.vpg_desk.proofs.desk.Desk.swing_forth.Goals as goal
 use Rattle.vpg_desk.proofs.desk.Desk.swing_forth.Goals.{After-swing}
@@ -83,3 +84,15 @@ invariant_of-self c =
     still_desk c.self.inside c.self.invariant c.swing.new.trail c.swing.new.to c.swing.new.from c.in_err-is_noted.ensures.err_trail (ap cuts_of c.in_err-is_noted.ensures.err_to) c.in_err-is_noted.ensures.err_from
     (ap notes_of c.in_err-is_noted.ensures.err_to) c.in_err-is_noted.ensures.err_notes
     (c.swing.ensures.to_below c.self.invariant.past_below) c.swing.ensures.from_below
+
+pub games_over-requires-clause-some : goal.games_over-requires-clause-some
+games_over-requires-clause-some c = subst (λ (l : List Cut). 0 < length l) (c.deref.ensures.value ∙ sym c.deref-4.ensures.value) (some_future c.args.serial c.deref.result.now c.in_default.ensures)
+
+pub swing-requires-clause-some : goal.swing-requires-clause-some
+swing-requires-clause-some c = subst (λ (l : List Cut). 0 < length l) c.deref.ensures.value (some_future c.args.serial c.deref.result.now c.in_default.ensures)
+
+pub games_over-requires-clause-features : goal.games_over-requires-clause-features
+games_over-requires-clause-features c = features_at c.self.inside c.self.invariant c.deref-2.result.now c.deref-3.result.now c.deref-2.ensures c.deref-3.ensures
+
+pub games_over-requires-clause-not_at_limit : goal.games_over-requires-clause-not_at_limit
+games_over-requires-clause-not_at_limit c = limit_at c.self.inside c.self.invariant c.deref-2.result.now c.deref-2.ensures

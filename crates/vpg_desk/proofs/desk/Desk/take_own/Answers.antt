@@ -3,6 +3,9 @@ use Rattle.std.proofs.lemmas.List.{length-map}
 use Rattle.vpg_trail.specs.Page.{Entry as Step, literal_of, choices_of}
 use Rattle.vpg_trail.specs.Shown.{entry_of}
 use Rattle.vpg_trail.specs.WellFormed.{LiftsStandAfter}
+use Rattle.std.specs.Arc.{arc_value}
+use Rattle.vpg_game.specs.Game.{NamedGame}
+use Rattle.vpg_game.proofs.Graphs.{same_count}
 use Rattle.vpg_measure.specs.Orders.{OrderView}
 use Rattle.vpg_desk.specs.Book.{Commit, Added, Refused, Outdated, first_missing, outdated_at, refuses_commit}
 use Rattle.vpg_desk.specs.Commit.{IsOrderOf, handed_in, raised_by}
@@ -80,3 +83,7 @@ returns-in_err-extend-clause-last c = unrefused Memory c.from_residual-in_err-ex
 pub invariant_of-self : goal.invariant_of-self
 invariant_of-self c =
     still_desk c.self.inside c.self.invariant c.extend.new.self c.self.inside.past c.self.inside.future c.in_err-extend.ensures.err refl refl refl refl c.self.invariant.past_below c.self.invariant.future_below
+
+pub raise-requires : goal.raise-requires
+raise-requires c =
+    ap (λ (g : NamedGame). length g.vertices) (c.requires.0 ∙ ap (λ (s : DeskState). s.game) (sym c.self.view_is)) ∙ sym (same_count (arc_value c.self.inside.game)) ∙ sym c.self.invariant.vertices
