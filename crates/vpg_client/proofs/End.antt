@@ -1,5 +1,5 @@
 -- A front that has grown by no call is the same.
-use Rattle.std.proofs.Common.{◌≡◌, ◌+◌, List, [], ◌∷◌, ◌++◌, length, refl, sym, ap, ◌∙◌, arith, length-append, append-nil}
+use Rattle.std.proofs.Common.{◌≡◌, List, [], ◌∷◌, ◌++◌, length, refl, sym, ap, ◌∙◌, arith, length-append, append-nil}
 use mathlib.Core.List.{IsPrefix}
 use Rattle.vpg_desk.specs.History.{Event}
 

@@ -1,8 +1,9 @@
 -- What a session's call tells a client: its front has grown by that call alone.
 use Rattle.std.proofs.Common.{◌≡◌, ℕ, ◌+◌, ◌-◌, ◌<◌, ◌≤◌, Bool, true, List, [], ◌∷◌, ◌++◌, length, take, Option, refl, sym, ap, ◌∙◌, subst, arith, length-append, append-nil}
 use Rattle.std.specs.Bool.{Decides}
-use Rattle.std.specs.Prelude.{slice_index, slice_index_or}
+use Rattle.std.specs.Prelude.{slice_index, slice_index_or, Result, Ok, Err, IfOk, IfErr, OnOk, MatchResult}
 use Rattle.std.proofs.lemmas.List.{get_or_read}
+use Rattle.std.proofs.lemmas.Result.{IfOk-at_ok}
 use Rattle.vpg_diagram.specs.DiagramText.{NamedDiagram}
 use Rattle.vpg_game.specs.Game.{NamedGame}
 use Rattle.vpg_measure.specs.Orders.{HarvestView}
@@ -21,7 +22,7 @@ use Rattle.vpg_office.proofs.Calling.{page_is}
 use Rattle.vpg_office.proofs.Stories.{book_more}
 use Rattle.vpg_client.proofs.End.{none_of}
 use Rattle.vpg_client.specs.Client.{ClientState, IsLogged, client_after, page_of}
-use Rattle.vpg_client.specs.Faults.{Tells, CommitTells, Sorts}
+use Rattle.vpg_client.specs.Faults.{Tells, CommitTells, Sorts, IsAbsent, UnlessStray}
 use Rattle.vpg_client.specs.declared.fault.ClientFault.{ClientFault}
 use Rattle.vpg_client.specs.declared.fault.ClientFault.TheVariants.{LogFull, Refused, Stray, Memory}
 
@@ -37,6 +38,32 @@ before_more front e =
 -- the session at a place is the one of this number
 pub number_is : (sessions : List ℕ) (place number label : ℕ) → place < length sessions → number ≡ slice_index_or sessions place number → slice_index sessions place ≡ label → number ≡ label
 number_is sessions place number label within here is = get_or_read sessions place number within here 0 ∙ is
+
+-- ---- what is said of an answer, of the result that was made of it
+
+unless_stray : {G : Type 0} (told : ClientFault G) {P : Type 0} → P → UnlessStray told P
+unless_stray LogFull p = p
+unless_stray (Refused fault) p = p
+unless_stray Stray p = tt
+unless_stray Memory p = p
+
+-- the same comes back with each refusal
+pub same_back : {U D T E G X : Type 0} (result : Result U D) (answer : Result T E) (told_of : D → ClientFault G) (value_of : D → X) (Sorted : D → E → Type 0) (value : X) →
+    IfErr result (λ d. MatchResult answer (λ _. told_of d ≡ Stray) (λ e. Sorted d e × (value_of d ≡ value))) → IfErr result (λ d. UnlessStray (told_of d) (value_of d ≡ value))
+same_back (Ok u) answer told_of value_of Sorted value is = tt
+same_back (Err d) (Ok t) told_of value_of Sorted value is = subst (λ told. UnlessStray told (value_of d ≡ value)) (sym is) tt
+same_back (Err d) (Err e) told_of value_of Sorted value is = unless_stray (told_of d) is.1
+
+-- what the answer gives back comes back
+pub comes_back : {U D T E G V X : Type 0} (result : Result U D) (answer : Result T E) (told_of : D → ClientFault G) (value_of : D → X) (Sorted : D → E → Type 0) (wrapped : V → X) (back : E → V) (value : V) →
+    IfErr result (λ d. MatchResult answer (λ _. told_of d ≡ Stray) (λ e. Sorted d e × (value_of d ≡ wrapped (back e)))) → IfErr answer (λ e. back e ≡ value) → IfErr result (λ d. UnlessStray (told_of d) (value_of d ≡ wrapped value))
+comes_back (Ok u) answer told_of value_of Sorted wrapped back value is same = tt
+comes_back (Err d) (Ok t) told_of value_of Sorted wrapped back value is same = subst (λ told. UnlessStray told (value_of d ≡ wrapped value)) (sym is) tt
+comes_back (Err d) (Err e) told_of value_of Sorted wrapped back value is same = unless_stray (told_of d) (is.1 ∙ ap wrapped same)
+
+pub on_made : {T D E : Type 0} (result : Result T D) (answer : Result T E) (P Q : Type 0) → IfOk result (λ t. answer ≡ Ok t) → OnOk answer P → (P → Q) → OnOk result Q
+on_made {T} (Ok t) answer P Q is p then = then (IfOk-at_ok (λ (_ : T). P) is p)
+on_made (Err d) answer P Q is p then = tt
 
 module _ (game : NamedGame) (diagram : NamedDiagram) (room : ℕ) (front new : List Event) where
   abbrev F : Family
@@ -114,6 +141,62 @@ module _ (game : NamedGame) (diagram : NamedDiagram) (room : ℕ) (front new : L
       commit_tells {T} harvest fault Memory fits is said =
           ap here (subst (λ (f : Fault T CommitFault). OfficeCommitTells game diagram room harvest number front new f) is said) ∙ view
 
+      -- what was made is one step of the desk, and is counted
+      pub step_made : {T D E : Type 0} (result : Result T D) (answer : Result T E) (call : Call) (reply : T → Reply) → IfOk result (λ t. answer ≡ Ok t) → OnOk result (length new ≡ calls + 1) → length new ≤ room →
+          IfOk answer (λ t. Extends F front number call (reply t) new) → IfOk result (λ t. IsLogged room old label call (reply t) (here new))
+      step_made {T} (Ok t) answer call reply is more fits done = accepted call (reply t) fits (more ∙ ap (λ (n : ℕ). n + 1) calls_is) (IfOk-at_ok (λ (x : T). Extends F front number call (reply x) new) is done)
+      step_made (Err d) answer call reply is more fits done = tt
+
+      -- the same of a token
+      pub token_made : {D E : Type 0} (call : Call) (reply : Held → Reply) (result : Result Held D) (answer : Result Held E) → IfOk result (λ t. answer ≡ Ok t) → OnOk result (length new ≡ calls + 1) → length new ≤ room →
+          IfOk answer (λ t. Extends F front number call (reply t) new × (t.history ≡ new)) → IfOk result (λ t. IsLogged room old label call (reply t) (here new))
+      token_made call reply (Ok t) answer is more fits done = accepted call (reply t) fits (more ∙ ap (λ (n : ℕ). n + 1) calls_is) (IfOk-at_ok (λ (x : Held). Extends F front number call (reply x) new × (x.history ≡ new)) is done).0
+      token_made call reply (Err d) answer is more fits done = tt
+
+      pub token_stands : {D E : Type 0} (call : Call) (reply : Held → Reply) (result : Result Held D) (answer : Result Held E) → IfOk result (λ t. answer ≡ Ok t) → OnOk result (length new ≡ calls + 1) →
+          IfOk answer (λ t. Extends F front number call (reply t) new × (t.history ≡ new)) → IfOk result (λ t. page_of (here new).desk t ≡ old.desk.book.present)
+      token_stands call reply (Ok t) answer is more done =
+          let made = IfOk-at_ok (λ (x : Held). Extends F front number call (reply x) new × (x.history ≡ new)) is done in
+          stands_for call (reply t) t (more ∙ ap (λ (n : ℕ). n + 1) calls_is) made.0 made.1
+      token_stands call reply (Err d) answer is more done = tt
+
+      pub page_restored : {T D E : Type 0} (token : Held) (result : Result T D) (answer : Result T E) → IfOk result (λ t. answer ≡ Ok t) → OnOk answer (GoesBackTo F new token.history) →
+          OnOk result ((here new).desk.book.present ≡ page_of old.desk token)
+      page_restored {T} token (Ok t) answer is goes = restored token (IfOk-at_ok (λ (_ : T). GoesBackTo F new token.history) is goes)
+      page_restored token (Err d) answer is goes = tt
+
+      -- what is said of a page, of the present one
+      pub of_present : {T D E : Type 0} (result : Result T D) (answer : Result T E) (entries_of : T → List Step) (P Q : T → Type 0) → IfOk result (λ t. answer ≡ Ok t) → OnOk result (length new ≡ calls + 1) → length new ≤ room →
+          IfOk answer (λ t. Extends F front number Page (PageIs (entries_of t)) new) → IfOk answer P → ((t : T) → P t → entries_of t ≡ old.desk.book.present → book_after F opened new ≡ old.desk.book → Q t) → IfOk result Q
+      of_present {T} (Ok t) answer entries_of P Q is more fits done p then =
+          let made = IfOk-at_ok (λ (x : T). Extends F front number Page (PageIs (entries_of x)) new) is done in
+          let one = more ∙ ap (λ (n : ℕ). n + 1) calls_is in
+          then t (IfOk-at_ok P is p) (page_present (entries_of t) fits one made) (page_stays (entries_of t) fits one made)
+      of_present (Err d) answer entries_of P Q is more fits done p then = tt
+
+      strays : ((here new).desk.game ≡ old.desk.game) × ((here new).desk.diagram ≡ old.desk.diagram)
+      strays = subst (λ (s : ClientState). ((here new).desk.game ≡ s.desk.game) × ((here new).desk.diagram ≡ s.desk.diagram)) view (refl, refl)
+
+      pub all_told : {U D T E G L : Type 0} (result : Result U D) (answer : Result T E) (fault_of : E → Fault L G) (told_of : D → ClientFault G) (Back : D → E → Type 0) (refusal : G → Option Refusal) (call : Call) → length new ≤ room →
+          IfErr result (λ d. MatchResult answer (λ _. told_of d ≡ Stray) (λ e. Sorts calls (length new) (fault_of e) (told_of d) × Back d e)) → IfErr answer (λ e. OfficeTells F room refusal call number front new (fault_of e)) →
+          IfErr result (λ d. Tells room refusal old label call (here new) (told_of d))
+      all_told (Ok u) answer fault_of told_of Back refusal call fits is said = tt
+      all_told (Err d) (Ok t) fault_of told_of Back refusal call fits is said = subst (λ told. Tells room refusal old label call (here new) told) (sym is) strays
+      all_told (Err d) (Err e) fault_of told_of Back refusal call fits is said = tells refusal call (fault_of e) (told_of d) fits is.0 said
+
+      pub look_told : {U T G L : Type 0} (refusal : G → Option Refusal) (call : Call) (result : Result U (ClientFault G)) (answer : Result T (Fault L G)) → length new ≤ room →
+          IfErr result (λ d. MatchResult answer (λ _. d ≡ Stray) (λ e. Sorts calls (length new) e d)) → IfErr answer (OfficeTells F room refusal call number front new) → IfErr result (Tells room refusal old label call (here new))
+      look_told refusal call (Ok u) answer fits is said = tt
+      look_told refusal call (Err d) (Ok t) fits is said = subst (λ told. Tells room refusal old label call (here new) told) (sym is) strays
+      look_told refusal call (Err d) (Err e) fits is said = tells refusal call e d fits is said
+
+      pub all_commit_told : {U D T E L : Type 0} (result : Result U D) (answer : Result T E) (fault_of : E → Fault L CommitFault) (told_of : D → ClientFault CommitFault) (Back : D → E → Type 0) (harvest : HarvestView) → length new ≤ room →
+          IfErr result (λ d. MatchResult answer (λ _. told_of d ≡ Stray) (λ e. Sorts calls (length new) (fault_of e) (told_of d) × Back d e)) → IfErr answer (λ e. OfficeCommitTells game diagram room harvest number front new (fault_of e)) →
+          IfErr result (λ d. CommitTells room old label harvest (here new) (told_of d))
+      all_commit_told (Ok u) answer fault_of told_of Back harvest fits is said = tt
+      all_commit_told (Err d) (Ok t) fault_of told_of Back harvest fits is said = subst (λ told. CommitTells room old label harvest (here new) told) (sym is) strays
+      all_commit_told (Err d) (Err e) fault_of told_of Back harvest fits is said = commit_tells harvest (fault_of e) (told_of d) fits is.0 said
+
 -- of a harvest of the desk's game and diagram
 pub own_tells : (room : ℕ) (old new : ClientState) (label : ℕ) (harvest : HarvestView) (fault : ClientFault CommitFault) → IsOrderOf old.desk harvest.order → CommitTells room old label harvest new fault →
     Tells room commit_refusal old label (Commit (handed_in true harvest)) new fault
@@ -122,3 +205,22 @@ own_tells room old new label harvest (Refused fault) ours (b, (decides, tells)) 
     subst (λ (x : Bool). Tells room commit_refusal old label (Commit (handed_in x harvest)) new (Refused fault)) (decides.1 ours) tells
 own_tells room old new label harvest Stray ours tells = tells
 own_tells room old new label harvest Memory ours tells = tells
+
+-- the same, where the result says so
+pub all_own_told : {U D : Type 0} (result : Result U D) (room : ℕ) (old new : ClientState) (label : ℕ) (harvest : HarvestView) (told_of : D → ClientFault CommitFault) → IsOrderOf old.desk harvest.order →
+    IfErr result (λ d. CommitTells room old label harvest new (told_of d)) → IfErr result (λ d. Tells room commit_refusal old label (Commit (handed_in true harvest)) new (told_of d))
+all_own_told (Ok u) room old new label harvest told_of ours said = tt
+all_own_told (Err d) room old new label harvest told_of ours said = own_tells room old new label harvest (told_of d) ours said
+
+-- a label has no session: nothing was asked of the office
+pub absent_tells : {G : Type 0} (room : ℕ) (refusal : G → Option Refusal) (old new : ClientState) (label : ℕ) (call : Call) (told : ClientFault G) → new ≡ old → IsAbsent told → Tells room refusal old label call new told
+absent_tells room refusal old new label call LogFull same absent = absurd absent
+absent_tells room refusal old new label call (Refused fault) same absent = absurd absent
+absent_tells room refusal old new label call Stray same absent = (ap (λ (s : ClientState). s.desk.game) same, ap (λ (s : ClientState). s.desk.diagram) same)
+absent_tells room refusal old new label call Memory same absent = same
+
+pub absent_commit_tells : (room : ℕ) (old new : ClientState) (label : ℕ) (harvest : HarvestView) (told : ClientFault CommitFault) → new ≡ old → IsAbsent told → CommitTells room old label harvest new told
+absent_commit_tells room old new label harvest LogFull same absent = absurd absent
+absent_commit_tells room old new label harvest (Refused fault) same absent = absurd absent
+absent_commit_tells room old new label harvest Stray same absent = (ap (λ (s : ClientState). s.desk.game) same, ap (λ (s : ClientState). s.desk.diagram) same)
+absent_commit_tells room old new label harvest Memory same absent = same

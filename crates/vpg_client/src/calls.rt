@@ -17,8 +17,9 @@ ghost use Rattle.vpg_office.specs.Faults.{never_refused};
 ghost use Rattle.vpg_client.specs.Client.{IsLogged, page_of};
 ghost use Rattle.vpg_client.specs.Faults.{CommitTells, Tells, UnlessStray};
 
-use crate::client::{Client, has_one_more, seat};
-use crate::fault::{ClientFault, Returned, Token, sorted};
+use crate::answers::{answered, handed_in, looked, redone, undone};
+use crate::client::{Client, seat};
+use crate::fault::{ClientFault, Returned, Token};
 use std::alloc::Global;
 use std::sync::{Arc, Wait};
 use vpg_desk::{CommitFault, DecideFault, RedoFault, RetractFault, UndoFault};
@@ -47,27 +48,15 @@ impl<L: Terms> Client<L> {
             Err(fault) => return Err(Returned { fault, value: None }),
         };
         let calls = self.front.len();
-        let undo = match self.sessions[place].decide(
+        let answer = self.sessions[place].decide(
             rt,
             alloc,
             &self.office,
             &mut self.front,
             feature,
             value,
-        ) {
-            Ok(undo) => undo,
-            Err(fault) => return Err(Returned {
-                fault: sorted(fault, calls, &self.front),
-                value: None,
-            }),
-        };
-        if !has_one_more(&self.front, calls) {
-            return Err(Returned {
-                fault: ClientFault::Stray,
-                value: Some(undo),
-            });
-        }
-        Ok(undo)
+        );
+        answered(answer, calls, &self.front)
     }
 
     /// Takes the decision on a feature back, as `Desk::retract`. The token stands for the page that was present. It comes back where
@@ -89,26 +78,14 @@ impl<L: Terms> Client<L> {
             Err(fault) => return Err(Returned { fault, value: None }),
         };
         let calls = self.front.len();
-        let undo = match self.sessions[place].retract(
+        let answer = self.sessions[place].retract(
             rt,
             alloc,
             &self.office,
             &mut self.front,
             feature,
-        ) {
-            Ok(undo) => undo,
-            Err(fault) => return Err(Returned {
-                fault: sorted(fault, calls, &self.front),
-                value: None,
-            }),
-        };
-        if !has_one_more(&self.front, calls) {
-            return Err(Returned {
-                fault: ClientFault::Stray,
-                value: Some(undo),
-            });
-        }
-        Ok(undo)
+        );
+        answered(answer, calls, &self.front)
     }
 
     /// Takes the token's change back, as `Desk::undo`: the page that the token stands for is present again. A refusal gives the token
@@ -134,26 +111,8 @@ impl<L: Terms> Client<L> {
             }),
         };
         let calls = self.front.len();
-        let redo = match self.sessions[place].undo(
-            rt,
-            alloc,
-            &self.office,
-            &mut self.front,
-            token,
-        ) {
-            Ok(redo) => redo,
-            Err(vpg_office::Returned { fault, value }) => return Err(Returned {
-                fault: sorted(fault, calls, &self.front),
-                value: Token::Undo(value),
-            }),
-        };
-        if !has_one_more(&self.front, calls) {
-            return Err(Returned {
-                fault: ClientFault::Stray,
-                value: Token::Redo(redo),
-            });
-        }
-        Ok(redo)
+        let answer = self.sessions[place].undo(rt, alloc, &self.office, &mut self.front, token);
+        undone(answer, calls, &self.front)
     }
 
     /// Makes the token's change again, as `Desk::redo`: the page that the token stands for is present again. A refusal gives the token
@@ -179,26 +138,8 @@ impl<L: Terms> Client<L> {
             }),
         };
         let calls = self.front.len();
-        let undo = match self.sessions[place].redo(
-            rt,
-            alloc,
-            &self.office,
-            &mut self.front,
-            token,
-        ) {
-            Ok(undo) => undo,
-            Err(vpg_office::Returned { fault, value }) => return Err(Returned {
-                fault: sorted(fault, calls, &self.front),
-                value: Token::Redo(value),
-            }),
-        };
-        if !has_one_more(&self.front, calls) {
-            return Err(Returned {
-                fault: ClientFault::Stray,
-                value: Token::Undo(undo),
-            });
-        }
-        Ok(undo)
+        let answer = self.sessions[place].redo(rt, alloc, &self.office, &mut self.front, token);
+        redone(answer, calls, &self.front)
     }
 
     /// Spends a token, as `Desk::keep`. The token comes back unless it was spent.
@@ -220,20 +161,8 @@ impl<L: Terms> Client<L> {
             }),
         };
         let calls = self.front.len();
-        match self.sessions[place].keep(rt, &self.office, &mut self.front, token) {
-            Ok(()) => {}
-            Err(vpg_office::Returned { fault, value }) => return Err(Returned {
-                fault: sorted(fault, calls, &self.front),
-                value: Some(value),
-            }),
-        }
-        if !has_one_more(&self.front, calls) {
-            return Err(Returned {
-                fault: ClientFault::Stray,
-                value: None,
-            });
-        }
-        Ok(())
+        let answer = self.sessions[place].keep(rt, &self.office, &mut self.front, token);
+        handed_in(answer, calls, &self.front)
     }
 
     /// Spends a token, as `Desk::forget`. The token comes back unless it was spent.
@@ -255,20 +184,8 @@ impl<L: Terms> Client<L> {
             }),
         };
         let calls = self.front.len();
-        match self.sessions[place].forget(rt, &self.office, &mut self.front, token) {
-            Ok(()) => {}
-            Err(vpg_office::Returned { fault, value }) => return Err(Returned {
-                fault: sorted(fault, calls, &self.front),
-                value: Some(value),
-            }),
-        }
-        if !has_one_more(&self.front, calls) {
-            return Err(Returned {
-                fault: ClientFault::Stray,
-                value: None,
-            });
-        }
-        Ok(())
+        let answer = self.sessions[place].forget(rt, &self.office, &mut self.front, token);
+        handed_in(answer, calls, &self.front)
     }
 
     /// What lifters take along, as `Desk::order`.
@@ -288,13 +205,11 @@ impl<L: Terms> Client<L> {
             Err(fault) => return Err(fault),
         };
         let calls = self.front.len();
-        let order = match self.sessions[place].order(rt, alloc, &self.office, &mut self.front) {
+        let answer = self.sessions[place].order(rt, alloc, &self.office, &mut self.front);
+        let order = match looked(answer, calls, &self.front) {
             Ok(order) => order,
-            Err(fault) => return Err(sorted(fault, calls, &self.front)),
+            Err(fault) => return Err(fault),
         };
-        if !has_one_more(&self.front, calls) {
-            return Err(ClientFault::Stray);
-        }
         let _ = order.game();
         Ok(order)
     }
@@ -320,26 +235,8 @@ impl<L: Terms> Client<L> {
             }),
         };
         let calls = self.front.len();
-        let added = match self.sessions[place].commit(
-            rt,
-            alloc,
-            &self.office,
-            &mut self.front,
-            harvest,
-        ) {
-            Ok(added) => added,
-            Err(vpg_office::Returned { fault, value }) => return Err(Returned {
-                fault: sorted(fault, calls, &self.front),
-                value: Some(value),
-            }),
-        };
-        if !has_one_more(&self.front, calls) {
-            return Err(Returned {
-                fault: ClientFault::Stray,
-                value: None,
-            });
-        }
-        Ok(added)
+        let answer = self.sessions[place].commit(rt, alloc, &self.office, &mut self.front, harvest);
+        handed_in(answer, calls, &self.front)
     }
 
     /// As `commit`, of a harvest whose order has this desk's game and diagram, as those of `order` have: they are not compared.
@@ -363,26 +260,14 @@ impl<L: Terms> Client<L> {
             }),
         };
         let calls = self.front.len();
-        let added = match self.sessions[place].commit_own(
+        let answer = self.sessions[place].commit_own(
             rt,
             alloc,
             &self.office,
             &mut self.front,
             harvest,
-        ) {
-            Ok(added) => added,
-            Err(vpg_office::Returned { fault, value }) => return Err(Returned {
-                fault: sorted(fault, calls, &self.front),
-                value: Some(value),
-            }),
-        };
-        if !has_one_more(&self.front, calls) {
-            return Err(Returned {
-                fault: ClientFault::Stray,
-                value: None,
-            });
-        }
-        Ok(added)
+        );
+        handed_in(answer, calls, &self.front)
     }
 
     /// Whether both tables of the present page are progress tables.
@@ -395,14 +280,8 @@ impl<L: Terms> Client<L> {
             Err(fault) => return Err(fault),
         };
         let calls = self.front.len();
-        let settled = match self.sessions[place].settled(rt, &self.office, &mut self.front) {
-            Ok(settled) => settled,
-            Err(fault) => return Err(sorted(fault, calls, &self.front)),
-        };
-        if !has_one_more(&self.front, calls) {
-            return Err(ClientFault::Stray);
-        }
-        Ok(settled)
+        let answer = self.sessions[place].settled(rt, &self.office, &mut self.front);
+        looked(answer, calls, &self.front)
     }
 
     /// What the present tables say of a vertex.
@@ -421,19 +300,8 @@ impl<L: Terms> Client<L> {
             Err(fault) => return Err(fault),
         };
         let calls = self.front.len();
-        let verdict = match self.sessions[place].verdict(
-            rt,
-            &self.office,
-            &mut self.front,
-            vertex,
-        ) {
-            Ok(verdict) => verdict,
-            Err(fault) => return Err(sorted(fault, calls, &self.front)),
-        };
-        if !has_one_more(&self.front, calls) {
-            return Err(ClientFault::Stray);
-        }
-        Ok(verdict)
+        let answer = self.sessions[place].verdict(rt, &self.office, &mut self.front, vertex);
+        looked(answer, calls, &self.front)
     }
 
     /// The present page, as `Desk::page`.
@@ -458,14 +326,8 @@ impl<L: Terms> Client<L> {
             Err(fault) => return Err(fault),
         };
         let calls = self.front.len();
-        let page = match self.sessions[place].page(rt, alloc, &self.office, &mut self.front) {
-            Ok(page) => page,
-            Err(fault) => return Err(sorted(fault, calls, &self.front)),
-        };
-        if !has_one_more(&self.front, calls) {
-            return Err(ClientFault::Stray);
-        }
-        Ok(page)
+        let answer = self.sessions[place].page(rt, alloc, &self.office, &mut self.front);
+        looked(answer, calls, &self.front)
     }
 
     /// The present page, as `Desk::page`, with what its decisions make of the game, as `Desk::games`. Nothing is made anew for it.
@@ -491,18 +353,7 @@ impl<L: Terms> Client<L> {
             Err(fault) => return Err(fault),
         };
         let calls = self.front.len();
-        let both = match self.sessions[place].page_with_games(
-            rt,
-            alloc,
-            &self.office,
-            &mut self.front,
-        ) {
-            Ok(both) => both,
-            Err(fault) => return Err(sorted(fault, calls, &self.front)),
-        };
-        if !has_one_more(&self.front, calls) {
-            return Err(ClientFault::Stray);
-        }
-        Ok(both)
+        let answer = self.sessions[place].page_with_games(rt, alloc, &self.office, &mut self.front);
+        looked(answer, calls, &self.front)
     }
 }

@@ -9,6 +9,7 @@
 //! A client's state and its calls are defined in `specs/Client.antt`, what refused calls tell in `specs/Faults.antt`.
 #![tactic(auto)]
 
+mod answers;
 mod calls;
 mod client;
 mod fault;

@@ -1,7 +1,9 @@
-use Rattle.std.proofs.Common.{◌≡◌, ℕ, ◌+◌, length, ap, ◌∙◌}
+use Rattle.std.proofs.Common.{◌≡◌, None, length}
 use Rattle.vpg_desk.specs.Book as book
 use Rattle.vpg_desk.specs.Faults.{decide_refusal}
-use Rattle.vpg_client.proofs.Logged.{number_is, accepted, stands_for, tells}
+use Rattle.vpg_client.proofs.Logged.{number_is, token_made, token_stands, all_told, same_back, absent_tells}
+use Rattle.vpg_client.specs.Faults.{Sorts}
+use Rattle.vpg_client.specs.Client.{client_after}
 use Rattle.vpg_client.proofs.client.Client.decide.Goals as goal
 
 pub returns-clause-accepted : goal.returns-clause-accepted
@@ -9,28 +11,32 @@ returns-clause-accepted g c =
     let game = g.L.Terms.game in
     let diagram = g.L.Terms.diagram in
     let front = c.self.inside.front in
-    let new = c.decide.new.front in
+    let new = c.decide-answer.new.front in
     let by = number_is c.seat.new.sessions.items c.in-Ok.place c.index_mut.result.now c.args.label c.in-Ok.ensures.within c.index_mut.ensures.value c.in-Ok.ensures.number in
-    let more : length new ≡ length front + 1 = c.has_one_more.ensures.yes c.if-not-has_one_more.false ∙ ap (λ (n : ℕ). n + 1) c.len-calls.ensures.length in
-    let done = c.in-Ok-decide.ensures.done.0 in
-    accepted game diagram g.L.Terms.limit front new c.args.label c.index_mut.result.now by c.args.self.now c.self.view_is (book.Decide c.args.feature c.args.value) (book.Changed c.in-Ok-decide.undo.serial) c.has_one_more.ensures.fits more done
+    token_made game diagram g.L.Terms.limit front new c.args.label c.index_mut.result.now by c.args.self.now c.self.view_is c.len-calls.result c.len-calls.ensures.length (book.Decide c.args.feature c.args.value) (λ t. book.Changed t.serial) c.answered.result c.decide-answer.result c.answered.ensures.made c.answered.ensures.more c.answered.ensures.fits c.decide-answer.ensures.done
 
 pub returns-clause-token : goal.returns-clause-token
 returns-clause-token g c =
     let game = g.L.Terms.game in
     let diagram = g.L.Terms.diagram in
     let front = c.self.inside.front in
-    let new = c.decide.new.front in
+    let new = c.decide-answer.new.front in
     let by = number_is c.seat.new.sessions.items c.in-Ok.place c.index_mut.result.now c.args.label c.in-Ok.ensures.within c.index_mut.ensures.value c.in-Ok.ensures.number in
-    let more : length new ≡ length front + 1 = c.has_one_more.ensures.yes c.if-not-has_one_more.false ∙ ap (λ (n : ℕ). n + 1) c.len-calls.ensures.length in
-    let done = c.in-Ok-decide.ensures.done.0 in
-    stands_for game diagram g.L.Terms.limit front new c.args.label c.index_mut.result.now by c.args.self.now c.self.view_is (book.Decide c.args.feature c.args.value) (book.Changed c.in-Ok-decide.undo.serial) c.in-Ok-decide.undo more done c.in-Ok-decide.ensures.done.1
+    token_stands game diagram g.L.Terms.limit front new c.args.label c.index_mut.result.now by c.args.self.now c.self.view_is c.len-calls.result c.len-calls.ensures.length (book.Decide c.args.feature c.args.value) (λ t. book.Changed t.serial) c.answered.result c.decide-answer.result c.answered.ensures.made c.answered.ensures.more c.decide-answer.ensures.done
 
-pub returns-in-Err-decide-clause-fault : goal.returns-in-Err-decide-clause-fault
-returns-in-Err-decide-clause-fault g c =
+pub returns-clause-fault : goal.returns-clause-fault
+returns-clause-fault g c =
     let game = g.L.Terms.game in
     let diagram = g.L.Terms.diagram in
     let front = c.self.inside.front in
-    let new = c.decide.new.front in
+    let new = c.decide-answer.new.front in
     let by = number_is c.seat.new.sessions.items c.in-Ok.place c.index_mut.result.now c.args.label c.in-Ok.ensures.within c.index_mut.ensures.value c.in-Ok.ensures.number in
-    tells game diagram g.L.Terms.limit front new c.args.label c.index_mut.result.now by c.args.self.now c.self.view_is c.len-calls.result c.len-calls.ensures.length decide_refusal (book.Decide c.args.feature c.args.value) c.in-Err-decide.fault c.sorted.result c.sorted.ensures.fits c.sorted.ensures.sorts c.in-Err-decide.ensures.fault
+    all_told game diagram g.L.Terms.limit front new c.args.label c.index_mut.result.now by c.args.self.now c.self.view_is c.len-calls.result c.len-calls.ensures.length c.answered.result c.decide-answer.result (λ e. e) (λ r. r.fault) (λ r e. r.value ≡ None) decide_refusal (book.Decide c.args.feature c.args.value) c.answered.ensures.fits c.answered.ensures.fault c.decide-answer.ensures.fault
+
+pub returns-clause-back : goal.returns-clause-back
+returns-clause-back g c =
+    same_back c.answered.result c.decide-answer.result (λ r. r.fault) (λ r. r.value) (λ r e. Sorts c.len-calls.result (length c.decide-answer.new.front) e r.fault) None c.answered.ensures.fault
+
+pub returns-in-Err-clause-fault : goal.returns-in-Err-clause-fault
+returns-in-Err-clause-fault g c =
+    absent_tells g.L.Terms.limit decide_refusal c.args.self.now (client_after g.L.Terms.game g.L.Terms.diagram c.self.inside.front) c.args.label (book.Decide c.args.feature c.args.value) c.in-Err.fault c.self.view_is c.in-Err.ensures.absent

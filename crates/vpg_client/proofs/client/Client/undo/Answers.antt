@@ -1,7 +1,10 @@
-use Rattle.std.proofs.Common.{◌≡◌, ℕ, ◌+◌, length, ap, ◌∙◌}
+use Rattle.std.proofs.Common.{◌≡◌, length}
 use Rattle.vpg_desk.specs.Book as book
 use Rattle.vpg_desk.specs.Faults.{undo_refusal}
-use Rattle.vpg_client.proofs.Logged.{number_is, accepted, stands_for, tells}
+use Rattle.vpg_client.proofs.Logged.{number_is, token_made, token_stands, page_restored, all_told, comes_back, absent_tells}
+use Rattle.vpg_client.specs.Faults.{Sorts}
+use Rattle.vpg_client.specs.declared.fault.Token.TheVariants as token
+use Rattle.vpg_client.specs.Client.{client_after}
 use Rattle.vpg_client.proofs.client.Client.undo.Goals as goal
 
 pub returns-clause-accepted : goal.returns-clause-accepted
@@ -9,28 +12,41 @@ returns-clause-accepted g c =
     let game = g.L.Terms.game in
     let diagram = g.L.Terms.diagram in
     let front = c.self.inside.front in
-    let new = c.undo.new.front in
+    let new = c.undo-answer.new.front in
     let by = number_is c.seat.new.sessions.items c.in-Ok.place c.index_mut.result.now c.args.label c.in-Ok.ensures.within c.index_mut.ensures.value c.in-Ok.ensures.number in
-    let more : length new ≡ length front + 1 = c.has_one_more.ensures.yes c.if-not-has_one_more.false ∙ ap (λ (n : ℕ). n + 1) c.len-calls.ensures.length in
-    let done = c.in-Ok-undo.ensures.done.0 in
-    accepted game diagram g.L.Terms.limit front new c.args.label c.index_mut.result.now by c.args.self.now c.self.view_is (book.Undo c.args.token.serial) (book.Undone c.in-Ok-undo.redo.serial) c.has_one_more.ensures.fits more done
+    token_made game diagram g.L.Terms.limit front new c.args.label c.index_mut.result.now by c.args.self.now c.self.view_is c.len-calls.result c.len-calls.ensures.length (book.Undo c.args.token.serial) (λ t. book.Undone t.serial) c.undone.result c.undo-answer.result c.undone.ensures.made c.undone.ensures.more c.undone.ensures.fits c.undo-answer.ensures.done
+
+pub returns-clause-restores : goal.returns-clause-restores
+returns-clause-restores g c =
+    let game = g.L.Terms.game in
+    let diagram = g.L.Terms.diagram in
+    let front = c.self.inside.front in
+    let new = c.undo-answer.new.front in
+    let by = number_is c.seat.new.sessions.items c.in-Ok.place c.index_mut.result.now c.args.label c.in-Ok.ensures.within c.index_mut.ensures.value c.in-Ok.ensures.number in
+    page_restored game diagram g.L.Terms.limit front new c.args.label c.index_mut.result.now by c.args.self.now c.self.view_is c.len-calls.result c.len-calls.ensures.length c.args.token c.undone.result c.undo-answer.result c.undone.ensures.made c.undo-answer.ensures.goes_back
 
 pub returns-clause-token : goal.returns-clause-token
 returns-clause-token g c =
     let game = g.L.Terms.game in
     let diagram = g.L.Terms.diagram in
     let front = c.self.inside.front in
-    let new = c.undo.new.front in
+    let new = c.undo-answer.new.front in
     let by = number_is c.seat.new.sessions.items c.in-Ok.place c.index_mut.result.now c.args.label c.in-Ok.ensures.within c.index_mut.ensures.value c.in-Ok.ensures.number in
-    let more : length new ≡ length front + 1 = c.has_one_more.ensures.yes c.if-not-has_one_more.false ∙ ap (λ (n : ℕ). n + 1) c.len-calls.ensures.length in
-    let done = c.in-Ok-undo.ensures.done.0 in
-    stands_for game diagram g.L.Terms.limit front new c.args.label c.index_mut.result.now by c.args.self.now c.self.view_is (book.Undo c.args.token.serial) (book.Undone c.in-Ok-undo.redo.serial) c.in-Ok-undo.redo more done c.in-Ok-undo.ensures.done.1
+    token_stands game diagram g.L.Terms.limit front new c.args.label c.index_mut.result.now by c.args.self.now c.self.view_is c.len-calls.result c.len-calls.ensures.length (book.Undo c.args.token.serial) (λ t. book.Undone t.serial) c.undone.result c.undo-answer.result c.undone.ensures.made c.undone.ensures.more c.undo-answer.ensures.done
 
-pub returns-in-Err-undo-clause-fault : goal.returns-in-Err-undo-clause-fault
-returns-in-Err-undo-clause-fault g c =
+pub returns-clause-fault : goal.returns-clause-fault
+returns-clause-fault g c =
     let game = g.L.Terms.game in
     let diagram = g.L.Terms.diagram in
     let front = c.self.inside.front in
-    let new = c.undo.new.front in
+    let new = c.undo-answer.new.front in
     let by = number_is c.seat.new.sessions.items c.in-Ok.place c.index_mut.result.now c.args.label c.in-Ok.ensures.within c.index_mut.ensures.value c.in-Ok.ensures.number in
-    tells game diagram g.L.Terms.limit front new c.args.label c.index_mut.result.now by c.args.self.now c.self.view_is c.len-calls.result c.len-calls.ensures.length undo_refusal (book.Undo c.args.token.serial) c.in-Err-undo.field-0.fault c.sorted.result c.sorted.ensures.fits c.sorted.ensures.sorts c.in-Err-undo.ensures.fault
+    all_told game diagram g.L.Terms.limit front new c.args.label c.index_mut.result.now by c.args.self.now c.self.view_is c.len-calls.result c.len-calls.ensures.length c.undone.result c.undo-answer.result (λ b. b.fault) (λ r. r.fault) (λ r b. r.value ≡ token.Undo b.value) undo_refusal (book.Undo c.args.token.serial) c.undone.ensures.fits c.undone.ensures.fault c.undo-answer.ensures.fault
+
+pub returns-clause-back : goal.returns-clause-back
+returns-clause-back g c =
+    comes_back c.undone.result c.undo-answer.result (λ r. r.fault) (λ r. r.value) (λ r b. Sorts c.len-calls.result (length c.undo-answer.new.front) b.fault r.fault) (λ t. token.Undo t) (λ b. b.value) c.args.token c.undone.ensures.fault c.undo-answer.ensures.back
+
+pub returns-in-Err-clause-fault : goal.returns-in-Err-clause-fault
+returns-in-Err-clause-fault g c =
+    absent_tells g.L.Terms.limit undo_refusal c.args.self.now (client_after g.L.Terms.game g.L.Terms.diagram c.self.inside.front) c.args.label (book.Undo c.args.token.serial) c.in-Err.fault c.self.view_is c.in-Err.ensures.absent
