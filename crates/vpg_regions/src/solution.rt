@@ -100,13 +100,9 @@ impl<'a> Solution<'a> {
         budget: &mut Budget,
     ) -> Result<Vec<u32>, AllocError> {
         self.stamp = self.stamp.saturating_add(1);
-        for v in barred {
-            self.mark.set(*v, self.stamp);
-        }
+        self.mark_all(barred);
         let mut taken = seed;
-        for v in &taken {
-            self.mark.set(*v, self.stamp);
-        }
+        self.mark_all(&taken);
         for at in 0..self.graph.vertices() as usize {
             let v = match taken.get(at) {
                 Some(v) => *v,
@@ -114,10 +110,15 @@ impl<'a> Solution<'a> {
             };
             self.take_from(player, v, &mut taken, budget)?;
         }
-        for v in &taken {
-            self.alive.set(*v, false);
-        }
+        self.leave(&taken);
         Ok(taken)
+    }
+
+    // The present attractor took these vertices, or may not.
+    fn mark_all(&mut self, vertices: &[u32]) {
+        for v in vertices {
+            self.mark.set(*v, self.stamp);
+        }
     }
 
     fn take_from(
