@@ -21,19 +21,17 @@ ghost use Rattle.std.specs.Arc.{arc_value};
 ghost use Rattle.std.specs.Prelude.{◌≡◌, ◌≤◌, IfOk, vec_len, vec_capacity};
 ghost use Rattle.vpg_diagram.specs.FeatureDiagram.{feature_count};
 
-use crate::reading::{change_and_show, look_all, read_all, watches};
-use crate::working::{Places, Seat, change_often, decide, joined, places_of};
+use crate::reading::{change_and_look, change_and_read, change_unread};
+use crate::working::{are_in_order, decide, joined, places_of_all};
 use anyhow::{Result, bail};
 use std::alloc::Global;
 use std::marker::Brand;
-use std::sync::atomic::AtomicU64;
-use std::sync::{Arc, Mutex, Wait};
-use std::thread::{Threads, join, map_vec};
+use std::sync::{Arc, Wait};
+use std::thread::Threads;
 use std::{env, fs};
 use vpg_diagram::Diagram;
 use vpg_game::GuardedGame;
-use vpg_office::{Front, Office, Site, Terms, Undo, read};
-use vpg_watch::Watch;
+use vpg_office::{Front, Office, Site, Terms, Undo};
 
 /// A feature for each of eight sessions.
 const DIAGRAM: &[u8] = b"root r\noptional r a\noptional r b\noptional r c\noptional r d
@@ -45,7 +43,7 @@ const GAME: &[u8] = b"parity 1; 0 1 0 1[a],0; 1 2 1 0[b],1;";
 const ROOM: u32 = 1_048_576;
 
 /// Who reads while a session changes the page.
-#[derive(Clone, Copy, PartialEq)]
+#[derive(Clone, Copy)]
 enum How {
     Alone,
     Idle,
@@ -79,48 +77,6 @@ struct Told {
     further: u64,
 }
 
-/// So many sessions.
-fn seats<L: Terms, R: Wait>(
-    rt: &R,
-    alloc: Global,
-    office: &Office<L>,
-    count: u32,
-) -> Option<Vec<Seat<L>>> {
-    let mut seats = Vec::new(alloc);
-    for _ in 0..count {
-        seats.push(joined(rt, office)?).ok()?;
-    }
-    Some(seats)
-}
-
-/// The places of the calls of each session, each in a thread of its own.
-fn places_of_all<L: Terms + Send + Sync, R: Threads + Wait + Sync>(
-    rt: &R,
-    alloc: Global,
-    office: &Office<L>,
-    seats: Vec<Seat<L>>,
-    rounds: u32,
-) -> Option<Vec<Places>> {
-    map_vec(
-        rt,
-        seats,
-        &|seat| places_of(rt, alloc, office, seat, rounds),
-    )
-    .ok()
-}
-
-/// Whether the calls of each session stand in order, and the sum of all places is that of the first `calls` numbers from 1.
-fn are_in_order(all: &[Places], calls: usize) -> bool {
-    let mut in_order = true;
-    let mut sum = 0u64;
-    for places in all {
-        in_order = in_order && places.in_order;
-        sum = sum.saturating_add(places.sum);
-    }
-    let calls = calls as u64;
-    in_order && sum.saturating_mul(2) == calls.saturating_mul(calls.saturating_add(1))
-}
-
 /// Whether the calls of so many sessions, so many rounds each, stand in order.
 fn call_at_once<L: Terms + Send + Sync, R: Threads + Wait + Sync>(
     rt: &R,
@@ -129,52 +85,9 @@ fn call_at_once<L: Terms + Send + Sync, R: Threads + Wait + Sync>(
     sessions: u32,
     rounds: u32,
 ) -> Option<bool> {
-    let seats = seats(rt, alloc, office, sessions)?;
-    let places = places_of_all(rt, alloc, office, seats, rounds)?;
+    let places = places_of_all(rt, alloc, office, sessions, rounds)?;
     let last = joined(rt, office)?;
     Some(are_in_order(places.as_slice(), last.front.len()))
-}
-
-/// One session makes changes while the watches are read: how many reads.
-fn change_and_read<L: Terms + Send + Sync, R: Threads + Wait + Sync>(
-    rt: &R,
-    alloc: Global,
-    office: &Office<L>,
-    seat: Seat<L>,
-    feature: u16,
-    rounds: u32,
-    watches: Vec<Watch<Front<L>>>,
-) -> Option<u64> {
-    let ended = AtomicU64::new(0);
-    let (_changed, reads) = join(
-        rt,
-        || change_often(rt, alloc, office, seat, feature, rounds, &ended),
-        || read_all(rt, watches, &ended),
-    );
-    reads.ok()
-}
-
-/// One session makes changes and puts their sheets behind a mutex, where so many threads read: how many reads.
-fn change_and_look<L: Terms + Send + Sync, R: Threads + Wait + Sync>(
-    rt: &R,
-    alloc: Global,
-    office: &Office<L>,
-    seat: Seat<L>,
-    feature: u16,
-    rounds: u32,
-    readers: u32,
-) -> Option<u64> {
-    let mut watch = office.watch(rt, alloc).ok()?;
-    let shown = Mutex::new(read(&mut watch).ok()?);
-    let ended = AtomicU64::new(0);
-    let (reads, _changed) = join(
-        rt,
-        || look_all(rt, alloc, &shown, readers, &ended),
-        || change_and_show(
-            rt, alloc, office, seat, feature, rounds, watch, &shown, &ended,
-        ),
-    );
-    reads.ok()
 }
 
 /// One session makes changes while others read: how many reads.
@@ -187,17 +100,36 @@ fn change<L: Terms + Send + Sync, R: Threads + Wait + Sync>(
     how: How,
     readers: u32,
 ) -> Option<u64> {
-    let seat = joined(rt, office)?;
-    if how == How::Mutex {
-        return change_and_look(rt, alloc, office, seat, feature, rounds, readers);
+    match how {
+        How::Alone => change_unread(rt, alloc, office, feature, rounds, 0),
+        How::Idle => change_unread(rt, alloc, office, feature, rounds, readers),
+        How::Watches => change_and_read(rt, alloc, office, feature, rounds, readers),
+        How::Mutex => change_and_look(rt, alloc, office, feature, rounds, readers),
     }
-    let count = if how == How::Alone { 0 } else { readers };
-    let watches = watches(rt, alloc, office, count)?;
-    if how == How::Watches {
-        return change_and_read(rt, alloc, office, seat, feature, rounds, watches);
+}
+
+/// Does the task: whether its calls stand in order, and how many reads there were.
+fn carry_out<L: Terms + Send + Sync, R: Threads + Wait + Sync>(
+    rt: &R,
+    alloc: Global,
+    office: &Office<L>,
+    task: Task,
+) -> Option<(bool, u64)> {
+    match task {
+        Task::Calls { sessions, rounds } => {
+            let in_order = call_at_once(rt, alloc, office, sessions, rounds)?;
+            Some((in_order, 0))
+        }
+        Task::Changes {
+            feature,
+            rounds,
+            how,
+            readers,
+        } => {
+            let reads = change(rt, alloc, office, feature, rounds, how, readers)?;
+            Some((true, reads))
+        }
     }
-    change_often(rt, alloc, office, seat, feature, rounds, &AtomicU64::new(0));
-    Some(0)
 }
 
 /// One more session decides the feature 1, and its token is handed in at the end: how many calls there were before, and how many tokens are missing.
@@ -230,30 +162,18 @@ fn work<L: Terms + Send + Sync, R: Threads + Wait + Sync>(
     front: Front<L>,
     task: Task,
 ) -> Option<Told> {
-    let (in_order, reads) = match task {
-        Task::Calls { sessions, rounds } => {
-            (call_at_once(rt, alloc, &office, sessions, rounds), Some(0))
-        }
-        Task::Changes {
-            feature,
-            rounds,
-            how,
-            readers,
-        } => {
-            let reads = change(rt, alloc, &office, feature, rounds, how, readers);
-            (Some(true), reads)
-        }
-    };
+    let done = carry_out(rt, alloc, &office, task);
     let mut front = front;
     let Ok(undos) = Vec::with_capacity(alloc, 1) else {
         let _further = office.end(rt, &mut front, Vec::new(alloc), Vec::new(alloc));
         return None;
     };
     let (calls, further) = end(rt, alloc, office, front, undos);
+    let (in_order, reads) = done?;
     Some(Told {
         calls,
-        in_order: in_order?,
-        reads: reads?,
+        in_order,
+        reads,
         further,
     })
 }
@@ -279,6 +199,32 @@ fn open_and_work<L: Terms + Send + Sync, R: Threads + Wait + Sync>(
     }
 }
 
+/// The diagram that a text spells.
+fn diagram_of(alloc: Global, text: &[u8]) -> Result<Arc<Diagram>> {
+    let diagram = Diagram::read(alloc, text)?;
+    Ok(Arc::new(alloc, diagram)?)
+}
+
+/// The game that a text spells, by the names of a diagram.
+fn game_of(alloc: Global, text: &[u8], diagram: &Diagram) -> Result<Arc<GuardedGame>> {
+    let game = GuardedGame::read(alloc, text, diagram.names())?;
+    Ok(Arc::new(alloc, game)?)
+}
+
+/// Does the task on an office on this game and diagram. Nothing comes of it where they don't fit together or something is lacking.
+fn told_on<R: Threads + Wait + Sync>(
+    rt: &R,
+    alloc: Global,
+    game: Arc<GuardedGame>,
+    diagram: Arc<Diagram>,
+    task: Task,
+) -> Option<Told>
+    requires { (arc_value game).features ≡ feature_count (arc_value diagram).lines }
+{
+    let site = Site::new(alloc).ok()?;
+    open_and_work::<Brand, R>(rt, alloc, site, game, diagram, ROOM, task)
+}
+
 /// Does the task on an office on the game and diagram that these texts spell.
 fn told_of<R: Threads + Wait + Sync>(
     rt: &R,
@@ -287,14 +233,12 @@ fn told_of<R: Threads + Wait + Sync>(
     diagram: &[u8],
     task: Task,
 ) -> Result<Told> {
-    let diagram = Diagram::read(alloc, diagram)?;
-    let game = GuardedGame::read(alloc, game, diagram.names())?;
+    let diagram = diagram_of(alloc, diagram)?;
+    let game = game_of(alloc, game, &diagram)?;
     if game.features() != diagram.features() {
         bail!("the game is of another diagram");
     }
-    let (game, diagram) = (Arc::new(alloc, game)?, Arc::new(alloc, diagram)?);
-    let site = Site::new(alloc)?;
-    match open_and_work::<Brand, R>(rt, alloc, site, game, diagram, ROOM, task) {
+    match told_on(rt, alloc, game, diagram, task) {
         Some(told) => Ok(told),
         None => bail!("no office, no place or no memory"),
     }
@@ -349,26 +293,58 @@ fn tell(rt: &HostRuntime, told: Told) -> Result<()> {
     Ok(())
 }
 
+/// Does the task on what is built in, and tells of it.
+fn work_built_in<T: Threads + Wait + Sync>(
+    rt: &HostRuntime,
+    threads: &T,
+    task: Task,
+) -> Result<()> {
+    let told = told_of(threads, rt.alloc(), GAME, DIAGRAM, task)?;
+    tell(rt, told)
+}
+
 /// Does a little of both, on what is built in.
-fn work_built_in<T: Threads + Wait + Sync>(rt: &HostRuntime, threads: &T) -> Result<()> {
-    let alloc = rt.alloc();
-    let told = told_of(threads, alloc, GAME, DIAGRAM, calls_of("8", "8000")?)?;
-    tell(rt, told)?;
-    for how in ["alone", "idle", "watches", "mutex"] {
-        let task = changes_of("1", "100", how, "2")?;
-        tell(rt, told_of(threads, alloc, GAME, DIAGRAM, task)?)?;
+fn work_on_both<T: Threads + Wait + Sync>(rt: &HostRuntime, threads: &T) -> Result<()> {
+    let calls = Task::Calls {
+        sessions: 8,
+        rounds: 250,
+    };
+    work_built_in(rt, threads, calls)?;
+    for how in [How::Alone, How::Idle, How::Watches, How::Mutex] {
+        let changes = Task::Changes {
+            feature: 1,
+            rounds: 100,
+            how,
+            readers: 2,
+        };
+        work_built_in(rt, threads, changes)?;
     }
     Ok(())
 }
 
-fn main(rt: HostRuntime) -> Result<()> {
-    let words: Vec<String> = env::args(&rt)?.collect(rt.alloc())?;
+/// Does the task on the game and diagram of these files, and tells of it and of its reads.
+fn work_on_files<T: Threads + Wait + Sync>(
+    rt: &HostRuntime,
+    threads: &T,
+    game: &str,
+    diagram: &str,
+    task: Task,
+) -> Result<()> {
+    let game = fs::read(rt, game)?;
+    let diagram = fs::read(rt, diagram)?;
+    let told = told_of(threads, rt.alloc(), &game, &diagram, task)?;
+    println!(rt; "reads {}", told.reads)?;
+    tell(rt, told)
+}
+
+/// Does what the words ask for.
+fn obey<T: Threads + Wait + Sync>(rt: &HostRuntime, threads: &T, words: &[String]) -> Result<()> {
     if words.len() == 4 {
         let task = calls_of(words[2].as_str(), words[3].as_str())?;
-        return tell(&rt, told_of(&rt, rt.alloc(), GAME, DIAGRAM, task)?);
+        return work_built_in(rt, threads, task);
     }
     if words.len() < 8 {
-        return work_built_in(&rt, &rt);
+        return work_on_both(rt, threads);
     }
     let task = changes_of(
         words[4].as_str(),
@@ -376,9 +352,10 @@ fn main(rt: HostRuntime) -> Result<()> {
         words[6].as_str(),
         words[7].as_str(),
     )?;
-    let game = fs::read(&rt, words[2].as_str())?;
-    let diagram = fs::read(&rt, words[3].as_str())?;
-    let told = told_of(&rt, rt.alloc(), &game, &diagram, task)?;
-    println!(rt; "reads {}", told.reads)?;
-    tell(&rt, told)
+    work_on_files(rt, threads, words[2].as_str(), words[3].as_str(), task)
+}
+
+fn main(rt: HostRuntime) -> Result<()> {
+    let words: Vec<String> = env::args(&rt)?.collect(rt.alloc())?;
+    obey(&rt, &rt, words.as_slice())
 }

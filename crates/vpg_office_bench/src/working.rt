@@ -2,6 +2,7 @@
 use std::alloc::Global;
 use std::sync::Wait;
 use std::sync::atomic::{AtomicU64, Ordering};
+use std::thread::{Threads, map_indices};
 use vpg_office::{Front, Office, Redo, Returned, Session, Terms, Undo};
 
 /// A session with its front.
@@ -52,7 +53,7 @@ fn retract<L: Terms, R: Wait>(
 }
 
 /// Spends a token. A token can't be let go, so a call that is refused is made again: the log has to have room for it.
-pub fn keep<L: Terms, R: Wait>(rt: &R, office: &Office<L>, seat: &mut Seat<L>, token: Undo<L>) {
+fn keep<L: Terms, R: Wait>(rt: &R, office: &Office<L>, seat: &mut Seat<L>, token: Undo<L>) {
     let mut token = token;
     for _ in rt.forever() {
         match seat.session.keep(rt, office, &mut seat.front, token) {
@@ -112,9 +113,9 @@ pub fn undo<L: Terms, R: Wait>(
 pub struct Places {
     last: usize,
     /// The sum of the places.
-    pub sum: u64,
+    sum: u64,
     /// Whether each stands behind the one before.
-    pub in_order: bool,
+    in_order: bool,
 }
 
 impl Places {
@@ -155,39 +156,93 @@ fn round<L: Terms, R: Wait>(
 }
 
 /// So many rounds on the feature of the session's number, and the places of their calls.
-pub fn places_of<L: Terms, R: Wait>(
+fn rounds_of<L: Terms, R: Wait>(
     rt: &R,
     alloc: Global,
     office: &Office<L>,
-    seat: Seat<L>,
+    seat: &mut Seat<L>,
     rounds: u32,
 ) -> Places {
-    let mut seat = seat;
     let mut places = Places::none();
     let feature = seat.session.number() as u16;
     for _ in 0..rounds {
-        if round(rt, alloc, office, &mut seat, feature, &mut places).is_none() {
+        if round(rt, alloc, office, seat, feature, &mut places).is_none() {
             return places;
         }
     }
     places
 }
 
-/// A feature is decided and that undone so often: three calls a time. Then it is told that this has ended.
-pub fn change_often<L: Terms, R: Wait>(
+/// The places of the calls of a further session that makes so many rounds.
+fn places_of<L: Terms, R: Wait>(
     rt: &R,
     alloc: Global,
     office: &Office<L>,
-    seat: Seat<L>,
+    rounds: u32,
+) -> Option<Places> {
+    let mut seat = joined(rt, office)?;
+    Some(rounds_of(rt, alloc, office, &mut seat, rounds))
+}
+
+/// The places of the calls of so many sessions, each in a thread of its own.
+pub fn places_of_all<L: Terms + Send + Sync, R: Threads + Wait + Sync>(
+    rt: &R,
+    alloc: Global,
+    office: &Office<L>,
+    sessions: u32,
+    rounds: u32,
+) -> Option<Vec<Option<Places>>> {
+    map_indices(
+        rt,
+        alloc,
+        sessions as usize,
+        &|_| { places_of(rt, alloc, office, rounds) },
+    )
+    .ok()
+}
+
+/// Whether the calls of each session stand in order, and the sum of all places is that of the first `calls` numbers from 1.
+pub fn are_in_order(all: &[Option<Places>], calls: usize) -> bool {
+    let mut in_order = true;
+    let mut sum = 0u64;
+    for places in all {
+        let Some(places) = places else {
+            return false;
+        };
+        in_order = in_order && places.in_order;
+        sum = sum.saturating_add(places.sum);
+    }
+    let calls = calls as u64;
+    in_order && sum.saturating_mul(2) == calls.saturating_mul(calls.saturating_add(1))
+}
+
+/// A further session decides a feature and undoes that so often: three calls a time.
+fn try_changes<L: Terms, R: Wait>(
+    rt: &R,
+    alloc: Global,
+    office: &Office<L>,
     feature: u16,
     rounds: u32,
-    ended: &AtomicU64,
-) {
-    let mut seat = seat;
+) -> Option<()> {
+    let mut seat = joined(rt, office)?;
     for _ in 0..rounds {
         if let Some(token) = decide(rt, alloc, office, &mut seat, feature) {
             undo(rt, alloc, office, &mut seat, token);
         }
     }
+    Some(())
+}
+
+/// A further session makes changes. Then it is told that this has ended.
+pub fn change_often<L: Terms, R: Wait>(
+    rt: &R,
+    alloc: Global,
+    office: &Office<L>,
+    feature: u16,
+    rounds: u32,
+    ended: &AtomicU64,
+) -> Option<()> {
+    let changed = try_changes(rt, alloc, office, feature, rounds);
     ended.store(1, Ordering::SeqCst);
+    changed
 }

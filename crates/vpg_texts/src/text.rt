@@ -22,8 +22,7 @@ fn number(n: u64, out: &mut Vec<u8>) -> Result<(), AllocError>
     ensures { OnOk result (out.new.items ≡ out.old.items ++ decimal n) }
 {
     let mut buffer = Buffer::new();
-    out.extend_from_slice(buffer.format(n).as_bytes())?;
-    Ok(())
+    out.extend_from_slice(buffer.format(n).as_bytes())
 }
 
 /// Appends a blank and a number in decimal.
@@ -47,8 +46,7 @@ pub fn blank_name(names: &Names, f: u16, out: &mut Vec<u8>) -> Result<(), AllocE
     ensures { OnOk result (out.new.items ≡ out.old.items ++ blank_name names.now f) }
 {
     out.push(b' ')?;
-    out.extend_from_slice(name_at(names, f))?;
-    Ok(())
+    out.extend_from_slice(name_at(names, f))
 }
 
 fn choice(names: &Names, l: Literal, out: &mut Vec<u8>) -> Result<(), AllocError>
@@ -57,8 +55,7 @@ fn choice(names: &Names, l: Literal, out: &mut Vec<u8>) -> Result<(), AllocError
 {
     out.push(b' ')?;
     out.push(if l.value { b'+' } else { b'-' })?;
-    out.extend_from_slice(name_at(names, l.feature))?;
-    Ok(())
+    out.extend_from_slice(name_at(names, l.feature))
 }
 
 fn literal(d: &Decision) -> Literal
@@ -96,33 +93,30 @@ fn answer(yes: bool, out: &mut Vec<u8>) -> Result<(), AllocError>
     ensures { OnOk result (out.new.items ≡ out.old.items ++ answer_line yes) }
 {
     if yes {
-        out.extend_from_slice(b" yes\n")?;
+        out.extend_from_slice(b" yes\n")
     } else {
-        out.extend_from_slice(b" no\n")?;
+        out.extend_from_slice(b" no\n")
     }
-    Ok(())
 }
 
 fn hopeless(hopeless: bool, out: &mut Vec<u8>) -> Result<(), AllocError>
     ensures { OnOk result (out.new.items ≡ out.old.items ++ hopeless_text hopeless) }
 {
     if hopeless {
-        out.extend_from_slice(b" hopeless")?;
+        out.extend_from_slice(b" hopeless")
     } else {
-        out.extend_from_slice(b" possible")?;
+        out.extend_from_slice(b" possible")
     }
-    Ok(())
 }
 
 fn sure(sure: bool, out: &mut Vec<u8>) -> Result<(), AllocError>
     ensures { OnOk result (out.new.items ≡ out.old.items ++ sure_text sure) }
 {
     if sure {
-        out.extend_from_slice(b" sure\n")?;
+        out.extend_from_slice(b" sure\n")
     } else {
-        out.extend_from_slice(b" unsure\n")?;
+        out.extend_from_slice(b" unsure\n")
     }
-    Ok(())
 }
 
 fn measures(games: &PageGames, id: u32, h: u64, d: u64, out: &mut Vec<u8>) -> Result<(), AllocError>
@@ -210,8 +204,7 @@ fn count_line(word: &[u8], n: usize, out: &mut Vec<u8>) -> Result<(), AllocError
 {
     out.extend_from_slice(word)?;
     blank_number(n as u64, out)?;
-    out.push(b'\n')?;
-    Ok(())
+    out.push(b'\n')
 }
 
 /// How many vertices have the top.
@@ -274,25 +267,29 @@ fn table(which: Which, out: &mut Vec<u8>) -> Result<(), AllocError>
     ensures { OnOk result (out.new.items ≡ out.old.items ++ table_text which) }
 {
     match which {
-        Which::Hopeful => out.extend_from_slice(b"hopeful")?,
-        Which::Dual => out.extend_from_slice(b"dual")?,
+        Which::Hopeful => out.extend_from_slice(b"hopeful"),
+        Which::Dual => out.extend_from_slice(b"dual"),
     }
-    Ok(())
+}
+
+fn deciding(value: bool, out: &mut Vec<u8>) -> Result<(), AllocError>
+    ensures { OnOk result (out.new.items ≡ out.old.items ++ deciding_text value) }
+{
+    if value {
+        out.extend_from_slice(b"select")
+    } else {
+        out.extend_from_slice(b"exclude")
+    }
 }
 
 fn decision(names: &Names, d: Decision, out: &mut Vec<u8>) -> Result<(), AllocError>
     requires { d.feature < length names.now }
     ensures { OnOk result (out.new.items ≡ out.old.items ++ deciding_text d.value ++ blank_name names.now d.feature ++ blank_number d.serial ++ 10 ∷ []) }
 {
-    if d.value {
-        out.extend_from_slice(b"select")?;
-    } else {
-        out.extend_from_slice(b"exclude")?;
-    }
+    deciding(d.value, out)?;
     blank_name(names, d.feature, out)?;
     blank_number(d.serial, out)?;
-    out.push(b'\n')?;
-    Ok(())
+    out.push(b'\n')
 }
 
 /// The line of an entry.
@@ -314,8 +311,7 @@ fn entry(names: &Names, game: &GuardedGame, e: &Entry, out: &mut Vec<u8>) -> Res
             blank_number(*old, out)?;
             blank_number(*new, out)?;
             assumed(names, under.literals(), out)?;
-            out.push(b'\n')?;
-            Ok(())
+            out.push(b'\n')
         }
     }
 }
@@ -335,8 +331,7 @@ pub(crate) fn trail(
     }
     out.extend_from_slice(b"entries")?;
     blank_number(entries.len() as u64, out)?;
-    out.push(b'\n')?;
-    Ok(())
+    out.push(b'\n')
 }
 
 /// The names of the features of which this is known.
@@ -370,8 +365,7 @@ fn products_line(
 {
     out.extend_from_slice(word)?;
     names_known(names, known, value, out)?;
-    out.push(b'\n')?;
-    Ok(())
+    out.push(b'\n')
 }
 
 /// The features that are known in, known out, and not known.
@@ -401,8 +395,7 @@ fn plan_line(
             out.extend_from_slice(b"plan")?;
             blank_number(identifier(game, v) as u64, out)?;
             blank_number(identifier(game, w) as u64, out)?;
-            out.push(b'\n')?;
-            Ok(())
+            out.push(b'\n')
         }
     }
 }
@@ -429,6 +422,5 @@ pub(crate) fn plan(
     }
     out.extend_from_slice(b"plans")?;
     blank_number(chosen_count(chosen) as u64, out)?;
-    out.push(b'\n')?;
-    Ok(())
+    out.push(b'\n')
 }
