@@ -123,7 +123,12 @@ impl Draft {
     /// The game, with as few priorities as have the same winners.
     pub fn finish(self, alloc: Global) -> Result<Graph, AllocError> {
         let mut draft = self;
-        draft.priorities = fewest(alloc, &draft.priorities)?;
+        let merged = merged(alloc, &occurring(alloc, &draft.priorities)?)?;
+        let mut least = Vec::with_capacity(alloc, draft.priorities.len())?;
+        for priority in &draft.priorities {
+            least.push(merged.get(*priority))?;
+        }
+        draft.priorities = least;
         draft.as_written(alloc)
     }
 
@@ -180,16 +185,6 @@ fn merged(alloc: Global, occurs: &PerVertex<bool>) -> Result<PerVertex<u32>, All
         }
     }
     Ok(merged)
-}
-
-// As few priorities as have the same winners, in place of these.
-fn fewest(alloc: Global, priorities: &[u32]) -> Result<Vec<u32>, AllocError> {
-    let merged = merged(alloc, &occurring(alloc, priorities)?)?;
-    let mut fewest = Vec::with_capacity(alloc, priorities.len())?;
-    for priority in priorities {
-        fewest.push(merged.get(*priority))?;
-    }
-    Ok(fewest)
 }
 
 impl Graph {

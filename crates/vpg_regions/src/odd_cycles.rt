@@ -33,53 +33,7 @@ fn own_vertices(
     Ok(own)
 }
 
-// Those of some vertices that are not of the greatest priority.
-fn lesser(
-    alloc: Global,
-    solution: &Solution<'_>,
-    vertices: &[u32],
-    greatest: u32,
-) -> Result<Vec<u32>, AllocError> {
-    let mut lesser = Vec::new(alloc);
-    for v in vertices {
-        if solution.graph.priority(*v) != greatest {
-            lesser.push(*v)?;
-        }
-    }
-    Ok(lesser)
-}
-
 impl OddCycles {
-    // All of Odd's vertices among these are to be searched.
-    fn of(alloc: Global, solution: &Solution<'_>, living: &[u32]) -> Result<OddCycles, AllocError> {
-        let vertices = solution.graph.vertices();
-        let mut parts = Vec::new(alloc);
-        parts.push(own_vertices(alloc, solution, living)?)?;
-        Ok(OddCycles {
-            components: Components::new(alloc, vertices)?,
-            mark: PerVertex::of(alloc, vertices, 0)?,
-            stamp: 0,
-            parts,
-            found: Vec::new(alloc),
-        })
-    }
-
-    // Searches one part after another.
-    fn search_parts(
-        &mut self,
-        alloc: Global,
-        solution: &mut Solution<'_>,
-        budget: &mut Budget,
-    ) -> Result<(), AllocError> {
-        for _ in 0..u64::MAX {
-            match self.parts.pop() {
-                Some(part) => self.split(alloc, solution, &part, budget)?,
-                None => break,
-            }
-        }
-        Ok(())
-    }
-
     fn search(
         &mut self,
         solution: &Solution<'_>,
@@ -134,8 +88,13 @@ impl OddCycles {
         if greatest % 2 == 1 {
             return self.win(alloc, solution, members, greatest);
         }
-        self.parts
-            .push(lesser(alloc, solution, members, greatest)?)?;
+        let mut rest = Vec::new(alloc);
+        for v in members {
+            if solution.graph.priority(*v) != greatest {
+                rest.push(*v)?;
+            }
+        }
+        self.parts.push(rest)?;
         Ok(())
     }
 
@@ -151,45 +110,22 @@ impl OddCycles {
         for v in members {
             self.mark.set(*v, self.stamp);
         }
-        let mut leading = self.staying(alloc, solution, members, greatest)?;
-        self.lead_all(solution, members.len(), &mut leading)?;
-        self.found.extend_from_slice(&leading)?;
-        Ok(())
-    }
-
-    // The members of the greatest priority, each with a move that stays in the component.
-    fn staying(
-        &mut self,
-        alloc: Global,
-        solution: &mut Solution<'_>,
-        members: &[u32],
-        greatest: u32,
-    ) -> Result<Vec<u32>, AllocError> {
-        let mut staying = Vec::new(alloc);
+        let mut leading = Vec::new(alloc);
         for v in members {
             if solution.graph.priority(*v) == greatest {
                 self.mark.set(*v, self.stamp.saturating_add(1));
                 let member = self.member_from(solution, *v);
                 solution.choice.set(*v, member);
-                staying.push(*v)?;
+                leading.push(*v)?;
             }
         }
-        Ok(staying)
-    }
-
-    // The members that lead to these, of which there are so many at most, are added to them.
-    fn lead_all(
-        &mut self,
-        solution: &mut Solution<'_>,
-        most: usize,
-        leading: &mut Vec<u32>,
-    ) -> Result<(), AllocError> {
-        for at in 0..most {
+        for at in 0..members.len() {
             if let Some(v) = leading.get(at) {
                 let next = *v;
-                self.lead(solution, next, leading)?;
+                self.lead(solution, next, &mut leading)?;
             }
         }
+        self.found.extend_from_slice(&leading)?;
         Ok(())
     }
 
@@ -222,19 +158,6 @@ impl OddCycles {
     }
 }
 
-// Odd's of some vertices that lead to odd cycles by its own moves, each with a choice.
-fn leading_to_cycles(
-    alloc: Global,
-    solution: &mut Solution<'_>,
-    living: &[u32],
-    budget: &mut Budget,
-) -> Result<Vec<u32>, AllocError> {
-    let mut cycles = OddCycles::of(alloc, solution, living)?;
-    cycles.search_parts(alloc, solution, budget)?;
-    let OddCycles { found, .. } = cycles;
-    Ok(found)
-}
-
 /// Gives Odd those vertices of the present game where it wins by its own moves alone, and those from where it can force play there.
 pub fn win_odd_cycles(
     alloc: Global,
@@ -242,7 +165,23 @@ pub fn win_odd_cycles(
     living: &[u32],
     budget: &mut Budget,
 ) -> Result<(), AllocError> {
-    let found = leading_to_cycles(alloc, solution, living, budget)?;
+    let vertices = solution.graph.vertices();
+    let mut parts = Vec::new(alloc);
+    parts.push(own_vertices(alloc, solution, living)?)?;
+    let mut cycles = OddCycles {
+        components: Components::new(alloc, vertices)?,
+        mark: PerVertex::of(alloc, vertices, 0)?,
+        stamp: 0,
+        parts,
+        found: Vec::new(alloc),
+    };
+    for _ in 0..u64::MAX {
+        match cycles.parts.pop() {
+            Some(part) => cycles.split(alloc, solution, &part, budget)?,
+            None => break,
+        }
+    }
+    let OddCycles { found, .. } = cycles;
     solution.win(Player::Odd, found, budget)?;
     Ok(())
 }

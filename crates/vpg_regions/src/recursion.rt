@@ -20,55 +20,6 @@ enum Frame {
     },
 }
 
-// A game's attractor of its greatest priority, for the player who wins where that recurs, and what is left without it.
-#[derive(Drop)]
-struct Parted {
-    player: Player,
-    attracted: Vec<u32>,
-    inner: Vec<u32>,
-}
-
-// Drops the choices of these vertices, and gives those of the greatest priority.
-fn seed_of(
-    alloc: Global,
-    solution: &mut Solution<'_>,
-    all: &[u32],
-    greatest: u32,
-) -> Result<Vec<u32>, AllocError> {
-    let mut seed = Vec::new(alloc);
-    for v in all {
-        solution.choice.set(*v, None);
-        if solution.graph.priority(*v) == greatest {
-            seed.push(*v)?;
-        }
-    }
-    Ok(seed)
-}
-
-// Parts a game that has vertices.
-fn part(
-    alloc: Global,
-    solution: &mut Solution<'_>,
-    all: &[u32],
-    budget: &mut Budget,
-) -> Result<Parted, AllocError> {
-    budget.spend(all.len());
-    let greatest = solution.graph.greatest_priority(all);
-    let player = if greatest % 2 == 1 {
-        Player::Odd
-    } else {
-        Player::Even
-    };
-    let seed = seed_of(alloc, solution, all, greatest)?;
-    let attracted = solution.attract(player, seed, budget)?;
-    let inner = solution.living(alloc, all)?;
-    Ok(Parted {
-        player,
-        attracted,
-        inner,
-    })
-}
-
 // Goes on to the game without the attractor of the greatest priority.
 fn descend(
     alloc: Global,
@@ -82,11 +33,22 @@ fn descend(
         solution.revive(&gone);
         return Ok(());
     }
-    let Parted {
-        player,
-        attracted,
-        inner,
-    } = part(alloc, solution, &all, budget)?;
+    budget.spend(all.len());
+    let greatest = solution.graph.greatest_priority(&all);
+    let player = if greatest % 2 == 1 {
+        Player::Odd
+    } else {
+        Player::Even
+    };
+    let mut seed = Vec::new(alloc);
+    for v in &all {
+        solution.choice.set(*v, None);
+        if solution.graph.priority(*v) == greatest {
+            seed.push(*v)?;
+        }
+    }
+    let attracted = solution.attract(player, seed, budget)?;
+    let inner = solution.living(alloc, &all)?;
     stack.push(Frame::Inner {
         all,
         gone,

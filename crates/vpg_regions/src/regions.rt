@@ -115,16 +115,6 @@ fn solve_apart(
     let living = solution.living(alloc, vertices)?;
     let components = components_of(alloc, solution, &living, budget)?;
     solution.leave(&living);
-    solve_each(alloc, solution, &components, budget)
-}
-
-// Solves these components, each behind those that it leads to, until one is not solved.
-fn solve_each(
-    alloc: Global,
-    solution: &mut Solution<'_>,
-    components: &Components,
-    budget: &mut Budget,
-) -> Result<(), AllocError> {
     let mut from = 0;
     for to in &components.ends {
         let members = components.between(alloc, from, *to)?;
@@ -153,42 +143,6 @@ fn components_of(
     Ok(components)
 }
 
-// Gives away what is lost for sure: the lost vertices to Odd, and where a player stands without a move, with what leads there.
-fn settle_ends(
-    alloc: Global,
-    solution: &mut Solution<'_>,
-    lost: Vec<u32>,
-    budget: &mut Budget,
-) -> Result<(), AllocError> {
-    solution.win(Player::Odd, lost, budget)?;
-    solution.win_dead_ends(alloc, Player::Even, budget)?;
-    solution.win_dead_ends(alloc, Player::Odd, budget)
-}
-
-// Solves the present game at once, or what a turn of the recursion leaves of it apart.
-fn solve_present(
-    alloc: Global,
-    solution: &mut Solution<'_>,
-    budget: &mut Budget,
-) -> Result<(), AllocError> {
-    let all = solution.all_living(alloc)?;
-    let most = solution.graph.size().saturating_mul(FIRST_PASSES);
-    if recur(alloc, solution, &all, most, budget)? {
-        return Ok(());
-    }
-    solve_apart(alloc, solution, &all, budget)
-}
-
-fn solve_whole(
-    alloc: Global,
-    solution: &mut Solution<'_>,
-    lost: Vec<u32>,
-    budget: &mut Budget,
-) -> Result<(), AllocError> {
-    settle_ends(alloc, solution, lost, budget)?;
-    solve_present(alloc, solution, budget)
-}
-
 /// Who wins where; what is open on a spent budget has no winner. Odd is known to win at the lost vertices.
 pub fn solve_regions(
     alloc: Global,
@@ -197,26 +151,16 @@ pub fn solve_regions(
     budget: &mut Budget,
 ) -> Result<Regions, AllocError> {
     let mut solution = Solution::new(alloc, graph)?;
-    solve_whole(alloc, &mut solution, lost, budget)?;
+    solution.win(Player::Odd, lost, budget)?;
+    solution.win_dead_ends(alloc, Player::Even, budget)?;
+    solution.win_dead_ends(alloc, Player::Odd, budget)?;
+    let all = solution.all_living(alloc)?;
+    let most = graph.size().saturating_mul(FIRST_PASSES);
+    if !recur(alloc, &mut solution, &all, most, budget)? {
+        solve_apart(alloc, &mut solution, &all, budget)?;
+    }
     let (winner, choice) = solution.finish();
     Ok(Regions { winner, choice })
-}
-
-// Solves one component where all else is given away.
-fn solve_among(
-    alloc: Global,
-    solution: &mut Solution<'_>,
-    lost: &[u32],
-    members: &[u32],
-    budget: &mut Budget,
-) -> Result<(), AllocError> {
-    let all = solution.all_living(alloc)?;
-    solution.give(Player::Even, &all);
-    solution.give(Player::Odd, lost);
-    solution.leave(&all);
-    solution.forget(members);
-    solve_component(alloc, solution, members, budget)?;
-    Ok(())
 }
 
 /// Who wins at some vertices, where all others are taken to be lost where they stand at the top, and won by Even elsewhere.
@@ -228,7 +172,12 @@ pub fn solve_part(
     budget: &mut Budget,
 ) -> Result<Regions, AllocError> {
     let mut solution = Solution::new(alloc, graph)?;
-    solve_among(alloc, &mut solution, lost, members, budget)?;
+    let all = solution.all_living(alloc)?;
+    solution.give(Player::Even, &all);
+    solution.give(Player::Odd, lost);
+    solution.leave(&all);
+    solution.forget(members);
+    solve_component(alloc, &mut solution, members, budget)?;
     let (winner, choice) = solution.finish();
     Ok(Regions { winner, choice })
 }

@@ -100,9 +100,13 @@ impl<'a> Solution<'a> {
         budget: &mut Budget,
     ) -> Result<Vec<u32>, AllocError> {
         self.stamp = self.stamp.saturating_add(1);
-        self.mark_all(barred);
+        for v in barred {
+            self.mark.set(*v, self.stamp);
+        }
         let mut taken = seed;
-        self.mark_all(&taken);
+        for v in &taken {
+            self.mark.set(*v, self.stamp);
+        }
         for at in 0..self.graph.vertices() as usize {
             let v = match taken.get(at) {
                 Some(v) => *v,
@@ -110,15 +114,10 @@ impl<'a> Solution<'a> {
             };
             self.take_from(player, v, &mut taken, budget)?;
         }
-        self.leave(&taken);
-        Ok(taken)
-    }
-
-    // The present attractor took these vertices, or may not.
-    fn mark_all(&mut self, vertices: &[u32]) {
-        for v in vertices {
-            self.mark.set(*v, self.stamp);
+        for v in &taken {
+            self.alive.set(*v, false);
         }
+        Ok(taken)
     }
 
     fn take_from(

@@ -72,29 +72,6 @@ impl PathWeights {
         }
     }
 
-    // Begins with a stop at each vertex of Even, improves its choices while that is better, and tells who wins where; says whether the
-    // budget sufficed.
-    fn settle(
-        &mut self,
-        solution: &mut Solution<'_>,
-        budget: &mut Budget,
-    ) -> Result<bool, AllocError> {
-        for v in &self.vertices {
-            solution.choice.set(*v, None);
-        }
-        for _ in 0..u64::MAX {
-            self.find_least(solution, budget)?;
-            if budget.is_spent() {
-                return Ok(false);
-            }
-            if !self.improve(solution, budget) {
-                break;
-            }
-        }
-        self.tell(solution);
-        Ok(true)
-    }
-
     // Finds the least weights of paths to a stop, along Even's choices.
     fn find_least(
         &mut self,
@@ -225,18 +202,6 @@ impl PathWeights {
     }
 }
 
-// Gives Odd what it wins by its own moves alone, and says what is left of these vertices.
-fn left_to_weigh(
-    alloc: Global,
-    solution: &mut Solution<'_>,
-    vertices: &[u32],
-    budget: &mut Budget,
-) -> Result<Vec<u32>, AllocError> {
-    let living = solution.living(alloc, vertices)?;
-    win_odd_cycles(alloc, solution, &living, budget)?;
-    solution.living(alloc, vertices)
-}
-
 /// Gives each vertex of the present game, which is of some of these, its winner, or those that are known when the budget is spent;
 /// says whether all are.
 pub fn solve_by_weights(
@@ -246,7 +211,22 @@ pub fn solve_by_weights(
     budget: &mut Budget,
 ) -> Result<bool, AllocError> {
     budget.spend(solution.graph.vertices() as usize);
-    let left = left_to_weigh(alloc, solution, vertices, budget)?;
-    let mut paths = PathWeights::of(alloc, solution.graph, left)?;
-    paths.settle(solution, budget)
+    let living = solution.living(alloc, vertices)?;
+    win_odd_cycles(alloc, solution, &living, budget)?;
+    let living = solution.living(alloc, vertices)?;
+    let mut paths = PathWeights::of(alloc, solution.graph, living)?;
+    for v in &paths.vertices {
+        solution.choice.set(*v, None);
+    }
+    for _ in 0..u64::MAX {
+        paths.find_least(solution, budget)?;
+        if budget.is_spent() {
+            return Ok(false);
+        }
+        if !paths.improve(solution, budget) {
+            break;
+        }
+    }
+    paths.tell(solution);
+    Ok(true)
 }
