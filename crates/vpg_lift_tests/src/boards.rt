@@ -3,7 +3,7 @@
 ghost use Rattle.std.specs.Prelude.{◌≡◌, IfOk};
 ghost use Rattle.std.specs.Thread.{IsSync};
 
-use crate::given::{let_go, loops, small};
+use crate::given::{is_settled_small, let_go, loops, small};
 use std::alloc::Global;
 use std::sync::Wait;
 use std::test::*;
@@ -71,31 +71,14 @@ fn harvest_of(alloc: Global, board: Board, seat: Seat) -> Result<Harvest, Fail>
     }
 }
 
-/// The harvest of an order where one seat has claimed and lifted each vertex, and the lifts answered so.
-fn lifted(alloc: Global, order: Order, answers: [bool; 4]) -> Result<Harvest, Fail> {
+/// Whether one seat that claims and lifts each vertex is answered so and settles an order of the small game, and the order of the
+/// tables then.
+fn settled_by(alloc: Global, order: Order, answers: [bool; 4]) -> Result<(bool, Order), Fail> {
     let (board, seat) = board_of(alloc, order)?;
     let mut seat = seat;
     let answered = lifts_answer(&board, &mut seat, answers);
     let harvest = harvest_of(alloc, board, seat)?;
-    if answered {
-        Ok(harvest)
-    } else {
-        let_go(harvest.again());
-        Err("another answer")?
-    }
-}
-
-/// Whether a harvest has the progress tables of the small game.
-fn is_settled(harvest: &Harvest) -> bool {
-    harvest.check()
-        && harvest.table(Which::Hopeful).values() == [1, 0].as_slice()
-        && harvest.table(Which::Dual).values() == [0, 1].as_slice()
-}
-
-/// Whether lifts that answer so settle an order of the small game, and the order of the tables then.
-fn settled_by(alloc: Global, order: Order, answers: [bool; 4]) -> Result<(bool, Order), Fail> {
-    let harvest = lifted(alloc, order, answers)?;
-    let settled = is_settled(&harvest);
+    let settled = answered && is_settled_small(&harvest);
     Ok((settled, harvest.again()))
 }
 

@@ -46,9 +46,12 @@ fn lifters_of_one_sweep<R: Threads + Wait + Sync>(
 
 #[test]
 fn a_sweep_has_as_many_lifters_as_were_asked_for(rt: HostRuntime) -> Result<(), Fail> {
-    assert_eq!(rt; lifters_of_one_sweep(&rt, rt.alloc(), 1)?, 1);
-    assert_eq!(rt; lifters_of_one_sweep(&rt, rt.alloc(), 2)?, 3);
-    assert_eq!(rt; lifters_of_one_sweep(&rt, rt.alloc(), 4)?, 15);
-    assert_eq!(rt; lifters_of_one_sweep(&rt, rt.alloc(), 64)?, u64::MAX);
+    let came = [
+        lifters_of_one_sweep(&rt, rt.alloc(), 1)?,
+        lifters_of_one_sweep(&rt, rt.alloc(), 2)?,
+        lifters_of_one_sweep(&rt, rt.alloc(), 4)?,
+        lifters_of_one_sweep(&rt, rt.alloc(), 64)?,
+    ];
+    assert_eq!(rt; came, [1, 3, 15, u64::MAX]);
     Ok(())
 }

@@ -4,8 +4,9 @@ ghost use Rattle.std.specs.Prelude.{IfOk};
 ghost use Rattle.vpg_measure.specs.Lifts.{IsTableOf};
 ghost use Rattle.vpg_measure.specs.Orders.{IsRaised, order_levels, order_arena};
 
-use crate::given::{OPTIONS, decisions_of, game_of, is_table, let_go, order_of, small};
+use crate::given::{OPTIONS, decisions_of, diagram_of, game_of, is_table, let_go, order_of, small};
 use std::alloc::{AllocError, Global};
+use std::sync::Arc;
 use std::test::Fail;
 use vpg_diagram::Diagram;
 use vpg_game::{GuardedGame, top_within_limit};
@@ -35,13 +36,16 @@ fn is_all_back(refused: &Refused, features: usize, decisions: &[Decision]) -> bo
 
 fn refusal(
     alloc: Global,
-    game: GuardedGame,
-    diagram: Diagram,
+    game: Arc<GuardedGame>,
+    diagram: Arc<Diagram>,
     decisions: Vec<Decision>,
 ) -> Result<Refused, Fail> {
     match order_of(alloc, game, diagram, decisions)? {
-        Some(Err(refused)) => Ok(refused),
-        _ => Err("not refused")?,
+        Ok(order) => {
+            let_go(order);
+            Err("not refused")?
+        }
+        Err(refused) => Ok(refused),
     }
 }
 
@@ -63,8 +67,8 @@ fn fault_where_back(
 /// The fault of an order with these two decisions, where all that was handed in comes back.
 fn fault_of(
     alloc: Global,
-    game: GuardedGame,
-    diagram: Diagram,
+    game: Arc<GuardedGame>,
+    diagram: Arc<Diagram>,
     choices: [(u16, bool); 2],
 ) -> Result<Option<OrderFault>, Fail> {
     let features = diagram.features();
@@ -211,17 +215,25 @@ fn values_after(
     Ok(Vec::from_slice(alloc, table.values())?)
 }
 
+/// The same of both tables.
+fn both_after(alloc: Global, order: &Order, rounds: u64) -> Result<(Vec<u64>, Vec<u64>), AllocError>
+    ensures hopeful { IfOk result (λ both. IsRaised Which.Hopeful order.now both.0.items) }
+    ensures dual { IfOk result (λ both. IsRaised Which.Dual order.now both.1.items) }
+{
+    let hopeful = values_after(alloc, order, Which::Hopeful, rounds)?;
+    let dual = values_after(alloc, order, Which::Dual, rounds)?;
+    Ok((hopeful, dual))
+}
+
 /// The harvest of copies of an order's tables after so many rounds.
 fn handed_in(alloc: Global, order: Order, rounds: u64) -> Option<Harvest> {
-    let Ok(hopeful) = values_after(alloc, &order, Which::Hopeful, rounds) else {
-        let_go(order);
-        return None;
-    };
-    let Ok(dual) = values_after(alloc, &order, Which::Dual, rounds) else {
-        let_go(order);
-        return None;
-    };
-    Some(Harvest::of(order, hopeful, dual))
+    match both_after(alloc, &order, rounds) {
+        Ok((hopeful, dual)) => Some(Harvest::of(order, hopeful, dual)),
+        Err(_) => {
+            let_go(order);
+            None
+        }
+    }
 }
 
 /// Whether a harvest has these tables, of the hopeful game and of the dual's, over an order with those.
@@ -234,7 +246,7 @@ fn has_tables(harvest: &Harvest, tables: [&[u64]; 2], before: [&[u64]; 2]) -> bo
 
 /// The shape of a game without guards.
 fn shape_of(alloc: Global, text: &[u8]) -> Result<Shape, Fail> {
-    let diagram = Diagram::read(alloc, OPTIONS)?;
+    let diagram = diagram_of(alloc, OPTIONS)?;
     let game = game_of(alloc, &diagram, text)?;
     Ok(Shape::of(alloc, &game)?)
 }
@@ -277,11 +289,9 @@ fn first_other_of(alloc: Global, text: &[u8]) -> Result<Option<usize>, Fail> {
 // Two vertices of priority 1 and one of priority 3: the radices are 3 and 2.
 #[test]
 fn progs(rt: HostRuntime) -> Result<(), Fail> {
-    assert_eq!(rt; top_within_limit(rt.alloc(), &[1, 1, 3])?, Some(6));
-    assert_eq!(rt;
-        first_other_of(rt.alloc(), b"0 1 0 0; 1 1 0 1; 2 3 0 2;")?,
-        None
-    );
+    let top = top_within_limit(rt.alloc(), &[1, 1, 3])?;
+    let other = first_other_of(rt.alloc(), b"0 1 0 0; 1 1 0 1; 2 3 0 2;")?;
+    assert_eq!(rt; (top, other), (Some(6), None));
     Ok(())
 }
 
@@ -383,9 +393,9 @@ fn lifts_of_each_vertex(rt: HostRuntime) -> Result<(), Fail> {
     Ok(())
 }
 
-/// Why there is no strategy from one of an order's tables after so many rounds.
-fn unplanned(alloc: Global, order: &Order, which: Which, rounds: u64) -> Option<StrategyFault> {
-    plan(alloc, order, which, rounds).err()
+/// Whether one of an order's tables as it stands gives no strategy, since it is not settled.
+fn is_unplanned(alloc: Global, order: &Order, which: Which) -> bool {
+    plan(alloc, order, which, 0).err() == Some(StrategyFault::NotSettled)
 }
 
 // With `f` and `g` vertex 0 leaves its loop.
@@ -393,10 +403,9 @@ fn unplanned(alloc: Global, order: &Order, which: Which, rounds: u64) -> Option<
 fn strategies(rt: HostRuntime) -> Result<(), Fail> {
     let order = small(rt.alloc(), &[(1, true), (2, true)])?;
     let planned = is_planned(rt.alloc(), &order, Which::Hopeful, &[Some(1), None]);
-    let unsettled = unplanned(rt.alloc(), &order, Which::Hopeful, 0);
+    let unplanned = is_unplanned(rt.alloc(), &order, Which::Hopeful);
     let_go(order);
-    assert!(rt; planned);
-    assert_eq!(rt; unsettled, Some(StrategyFault::NotSettled));
+    assert_eq!(rt; (planned, unplanned), (true, true));
     Ok(())
 }
 
@@ -433,14 +442,14 @@ fn orders(rt: HostRuntime) -> Result<(), Fail> {
 }
 
 /// The dual of the game of the greatest priority.
-fn dual_at_limit(alloc: Global, diagram: &Diagram) -> Result<GuardedGame, Fail> {
+fn dual_at_limit(alloc: Global, diagram: &Diagram) -> Result<Arc<GuardedGame>, Fail> {
     let game = game_of(alloc, diagram, HIGHEST)?;
-    Ok(game.dual(alloc)?)
+    Ok(Arc::new(alloc, game.dual(alloc)?)?)
 }
 
 /// Why there is no order of that dual over a diagram.
 fn fault_at_limit(alloc: Global, text: &[u8]) -> Result<Option<OrderFault>, Fail> {
-    let diagram = Diagram::read(alloc, text)?;
+    let diagram = diagram_of(alloc, text)?;
     let game = dual_at_limit(alloc, &diagram)?;
     fault_of(alloc, game, diagram, [(1, true), (0, true)])
 }
@@ -451,7 +460,7 @@ fn fault_with(
     text: &[u8],
     choices: [(u16, bool); 2],
 ) -> Result<Option<OrderFault>, Fail> {
-    let diagram = Diagram::read(alloc, text)?;
+    let diagram = diagram_of(alloc, text)?;
     let game = game_of(alloc, &diagram, LONE)?;
     fault_of(alloc, game, diagram, choices)
 }

@@ -2,7 +2,7 @@
 
 ghost use Rattle.std.specs.Prelude.{◌≤◌};
 
-use crate::given::{let_go, small};
+use crate::given::{is_settled_small, let_go, small};
 use std::alloc::Global;
 use std::sync::Wait;
 use std::sync::atomic::{AtomicU64, Ordering};
@@ -10,7 +10,7 @@ use std::test::*;
 use std::thread;
 use std::thread::Threads;
 use vpg_board::{Gate, OpenGate, sweep};
-use vpg_measure::{Harvest, Order, Which};
+use vpg_measure::{Harvest, Order};
 
 const MOST_TURNS: u64 = 1_000_000;
 
@@ -119,12 +119,6 @@ fn swept<G: Gate + Sync, R: Threads + Wait + Sync>(
     }
 }
 
-fn is_settled_small(harvest: &Harvest) -> bool {
-    harvest.check()
-        && harvest.table(Which::Hopeful).values() == [1, 0].as_slice()
-        && harvest.table(Which::Dual).values() == [0, 1].as_slice()
-}
-
 /// Whether a sweep of an order has the progress tables of the small game, and the order of its tables.
 fn settled_by<G: Gate + Sync, R: Threads + Wait + Sync>(
     rt: &R,
@@ -140,23 +134,8 @@ fn settled_by<G: Gate + Sync, R: Threads + Wait + Sync>(
     Ok((settled, harvest.again()))
 }
 
-/// Whether a sweep settles the small game, and another one leaves it so.
-fn settles<R: Threads + Wait + Sync>(
-    rt: &R,
-    alloc: Global,
-    lifters: u32,
-) -> Result<(bool, bool), Fail>
-    requires { (1 ≤ lifters) × (lifters ≤ 64) }
-{
-    let order = small(alloc, &[])?;
-    let (first, order) = settled_by(rt, alloc, order, lifters, &OpenGate)?;
-    let (second, order) = settled_by(rt, alloc, order, lifters, &OpenGate)?;
-    let_go(order);
-    Ok((first, second))
-}
-
-/// Whether a sweep with a gate settles the small game.
-fn settles_through<G: Gate + Sync, R: Threads + Wait + Sync>(
+/// Whether a sweep with a gate settles the small game, and another one leaves it so.
+fn settles<G: Gate + Sync, R: Threads + Wait + Sync>(
     rt: &R,
     alloc: Global,
     lifters: u32,
@@ -165,17 +144,17 @@ fn settles_through<G: Gate + Sync, R: Threads + Wait + Sync>(
     requires { (1 ≤ lifters) × (lifters ≤ 64) }
 {
     let order = small(alloc, &[])?;
-    let (settled, order) = settled_by(rt, alloc, order, lifters, gate)?;
+    let (first, order) = settled_by(rt, alloc, order, lifters, gate)?;
+    let (second, order) = settled_by(rt, alloc, order, lifters, gate)?;
     let_go(order);
-    Ok(settled)
+    Ok(first && second)
 }
 
 #[test]
 fn one_sweep_settles_the_small_game(rt: HostRuntime) -> Result<(), Fail> {
     for lifters in 1..65 {
-        assert_eq!(rt;
-            settles(&rt, rt.alloc(), lifters)?,
-            (true, true),
+        assert!(rt;
+            settles(&rt, rt.alloc(), lifters, &OpenGate)?,
             "by {lifters}"
         );
     }
@@ -190,15 +169,15 @@ fn two_lifters_wait_for_one_another(rt: HostRuntime) -> Result<(), Fail> {
         passed: AtomicU64::new(0),
         seen: AtomicU64::new(0),
     };
-    assert!(rt; settles_through(&rt, rt.alloc(), 2, &relay)?);
-    assert!(rt; relay.passed.load(Ordering::SeqCst) == 2);
+    let settled = settles(&rt, rt.alloc(), 2, &relay)?;
+    assert_eq!(rt; (settled, relay.passed.load(Ordering::SeqCst)), (true, 2));
     Ok(())
 }
 
 #[test]
 fn four_lifters_meet_before_their_first_claims(rt: HostRuntime) -> Result<(), Fail> {
     let meeting = Meeting::of(4);
-    assert!(rt; settles_through(&rt, rt.alloc(), 4, &meeting)?);
-    assert!(rt; meeting.met.load(Ordering::SeqCst) == 4);
+    let settled = settles(&rt, rt.alloc(), 4, &meeting)?;
+    assert_eq!(rt; (settled, meeting.met.load(Ordering::SeqCst)), (true, 4));
     Ok(())
 }
