@@ -20,6 +20,10 @@ use Rattle.vpg_texts.specs.Plan.{IsPlanned, IsPlanFault}
 use Rattle.vpg_texts.specs.declared.showing.plans.PlanFault.TheVariants.{NotFull, NotSettled}
 use Rattle.vpg_texts.specs.Text.{blank_number, blank_name, trail_text}
 use Rattle.vpg_texts.specs.Scene.{Scene, table_in, IsShown, IsCounted, TellsKnown}
+use Rattle.vpg_answers.specs.Answers.{IsAnswer}
+use Rattle.vpg_answers.specs.declared.query.Query.{Query}
+use Rattle.vpg_answers.specs.declared.query.Query.TheVariants as queries
+use Rattle.vpg_why.specs.declared.question.Limits.{Limits}
 use Rattle.vpg_report.specs.Setting.{setting_in}
 
 -- ---- the texts of replies
@@ -77,6 +81,27 @@ abbrev pub call_or : {X : Type 0} → Own → (X → Call) → Option X → Resu
 call_or own call None = Err own
 call_or own call (Some x) = Ok (call x)
 
+abbrev pub query_or : Own → (ℕ → Query) → Option ℕ → Result Query Own
+query_or own query None = Err own
+query_or own query (Some place) = Ok (query place)
+
+-- what is asked of the page, by places in the game and the diagram; or what is named there that they lack
+abbrev pub query_of : Scene → script.Inquiry → Result Query Own
+query_of scene (script.WhyVertex identifier) = query_or NoVertex queries.WhyVertex (vertex_of scene identifier)
+query_of scene (script.WhyFeature name) = query_or NoFeature queries.WhyFeature (index_of scene.names name)
+query_of scene (script.WhyChoice value name) = query_or NoFeature (λ f. queries.WhyChoice f value) (index_of scene.names name)
+query_of scene (script.Example which identifier) = query_or NoVertex (queries.Example which) (vertex_of scene identifier)
+query_of scene (script.Offer identifier) = query_or NoVertex queries.Offer (vertex_of scene identifier)
+
+-- how far it is followed
+abbrev pub answer_limits : Limits
+answer_limits = record { budget = 134217728; rounds = 1000; trials = 10000 }
+
+-- what is asked of the page is answered of an order
+abbrev pub order_or : Result Query Own → Result Call Own
+order_or (Err own) = Err own
+order_or (Ok query) = Ok Order
+
 -- the first call of a command, or why there is none
 abbrev pub first_call : Scene → Held → script.Command → Result Call Own
 first_call scene held (script.Select name) = call_or NoFeature (λ f. Decide f true) (index_of scene.names name)
@@ -95,6 +120,7 @@ first_call scene held script.Trail = Ok Page
 first_call scene held script.Products = Ok Page
 first_call scene held script.Plan = Ok Page
 first_call scene held script.Count = Ok Page
+first_call scene held (script.Ask inquiry) = order_or (query_of scene inquiry)
 
 -- ---- harvests that lines make
 
@@ -244,6 +270,12 @@ abbrev pub TellsPage : (List Entry → List ℕ → Type 0) → Held → Reply �
 TellsPage Tells held (PageIs page) calls text new = Tells page text × (calls ≡ []) × (new ≡ held)
 TellsPage Tells held _ calls text new = ⊥
 
+-- what is asked is answered of an order
+abbrev pub TellsAnswer : Scene → Held → script.Inquiry → Reply → Rest
+TellsAnswer scene held inquiry (Ordered decisions hopeful dual) calls text new =
+    ((query : Query) × ((query_of scene inquiry ≡ Ok query) × IsAnswer scene answer_limits query decisions hopeful dual text)) × (calls ≡ []) × (new ≡ held)
+TellsAnswer scene held inquiry _ calls text new = ⊥
+
 -- after the reply to a command's first call; so many calls were made then
 abbrev pub Continues : Scene → Held → (made : ℕ) → ℕ → script.Command → Reply → Rest
 Continues scene held made label (script.Select name) reply calls text new = TellsChanged held reply calls text new
@@ -262,6 +294,7 @@ Continues scene held made label script.Trail reply calls text new = TellsPage (T
 Continues scene held made label script.Products reply calls text new = TellsPage (TellsProducts scene) held reply calls text new
 Continues scene held made label script.Plan reply calls text new = TellsPage (TellsPlan scene) held reply calls text new
 Continues scene held made label script.Count reply calls text new = TellsPage (CountsPage scene) held reply calls text new
+Continues scene held made label (script.Ask inquiry) reply calls text new = TellsAnswer scene held inquiry reply calls text new
 
 abbrev pub Begins : Scene → Held → (made : ℕ) → ℕ → script.Command → Result Call Own → Rest
 Begins scene held made label command (Err own) calls text new = Ends (refused_line (own_text own)) held calls text new

@@ -6,18 +6,19 @@ ghost use Rattle.vpg_guards.specs.Names.{index_of};
 ghost use Rattle.vpg_desk.specs.State.{IsOpened};
 ghost use Rattle.vpg_report.specs.Engine.{AnswersTo, SweepsTo, IsOpenFault, deciding, between_of, engine_of, scene_at};
 ghost use Rattle.vpg_report.specs.Run.{answering};
-ghost use Rattle.vpg_script.specs.Script.{Retract, Undo as Undoes, Redo as Redoes, Keep, Forget, Lift, Harvest as Harvests, Commit, Settle, Show, Trail, Products, Plan, Count};
-ghost use Rattle.vpg_script.specs.View.{request_shown};
+ghost use Rattle.vpg_script.specs.Script.{Retract, Undo as Undoes, Redo as Redoes, Keep, Forget, Lift, Harvest as Harvests, Commit, Settle, Show, Trail, Products, Plan, Count, Ask};
+ghost use Rattle.vpg_script.specs.View.{inquiry_shown, request_shown};
 
-use crate::answer;
 use crate::held::{
     hold_redo, hold_redone, hold_strayed, hold_undo, hold_undone, put_back_unspent, redo_place,
     return_harvest, take_harvest, undo_place,
 };
+use crate::{answer, asking};
 use std::alloc::{AllocError, Global};
 use std::marker::Model;
 use std::sync::{Arc, Wait};
 use std::thread::Threads;
+use vpg_answers::Limits;
 use vpg_board::OpenGate;
 use vpg_client::{Client, Returned};
 use vpg_desk::OpenFault;
@@ -26,7 +27,7 @@ use vpg_game::GuardedGame;
 use vpg_guards::Names;
 use vpg_measure::{Harvest, Which};
 use vpg_office::{NotOpened, Redo, Site, Terms, Undo};
-use vpg_script::{Command, Request, ServeFault, Server};
+use vpg_script::{Command, Inquiry, Request, ServeFault, Server};
 use vpg_settle::swept;
 use vpg_texts::{PlanFault, count_over, plan_over, products_over, show_over, trail};
 
@@ -35,6 +36,14 @@ pub(crate) const ROOM: u32 = 1_048_576;
 
 /// The sweeps of a `harvest`, and of a `settle` without a number.
 const SWEEPS: u64 = 1_000_000;
+
+/// How far a question about the page is followed: 2^27 edges and vertices looked at for the bounds of a trial's table, 1,000 rounds of
+/// lifts where these do not settle it, and 10,000 trials of a search.
+const LIMITS: Limits = Limits {
+    budget: 134_217_728,
+    rounds: 1_000,
+    trials: 10_000,
+};
 
 /// The client of an office, with its game and its diagram, the tokens that are held, and the harvests that were kept. Harvest K stands
 /// at place K - 1 until it is committed. An engine can't be let go: `end` spends its tokens.
@@ -431,6 +440,29 @@ impl<L: Terms> Engine<L> {
         Ok(())
     }
 
+    /// Answers what is asked of the present page.
+    fn ask<R: Wait>(
+        &mut self,
+        rt: &R,
+        alloc: Global,
+        session: u32,
+        inquiry: Inquiry<'_>,
+        out: &mut Vec<u8>,
+    ) -> Result<(), ServeFault>
+        ensures { OnOk result (AnswersTo self.old (record { label = session; command = Ask (inquiry_shown inquiry.entry) }) out.old.items out.new.items self.new) }
+    {
+        let query = match asking::query_of(&self.game, &self.diagram, inquiry) {
+            Ok(query) => query,
+            Err(what) => return answer::missing(what, out),
+        };
+        let order = match self.client.order(rt, alloc, session) {
+            Ok(order) => order,
+            Err(fault) => return answer::unanswered(fault, out),
+        };
+        vpg_answers::answer(alloc, order, query, LIMITS, out)?;
+        Ok(())
+    }
+
     /// An engine whose office was opened; nothing is held.
     pub(crate) fn open<R: Wait>(
         rt: &R,
@@ -519,6 +551,7 @@ impl<L: Terms> Server for Engine<L> {
             Command::Products => self.products(rt, alloc, session, out),
             Command::Plan => self.plan(rt, alloc, session, out),
             Command::Count => self.count(rt, alloc, session, out),
+            Command::Ask(inquiry) => self.ask(rt, alloc, session, inquiry, out),
         }
     }
 }

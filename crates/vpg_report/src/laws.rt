@@ -8,9 +8,9 @@ pub fn answers_are_histories()
     ensures { AnswersAreHistories }
 {}
 
-/// Whichever lawful harvests its lines made, a script is answered with one text, where every settle was answered `settled` and
-/// every harvest that a line kept passes `check`: what is written, and the line with a fault, are one function of the game, the
-/// diagram and the script.
+/// Whichever lawful harvests its lines made, a script is answered with one text, where every settle was answered `settled`, what was
+/// asked of the page without a doubt (no limit was met), and every harvest that a line kept passes `check`: what is written, and the
+/// line with a fault, are one function of the game, the diagram and the script.
 pub fn settled_answers_are_one()
     ensures lines { SettledAnswersAreOne }
     ensures runs { SettledRunsAreOne }
