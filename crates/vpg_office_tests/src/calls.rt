@@ -6,7 +6,7 @@ use std::process::Abort;
 use std::sync::Wait;
 use std::test::*;
 use vpg_desk::{CommitFault, DecideFault, RedoFault, RetractFault, UndoFault};
-use vpg_measure::{Harvest, Order};
+use vpg_measure::{Harvest, Order, Verdict};
 use vpg_office::{
     Fault, Front, Office, Redo, Returned, Session, Terms, TokensOut, TooManySessions, Undo,
 };
@@ -16,6 +16,16 @@ use vpg_office::{
 pub struct Seat<L: Terms> {
     pub session: Session<L>,
     pub front: Front<L>,
+}
+
+/// A front is of so many calls.
+pub fn has_calls<L: Terms>(rt: &impl Abort, front: &Front<L>, count: usize) {
+    assert_eq!(rt; front.len(), count);
+}
+
+/// The token is that of the change of this serial.
+pub fn is_change<L: Terms>(rt: &impl Abort, token: &Undo<L>, serial: u64) {
+    assert_eq!(rt; token.serial(), serial);
 }
 
 pub fn joined<L: Terms, R: Wait + Abort>(rt: &R, office: &Office<L>) -> Seat<L> {
@@ -56,17 +66,18 @@ pub fn decide<L: Terms, R: Wait + Abort + AllocGlobal>(
     }
 }
 
-/// Why a feature isn't decided.
+/// A feature isn't decided, for this reason.
 pub fn undecided<L: Terms, R: Wait + Abort + AllocGlobal>(
     rt: &R,
     office: &Office<L>,
     seat: &mut Seat<L>,
     feature: u16,
     value: bool,
-) -> DecideFault {
+    expected: DecideFault,
+) {
     match try_decide(rt, office, seat, feature, value) {
         Ok(_) => panic!(rt; "decided"),
-        Err(fault) => fault,
+        Err(fault) => assert!(rt; fault == expected),
     }
 }
 
@@ -99,16 +110,17 @@ pub fn retract<L: Terms, R: Wait + Abort + AllocGlobal>(
     }
 }
 
-/// Why a decision isn't retracted.
+/// A decision isn't retracted, for this reason.
 pub fn unretracted<L: Terms, R: Wait + Abort + AllocGlobal>(
     rt: &R,
     office: &Office<L>,
     seat: &mut Seat<L>,
     feature: u16,
-) -> RetractFault {
+    expected: RetractFault,
+) {
     match try_retract(rt, office, seat, feature) {
         Ok(_) => panic!(rt; "retracted"),
-        Err(fault) => fault,
+        Err(fault) => assert!(rt; fault == expected),
     }
 }
 
@@ -167,16 +179,20 @@ pub fn undo<L: Terms, R: Wait + Abort + AllocGlobal>(
     }
 }
 
-/// Why a change isn't undone, and its token.
+/// The token of a change that isn't undone, for this reason.
 pub fn not_undone<L: Terms, R: Wait + Abort + AllocGlobal>(
     rt: &R,
     office: &Office<L>,
     seat: &mut Seat<L>,
     token: Undo<L>,
-) -> (UndoFault, Undo<L>) {
+    expected: UndoFault,
+) -> Undo<L> {
     match try_undo(rt, office, seat, token) {
         Ok(_) => panic!(rt; "undone"),
-        Err(refused) => refused,
+        Err((fault, token)) => {
+            assert!(rt; fault == expected);
+            token
+        }
     }
 }
 
@@ -211,16 +227,20 @@ pub fn redo<L: Terms, R: Wait + Abort + AllocGlobal>(
     }
 }
 
-/// Why a change isn't redone, and its token.
+/// The token of a change that isn't redone, for this reason.
 pub fn not_redone<L: Terms, R: Wait + Abort + AllocGlobal>(
     rt: &R,
     office: &Office<L>,
     seat: &mut Seat<L>,
     token: Redo<L>,
-) -> (RedoFault, Redo<L>) {
+    expected: RedoFault,
+) -> Redo<L> {
     match try_redo(rt, office, seat, token) {
         Ok(_) => panic!(rt; "redone"),
-        Err(refused) => refused,
+        Err((fault, token)) => {
+            assert!(rt; fault == expected);
+            token
+        }
     }
 }
 
@@ -254,34 +274,39 @@ fn try_commit<L: Terms, R: Wait + Abort + AllocGlobal>(
     }
 }
 
-/// How many entries a harvest adds.
+/// A harvest adds so many entries.
 pub fn commit<L: Terms, R: Wait + Abort + AllocGlobal>(
     rt: &R,
     office: &Office<L>,
     seat: &mut Seat<L>,
     harvest: Harvest,
-) -> u32 {
+    expected: u32,
+) {
     match try_commit(rt, office, seat, harvest) {
-        Ok(added) => added,
+        Ok(added) => assert_eq!(rt; added, expected),
         Err(_) => panic!(rt; "not committed"),
     }
 }
 
-/// Why a harvest isn't taken, and the harvest.
+/// A harvest that isn't taken, for this reason.
 pub fn uncommitted<L: Terms, R: Wait + Abort + AllocGlobal>(
     rt: &R,
     office: &Office<L>,
     seat: &mut Seat<L>,
     harvest: Harvest,
-) -> (CommitFault, Harvest) {
+    expected: CommitFault,
+) -> Harvest {
     match try_commit(rt, office, seat, harvest) {
         Ok(_) => panic!(rt; "committed"),
-        Err(refused) => refused,
+        Err((fault, harvest)) => {
+            assert!(rt; fault == expected);
+            harvest
+        }
     }
 }
 
 /// Whether both tables are settled; or the length of the front that comes back, and why it isn't said.
-pub fn settled<L: Terms, R: Wait + Abort>(
+fn try_settled<L: Terms, R: Wait + Abort>(
     rt: &R,
     office: &Office<L>,
     session: &mut Session<L>,
@@ -295,17 +320,30 @@ pub fn settled<L: Terms, R: Wait + Abort>(
     }
 }
 
-/// What is said of a vertex: whether it is hopeless, and whether it is sure.
+/// It is said whether both tables are settled, or why it isn't.
+pub fn settled<L: Terms, R: Wait + Abort>(
+    rt: &R,
+    office: &Office<L>,
+    session: &mut Session<L>,
+    front: &mut Front<L>,
+    expected: Result<bool, (&'static str, usize)>,
+) {
+    assert!(rt; try_settled(rt, office, session, front) == expected);
+}
+
+/// A vertex is said to be hopeless or not, and sure or not.
 pub fn verdict<L: Terms, R: Wait + Abort>(
     rt: &R,
     office: &Office<L>,
     seat: &mut Seat<L>,
     vertex: u32,
-) -> (bool, bool)
+    hopeless: bool,
+    sure: bool,
+)
     requires { vertex < length L.game.vertices }
 {
     match seat.session.verdict(rt, office, &mut seat.front, vertex) {
-        Ok(verdict) => (verdict.hopeless, verdict.sure),
+        Ok(verdict) => assert_eq!(rt; verdict, Verdict { hopeless, sure }),
         Err(_) => panic!(rt; "no verdict"),
     }
 }
@@ -318,14 +356,17 @@ pub fn close<L: Terms, R: Wait + Abort>(rt: &R, office: Office<L>, front: &mut F
     }
 }
 
-/// The number of tokens of an office that can't be closed, and the office.
+/// An office that can't be closed, since just one token is out.
 pub fn still_open<L: Terms, R: Wait + Abort>(
     rt: &R,
     office: Office<L>,
     front: &mut Front<L>,
-) -> (u64, Office<L>) {
+) -> Office<L> {
     match office.close(rt, front) {
         Ok(()) => panic!(rt; "closed"),
-        Err(TokensOut { tokens, office }) => (tokens, office),
+        Err(TokensOut { tokens, office }) => {
+            assert_eq!(rt; tokens, 1);
+            office
+        }
     }
 }

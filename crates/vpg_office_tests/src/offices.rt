@@ -1,9 +1,10 @@
 //! Offices for tests: each test's work is done on an office of its own. Features are numbered in the diagram's order: r is 0, f is
 //! 1, g is 2.
 ghost use Rattle.std.specs.Arc.{arc_value};
-ghost use Rattle.std.specs.Prelude.{◌≡◌, ◌≤◌};
+ghost use Rattle.std.specs.Prelude.{◌≡◌, ◌≤◌, length};
 ghost use Rattle.vpg_diagram.specs.FeatureDiagram.{feature_count};
 
+use crate::calls::{Seat, close, joined};
 use crate::{changes, logs, watchers};
 use std::process::Abort;
 use std::sync::{Arc, Wait};
@@ -22,9 +23,9 @@ pub const F: u16 = 1;
 
 pub const G: u16 = 2;
 
-/// What is done on an office by calls in one thread.
+/// What two sessions do on an office that stays open.
 #[derive(Clone, Copy)]
-pub enum Run {
+pub enum Calls {
     Settle,
     Refuse,
     Outdate,
@@ -33,13 +34,19 @@ pub enum Run {
     Seal,
     Overtake,
     Tokens,
-    Fill,
-    Join,
     WatchTwo,
     WatchEach,
+    WatchOften,
+}
+
+/// What is done on an office by calls in one thread.
+#[derive(Clone, Copy)]
+pub enum Run {
+    Open { calls: Calls },
+    Fill,
+    Join,
     WatchClosing,
     WatchEnding,
-    WatchOften,
 }
 
 impl<R: Wait + Abort + AllocGlobal> Work<R> for Run {
@@ -55,23 +62,76 @@ impl<R: Wait + Abort + AllocGlobal> Work<R> for Run {
     ) {
         assert!(rt; front.len() == 0);
         assert!(rt; game.vertices() == 2);
-        match self {
-            Run::Settle => changes::settle_a_page(rt, office),
-            Run::Refuse => changes::refuse(rt, office),
-            Run::Outdate => changes::outdate(rt, office),
-            Run::Turn => changes::turn_pages(rt, office),
-            Run::Retract => changes::retract_first(rt, office),
-            Run::Seal => changes::seal(rt, office),
-            Run::Overtake => changes::overtake(rt, office),
-            Run::Tokens => changes::tokens_meet(rt, office),
-            Run::Fill => logs::fill(rt, office),
-            Run::Join => logs::join_often(rt, office),
-            Run::WatchTwo => watchers::watch_two_sessions(rt, office),
-            Run::WatchEach => watchers::watch_each_call(rt, office),
-            Run::WatchClosing => watchers::watch_closing(rt, office),
-            Run::WatchEnding => watchers::watch_ending(rt, office),
-            Run::WatchOften => watchers::watch_often(rt, office),
-        }
+        run_on(rt, office, self);
+    }
+}
+
+/// Does it on an office, and ends that.
+fn run_on<L: Terms, R: Wait + Abort + AllocGlobal>(rt: &R, office: Office<L>, run: Run)
+    requires { length L.game.vertices ≡ 2 }
+{
+    match run {
+        Run::Open { calls } => call_and_close(rt, office, calls),
+        Run::Fill => logs::fill(rt, office),
+        Run::Join => logs::join_often(rt, office),
+        Run::WatchClosing => watchers::watch_closing(rt, office),
+        Run::WatchEnding => watchers::watch_ending(rt, office),
+    }
+}
+
+/// Has two sessions do it on an office, and closes that.
+fn call_and_close<L: Terms, R: Wait + Abort + AllocGlobal>(rt: &R, office: Office<L>, calls: Calls)
+    requires { length L.game.vertices ≡ 2 }
+{
+    let mut one = joined(rt, &office);
+    let mut two = joined(rt, &office);
+    call(rt, &office, &mut one, &mut two, calls);
+    close(rt, office, &mut one.front);
+}
+
+// A function that owns an office or a session pays for each of its steps, so what is done stands in functions that borrow them.
+
+fn call<L: Terms, R: Wait + Abort + AllocGlobal>(
+    rt: &R,
+    office: &Office<L>,
+    one: &mut Seat<L>,
+    two: &mut Seat<L>,
+    calls: Calls,
+)
+    requires { length L.game.vertices ≡ 2 }
+{
+    match calls {
+        Calls::Settle => changes::settle_a_page(rt, office, one),
+        Calls::Refuse => changes::refuse(rt, office, one, two),
+        Calls::Outdate => changes::outdate(rt, office, one, two),
+        Calls::Turn => changes::turn_pages(rt, office, one, two),
+        Calls::Retract => changes::retract_first(rt, office, one, two),
+        Calls::Seal => changes::seal(rt, office, one, two),
+        Calls::Overtake => changes::overtake(rt, office, one, two),
+        Calls::Tokens => changes::tokens_meet(rt, office, one, two),
+        Calls::WatchTwo => watchers::see_two_sessions(rt, office, one, two),
+        Calls::WatchEach => watchers::see_each_call(rt, office, one),
+        Calls::WatchOften => watchers::fill_places(rt, office),
+    }
+}
+
+fn diagram_of<R: Abort + AllocGlobal>(rt: &R, text: &[u8]) -> Arc<Diagram> {
+    let Ok(diagram) = Diagram::read(rt.alloc(), text) else {
+        panic!(rt; "no diagram")
+    };
+    match Arc::new(rt.alloc(), diagram) {
+        Ok(diagram) => diagram,
+        Err(_) => panic!(rt; "no memory"),
+    }
+}
+
+fn game_of<R: Abort + AllocGlobal>(rt: &R, text: &[u8], diagram: &Diagram) -> Arc<GuardedGame> {
+    let Ok(game) = GuardedGame::read(rt.alloc(), text, diagram.names()) else {
+        panic!(rt; "no game")
+    };
+    match Arc::new(rt.alloc(), game) {
+        Ok(game) => game,
+        Err(_) => panic!(rt; "no memory"),
     }
 }
 
@@ -83,20 +143,9 @@ pub fn family<R: Abort + AllocGlobal>(
 ) -> (Arc<GuardedGame>, Arc<Diagram>)
     ensures { (arc_value result.0).features ≡ feature_count (arc_value result.1).lines }
 {
-    let alloc = rt.alloc();
-    let Ok(diagram) = Diagram::read(alloc, diagram) else {
-        panic!(rt; "no diagram")
-    };
-    let Ok(game) = GuardedGame::read(alloc, game, diagram.names()) else {
-        panic!(rt; "no game")
-    };
+    let diagram = diagram_of(rt, diagram);
+    let game = game_of(rt, game, &diagram);
     assert!(rt; game.features() == diagram.features());
-    let Ok(game) = Arc::new(alloc, game) else {
-        panic!(rt; "no memory")
-    };
-    let Ok(diagram) = Arc::new(alloc, diagram) else {
-        panic!(rt; "no memory")
-    };
     (game, diagram)
 }
 
@@ -124,10 +173,16 @@ pub fn on_office<R: Wait + Abort + AllocGlobal>(rt: &R, room: u32, run: Run)
     assert!(rt; on_texts(rt, GAME, DIAGRAM, room, run).is_none());
 }
 
+/// Has two sessions do it on such an office.
+pub fn on_open_office<R: Wait + Abort + AllocGlobal>(rt: &R, room: u32, calls: Calls)
+    requires { (1 ≤ room) × (room ≤ 1048576) }
+{
+    on_office(rt, room, Run::Open { calls });
+}
+
 #[test]
-fn openings_are_refused(rt: HostRuntime) -> Result<(), Fail> {
+fn openings_are_refused(rt: HostRuntime) {
     let diagram = b"root r\nmandatory r a\nexcludes r a\n";
     let fault = on_texts(&rt, b"0 0 0 0;", diagram, 1, Run::Join);
     assert!(&rt; fault == Some(OpenFault::Conflict { feature: 0 }));
-    Ok(())
 }

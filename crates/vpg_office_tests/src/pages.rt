@@ -110,7 +110,7 @@ fn page<L: Terms, R: Wait + Abort + AllocGlobal>(
 }
 
 /// The present page in words.
-pub fn page_text<L: Terms, R: Wait + Abort + AllocGlobal>(
+fn page_text<L: Terms, R: Wait + Abort + AllocGlobal>(
     rt: &R,
     office: &Office<L>,
     seat: &mut Seat<L>,
@@ -119,6 +119,16 @@ pub fn page_text<L: Terms, R: Wait + Abort + AllocGlobal>(
         Ok(text) => text,
         Err(_) => panic!(rt; "no text"),
     }
+}
+
+/// The present page is this.
+pub fn is_page<L: Terms, R: Wait + Abort + AllocGlobal>(
+    rt: &R,
+    office: &Office<L>,
+    seat: &mut Seat<L>,
+    expected: &str,
+) {
+    assert_eq!(rt; page_text(rt, office, seat).as_str(), expected);
 }
 
 /// An order of the present page, lifted until both tables are settled.
@@ -130,29 +140,36 @@ pub fn settled_harvest<L: Terms, R: Wait + Abort + AllocGlobal>(
     Harvest::alone(order(rt, office, seat), 1000)
 }
 
-/// Lifts the present page until both tables are settled, and says how many entries that adds.
+/// Lifts the present page until both tables are settled, which adds so many entries.
 pub fn settle<L: Terms, R: Wait + Abort + AllocGlobal>(
     rt: &R,
     office: &Office<L>,
     seat: &mut Seat<L>,
-) -> u32 {
+    expected: u32,
+) {
     let harvest = settled_harvest(rt, office, seat);
-    commit(rt, office, seat, harvest)
+    commit(rt, office, seat, harvest, expected);
 }
 
-/// Lifts a vertex of the present page's first table once, and says how many entries that adds.
+/// An order of the present page, with a vertex of the first table lifted once.
+fn lifted_harvest<L: Terms, R: Wait + Abort + AllocGlobal>(
+    rt: &R,
+    office: &Office<L>,
+    seat: &mut Seat<L>,
+    vertex: u32,
+) -> Harvest {
+    let order = order(rt, office, seat);
+    assert!(rt; (vertex as usize) < order.game().vertices());
+    Harvest::one(order, Which::Hopeful, vertex)
+}
+
+/// Lifts a vertex of the present page's first table once, which adds an entry.
 pub fn lift<L: Terms, R: Wait + Abort + AllocGlobal>(
     rt: &R,
     office: &Office<L>,
     seat: &mut Seat<L>,
     vertex: u32,
-) -> u32 {
-    let order = order(rt, office, seat);
-    assert!(rt; (vertex as usize) < order.game().vertices());
-    commit(
-        rt,
-        office,
-        seat,
-        Harvest::one(order, Which::Hopeful, vertex),
-    )
+) {
+    let harvest = lifted_harvest(rt, office, seat, vertex);
+    commit(rt, office, seat, harvest, 1);
 }

@@ -6,9 +6,9 @@ ghost use Rattle.std.specs.Arc.{arc_value};
 ghost use Rattle.std.specs.Prelude.{◌≡◌, ◌≤◌};
 ghost use Rattle.vpg_diagram.specs.FeatureDiagram.{feature_count};
 
-use crate::calls::{Seat, close, commit, decide, joined, keep, order, retract};
+use crate::calls::{Seat, close, commit, decide, has_calls, joined, keep, order, retract};
 use crate::offices::{DIAGRAM, F, G, GAME, family};
-use crate::pages::page_text;
+use crate::pages::is_page;
 use crate::watchers::watch_at_once;
 use std::marker::Brand;
 use std::process::Abort;
@@ -122,16 +122,14 @@ fn rounds_of_two<L: Terms + Send + Sync, R: Threads + Wait + Abort + AllocGlobal
     let one = joined(rt, &office);
     let other = joined(rt, &office);
     let mut one = rounds_at_once(rt, &office, one, other);
-    let page = page_text(rt, &office, &mut one);
-    assert_eq!(rt; page.as_str(), "0 decided / 0 0 / 0 0 / ");
-    assert_eq!(rt; one.front.len(), 801);
+    is_page(rt, &office, &mut one, "0 decided / 0 0 / 0 0 / ");
+    has_calls(rt, &one.front, 801);
     close(rt, office, &mut one.front);
 }
 
 #[test]
-fn two_threads_decide_and_retract(rt: HostRuntime) -> Result<(), Fail> {
+fn two_threads_decide_and_retract(rt: HostRuntime) {
     on_shared_office(&rt, DIAGRAM, 1000, Run::Rounds);
-    Ok(())
 }
 
 /// The serial of the change; or that of the one that came first.
@@ -185,16 +183,15 @@ fn race<L: Terms + Send + Sync, R: Threads + Wait + Abort + AllocGlobal + Sync>(
     let serials = try_at_once(rt, &office, one, other);
     assert!(rt; serials == [Ok(1), Err(1)] || serials == [Err(1), Ok(1)]);
     let mut third = joined(rt, &office);
-    assert_eq!(rt; third.front.len(), 3);
+    has_calls(rt, &third.front, 3);
     close(rt, office, &mut third.front);
 }
 
 #[test]
-fn two_threads_decide_one_feature(rt: HostRuntime) -> Result<(), Fail> {
+fn two_threads_decide_one_feature(rt: HostRuntime) {
     for _ in 0..20 {
         on_shared_office(&rt, DIAGRAM, 10, Run::Race);
     }
-    Ok(())
 }
 
 /// Holds the lifter in its first claim until a session was answered.
@@ -261,6 +258,25 @@ fn decide_and_sweep<L: Terms + Send + Sync, R: Threads + Wait + Abort + AllocGlo
     (token, harvest)
 }
 
+/// Commits a harvest behind the decision of this token.
+fn take_late<L: Terms, R: Wait + Abort + AllocGlobal>(
+    rt: &R,
+    office: &Office<L>,
+    seat: &mut Seat<L>,
+    harvest: Harvest,
+    token: Undo<L>,
+) {
+    commit(rt, office, seat, harvest, 2);
+    has_calls(rt, &seat.front, 3);
+    is_page(
+        rt,
+        office,
+        seat,
+        "1 decided / exclude f 1 by 2 / hopeful 0 0 1 / dual 1 0 1 / 1 0 / 0 1 / ",
+    );
+    keep(rt, office, seat, token);
+}
+
 /// A harvest comes after another session decided.
 fn commit_late<L: Terms + Send + Sync, R: Threads + Wait + Abort + AllocGlobal + Sync>(
     rt: &R,
@@ -275,21 +291,13 @@ fn commit_late<L: Terms + Send + Sync, R: Threads + Wait + Abort + AllocGlobal +
     };
     let (token, harvest) = decide_and_sweep(rt, &office, two, order, &gate);
     assert_eq!(rt; gate.passed.load(Ordering::SeqCst), 1);
-    assert_eq!(rt; commit(rt, &office, &mut one, harvest), 2);
-    assert_eq!(rt; one.front.len(), 3);
-    let page = page_text(rt, &office, &mut one);
-    assert_eq!(rt;
-        page.as_str(),
-        "1 decided / exclude f 1 by 2 / hopeful 0 0 1 / dual 1 0 1 / 1 0 / 0 1 / "
-    );
-    keep(rt, &office, &mut one, token);
+    take_late(rt, &office, &mut one, harvest, token);
     close(rt, office, &mut one.front);
 }
 
 #[test]
-fn a_harvest_comes_late(rt: HostRuntime) -> Result<(), Fail> {
+fn a_harvest_comes_late(rt: HostRuntime) {
     on_shared_office(&rt, DIAGRAM, 10, Run::Late);
-    Ok(())
 }
 
 /// Where the calls of a session stand in the log.
@@ -308,66 +316,63 @@ impl Places {
     }
 }
 
-/// A session at work on a feature of its own.
-#[derive(Drop)]
-struct Job<L: Terms> {
-    seat: Seat<L>,
-    feature: u16,
-}
-
-/// One round of the job: four calls.
+/// One round on a feature: four calls.
 fn round<L: Terms, R: Wait + Abort + AllocGlobal>(
     rt: &R,
     office: &Office<L>,
-    job: &mut Job<L>,
+    seat: &mut Seat<L>,
+    feature: u16,
     places: &mut Places,
 ) {
-    let token = decide(rt, office, &mut job.seat, job.feature, true);
-    places.note(rt, job.seat.front.len());
-    keep(rt, office, &mut job.seat, token);
-    places.note(rt, job.seat.front.len());
-    let token = retract(rt, office, &mut job.seat, job.feature);
-    places.note(rt, job.seat.front.len());
-    keep(rt, office, &mut job.seat, token);
-    places.note(rt, job.seat.front.len());
+    let token = decide(rt, office, seat, feature, true);
+    places.note(rt, seat.front.len());
+    keep(rt, office, seat, token);
+    places.note(rt, seat.front.len());
+    let token = retract(rt, office, seat, feature);
+    places.note(rt, seat.front.len());
+    keep(rt, office, seat, token);
+    places.note(rt, seat.front.len());
 }
 
-/// So many rounds, and the sum of the places of their calls, from 1.
+/// So many rounds on the feature of the session's number, and the sum of the places of their calls, from 1.
 fn places_of<L: Terms, R: Wait + Abort + AllocGlobal>(
     rt: &R,
     office: &Office<L>,
-    job: Job<L>,
+    seat: Seat<L>,
     count: u32,
 ) -> u64 {
-    let mut job = job;
+    let mut seat = seat;
     let mut places = Places { last: 0, sum: 0 };
+    let feature = seat.session.number() as u16;
     for _ in 0..count {
-        round(rt, office, &mut job, &mut places);
+        round(rt, office, &mut seat, feature, &mut places);
     }
     places.sum
 }
 
-/// A session for each of the features 1 to 8.
-fn eight_jobs<L: Terms, R: Wait + Abort + AllocGlobal>(rt: &R, office: &Office<L>) -> Vec<Job<L>> {
-    let mut jobs = Vec::new(rt.alloc());
-    for feature in 1..9u16 {
-        let seat = joined(rt, office);
-        match jobs.push(Job { seat, feature }) {
+/// Eight sessions, of the numbers 1 to 8.
+fn eight_seats<L: Terms, R: Wait + Abort + AllocGlobal>(
+    rt: &R,
+    office: &Office<L>,
+) -> Vec<Seat<L>> {
+    let mut seats = Vec::new(rt.alloc());
+    for _ in 0..8 {
+        match seats.push(joined(rt, office)) {
             Ok(()) => {}
             Err(_) => panic!(rt; "no memory"),
         }
     }
-    jobs
+    seats
 }
 
-/// The sum of the places of all calls of the jobs, each in a thread of its own.
+/// The sum of the places of all calls of the sessions, each in a thread of its own.
 fn places_of_all<L: Terms + Send + Sync, R: Threads + Wait + Abort + AllocGlobal + Sync>(
     rt: &R,
     office: &Office<L>,
-    jobs: Vec<Job<L>>,
+    seats: Vec<Seat<L>>,
     count: u32,
 ) -> u64 {
-    let Ok(sums) = thread::map_vec(rt, jobs, &|job| places_of(rt, office, job, count)) else {
+    let Ok(sums) = thread::map_vec(rt, seats, &|seat| places_of(rt, office, seat, count)) else {
         panic!(rt; "no memory")
     };
     let mut sum = 0u64;
@@ -382,17 +387,16 @@ fn eight_at_once<L: Terms + Send + Sync, R: Threads + Wait + Abort + AllocGlobal
     rt: &R,
     office: Office<L>,
 ) {
-    let jobs = eight_jobs(rt, &office);
-    assert_eq!(rt; places_of_all(rt, &office, jobs, 250), 32_004_000);
+    let seats = eight_seats(rt, &office);
+    let sum = places_of_all(rt, &office, seats, 250);
+    assert_eq!(rt; sum, 32_004_000);
     let mut last = joined(rt, &office);
-    assert_eq!(rt; last.front.len(), 8000);
-    let page = page_text(rt, &office, &mut last);
-    assert_eq!(rt; page.as_str(), "0 decided / 0 0 / 0 0 / ");
+    has_calls(rt, &last.front, 8000);
+    is_page(rt, &office, &mut last, "0 decided / 0 0 / 0 0 / ");
     close(rt, office, &mut last.front);
 }
 
 #[test]
-fn eight_threads_keep_order(rt: HostRuntime) -> Result<(), Fail> {
+fn eight_threads_keep_order(rt: HostRuntime) {
     on_shared_office(&rt, WIDE, 8001, Run::Eight);
-    Ok(())
 }

@@ -2,11 +2,11 @@
 ghost use Rattle.std.specs.Prelude.{◌≡◌, length};
 
 use crate::calls::{
-    Seat, close, decide, forget, joined, keep, not_redone, not_undone, order, redo, retract,
-    settled, still_open, uncommitted, undecided, undo, unretracted, verdict,
+    Seat, close, commit, decide, forget, has_calls, joined, keep, not_redone, not_undone, order,
+    redo, retract, settled, still_open, uncommitted, undecided, undo, unretracted, verdict,
 };
-use crate::offices::{DIAGRAM, F, G, Run, on_office};
-use crate::pages::{page_text, settle, settled_harvest};
+use crate::offices::{Calls, DIAGRAM, F, G, Run, on_office, on_open_office};
+use crate::pages::{is_page, settle, settled_harvest};
 use crate::threads::{Run as Shared, on_shared_office, rounds};
 use std::process::Abort;
 use std::sync::Wait;
@@ -15,6 +15,7 @@ use std::test::*;
 use std::thread;
 use std::thread::{Threads, join};
 use vpg_desk::{CommitFault, DecideFault, RedoFault, RetractFault, UndoFault};
+use vpg_measure::{Harvest, Order};
 use vpg_office::{Front, Office, Terms, read};
 use vpg_watch::{Watch, WatchFault};
 
@@ -52,7 +53,7 @@ fn sees_none<L: Terms>(rt: &impl Abort, watch: &mut Watch<Front<L>>) {
 }
 
 /// One session decides and another takes the page. A watch is at the decision, and so is one that is asked for then.
-fn see_two_sessions<L: Terms, R: Wait + Abort + AllocGlobal>(
+pub fn see_two_sessions<L: Terms, R: Wait + Abort + AllocGlobal>(
     rt: &R,
     office: &Office<L>,
     one: &mut Seat<L>,
@@ -62,26 +63,21 @@ fn see_two_sessions<L: Terms, R: Wait + Abort + AllocGlobal>(
     sees(rt, &mut watch, 0, false);
     let token = decide(rt, office, one, F, true);
     sees(rt, &mut watch, 1, false);
-    let page = page_text(rt, office, two);
-    assert_eq!(rt; page.as_str(), "1 decided / select f 1 by 1 / 0 0 / 0 0 / ");
+    is_page(
+        rt,
+        office,
+        two,
+        "1 decided / select f 1 by 1 / 0 0 / 0 0 / ",
+    );
     sees(rt, &mut watch, 1, false);
-    let mut second = watched(rt, office);
-    sees(rt, &mut second, 1, false);
+    sees(rt, &mut watched(rt, office), 1, false);
     keep(rt, office, one, token);
-}
-
-pub fn watch_two_sessions<L: Terms, R: Wait + Abort + AllocGlobal>(rt: &R, office: Office<L>) {
-    let mut one = joined(rt, &office);
-    let mut two = joined(rt, &office);
-    see_two_sessions(rt, &office, &mut one, &mut two);
-    assert_eq!(rt; one.front.len(), 3);
-    close(rt, office, &mut one.front);
+    has_calls(rt, &one.front, 3);
 }
 
 #[test]
-fn a_watch_is_at_the_last_change(rt: HostRuntime) -> Result<(), Fail> {
-    on_office(&rt, 10, Run::WatchTwo);
-    Ok(())
+fn a_watch_is_at_the_last_change(rt: HostRuntime) {
+    on_open_office(&rt, 10, Calls::WatchTwo);
 }
 
 /// Each change is seen, and it isn't seen that its token is kept.
@@ -97,7 +93,7 @@ fn see_changes<L: Terms, R: Wait + Abort + AllocGlobal>(
     sees(rt, watch, 2, false);
     let token = redo(rt, office, seat, token);
     sees(rt, watch, 3, false);
-    assert_eq!(rt; settle(rt, office, seat), 2);
+    settle(rt, office, seat, 2);
     sees(rt, watch, 5, true);
     let second = retract(rt, office, seat, F);
     sees(rt, watch, 6, false);
@@ -106,23 +102,23 @@ fn see_changes<L: Terms, R: Wait + Abort + AllocGlobal>(
     sees(rt, watch, 6, false);
 }
 
-/// What asks or is refused isn't seen.
+/// What asks or is refused isn't seen. It gives the order that was asked for.
 fn see_no_changes<L: Terms, R: Wait + Abort + AllocGlobal>(
     rt: &R,
     office: &Office<L>,
     seat: &mut Seat<L>,
     watch: &mut Watch<Front<L>>,
-)
+) -> Order
     requires { length L.game.vertices ≡ 2 }
 {
-    assert!(rt; settled(rt, office, &mut seat.session, &mut seat.front) == Ok(false));
-    assert!(rt; verdict(rt, office, seat, 0) == (false, false));
-    let page = page_text(rt, office, seat);
-    assert_eq!(rt; page.as_str(), "0 decided / 0 0 / 0 0 / ");
-    let _order = order(rt, office, seat);
-    assert!(rt; undecided(rt, office, seat, 3, true) == DecideFault::UnknownFeature);
-    assert!(rt; unretracted(rt, office, seat, F) == RetractFault::NotDecided);
+    settled(rt, office, &mut seat.session, &mut seat.front, Ok(false));
+    verdict(rt, office, seat, 0, false, false);
+    is_page(rt, office, seat, "0 decided / 0 0 / 0 0 / ");
+    let order = order(rt, office, seat);
+    undecided(rt, office, seat, 3, true, DecideFault::UnknownFeature);
+    unretracted(rt, office, seat, F, RetractFault::NotDecided);
     sees(rt, watch, 6, false);
+    order
 }
 
 /// Undos and redos that are refused aren't seen, nor that tokens are forgotten.
@@ -134,51 +130,72 @@ fn see_no_turns<L: Terms, R: Wait + Abort + AllocGlobal>(
 ) {
     let first = decide(rt, office, seat, F, true);
     let second = decide(rt, office, seat, G, true);
-    let (fault, first) = not_undone(rt, office, seat, first);
-    assert!(rt; fault == UndoFault::NotNewest { newest: 4 });
+    let not_newest = UndoFault::NotNewest { newest: 4 };
+    let first = not_undone(rt, office, seat, first, not_newest);
     sees(rt, watch, 16, false);
     let second = undo(rt, office, seat, second);
     let first = undo(rt, office, seat, first);
-    let (fault, second) = not_redone(rt, office, seat, second);
-    assert!(rt; fault == RedoFault::NotNext { next: 3 });
+    let not_next = RedoFault::NotNext { next: 3 };
+    let second = not_redone(rt, office, seat, second, not_next);
     forget(rt, office, seat, first);
     forget(rt, office, seat, second);
     sees(rt, watch, 19, false);
 }
 
-/// A harvest that is refused isn't seen.
+/// A harvest that is refused isn't seen. It comes back.
 fn see_no_harvest<L: Terms, R: Wait + Abort + AllocGlobal>(
     rt: &R,
     office: &Office<L>,
     seat: &mut Seat<L>,
     watch: &mut Watch<Front<L>>,
-) {
+) -> Harvest {
     let first = decide(rt, office, seat, F, false);
     let harvest = settled_harvest(rt, office, seat);
     let second = retract(rt, office, seat, F);
-    let (fault, _harvest) = uncommitted(rt, office, seat, harvest);
-    assert!(rt; fault == CommitFault::Outdated { feature: F });
+    let outdated = CommitFault::Outdated { feature: F };
+    let harvest = uncommitted(rt, office, seat, harvest, outdated);
     sees(rt, watch, 25, false);
     keep(rt, office, seat, second);
     keep(rt, office, seat, first);
+    harvest
 }
 
-pub fn watch_each_call<L: Terms, R: Wait + Abort + AllocGlobal>(rt: &R, office: Office<L>)
+/// The harvest is seen once its decision stands again, and so is a harvest that adds nothing.
+fn see_late_harvests<L: Terms, R: Wait + Abort + AllocGlobal>(
+    rt: &R,
+    office: &Office<L>,
+    seat: &mut Seat<L>,
+    watch: &mut Watch<Front<L>>,
+    harvest: Harvest,
+    order: Order,
+) {
+    let token = decide(rt, office, seat, F, false);
+    commit(rt, office, seat, harvest, 2);
+    sees(rt, watch, 30, true);
+    keep(rt, office, seat, token);
+    commit(rt, office, seat, Harvest::alone(order, 0), 0);
+    sees(rt, watch, 32, true);
+}
+
+/// A watch sees each change, and no other call.
+pub fn see_each_call<L: Terms, R: Wait + Abort + AllocGlobal>(
+    rt: &R,
+    office: &Office<L>,
+    seat: &mut Seat<L>,
+)
     requires { length L.game.vertices ≡ 2 }
 {
-    let mut seat = joined(rt, &office);
-    let mut watch = watched(rt, &office);
-    see_changes(rt, &office, &mut seat, &mut watch);
-    see_no_changes(rt, &office, &mut seat, &mut watch);
-    see_no_turns(rt, &office, &mut seat, &mut watch);
-    see_no_harvest(rt, &office, &mut seat, &mut watch);
-    close(rt, office, &mut seat.front);
+    let mut watch = watched(rt, office);
+    see_changes(rt, office, seat, &mut watch);
+    let order = see_no_changes(rt, office, seat, &mut watch);
+    see_no_turns(rt, office, seat, &mut watch);
+    let harvest = see_no_harvest(rt, office, seat, &mut watch);
+    see_late_harvests(rt, office, seat, &mut watch, harvest, order);
 }
 
 #[test]
-fn a_watch_sees_changes_alone(rt: HostRuntime) -> Result<(), Fail> {
-    on_office(&rt, 30, Run::WatchEach);
-    Ok(())
+fn a_watch_sees_changes_alone(rt: HostRuntime) {
+    on_open_office(&rt, 40, Calls::WatchEach);
 }
 
 /// An office that can't be closed goes on publishing. Once it is closed there is no sheet.
@@ -186,8 +203,7 @@ pub fn watch_closing<L: Terms, R: Wait + Abort + AllocGlobal>(rt: &R, office: Of
     let mut seat = joined(rt, &office);
     let mut watch = watched(rt, &office);
     let token = decide(rt, &office, &mut seat, F, true);
-    let (tokens, office) = still_open(rt, office, &mut seat.front);
-    assert_eq!(rt; tokens, 1);
+    let office = still_open(rt, office, &mut seat.front);
     sees(rt, &mut watch, 1, false);
     let token = undo(rt, &office, &mut seat, token);
     sees(rt, &mut watch, 2, false);
@@ -207,36 +223,42 @@ pub fn watch_ending<L: Terms, R: Wait + Abort + AllocGlobal>(rt: &R, office: Off
 }
 
 #[test]
-fn a_watch_ends_with_the_office(rt: HostRuntime) -> Result<(), Fail> {
+fn a_watch_ends_with_the_office(rt: HostRuntime) {
     on_office(&rt, 10, Run::WatchClosing);
     on_office(&rt, 10, Run::WatchEnding);
-    Ok(())
 }
 
-/// There are 64 watches and no more, until they are let go.
-fn fill_places<L: Terms, R: Wait + Abort + AllocGlobal>(rt: &R, office: &Office<L>) {
+/// So many watches.
+fn watches<L: Terms, R: Wait + Abort + AllocGlobal>(
+    rt: &R,
+    office: &Office<L>,
+    count: u32,
+) -> Vec<Watch<Front<L>>> {
     let mut watches = Vec::new(rt.alloc());
-    for _ in 0..64 {
+    for _ in 0..count {
         match watches.push(watched(rt, office)) {
             Ok(()) => {}
             Err(_) => panic!(rt; "no memory"),
         }
     }
+    watches
+}
+
+/// There is no further watch beside the 64 that there are.
+fn no_watch_beside_64<L: Terms, R: Wait + Abort + AllocGlobal>(rt: &R, office: &Office<L>) {
+    let _watches = watches(rt, office, 64);
     assert!(rt; try_watch(rt, office).is_none());
-    drop(watches);
+}
+
+/// There are 64 watches and no more, until they are let go.
+pub fn fill_places<L: Terms, R: Wait + Abort + AllocGlobal>(rt: &R, office: &Office<L>) {
+    no_watch_beside_64(rt, office);
     assert!(rt; try_watch(rt, office).is_some());
 }
 
-pub fn watch_often<L: Terms, R: Wait + Abort + AllocGlobal>(rt: &R, office: Office<L>) {
-    let mut front = joined(rt, &office).front;
-    fill_places(rt, &office);
-    close(rt, office, &mut front);
-}
-
 #[test]
-fn the_last_watch_is_the_64th(rt: HostRuntime) -> Result<(), Fail> {
-    on_office(&rt, 1, Run::WatchOften);
-    Ok(())
+fn the_last_watch_is_the_64th(rt: HostRuntime) {
+    on_open_office(&rt, 1, Calls::WatchOften);
 }
 
 /// A feature is decided and retracted 500 times, and then it is told that this has ended.
@@ -252,12 +274,15 @@ fn change_often<L: Terms, R: Wait + Abort + AllocGlobal>(
 }
 
 /// Reads until the changes have ended, and then once more. No sheet is of fewer calls than the one before.
-fn read_on<L: Terms, R: Wait + Abort>(rt: &R, watch: Watch<Front<L>>, ended: &AtomicU64) -> u32 {
-    let mut watch = watch;
+fn read_on<L: Terms, R: Wait + Abort>(
+    rt: &R,
+    watch: &mut Watch<Front<L>>,
+    ended: &AtomicU64,
+) -> u32 {
     let mut last = 0;
     for _ in rt.forever() {
         let has_ended = ended.load(Ordering::SeqCst) != 0;
-        let Some((at, _)) = told(&mut watch) else {
+        let Some((at, _)) = told(watch) else {
             panic!(rt; "no sheet")
         };
         assert!(rt; last <= at);
@@ -270,13 +295,22 @@ fn read_on<L: Terms, R: Wait + Abort>(rt: &R, watch: Watch<Front<L>>, ended: &At
     unreachable!()
 }
 
+/// As `read_on`, by a watch of its own.
+fn read_alone<L: Terms, R: Wait + Abort>(
+    rt: &R,
+    mut watch: Watch<Front<L>>,
+    ended: &AtomicU64,
+) -> u32 {
+    read_on(rt, &mut watch, ended)
+}
+
 /// What each watch reads last, in a thread of its own.
 fn read_all<L: Terms + Send + Sync, R: Threads + Wait + Abort + Sync>(
     rt: &R,
     watches: Vec<Watch<Front<L>>>,
     ended: &AtomicU64,
 ) -> Vec<u32> {
-    match thread::map_vec(rt, watches, &|watch| read_on(rt, watch, ended)) {
+    match thread::map_vec(rt, watches, &|watch| read_alone(rt, watch, ended)) {
         Ok(lasts) => lasts,
         Err(_) => panic!(rt; "no memory"),
     }
@@ -298,34 +332,19 @@ fn change_and_read<L: Terms + Send + Sync, R: Threads + Wait + Abort + AllocGlob
     (seat, lasts)
 }
 
-fn eight_watches<L: Terms, R: Wait + Abort + AllocGlobal>(
-    rt: &R,
-    office: &Office<L>,
-) -> Vec<Watch<Front<L>>> {
-    let mut watches = Vec::new(rt.alloc());
-    for _ in 0..8 {
-        match watches.push(watched(rt, office)) {
-            Ok(()) => {}
-            Err(_) => panic!(rt; "no memory"),
-        }
-    }
-    watches
-}
-
 /// Eight watches, each in a thread of its own, read 1,000 changes and end with the last.
 pub fn watch_at_once<L: Terms + Send + Sync, R: Threads + Wait + Abort + AllocGlobal + Sync>(
     rt: &R,
     office: Office<L>,
 ) {
     let seat = joined(rt, &office);
-    let watches = eight_watches(rt, &office);
+    let watches = watches(rt, &office, 8);
     let (mut seat, lasts) = change_and_read(rt, &office, seat, watches);
     assert!(rt; lasts.as_slice() == [1999; 8].as_slice());
     close(rt, office, &mut seat.front);
 }
 
 #[test]
-fn eight_watches_never_go_back(rt: HostRuntime) -> Result<(), Fail> {
+fn eight_watches_never_go_back(rt: HostRuntime) {
     on_shared_office(&rt, DIAGRAM, 2000, Shared::Watch);
-    Ok(())
 }
