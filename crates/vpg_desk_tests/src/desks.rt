@@ -6,18 +6,15 @@ use std::process::Abort;
 use std::sync::Arc;
 use std::test::*;
 use vpg_desk::{
-    CommitFault, DecideFault, Desk, OpenFault, Redo, RedoFault, RedoRefused, RetractFault, Undo,
-    UndoFault, UndoRefused,
+    CommitFault, DecideFault, Desk, OpenFault, OpenRefused, Redo, RedoFault, RedoRefused,
+    RetractFault, TokensOut, Undo, UndoFault, UndoRefused,
 };
 use vpg_diagram::Diagram;
 use vpg_game::GuardedGame;
 use vpg_measure::{Harvest, Order, Verdict, Which};
 
-// Each function that lets a desk, an order or a harvest go itself takes the prover seconds; so all call these.
-
-fn let_go(_desk: Desk) {}
-
-fn let_order_go(_order: Order) {}
+// A function that lets a desk, an order or a harvest go takes the prover seconds, and so does each way of letting one go: so desks are
+// closed, and harvests committed.
 
 /// The diagram and the game of most examples.
 const DIAGRAM: &[u8] = b"root r\noptional r f\noptional r g\n";
@@ -28,40 +25,42 @@ const F: u16 = 1;
 
 const G: u16 = 2;
 
-fn read_diagram(alloc: Global, text: &[u8]) -> Option<Diagram> {
-    Diagram::read(alloc, text).ok()
-}
-
-fn read_game(alloc: Global, text: &[u8], diagram: &Diagram) -> Option<GuardedGame> {
-    GuardedGame::read(alloc, text, diagram.names()).ok()
-}
-
-/// A desk on these texts, or why there is none.
-fn open(alloc: Global, game: &[u8], diagram: &[u8]) -> Option<Result<Desk, OpenFault>> {
-    let diagram = read_diagram(alloc, diagram)?;
-    let game = read_game(alloc, game, &diagram)?;
-    open_on(alloc, game, diagram)
-}
-
-fn open_on(alloc: Global, game: GuardedGame, diagram: Diagram) -> Option<Result<Desk, OpenFault>> {
-    if game.features() != diagram.features() {
-        return None;
-    }
-    let game = Arc::new(alloc, game).ok()?;
-    let diagram = Arc::new(alloc, diagram).ok()?;
-    match Desk::open(alloc, game, diagram) {
-        Ok(desk) => Some(Ok(desk)),
-        Err(refused) => {
-            let same = refused.game.features() == refused.diagram.features();
-            if same { Some(Err(refused.fault)) } else { None }
-        }
+fn diagram_of(rt: &(impl Abort + AllocGlobal), text: &[u8]) -> Diagram {
+    match Diagram::read(rt.alloc(), text) {
+        Ok(diagram) => diagram,
+        Err(_) => panic!(rt; "no diagram"),
     }
 }
 
+fn game_of(rt: &(impl Abort + AllocGlobal), text: &[u8], diagram: &Diagram) -> GuardedGame {
+    match GuardedGame::read(rt.alloc(), text, diagram.names()) {
+        Ok(game) => game,
+        Err(_) => panic!(rt; "no game"),
+    }
+}
+
+fn open_on(
+    rt: &(impl Abort + AllocGlobal),
+    game: GuardedGame,
+    diagram: Diagram,
+) -> Result<Desk, OpenRefused> {
+    assert!(rt; game.features() == diagram.features());
+    let Ok(game) = Arc::new(rt.alloc(), game) else {
+        panic!(rt; "no memory")
+    };
+    let Ok(diagram) = Arc::new(rt.alloc(), diagram) else {
+        panic!(rt; "no memory")
+    };
+    Desk::open(rt.alloc(), game, diagram)
+}
+
+/// A desk on these texts.
 fn desk_on(rt: &(impl Abort + AllocGlobal), game: &[u8], diagram: &[u8]) -> Desk {
-    match open(rt.alloc(), game, diagram) {
-        Some(Ok(desk)) => desk,
-        _ => panic!(rt; "no desk"),
+    let diagram = diagram_of(rt, diagram);
+    let game = game_of(rt, game, &diagram);
+    match open_on(rt, game, diagram) {
+        Ok(desk) => desk,
+        Err(_) => panic!(rt; "no desk"),
     }
 }
 
@@ -97,35 +96,41 @@ fn settled_order(order: Order) -> Harvest {
 fn decide(rt: &(impl Abort + AllocGlobal), desk: &mut Desk, feature: u16, value: bool) -> Undo {
     match try_decide(rt.alloc(), desk, feature, value) {
         Ok(token) => token,
-        Err(fault) => panic!(rt; "{fault}"),
+        Err(_) => panic!(rt; "refused"),
     }
 }
 
-/// Why a feature isn't decided.
+/// A feature isn't decided, for this reason.
 fn undecided(
     rt: &(impl Abort + AllocGlobal),
     desk: &mut Desk,
     feature: u16,
     value: bool,
-) -> DecideFault {
+    expected: DecideFault,
+) {
     match try_decide(rt.alloc(), desk, feature, value) {
         Ok(_) => panic!(rt; "decided"),
-        Err(fault) => fault,
+        Err(fault) => assert!(rt; fault == expected),
     }
 }
 
 fn retract(rt: &(impl Abort + AllocGlobal), desk: &mut Desk, feature: u16) -> Undo {
     match try_retract(rt.alloc(), desk, 2, feature) {
         Ok(token) => token,
-        Err(fault) => panic!(rt; "{fault}"),
+        Err(_) => panic!(rt; "refused"),
     }
 }
 
-/// Why a decision isn't retracted.
-fn unretracted(rt: &(impl Abort + AllocGlobal), desk: &mut Desk, feature: u16) -> RetractFault {
+/// A decision isn't retracted, for this reason.
+fn unretracted(
+    rt: &(impl Abort + AllocGlobal),
+    desk: &mut Desk,
+    feature: u16,
+    expected: RetractFault,
+) {
     match try_retract(rt.alloc(), desk, 1, feature) {
         Ok(_) => panic!(rt; "retracted"),
-        Err(fault) => fault,
+        Err(fault) => assert!(rt; fault == expected),
     }
 }
 
@@ -157,14 +162,14 @@ fn try_redo(
 fn undo(rt: &(impl Abort + AllocGlobal), desk: &mut Desk, token: Undo) -> Redo {
     match try_undo(rt, desk, token) {
         Ok(token) => token,
-        Err((fault, _)) => panic!(rt; "{fault}"),
+        Err(_) => panic!(rt; "refused"),
     }
 }
 
 fn redo(rt: &(impl Abort + AllocGlobal), desk: &mut Desk, token: Redo) -> Undo {
     match try_redo(rt, desk, token) {
         Ok(token) => token,
-        Err((fault, _)) => panic!(rt; "{fault}"),
+        Err(_) => panic!(rt; "refused"),
     }
 }
 
@@ -205,23 +210,31 @@ fn commit(
     }
 }
 
-fn added(rt: &(impl Abort + AllocGlobal), desk: &mut Desk, harvest: Harvest) -> u32 {
+/// A harvest adds so many entries.
+fn add(rt: &(impl Abort + AllocGlobal), desk: &mut Desk, harvest: Harvest, expected: u32) {
     match commit(rt, desk, harvest) {
-        Ok(added) => added,
-        Err((fault, _)) => panic!(rt; "{fault}"),
+        Ok(added) => assert!(rt; added == expected),
+        Err(_) => panic!(rt; "refused"),
     }
 }
 
-fn settle(rt: &(impl Abort + AllocGlobal), desk: &mut Desk) -> u32 {
+/// Lifts the present page until both tables are settled, which adds so many entries.
+fn settle(rt: &(impl Abort + AllocGlobal), desk: &mut Desk, expected: u32) {
     let harvest = settled_order(order(rt, desk));
-    added(rt, desk, harvest)
+    add(rt, desk, harvest, expected);
 }
 
-/// One vertex of the present page's first table lifted once.
-fn lift(rt: &(impl Abort + AllocGlobal), desk: &mut Desk, v: u32) -> u32 {
+/// An order of the present page, with a vertex of the first table lifted once.
+fn lifted(rt: &(impl Abort + AllocGlobal), desk: &Desk, v: u32) -> Harvest {
     let order = order(rt, desk);
     assert!(rt; (v as usize) < order.game().vertices());
-    added(rt, desk, Harvest::one(order, Which::Hopeful, v))
+    Harvest::one(order, Which::Hopeful, v)
+}
+
+/// Lifts a vertex of the present page's first table once, which adds an entry.
+fn lift(rt: &(impl Abort + AllocGlobal), desk: &mut Desk, v: u32) {
+    let harvest = lifted(rt, desk, v);
+    add(rt, desk, harvest, 1);
 }
 
 /// How many entries the present page has, and its two tables.
@@ -239,41 +252,46 @@ fn page(rt: &(impl Abort + AllocGlobal), desk: &Desk) -> (usize, [u64; 2], [u64;
     )
 }
 
-fn verdict(rt: &(impl Abort + AllocGlobal), desk: &Desk, v: u32) -> Verdict {
-    let order = order(rt, desk);
-    assert!(rt; (v as usize) < order.game().vertices());
-    let verdict = desk.verdict(v);
-    let_order_go(order);
-    verdict
+fn verdict(rt: &impl Abort, desk: &Desk, v: u32) -> Verdict {
+    assert!(rt; (v as usize) < desk.game().vertices());
+    desk.verdict(v)
 }
 
-fn fault_of(opened: Option<Result<Desk, OpenFault>>) -> Option<OpenFault> {
-    opened?.err()
+/// Why there is no desk. The game and the diagram come back, and fit together as before.
+fn fault_of(rt: &impl Abort, opened: Result<Desk, OpenRefused>) -> OpenFault {
+    match opened {
+        Ok(_) => panic!(rt; "a desk"),
+        Err(refused) => {
+            assert!(rt; refused.game.features() == refused.diagram.features());
+            refused.fault
+        }
+    }
+}
+
+fn open_in_conflict(rt: &(impl Abort + AllocGlobal)) -> OpenFault {
+    let diagram = diagram_of(rt, b"root r\nmandatory r a\nexcludes r a\n");
+    let game = game_of(rt, b"0 0 0 0;", &diagram);
+    fault_of(rt, open_on(rt, game, diagram))
 }
 
 /// The dual of a game of the greatest priority that is read.
-fn dual_at_limit(alloc: Global, diagram: &Diagram) -> Option<GuardedGame> {
-    let game = read_game(alloc, b"0 65535 0 0;", diagram)?;
-    game.dual(alloc).ok()
+fn dual_at_limit(rt: &(impl Abort + AllocGlobal), diagram: &Diagram) -> GuardedGame {
+    match game_of(rt, b"0 65535 0 0;", diagram).dual(rt.alloc()) {
+        Ok(dual) => dual,
+        Err(_) => panic!(rt; "no dual"),
+    }
 }
 
-fn open_at_limit(alloc: Global) -> Option<Result<Desk, OpenFault>> {
-    let diagram = read_diagram(alloc, DIAGRAM)?;
-    let dual = dual_at_limit(alloc, &diagram)?;
-    open_on(alloc, dual, diagram)
+fn open_at_limit(rt: &(impl Abort + AllocGlobal)) -> OpenFault {
+    let diagram = diagram_of(rt, DIAGRAM);
+    let dual = dual_at_limit(rt, &diagram);
+    fault_of(rt, open_on(rt, dual, diagram))
 }
 
 #[test]
-fn openings_are_refused(rt: HostRuntime) -> Result<(), Fail> {
-    let in_conflict = open(
-        rt.alloc(),
-        b"0 0 0 0;",
-        b"root r\nmandatory r a\nexcludes r a\n",
-    );
-    let conflict = OpenFault::Conflict { feature: 0 };
-    assert!(&rt; fault_of(in_conflict) == Some(conflict));
-    assert!(&rt; fault_of(open_at_limit(rt.alloc())) == Some(OpenFault::AtLimit));
-    Ok(())
+fn openings_are_refused(rt: HostRuntime) {
+    assert!(&rt; open_in_conflict(&rt) == OpenFault::Conflict { feature: 0 });
+    assert!(&rt; open_at_limit(&rt) == OpenFault::AtLimit);
 }
 
 /// The token of a change that can't be redone, for another was made since.
@@ -287,34 +305,39 @@ fn overtaken(rt: &(impl Abort + AllocGlobal), desk: &mut Desk, token: Redo) -> R
     }
 }
 
-/// The number of tokens of a desk that can't be closed, and the desk.
-fn still_open(rt: &(impl Abort + AllocGlobal), desk: Desk) -> (u64, Desk) {
+/// The desk that can't be closed, since just one token is out.
+fn still_open(rt: &impl Abort, desk: Desk) -> Desk {
     match desk.close() {
         Ok(()) => panic!(rt; "closed"),
-        Err(out) => (out.tokens, out.desk),
+        Err(TokensOut { tokens, desk }) => {
+            assert!(rt; tokens == 1);
+            desk
+        }
     }
 }
 
 /// Closes a desk with no token out.
-fn close(rt: &(impl Abort + AllocGlobal), desk: Desk) {
+fn close(rt: &impl Abort, desk: Desk) {
     match desk.close() {
         Ok(()) => {}
-        Err(out) => {
-            let_go(out.desk);
-            panic!(rt; "tokens out")
-        }
+        Err(_) => panic!(rt; "tokens out"),
     }
 }
 
 // What a test does with a desk stands in a function that borrows it: one that owns it pays for each of its steps.
 
+/// The token is that of the change of this serial.
+fn is_change(rt: &impl Abort, token: &Undo, serial: u64) {
+    assert!(rt; token.serial() == serial);
+}
+
 /// Decides and undoes a feature, and decides another: the token of the second change, and the overtaken one of the first.
 fn overtake(rt: &(impl Abort + AllocGlobal), desk: &mut Desk) -> (Undo, Redo) {
     let first = decide(rt, desk, F, true);
-    assert!(rt; first.serial() == 1);
+    is_change(rt, &first, 1);
     let first = undo(rt, desk, first);
     let second = decide(rt, desk, G, true);
-    assert!(rt; second.serial() == 2);
+    is_change(rt, &second, 2);
     let first = overtaken(rt, desk, first);
     (second, first)
 }
@@ -327,14 +350,12 @@ fn keep_second(rt: &(impl Abort + AllocGlobal), desk: &mut Desk) -> Redo {
 }
 
 #[test]
-fn tokens_are_spent(rt: HostRuntime) -> Result<(), Fail> {
+fn tokens_are_spent(rt: HostRuntime) {
     let mut desk = desk(&rt);
     let first = keep_second(&rt, &mut desk);
-    let (tokens, mut desk) = still_open(&rt, desk);
+    let mut desk = still_open(&rt, desk);
     forget(&rt, &mut desk, first);
     close(&rt, desk);
-    assert!(&rt; tokens == 1);
-    Ok(())
 }
 
 /// Spends both tokens, the overtaken one first.
@@ -345,11 +366,10 @@ fn spend_both(rt: &(impl Abort + AllocGlobal), desk: &mut Desk) {
 }
 
 #[test]
-fn a_desk_closes_once_no_token_is_out(rt: HostRuntime) -> Result<(), Fail> {
+fn a_desk_closes_once_no_token_is_out(rt: HostRuntime) {
     let mut desk = desk(&rt);
     spend_both(&rt, &mut desk);
     close(&rt, desk);
-    Ok(())
 }
 
 /// Decides the first of two alternatives, and is refused what doesn't go with it.
@@ -361,74 +381,66 @@ fn decide_one_of_two(rt: &(impl Abort + AllocGlobal), desk: &mut Desk) {
         (1, DecideFault::AlreadyDecided { serial: 1 }),
         (2, DecideFault::Conflict { feature: 2 }),
     ] {
-        assert!(rt; undecided(rt, desk, feature, true) == fault);
+        undecided(rt, desk, feature, true, fault);
     }
-    assert!(rt; unretracted(rt, desk, 3) == RetractFault::UnknownFeature);
+    unretracted(rt, desk, 3, RetractFault::UnknownFeature);
 }
 
 #[test]
-fn decisions_are_refused(rt: HostRuntime) -> Result<(), Fail> {
+fn decisions_are_refused(rt: HostRuntime) {
     let mut desk = desk_on(&rt, b"0 0 0 0;", b"root r\nalternative r: a b\n");
     decide_one_of_two(&rt, &mut desk);
-    let_go(desk);
-    Ok(())
+    close(&rt, desk);
 }
 
-/// Whether the present page has so many entries and these tables.
+/// The present page has so many entries and these tables.
 fn is_page(
     rt: &(impl Abort + AllocGlobal),
     desk: &Desk,
     entries: usize,
     hopeful: [u64; 2],
     dual: [u64; 2],
-) -> bool {
-    page(rt, desk) == (entries, hopeful, dual)
+) {
+    assert!(rt; page(rt, desk) == (entries, hopeful, dual));
 }
 
 /// Settles, undoes and redoes a change, with a lift between.
 fn turn_pages(rt: &(impl Abort + AllocGlobal), desk: &mut Desk) {
     let change = decide(rt, desk, F, false);
-    assert!(rt; settle(rt, desk) == 2);
+    settle(rt, desk, 2);
     let change = undo(rt, desk, change);
-    assert!(rt; is_page(rt, desk, 0, [0, 0], [0, 0]));
-    assert!(rt; lift(rt, desk, 0) == 1);
+    is_page(rt, desk, 0, [0, 0], [0, 0]);
+    lift(rt, desk, 0);
     let change = redo(rt, desk, change);
-    assert!(rt; is_page(rt, desk, 3, [2, 0], [0, 1]));
+    is_page(rt, desk, 3, [2, 0], [0, 1]);
     assert!(rt; desk.settled());
     let change = undo(rt, desk, change);
-    assert!(rt; is_page(rt, desk, 1, [1, 0], [0, 0]));
+    is_page(rt, desk, 1, [1, 0], [0, 0]);
     forget(rt, desk, change);
 }
 
 #[test]
-fn pages_come_back(rt: HostRuntime) -> Result<(), Fail> {
+fn pages_come_back(rt: HostRuntime) {
     let mut desk = desk(&rt);
     turn_pages(&rt, &mut desk);
     close(&rt, desk);
-    Ok(())
 }
 
-/// Whether a vertex has this verdict.
-fn is_verdict(
-    rt: &(impl Abort + AllocGlobal),
-    desk: &Desk,
-    v: u32,
-    hopeless: bool,
-    sure: bool,
-) -> bool {
-    verdict(rt, desk, v) == Verdict { hopeless, sure }
+/// A vertex has this verdict.
+fn is_verdict(rt: &impl Abort, desk: &Desk, v: u32, hopeless: bool, sure: bool) {
+    assert!(rt; verdict(rt, desk, v) == Verdict { hopeless, sure });
 }
 
 /// Settles, retracts the first of two decisions, and settles again.
 fn settle_and_retract(rt: &(impl Abort + AllocGlobal), desk: &mut Desk) -> Undo {
-    assert!(rt; settle(rt, desk) == 3);
-    assert!(rt; is_verdict(rt, desk, 0, false, true));
+    settle(rt, desk, 3);
+    is_verdict(rt, desk, 0, false, true);
     let back = retract(rt, desk, F);
-    assert!(rt; is_page(rt, desk, 1, [0, 0], [0, 0]));
+    is_page(rt, desk, 1, [0, 0], [0, 0]);
     assert!(rt; !desk.settled());
-    assert!(rt; settle(rt, desk) == 2);
-    assert!(rt; is_verdict(rt, desk, 0, false, false));
-    assert!(rt; unretracted(rt, desk, F) == RetractFault::NotDecided);
+    settle(rt, desk, 2);
+    is_verdict(rt, desk, 0, false, false);
+    unretracted(rt, desk, F, RetractFault::NotDecided);
     back
 }
 
@@ -443,22 +455,25 @@ fn retract_first(rt: &(impl Abort + AllocGlobal), desk: &mut Desk) {
 }
 
 #[test]
-fn retracting_drops_what_was_assumed(rt: HostRuntime) -> Result<(), Fail> {
+fn retracting_drops_what_was_assumed(rt: HostRuntime) {
     let mut desk = desk(&rt);
     retract_first(&rt, &mut desk);
     close(&rt, desk);
-    Ok(())
 }
 
-/// The fault of a harvest that a desk refuses, and the harvest.
+/// A harvest that a desk refuses, for this reason.
 fn refused(
     rt: &(impl Abort + AllocGlobal),
     desk: &mut Desk,
     harvest: Harvest,
-) -> (CommitFault, Harvest) {
+    expected: CommitFault,
+) -> Harvest {
     match commit(rt, desk, harvest) {
         Ok(_) => panic!(rt; "committed"),
-        Err(refused) => refused,
+        Err((fault, harvest)) => {
+            assert!(rt; fault == expected);
+            harvest
+        }
     }
 }
 
@@ -491,28 +506,17 @@ fn decide_often(rt: &(impl Abort + AllocGlobal), desk: &mut Desk) {
 /// Hands in a harvest while its decision doesn't stand, and once it stands again.
 fn hand_in_late(rt: &(impl Abort + AllocGlobal), desk: &mut Desk) {
     let harvest = late_harvest(rt, desk);
-    let (fault, harvest) = refused(rt, desk, harvest);
-    assert!(rt; fault == CommitFault::Outdated { feature: F });
+    let harvest = refused(rt, desk, harvest, CommitFault::Outdated { feature: F });
     decide_often(rt, desk);
-    assert!(rt; added(rt, desk, harvest) == 2);
+    add(rt, desk, harvest, 2);
 }
 
 #[test]
-fn harvests_come_late(rt: HostRuntime) -> Result<(), Fail> {
+fn harvests_come_late(rt: HostRuntime) {
     let mut desk = desk(&rt);
     hand_in_late(&rt, &mut desk);
-    let late = is_page(&rt, &desk, 3, [2, 0], [0, 1]);
-    let_go(desk);
-    assert!(&rt; late);
-    Ok(())
-}
-
-/// The harvest of a desk on these texts.
-fn harvest_of(rt: &(impl Abort + AllocGlobal), game: &[u8], diagram: &[u8]) -> Harvest {
-    let desk = desk_on(rt, game, diagram);
-    let harvest = settled_order(order(rt, &desk));
-    let_go(desk);
-    harvest
+    is_page(&rt, &desk, 3, [2, 0], [0, 1]);
+    close(&rt, desk);
 }
 
 /// How many vertices the harvest's game has, and how many clauses its diagram.
@@ -521,35 +525,40 @@ fn sizes(harvest: &Harvest) -> (usize, usize) {
     (order.game().vertices(), order.diagram().clauses().len())
 }
 
-/// Whether the harvest of another game or diagram is refused as such, and comes back with these sizes.
+/// The harvest of another desk is refused as such, and comes back whole: with these sizes, and to add so many entries there.
 fn is_other(
     rt: &(impl Abort + AllocGlobal),
     desk: &mut Desk,
-    harvest: Harvest,
+    other: &mut Desk,
     expected: (usize, usize),
-) -> bool {
-    let (fault, harvest) = refused(rt, desk, harvest);
-    let same = sizes(&harvest) == expected;
-    let_order_go(harvest.again());
-    same && fault == CommitFault::OtherGame
+    entries: u32,
+) {
+    let harvest = settled_order(order(rt, other));
+    let harvest = refused(rt, desk, harvest, CommitFault::OtherGame);
+    assert!(rt; sizes(&harvest) == expected);
+    add(rt, other, harvest, entries);
 }
 
-/// Whether a harvest of another game and one of another diagram are refused.
-fn are_others(rt: &(impl Abort + AllocGlobal), desk: &mut Desk) -> bool {
-    let harvest = harvest_of(rt, b"parity 0; 0 0 0 0[f];", DIAGRAM);
-    let game = is_other(rt, desk, harvest, (1, 3));
-    let harvest = harvest_of(rt, GAME, b"root r\noptional r f\nmandatory r g\n");
-    let diagram = is_other(rt, desk, harvest, (2, 4));
-    game && diagram
+/// A harvest of another game is refused.
+fn is_other_game(rt: &(impl Abort + AllocGlobal), desk: &mut Desk) {
+    let mut other = desk_on(rt, b"parity 0; 0 0 0 0[f];", DIAGRAM);
+    is_other(rt, desk, &mut other, (1, 3), 0);
+    close(rt, other);
+}
+
+/// A harvest of another diagram is refused.
+fn is_other_diagram(rt: &(impl Abort + AllocGlobal), desk: &mut Desk) {
+    let mut other = desk_on(rt, GAME, b"root r\noptional r f\nmandatory r g\n");
+    is_other(rt, desk, &mut other, (2, 4), 2);
+    close(rt, other);
 }
 
 #[test]
-fn harvests_of_other_games_come_back(rt: HostRuntime) -> Result<(), Fail> {
+fn harvests_of_other_games_come_back(rt: HostRuntime) {
     let mut desk = desk(&rt);
-    let others = are_others(&rt, &mut desk);
-    let_go(desk);
-    assert!(&rt; others);
-    Ok(())
+    is_other_game(&rt, &mut desk);
+    is_other_diagram(&rt, &mut desk);
+    close(&rt, desk);
 }
 
 /// Decides, undoes and forgets as often as a desk can.
@@ -562,11 +571,9 @@ fn change_often(rt: &(impl Abort + AllocGlobal), desk: &mut Desk) {
 }
 
 #[test]
-fn changes_are_limited(rt: HostRuntime) -> Result<(), Fail> {
+fn changes_are_limited(rt: HostRuntime) {
     let mut desk = desk(&rt);
     change_often(&rt, &mut desk);
-    let fault = undecided(&rt, &mut desk, F, true);
-    let_go(desk);
-    assert!(&rt; fault == DecideFault::TooManyChanges);
-    Ok(())
+    undecided(&rt, &mut desk, F, true, DecideFault::TooManyChanges);
+    close(&rt, desk);
 }

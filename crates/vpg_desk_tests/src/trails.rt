@@ -181,24 +181,45 @@ fn assumed(alloc: Global, decisions: &[Decision]) -> Result<Arc<Assumed>, AllocE
     Ok(Arc::new(alloc, Assumed::new(literals))?)
 }
 
-/// Two decisions; a lift that assumed both, and two lifts that assumed the first alone, one of them of the same vertex.
-fn two_decisions(alloc: Global) -> Result<Trail, AllocError> {
+// What is done with a trail stands in functions that borrow it: one that owns it pays for each of its exits.
+
+/// Raises a vertex by a lift that assumed both, and two by lifts that assumed the first alone, one of them the same vertex.
+fn raise_after_both(
+    trail: &mut Trail,
+    both: &Arc<Assumed>,
+    first: &Arc<Assumed>,
+) -> Result<(), AllocError> {
+    raise(trail, Which::Hopeful, 0, 1, both)?;
+    raise(trail, Which::Hopeful, 0, 2, first)?;
+    raise(trail, Which::Dual, 1, 1, first)
+}
+
+/// Puts the second decision and its lifts behind the first.
+fn decide_second(alloc: Global, trail: &mut Trail) -> Result<(), AllocError> {
+    trail.append(Entry::Decide(IN))?;
     let both = assumed(alloc, &[OUT, IN])?;
     let first = assumed(alloc, &[OUT])?;
+    raise_after_both(trail, &both, &first)
+}
+
+/// Two decisions; a lift that assumed both, and two lifts that assumed the first alone, one of them of the same vertex.
+fn two_decisions(alloc: Global) -> Result<Trail, AllocError> {
     let mut trail = decided_trail(alloc, OUT)?;
-    trail.append(Entry::Decide(IN))?;
-    raise(&mut trail, Which::Hopeful, 0, 1, &both)?;
-    raise(&mut trail, Which::Hopeful, 0, 2, &first)?;
-    raise(&mut trail, Which::Dual, 1, 1, &first)?;
+    decide_second(alloc, &mut trail)?;
     Ok(trail)
+}
+
+/// Raises two vertices by lifts that assumed nothing.
+fn raise_alone(alloc: Global, trail: &mut Trail) -> Result<(), AllocError> {
+    let none = assumed(alloc, &[])?;
+    raise(trail, Which::Hopeful, 0, 1, &none)?;
+    raise(trail, Which::Dual, 1, 1, &none)
 }
 
 /// A decision, and two lifts that assumed nothing.
 fn one_decision(alloc: Global) -> Result<Trail, AllocError> {
-    let none = assumed(alloc, &[])?;
     let mut trail = decided_trail(alloc, OUT)?;
-    raise(&mut trail, Which::Hopeful, 0, 1, &none)?;
-    raise(&mut trail, Which::Dual, 1, 1, &none)?;
+    raise_alone(alloc, &mut trail)?;
     Ok(trail)
 }
 
