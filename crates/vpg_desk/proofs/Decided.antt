@@ -1,5 +1,5 @@
 -- What a desk answers to a decide, and what an accepted one leaves.
-use Rattle.std.proofs.Common.{◌≡◌, ℕ, ◌+◌, ◌<◌, ◌≤◌, Bool, false, List, [], ◌∷◌, ◌++◌, Some, None, IfSome, refl, sym, ap, ◌∙◌, subst, arith, Vec, Global}
+use Rattle.std.proofs.Common.{◌≡◌, ℕ, ◌+◌, ◌<◌, ◌≤◌, Bool, List, [], ◌∷◌, ◌++◌, Some, None, IfSome, IsTrue, refl, sym, ap, ◌∙◌, subst, arith, Vec, Global}
 use Rattle.std.specs.Arc.{arc_value}
 use Rattle.std.specs.declared.sync.Arc.{Arc}
 use Rattle.std.specs.List.{AllByRecursion}
@@ -29,7 +29,7 @@ use Rattle.vpg_desk.specs.declared.fault.DecideFault.{DecideFault}
 use Rattle.vpg_desk.specs.declared.fault.DecideFault.TheVariants.{UnknownFeature as IsUnknown, AlreadyDecided as IsDecided, Conflict as InConflict, TooManyChanges as IsTooMany, Memory}
 use Rattle.vpg_desk.proofs.Answering.{tells}
 use Rattle.vpg_desk.proofs.Deciding.{choices_inside, one_more_inside, known_no_conflict, named_has_conflict}
-use Rattle.vpg_desk.proofs.Noted.{noted_changed}
+use Rattle.vpg_desk.proofs.Noted.{noted_with}
 use Rattle.vpg_desk.proofs.Reaching.{reached_step, reached_limits}
 
 module _ (d : Inside) (i : IsDesk d) where
@@ -100,12 +100,13 @@ module _ (d : Inside) (i : IsDesk d) (session f : ℕ) (value : Bool) (games : A
     (trail_is : trail ≡ record { vertices = d.trail.vertices; entries = d.trail.entries ++ Decided (record { serial = d.changes + 1; session = session; feature = f; value = value }) ∷ [] })
     (emptied : future.items ≡ [])
     (accepted : Replies (desk_of d) (Decide f value) (Changed (d.changes + 1)))
+    (note : Bool) (settled : IsTrue note → IsSettledPage (family_of (setting_in d)) (d.trail.entries ++ Decided (record { serial = d.changes + 1; session = session; feature = f; value = value }) ∷ []))
     (games_are : ArePageGames (arc_value d.game) (arc_value d.diagram) (choices_of (d.trail.entries ++ Decided (record { serial = d.changes + 1; session = session; feature = f; value = value }) ∷ [])) (arc_value games)) where
   made : Step
   made = Decided (record { serial = d.changes + 1; session = session; feature = f; value = value })
 
   left : Inside
-  left = record { game = d.game; diagram = d.diagram; games = games; trail = trail; past = later; future = future; changes = d.changes + 1; tokens = d.tokens + 1; is_noted = false }
+  left = record { game = d.game; diagram = d.diagram; games = games; trail = trail; past = later; future = future; changes = d.changes + 1; tokens = d.tokens + 1; is_noted = note }
 
   stands : StandsFor (cut_book later.items trail.entries future.items (d.changes + 1) (d.tokens + 1)) (changed (book_in d) (d.trail.entries ++ Decided (record { serial = d.changes + 1; session = session; feature = f; value = value }) ∷ []))
   stands = coe 0 1 (k. StandsFor (record { past = cuts_of later.items; entries = (sym trail_is k).entries; future = cuts_of (sym emptied k); changes = d.changes + 1; tokens = d.tokens + 1 }) (changed (book_in d) (d.trail.entries ++ Decided (record { serial = d.changes + 1; session = session; feature = f; value = value }) ∷ [])))
@@ -114,7 +115,7 @@ module _ (d : Inside) (i : IsDesk d) (session f : ℕ) (value : Bool) (games : A
   pub decided_step : IsStep (desk_of d) session (Decide f value) (Changed (d.changes + 1)) (record { game = arc_value d.game; diagram = arc_value d.diagram; book = book_of (cut_book later.items trail.entries future.items (d.changes + 1) (d.tokens + 1)) })
   decided_step = record { step = (accepted, stands.same); game = refl; diagram = refl }
 
-  pub decided_desk : IsDesk (record { game = d.game; diagram = d.diagram; games = games; trail = trail; past = later; future = future; changes = d.changes + 1; tokens = d.tokens + 1; is_noted = false })
+  pub decided_desk : IsDesk (record { game = d.game; diagram = d.diagram; games = games; trail = trail; past = later; future = future; changes = d.changes + 1; tokens = d.tokens + 1; is_noted = note })
   decided_desk = record {
     opened = i.opened;
     reached = subst (IsReached (setting_in d)) (sym stands.same) (reached_step (setting_in d) (book_in d) session (Decide f value) (Changed (d.changes + 1)) i.reached accepted tt);
@@ -124,6 +125,6 @@ module _ (d : Inside) (i : IsDesk d) (session f : ℕ) (value : Bool) (games : A
     future_fits = stands.future_fits;
     past_below = subst (λ (t : Track). SuffixesBelow t.vertices later.items) (sym trail_is) (below i.past_below);
     future_below = subst (λ (l : List Cut). SuffixesBelow trail.vertices l) (sym emptied) (λ k x h. absurd (omega arith));
-    noted = coe 0 1 (k. NotesHold (IsSettledPage (family_of (setting_in d))) (record { present = false; past = sym notes k; future = notes_of (sym emptied k) }) (sym stands.same k))
-        (noted_changed (IsSettledPage (family_of (setting_in d))) (notes_in d) (book_in d) (d.trail.entries ++ Decided (record { serial = d.changes + 1; session = session; feature = f; value = value }) ∷ []) i.noted);
+    noted = coe 0 1 (k. NotesHold (IsSettledPage (family_of (setting_in d))) (record { present = note; past = sym notes k; future = notes_of (sym emptied k) }) (sym stands.same k))
+        (noted_with (IsSettledPage (family_of (setting_in d))) (notes_in d) (book_in d) (d.trail.entries ++ Decided (record { serial = d.changes + 1; session = session; feature = f; value = value }) ∷ []) note settled i.noted);
   }

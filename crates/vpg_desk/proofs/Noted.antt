@@ -25,9 +25,13 @@ module _ (P : List Entry → Type 0) where
       go false r = (a.0, r)
 
   -- a change keeps the note of the page that it leaves
+  pub noted_with : (notes : Notes) (book : Book) (page : List Entry) (note : Bool) → (IsTrue note → P page) → NotesHold P notes book →
+      NotesHold P (record { present = note; past = notes.present ∷ notes.past; future = [] }) (changed book page)
+  noted_with notes book page note p h = record { present = p; past = (h.present, h.past); future = tt }
+
   pub noted_changed : (notes : Notes) (book : Book) (page : List Entry) → NotesHold P notes book →
       NotesHold P (record { present = false; past = notes.present ∷ notes.past; future = [] }) (changed book page)
-  noted_changed notes book page h = record { present = λ t. absurd (false≢true t); past = (h.present, h.past); future = tt }
+  noted_changed notes book page h = noted_with notes book page false (λ t. absurd (false≢true t)) h
 
   -- undo and redo exchange the notes of the pages that they exchange
   pub noted_undone : (book : Book) (past : List Kept) (note was : Bool) (older future : List Bool) → 0 < length past → (IsTrue was → P book.present) → NotedAre P (note ∷ older) past → NotedAre P future book.future →

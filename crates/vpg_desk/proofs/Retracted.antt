@@ -1,13 +1,14 @@
 -- What an accepted retract leaves.
 use Rattle.std.proofs.Common.{◌≡◌, ℕ, ◌+◌, ◌<◌, ◌≤◌, Bool, true, false, not, cond, List, [], ◌∷◌, ◌++◌, length, take, drop, filter, Option, Some, None, refl, sym, ap, ◌∙◌, subst, arith, Vec, Global}
-use Rattle.std.proofs.lemmas.Bool.{lt-leb}
+use Rattle.std.specs.Prelude.{nat_le}
+use Rattle.std.proofs.lemmas.Bool.{lt-leb, le-leb}
 use Rattle.std.specs.Arc.{arc_value}
 use Rattle.std.specs.declared.sync.Arc.{Arc}
 use Rattle.vpg_diagram.specs.FeatureDiagram.{feature_count}
 use Rattle.vpg_measure.specs.Games.{GamesView, ArePageGames}
 use Rattle.vpg_trail.specs.Page.{Entry as Step, choices_of, has_decided, assumes, before_decision, after_decision, reset_all, retracted}
 use Rattle.vpg_trail.specs.Shown.{Track}
-use Rattle.vpg_desk.specs.Book.{Refusal, Changed, Retract, UnknownFeature, NotDecided, TooManyChanges, most_changes, changed, IsSettledPage}
+use Rattle.vpg_desk.specs.Book.{Refusal, Refused, Changed, Retract, UnknownFeature, NotDecided, TooManyChanges, most_changes, changed, IsSettledPage}
 use Rattle.vpg_desk.specs.Cuts.{cuts_of, notes_of, cut_book, SuffixesBelow}
 use Rattle.vpg_desk.specs.Desk.{family_of}
 use Rattle.vpg_desk.specs.DeskFields.{setting_in, book_in, notes_in, desk_of, IsDesk}
@@ -36,6 +37,18 @@ retract_accepted d i f inside decided n = (None, (sym (λ k. refusal_by (lt-leb 
   where
     room : d.changes < most_changes
     room = omega (arith, (limits d i).1, n)
+
+module _ (d : Inside) (f : ℕ) where
+  pub retract_unknown : feature_count (arc_value d.diagram).lines ≤ f → Replies (desk_of d) (Retract f) (Refused UnknownFeature)
+  retract_unknown h = (Some UnknownFeature, (sym (λ k. refusal_by (le-leb (feature_count (arc_value d.diagram).lines) f h k) (has_decided f d.trail.entries) (nat_le most_changes d.changes)), refl))
+
+  module _ (inside : f < feature_count (arc_value d.diagram).lines) where
+    pub retract_not_decided : has_decided f d.trail.entries ≡ false → Replies (desk_of d) (Retract f) (Refused NotDecided)
+    retract_not_decided none = (Some NotDecided, (sym (λ k. refusal_by (lt-leb (feature_count (arc_value d.diagram).lines) f inside k) (none k) (nat_le most_changes d.changes)), refl))
+
+    pub retract_too_many : has_decided f d.trail.entries ≡ true → d.changes ≡ 1048576 → Replies (desk_of d) (Retract f) (Refused TooManyChanges)
+    retract_too_many decided e =
+        (Some TooManyChanges, (sym (λ k. refusal_by (lt-leb (feature_count (arc_value d.diagram).lines) f inside k) (decided k) (le-leb most_changes d.changes (omega (arith, e)) k)), refl))
 
 -- ---- the page that is left
 

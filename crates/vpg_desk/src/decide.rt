@@ -1,11 +1,13 @@
 //! Deciding a feature.
 ghost use Rattle.std.specs.Arc.{arc_value};
-ghost use Rattle.std.specs.Prelude.{◌≡◌, ◌<◌, ◌++◌, ◌∷◌, [], length, map, None, IfOk, IfErr, OnOk, OnErr, IfSome};
+ghost use Rattle.std.specs.Prelude.{◌≡◌, ◌<◌, ◌++◌, ◌∷◌, [], length, map, None, IfOk, IfErr, IsTrue, OnOk, OnErr, IfSome};
 ghost use Rattle.std.specs.List.{AllByRecursion};
 ghost use Rattle.vpg_diagram.specs.FeatureDiagram.{feature_count};
-ghost use Rattle.vpg_game.specs.Game.{IsAtLimit};
+ghost use Rattle.vpg_game.specs.Game.{IsAtLimit, graph_of};
+ghost use Rattle.vpg_guards.specs.Known.{kleene};
 ghost use Rattle.vpg_measure.specs.Games.{AreGamesOf, ArePageGames};
-ghost use Rattle.vpg_trail.specs.Page.{Decided, choices_of, decisions_of, decision_on};
+ghost use Rattle.vpg_measure.specs.TwoGames.{IsProgressOf};
+ghost use Rattle.vpg_trail.specs.Page.{Decided, Which as Side, choices_of, decisions_of, decision_on, table_of};
 ghost use Rattle.vpg_trail.specs.Shown.{entry_of};
 ghost use Rattle.vpg_desk.specs.Cuts.{cuts_of, notes_of, SuffixesBelow};
 ghost use Rattle.vpg_desk.specs.Faults.{ClosesWith};
@@ -129,12 +131,29 @@ impl Desk {
             return Err(DecideFault::TooManyChanges);
         }
         let was = self.is_noted;
+        let is_noted = self.stays_settled(alloc, &games);
         push_decision(alloc, &mut self.past, &mut self.trail, decision, was)?;
         self.future.clear();
         self.games = games;
-        self.is_noted = false;
+        self.is_noted = is_noted;
         self.changes = serial;
         self.tokens += 1;
         Ok(Undo::of(serial))
+    }
+
+    /// Whether the present page is known to be settled, and both its tables are so under these games of the same game too: no lift
+    /// raises them at a vertex that the change of what is known concerns. Without the memory to look, that isn't known.
+    fn stays_settled(&self, alloc: Global, games: &PageGames) -> bool
+        requires { AreGamesOf self.now.game self.now.diagram games.now }
+        ensures { IsTrue result → (which : Side) → IsProgressOf (kleene games.now.known) which (graph_of self.now.game) (table_of which self.now.book.present (length (graph_of self.now.game))) }
+    {
+        if !self.is_noted {
+            return false;
+        }
+        let hopeful = self.trail.hopeful();
+        let dual = self.trail.dual();
+        games
+            .stay_settled(alloc, &self.game, &self.games, hopeful, dual)
+            .unwrap_or(false)
     }
 }

@@ -131,7 +131,8 @@ impl Desk {
     }
 
     /// Whether both tables of the present page are progress tables. They are then the least ones. Once a commit of a settled harvest
-    /// has settled a page this is known of it, also when undo or redo come back to it; else it is a pass over the kept edges, which
+    /// has settled a page this is known of it, also when undo or redo come back to it, and still after decisions by which no lift
+    /// raises a vertex that names a feature of which something else is known then. Else it is a pass over the kept edges, which
     /// ends at the first vertex that a lift raises.
     pub fn settled(&self) -> bool
         ensures reply { Replies self.now Settled (IsSettled result) }

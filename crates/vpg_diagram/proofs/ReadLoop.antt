@@ -1,11 +1,15 @@
 -- Reading line by line.
-use Rattle.std.proofs.Common.{◌≡◌, ℕ, ◌+◌, Bool, true, false, not, cond, List, [], ◌∷◌, ◌++◌, Option, Some, None, Result, Ok, Err, Bor, ◌⊎◌, inl, inr, refl, sym, ap, ap₂, ◌∙◌, subst, IfErr, append_assoc, append-nil}
+use Rattle.std.proofs.Common.{◌≡◌, ℕ, ◌+◌, Bool, true, false, not, cond, List, [], ◌∷◌, ◌++◌, Option, Some, None, Result, Ok, Err, Bor, ◌⊎◌, inl, inr, refl, sym, ap, ap₂, ◌∙◌, subst, IfOk, IfErr, append_assoc, append-nil}
 use Rattle.std.specs.Result.{IsErrAnd}
+use Rattle.std.specs.Str.Lines.{lines}
 use Rattle.vpg_diagram.specs.FeatureDiagram.{Line}
 use Rattle.vpg_diagram.specs.DiagramText.{is_nonempty, words, Form, NamedDiagram}
 use Rattle.vpg_diagram.specs.DiagramReading.{LineFault, Syntax, UnknownFeature, Fault, At, form_of, line_at, new_names, rules_in, with_line, with_root, after_line, after_form, read_lines, after_root, read_root}
-use Rattle.vpg_diagram.specs.LineView.{lines_of}
-use Rattle.vpg_diagram.specs.ReadCode.{AddsLine, IsReadingFault}
+use Rattle.vpg_diagram.specs.LineView.{line_of, lines_of}
+use Rattle.vpg_diagram.specs.ReadCode.{ReadsLine, AddsLine, IsFormError, IsLineError, IsReadingFault, behind_root}
+use Rattle.vpg_diagram.specs.declared.fault.LineError.{LineError}
+use Rattle.vpg_diagram.specs.declared.fault.LineError.TheVariants.{Memory, Refused}
+use Rattle.vpg_diagram.specs.declared.line.Line as code
 use Rattle.vpg_diagram.specs.declared.fault.DiagramFault.{DiagramFault}
 use Rattle.vpg_diagram.specs.FormView.{view_form}
 use Rattle.vpg_diagram.specs.declared.text.LineForm.{LineForm}
@@ -88,6 +92,26 @@ no_root_form number (kept.Or p cs) rest other = refl
 no_root_form number (kept.Group p low high cs) rest other = refl
 no_root_form number (kept.Requires a b) rest other = refl
 no_root_form number (kept.Excludes a b) rest other = refl
+
+-- nothing is read yet but the root
+pub root_alone : (root behind : List ℕ) (number : ℕ) (names : List (List ℕ)) (ls : List Line) (rules : ℕ) → names ≡ root ∷ [] → ls ≡ [] → rules ≡ 0 →
+    continued names ls (read_lines (number + 1) (lines behind) names rules) ≡ behind_root root number behind
+root_alone root behind number names ls rules n l r = rw (n, l, r) (sym (root_continued root (read_lines (number + 1) (lines behind) (root ∷ []) 0)))
+
+-- all is read
+pub all_read : (rest : List ℕ) (number : ℕ) (names : List (List ℕ)) (ls : List Line) (rules : ℕ) → rest ≡ [] → continued names ls (read_lines number (lines rest) names rules) ≡ Ok (record { names = names; lines = ls })
+all_read rest number names ls rules e = rw e (at_end names ls)
+
+-- a line that is read by its form, or refused
+pub form_read : (names after : List (List ℕ)) (rules : ℕ) (bytes : List ℕ) (form : Form) (r : Result code.Line LineError) → form_of bytes ≡ Some form →
+    IfOk r (λ line. line_at names rules form ≡ Ok (line_of line)) → IfOk r (λ _. after ≡ names ++ new_names form) → IfOk r (λ line. ReadsLine names rules bytes after (line_of line))
+form_read names after rules bytes form (Ok line) e l n = record { form = form; form_is = e; line_is = l; names_are = n }
+form_read names after rules bytes form (Err x) e l n = tt
+
+pub form_refused : (names : List (List ℕ)) (rules : ℕ) (bytes : List ℕ) (form : Form) (r : Result code.Line LineError) → form_of bytes ≡ Some form → IfErr r (IsFormError names rules form) → IfErr r (IsLineError names rules bytes)
+form_refused names rules bytes form (Ok line) e h = tt
+form_refused names rules bytes form (Err Memory) e h = tt
+form_refused names rules bytes form (Err (Refused kind)) e h = inr (form, e, h)
 
 -- what holds of the error of a result
 pub ok_keeps : {T E : Type 0} (r : Result T E) (x : T) (P : E → Type 0) → r ≡ Ok x → IfErr r P

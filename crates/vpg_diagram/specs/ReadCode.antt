@@ -1,8 +1,9 @@
 -- What reading a line gives: words for private functions.
 use Rattle.std.specs.Prelude.{ℕ, ◌≡◌, ◌+◌, ◌≤◌, ◌++◌, length, true, ◌∷◌, [], Bool, List, Some, None, Ok, Err, Result, ◌⊎◌, ⊤}
+use Rattle.std.specs.Str.Lines.{lines}
 use Rattle.vpg_diagram.specs.FeatureDiagram.{Line}
 use Rattle.vpg_diagram.specs.DiagramText.{Form, NamedDiagram}
-use Rattle.vpg_diagram.specs.DiagramReading.{Syntax, Fault, NoRoot, At, place_of_name, children_at, line_at, form_of, new_names, rules_in}
+use Rattle.vpg_diagram.specs.DiagramReading.{Syntax, Fault, NoRoot, At, place_of_name, children_at, line_at, form_of, new_names, rules_in, read_lines, with_root}
 use Rattle.vpg_diagram.specs.TextFaults.{fault_at}
 use Rattle.vpg_diagram.specs.LineView.{members_of, lines_of}
 use Rattle.vpg_diagram.specs.declared.fault.DiagramFault.{DiagramFault}
@@ -29,6 +30,13 @@ abbrev pub IsFormError : List (List ℕ) → ℕ → Form → LineError → Type
 IsFormError names rules form Memory = ⊤
 IsFormError names rules form (Refused kind) = line_at names rules form ≡ Err kind
 
+-- the line that bytes spell, behind lines with these names and so many rules, and the names with those of the line
+pub record ReadsLine (names : List (List ℕ)) (rules : ℕ) (bytes : List ℕ) (after : List (List ℕ)) (line : Line) : Type 0 where
+  pub form : Form
+  pub form_is : form_of bytes ≡ Some form
+  pub line_is : line_at names rules form ≡ Ok line
+  pub names_are : after ≡ names ++ new_names form
+
 -- a line behind what is read
 pub record AddsLine (old : Reader) (bytes : List ℕ) (new : Reader) : Type 0 where
   pub form : Form
@@ -40,9 +48,13 @@ pub record AddsLine (old : Reader) (bytes : List ℕ) (new : Reader) : Type 0 wh
   pub rules_are : new.rules ≡ old.rules + rules_in form
 
 -- why a line is refused
-abbrev pub IsLineError : Reader → List ℕ → LineError → Type 0
-IsLineError old bytes Memory = ⊤
-IsLineError old bytes (Refused kind) = ((form_of bytes ≡ None) × (kind ≡ Syntax)) ⊎ ((form : Form) × (form_of bytes ≡ Some form) × (line_at old.names old.rules form ≡ Err kind))
+abbrev pub IsLineError : List (List ℕ) → ℕ → List ℕ → LineError → Type 0
+IsLineError names rules bytes Memory = ⊤
+IsLineError names rules bytes (Refused kind) = ((form_of bytes ≡ None) × (kind ≡ Syntax)) ⊎ ((form : Form) × (form_of bytes ≡ Some form) × (line_at names rules form ≡ Err kind))
+
+-- the reading of a text whose root line has this name and number, and this behind it
+abbrev pub behind_root : List ℕ → ℕ → List ℕ → Result NamedDiagram Fault
+behind_root root number behind = with_root root (read_lines (number + 1) (lines behind) (root ∷ []) 0)
 
 -- the fault of a text that is not read
 abbrev pub fault_of : Fault → DiagramFault

@@ -1,6 +1,7 @@
 //! Why a text is no diagram.
 
 use std::alloc::AllocError;
+use std::fmt;
 use thiserror::Error;
 
 /// Why a text is no diagram, and at which line, counted from 1. Of the lines that are refused the first decides.
@@ -8,33 +9,64 @@ use thiserror::Error;
 #[derive(Clone, Copy, Debug, PartialEq, Eq, Error)]
 pub enum DiagramFault {
     /// A line of no known form, or with a word that is no feature name.
-    #[error("Syntax {line}")]
     Syntax { line: usize },
     /// All lines are blank.
-    #[error("NoRoot")]
     NoRoot,
     /// A second root line.
-    #[error("TwoRoots {line}")]
     TwoRoots { line: usize },
     /// A parent, or a feature of a rule, that stands on no earlier line.
-    #[error("UnknownFeature {line}")]
     UnknownFeature { line: usize },
     /// A child that was named before as root or child, or twice in one group.
-    #[error("TwoParents {line}")]
     TwoParents { line: usize },
     /// The 513th feature, or the 16,385th rule.
-    #[error("TooMany {line}")]
     TooMany { line: usize },
     /// A range whose low end is above its high end, or whose high end is above the number of members.
-    #[error("BadRange {line}")]
     BadRange { line: usize },
     /// Memory ran out.
-    #[error("Memory")]
     Memory,
 }
 
+impl DiagramFault {
+    /// The word that names it.
+    fn word(&self) -> &'static str {
+        match self {
+            DiagramFault::Syntax { .. } => "Syntax",
+            DiagramFault::NoRoot => "NoRoot",
+            DiagramFault::TwoRoots { .. } => "TwoRoots",
+            DiagramFault::UnknownFeature { .. } => "UnknownFeature",
+            DiagramFault::TwoParents { .. } => "TwoParents",
+            DiagramFault::TooMany { .. } => "TooMany",
+            DiagramFault::BadRange { .. } => "BadRange",
+            DiagramFault::Memory => "Memory",
+        }
+    }
+
+    /// The line that it is told for, where there is one.
+    fn line(&self) -> Option<usize> {
+        match *self {
+            DiagramFault::Syntax { line }
+            | DiagramFault::TwoRoots { line }
+            | DiagramFault::UnknownFeature { line }
+            | DiagramFault::TwoParents { line }
+            | DiagramFault::TooMany { line }
+            | DiagramFault::BadRange { line } => Some(line),
+            DiagramFault::NoRoot | DiagramFault::Memory => None,
+        }
+    }
+}
+
+/// The word, and behind it the line.
+impl fmt::Display for DiagramFault {
+    fn fmt<W: fmt::Write>(&self, f: &mut fmt::Formatter<W>) -> fmt::Result {
+        match self.line() {
+            Some(line) => write!(f, "{} {line}", self.word()),
+            None => f.write_str(self.word()),
+        }
+    }
+}
+
 /// Why a line is refused.
-#[derive(Clone, Copy, Debug, PartialEq, Eq)]
+#[derive(Clone, Copy)]
 pub(crate) enum LineFault {
     Syntax,
     TwoRoots,
@@ -64,7 +96,7 @@ impl LineFault {
 }
 
 /// Why a line is not read: it is refused, or memory ran out.
-#[derive(Clone, Copy, Debug, PartialEq, Eq)]
+#[derive(Clone, Copy)]
 pub(crate) enum LineError {
     Refused(LineFault),
     Memory,

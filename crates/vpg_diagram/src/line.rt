@@ -5,7 +5,7 @@ ghost use Rattle.std.specs.Prelude.{◌≡◌, IfOk};
 use std::alloc::{AllocError, Global};
 
 /// The members of a group, which follow one another: the features from `first` up to `end`, without `end`.
-#[derive(Clone, Copy, Debug, PartialEq, Eq)]
+#[derive(Clone, Copy, PartialEq)]
 pub(crate) struct Members {
     pub(crate) first: u16,
     pub(crate) end: u16,
@@ -23,7 +23,7 @@ impl Members {
 }
 
 /// A line below the root line.
-#[derive(Clone, Copy, Debug, PartialEq, Eq)]
+#[derive(Clone, Copy, PartialEq)]
 pub(crate) enum Line {
     Mandatory {
         parent: u16,

@@ -1,6 +1,6 @@
 //! Reading the lines of a diagram.
 
-ghost use Rattle.std.specs.Prelude.{◌≡◌, ◌+◌, ◌++◌, ◌∷◌, [], ◌<◌, ◌≤◌, ℕ, List, Ok, Err, length, IfOk, IfErr, nat_le, ◌&&◌};
+ghost use Rattle.std.specs.Prelude.{◌≡◌, ◌+◌, ◌++◌, ◌∷◌, [], ◌<◌, ◌≤◌, ◌^◌, ℕ, List, Ok, Err, length, IfOk, IfErr, nat_le, ◌&&◌};
 ghost use Rattle.vpg_diagram.specs.DiagramReading.{are_new, place_of_name, rule_at, line_at, new_names};
 ghost use Rattle.vpg_diagram.specs.FeatureDiagram.{Line as DiagramLine};
 ghost use Rattle.vpg_diagram.specs.FormView.{texts, view_form};
@@ -20,6 +20,18 @@ fn are_new(alloc: Global, names: &Names, words: &[&[u8]]) -> Result<bool, AllocE
     ensures { IfOk result (λ new. new ≡ are_new names.now (texts words.now)) }
 {
     let mut seen = IndexSet::with_capacity(alloc, 0)?;
+    are_unseen(names, words, &mut seen)
+}
+
+/// Whether each word is new, where none is seen yet.
+fn are_unseen<'a>(
+    names: &Names,
+    words: &[&'a [u8]],
+    seen: &mut IndexSet<&'a [u8]>,
+) -> Result<bool, AllocError>
+    requires { seen.old.keys ≡ [] }
+    ensures { IfOk result (λ new. new ≡ are_new names.now (texts words.now)) }
+{
     for word in words {
         if names.get(word).is_some() {
             return Ok(false);
@@ -45,7 +57,7 @@ fn add_names(alloc: Global, names: &mut Names, words: &[&[u8]]) -> Result<(), Al
 }
 
 /// A parent with children behind all earlier features.
-#[derive(Clone, Copy, Debug)]
+#[derive(Clone, Copy)]
 struct Family {
     parent: u16,
     members: Members,
@@ -187,19 +199,32 @@ pub(crate) struct Reader {
     rules: usize,
 }
 
-ghost use Rattle.vpg_diagram.specs.ReadCode.{AddsLine, IsLineError};
+ghost use Rattle.vpg_diagram.specs.ReadCode.{ReadsLine, AddsLine, IsLineError};
+
+/// Reads a line that is not blank, behind so many rules, and adds its new names.
+fn read_line(
+    alloc: Global,
+    names: &mut Names,
+    rules: usize,
+    bytes: &[u8],
+) -> Result<Line, LineError>
+    ensures line { IfOk result (λ line. ReadsLine names.old rules bytes.now names.new (line_of line)) }
+    ensures refused { IfErr result (IsLineError names.old rules bytes.now) }
+{
+    let Some(form) = form_of(alloc, bytes)? else {
+        return Err(LineError::Refused(LineFault::Syntax));
+    };
+    line_at(alloc, names, rules, &form)
+}
 
 /// Reads a line that is not blank behind the others.
 fn add_line(alloc: Global, reader: &mut Reader, bytes: &[u8]) -> Result<(), LineError>
     requires { reader.old.rules ≤ MOST_RULES }
     ensures ok { IfOk result (λ _. AddsLine reader.old bytes.now reader.new) }
     ensures bound { IfOk result (λ _. reader.new.rules ≤ MOST_RULES) }
-    ensures refused { IfErr result (IsLineError reader.old bytes.now) }
+    ensures refused { IfErr result (IsLineError reader.old.names reader.old.rules bytes.now) }
 {
-    let Some(form) = form_of(alloc, bytes)? else {
-        return Err(LineError::Refused(LineFault::Syntax));
-    };
-    let line = line_at(alloc, &mut reader.names, reader.rules, &form)?;
+    let line = read_line(alloc, &mut reader.names, reader.rules, bytes)?;
     let Ok(()) = reader.lines.push(line) else {
         return Err(LineError::Memory);
     };
@@ -210,7 +235,7 @@ fn add_line(alloc: Global, reader: &mut Reader, bytes: &[u8]) -> Result<(), Line
 }
 
 /// The root line: its name, what stands behind the line, and the line's number.
-#[derive(Clone, Copy, Debug)]
+#[derive(Clone, Copy)]
 struct Root<'a> {
     name: &'a [u8],
     behind: &'a [u8],
@@ -218,11 +243,11 @@ struct Root<'a> {
 }
 
 ghost use Rattle.std.specs.Str.Lines.{lines};
-ghost use Rattle.vpg_diagram.specs.DiagramReading.{read_lines, with_root, after_root, reading, form_of as line_form};
+ghost use Rattle.vpg_diagram.specs.DiagramReading.{after_root, reading, form_of as line_form};
 ghost use Rattle.std.specs.Prelude.{Some};
 ghost use Rattle.vpg_diagram.specs.DiagramText.{RootLine};
 ghost use Rattle.vpg_diagram.specs.LineView.{line_of, lines_of};
-ghost use Rattle.vpg_diagram.specs.ReadCode.{IsReadingFault};
+ghost use Rattle.vpg_diagram.specs.ReadCode.{IsReadingFault, behind_root};
 
 /// The name in a root line.
 fn root_name(alloc: Global, line: &[u8], number: usize) -> Result<&[u8], DiagramFault>
@@ -240,7 +265,7 @@ fn root_name(alloc: Global, line: &[u8], number: usize) -> Result<&[u8], Diagram
 
 /// Reads up to the root line.
 fn read_root(alloc: Global, text: &[u8]) -> Result<Root, DiagramFault>
-    ensures root { IfOk result (λ root. reading text.now ≡ with_root root.name.now (read_lines (root.number + 1) (lines root.behind.now) (root.name.now ∷ []) 0)) }
+    ensures root { IfOk result (λ root. reading text.now ≡ behind_root root.name.now root.number root.behind.now) }
     ensures number { IfOk result (λ root. root.number + length root.behind.now ≤ length text.now) }
     ensures refused { IfErr result (IsReadingFault (reading text.now)) }
 {
@@ -268,13 +293,27 @@ pub(crate) fn read_text(alloc: Global, text: &[u8]) -> Result<Reader, DiagramFau
     ensures refused { IfErr result (IsReadingFault (reading text.now)) }
 {
     let root = read_root(alloc, text)?;
-    let mut names = Names::new(alloc)?;
-    add_names(alloc, &mut names, &[root.name])?;
     let mut reader = Reader {
-        names,
+        names: Names::new(alloc)?,
         lines: Vec::new(alloc),
         rules: 0,
     };
+    match read_behind(alloc, root, &mut reader) {
+        Ok(()) => Ok(reader),
+        Err(fault) => Err(fault),
+    }
+}
+
+/// Reads the name of the root and the lines behind it, where nothing is read yet.
+fn read_behind(alloc: Global, root: Root, reader: &mut Reader) -> Result<(), DiagramFault>
+    requires names { reader.old.names ≡ [] }
+    requires lines { reader.old.lines.items ≡ [] }
+    requires rules { reader.old.rules ≡ 0 }
+    requires room { root.number + length root.behind.now < 2 ^ 64 }
+    ensures read { IfOk result (λ _. behind_root root.entry.name.now root.entry.number root.entry.behind.now ≡ Ok (record { names = reader.new.names; lines = lines_of reader.new.lines.items })) }
+    ensures refused { IfErr result (IsReadingFault (behind_root root.entry.name.now root.entry.number root.entry.behind.now)) }
+{
+    add_names(alloc, &mut reader.names, &[root.name])?;
     let mut rest = root.behind;
     let mut number = root.number;
     while !rest.is_empty() {
@@ -284,11 +323,11 @@ pub(crate) fn read_text(alloc: Global, text: &[u8]) -> Result<Reader, DiagramFau
         if is_blank_line(line) {
             continue;
         }
-        match add_line(alloc, &mut reader, line) {
+        match add_line(alloc, reader, line) {
             Ok(()) => {}
             Err(LineError::Refused(kind)) => return Err(kind.at(number)),
             Err(LineError::Memory) => return Err(DiagramFault::Memory),
         }
     }
-    Ok(reader)
+    Ok(())
 }

@@ -37,7 +37,7 @@ ghost use Rattle.vpg_diagram.specs.DiagramReading.{is_feature_name, plain_form, 
 ghost use Rattle.vpg_diagram.specs.FormView.{texts, view_form};
 
 /// A line, with the names and numerals that stand in it.
-#[derive(Debug, Drop)]
+#[derive(Drop)]
 pub(crate) enum LineForm<'a> {
     Root(&'a [u8]),
     Mandatory(&'a [u8], &'a [u8]),

@@ -14,7 +14,7 @@ use vpg_guards::{Names, Tri};
 use vpg_partial::{Decision, Partial};
 
 /// The kinds of lines that draw something.
-#[derive(Clone, Copy, Debug, PartialEq, Eq)]
+#[derive(Clone, Copy)]
 enum Kind {
     Mandatory,
     Optional,

@@ -18,7 +18,7 @@ use vpg_names::VertexNames;
 use vpg_partial::{Partial, PartialFault};
 
 /// What is drawn of a family.
-#[derive(Clone, Copy, Debug, PartialEq, Eq)]
+#[derive(Clone, Copy, PartialEq, Eq)]
 pub enum Subject {
     Game,
     /// The feature diagram.

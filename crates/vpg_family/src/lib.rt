@@ -14,8 +14,6 @@ mod family;
 mod fault;
 mod files;
 mod telling;
-#[cfg(test)]
-mod tests;
 
 pub use drawing::{Subject, drawn};
 pub use family::{Family, conflict};

@@ -150,6 +150,15 @@ all_priorities es i le = take_all i (entry_priorities es) (omega (arith, length-
 pub raised_more : (ps : List ℕ) (new : List ℕ) (p : ℕ) → map (λ q. q + 1) (ps ++ p ∷ []) ≡ map (λ q. q + 1) ps ++ (p + 1) ∷ []
 raised_more ps new p = map-append (λ q. q + 1) ps (p ∷ [])
 
+-- what a search found, and what it did not find
+pub some_is : {T : Type 0} (o : Option T) (x : T) (P : Type 0) (v : T) → o ≡ Some x → SomeIff o P v → P × (x ≡ v)
+some_is None x P v e h = absurd cc
+some_is (Some y) x P v e h = let same : y ≡ x = cc in (h.0, sym same ∙ h.1)
+
+pub none_not : {T : Type 0} (o : Option T) (P : Type 0) (v : T) → o ≡ None → SomeIff o P v → P → ⊥
+none_not None P v e h p = h p
+none_not (Some y) P v e h p = absurd cc
+
 some_top : (o : Option ℕ) (t limit v : ℕ) → o ≡ Some t → SomeIff o (v ≤ limit) v → (v ≤ limit) × (t ≡ v)
 some_top None t limit v e h = absurd cc
 some_top (Some s) t limit v e h = let same : s ≡ t = cc in (h.0, sym same ∙ h.1)

@@ -1,5 +1,5 @@
 -- The vertices that name a feature, one vertex after another.
-use Rattle.std.proofs.Common.{◌≡◌, ℕ, zero, suc, ◌+◌, ◌<◌, ◌≤◌, List, [], ◌∷◌, ◌++◌, length, replicate, get_or, Contains, All, ◌⊎◌, ◌↔◌, inl, inr, refl, sym, ap, ◌∙◌, subst, arith}
+use Rattle.std.proofs.Common.{◌≡◌, ℕ, zero, suc, ◌+◌, ◌<◌, ◌≤◌, List, [], ◌∷◌, length, replicate, get_or, Contains, All, ◌⊎◌, ◌↔◌, inl, inr, refl, sym, ap, ◌∙◌, subst, arith}
 use Rattle.std.proofs.lemmas.Bool.{cases_eq, cases_lt}
 use Rattle.std.proofs.lemmas.List.{length-replicate, get_or-replicate}
 use Rattle.std.proofs.lemmas.List.Elements.{All-append}
@@ -8,7 +8,7 @@ use Rattle.vpg_guards.specs.Index.{NotesAlso}
 use Rattle.vpg_guards.proofs.Named.{named_below}
 use Rattle.vpg_guards.proofs.Noted.{Contains-none}
 use Rattle.vpg_game.specs.Guarded.{GuardedEdge}
-use Rattle.vpg_game.specs.Game.{NamedVertex, NamedGame, AreEdges, AreVertices, IsGame, no_vertex, unnamed, graph_of, vertex_in}
+use Rattle.vpg_game.specs.Game.{NamedVertex, NamedGame, AreEdges, AreVertices, no_vertex, graph_of, vertex_in}
 use Rattle.vpg_game.specs.Naming.{features_named, IsNaming}
 use Rattle.vpg_game.proofs.Graphs.{graph_at}
 

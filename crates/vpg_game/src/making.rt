@@ -1,8 +1,10 @@
 //! The game that entries spell.
-ghost use Rattle.std.specs.Prelude.{◌≡◌, ◌+◌, ◌<◌, ◌≤◌, ◌^◌, ℕ, [], length, map, IfOk, IfErr, slice_index_or};
+ghost use Rattle.std.specs.Prelude.{◌≡◌, ◌+◌, ◌<◌, ◌≤◌, ◌^◌, ℕ, [], length, map, IfOk, IfErr, SomeIff, slice_index_or};
 ghost use Rattle.vpg_guards.specs.View.{formula_of};
 ghost use Rattle.vpg_game.specs.Spelled.{SpelledEntry};
-ghost use Rattle.vpg_game.specs.Game.{entry_ids, entry_priorities, AreDistinct, joined_edges, join_edge, AllHeld, AllFound, vertex_of, game_of, AreSound};
+ghost use Rattle.vpg_game.specs.Game.{entry_ids, entry_priorities, AreDistinct, joined_edges, join_edge, AllHeld, AllFound, vertex_of, game_of, top_in, dual_top_in, IsNarrow, AreSound};
+ghost use Rattle.vpg_game.specs.Levels.{top_of, levels_of};
+ghost use Rattle.vpg_game.specs.Naming.{IsNaming};
 ghost use Rattle.vpg_game.specs.Building.{IsNumberingFault, IsJoiningFault, IsResolvingFault, IsMakingFault, IsLimited, ArePlaces};
 
 use crate::entry::{Entry, Successor};
@@ -14,7 +16,7 @@ use crate::vertex::{Edge, Vertex};
 use indexmap::IndexSet;
 use std::alloc::{AllocError, Global};
 use std::mem;
-use vpg_guards::Guard;
+use vpg_guards::{Guard, Index};
 
 /// The identifiers of entries, in order.
 fn numbered(alloc: Global, entries: &[Entry]) -> Result<IndexSet<u32>, GameFault>
@@ -147,6 +149,69 @@ fn priorities(alloc: Global, entries: &[Entry]) -> Result<(Vec<u32>, Vec<u32>), 
     Ok((own, dual))
 }
 
+/// The numbers of the top measures over these priorities and over those of the dual, where both are within the limit.
+fn tops_of(alloc: Global, own: &[u32], dual: &[u32]) -> Result<Option<(u64, u64)>, AllocError>
+    ensures { IfOk result (λ tops. SomeIff tops ((top_of (levels_of own.now) ≤ 2 ^ 62) × (top_of (levels_of dual.now) ≤ 2 ^ 62)) (top_of (levels_of own.now), top_of (levels_of dual.now))) }
+{
+    let Some(top) = top_within_limit(alloc, own)? else {
+        return Ok(None);
+    };
+    let Some(dual_top) = top_within_limit(alloc, dual)? else {
+        return Ok(None);
+    };
+    Ok(Some((top, dual_top)))
+}
+
+/// The numbers of the top measures over the priorities of entries, where both are within the limit.
+fn tops(alloc: Global, entries: &[Entry]) -> Result<Option<(u64, u64)>, AllocError>
+    requires { (i : ℕ) → (e : SpelledEntry) → i < length entries.now → e ≡ slice_index_or entries.now i e → e.priority < 65536 }
+    ensures { IfOk result (λ tops. SomeIff tops (IsNarrow (entry_priorities entries.now)) (top_in (entry_priorities entries.now), dual_top_in (entry_priorities entries.now))) }
+{
+    let (own, dual) = priorities(alloc, entries)?;
+    tops_of(alloc, &own, &dual)
+}
+
+/// What a game keeps beside its identifiers.
+#[derive(Drop)]
+struct Parts {
+    vertices: Vec<Vertex>,
+    tops: (u64, u64),
+    naming: Index,
+}
+
+/// The parts of the game that entries with these identifiers spell.
+fn parts_of(
+    alloc: Global,
+    ids: &IndexSet<u32>,
+    entries: Vec<Entry>,
+    features: usize,
+) -> Result<Parts, GameFault>
+    requires limited { IsLimited features entries.items }
+    requires ids { ids.now.keys ≡ entry_ids entries.items }
+    requires distinct { AreDistinct ids.now.keys }
+    ensures vertices { IfOk result (λ parts. parts.vertices.items ≡ map (vertex_of (entry_ids entries.items)) entries.items) }
+    ensures sound { IfOk result (λ _. AreSound entries.items) }
+    ensures tops { IfOk result (λ parts. parts.tops ≡ (top_in (entry_priorities entries.items), dual_top_in (entry_priorities entries.items))) }
+    ensures naming { IfOk result (λ parts. IsNaming features parts.vertices.items parts.naming) }
+    ensures err { IfErr result (IsMakingFault entries.items) }
+{
+    let Ok(tops) = tops(alloc, &entries) else {
+        return Err(GameFault::Memory);
+    };
+    let vertices = resolved(alloc, ids, entries)?;
+    let Some(tops) = tops else {
+        return Err(GameFault::TooWide);
+    };
+    let Ok(naming) = naming_of(alloc, features, &vertices) else {
+        return Err(GameFault::Memory);
+    };
+    Ok(Parts {
+        vertices,
+        tops,
+        naming,
+    })
+}
+
 /// The game that entries spell.
 pub(crate) fn make(
     alloc: Global,
@@ -159,30 +224,20 @@ pub(crate) fn make(
     ensures err { IfErr result (IsMakingFault entries.items) }
 {
     let ids = numbered(alloc, &entries)?;
-    let Ok((own, dual)) = priorities(alloc, &entries) else {
-        return Err(GameFault::Memory);
-    };
-    let vertices = resolved(alloc, &ids, entries)?;
-    let Ok(top) = top_within_limit(alloc, &own) else {
-        return Err(GameFault::Memory);
-    };
-    let Ok(dual_top) = top_within_limit(alloc, &dual) else {
-        return Err(GameFault::Memory);
-    };
-    let Some(top) = top else {
-        return Err(GameFault::TooWide);
-    };
-    let Some(dual_top) = dual_top else {
-        return Err(GameFault::TooWide);
-    };
-    let Ok(naming) = naming_of(alloc, features, &vertices) else {
-        return Err(GameFault::Memory);
-    };
-    Ok(GuardedGame {
-        ids,
-        vertices,
-        features,
-        tops: (top, dual_top),
-        naming,
-    })
+    match parts_of(alloc, &ids, entries, features) {
+        Ok(
+            Parts {
+                vertices,
+                tops,
+                naming,
+            },
+        ) => Ok(GuardedGame {
+            ids,
+            vertices,
+            features,
+            tops,
+            naming,
+        }),
+        Err(fault) => Err(fault),
+    }
 }

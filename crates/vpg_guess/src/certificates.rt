@@ -90,22 +90,32 @@ fn follows(ground: &GuessGround, bounds: &PerVertex<u64>, v: u32, w: u32) -> boo
     ground.even.reaches(v, bounds.get(v), bounds.get(w))
 }
 
-// The game of the vertices to be raised: Odd has the edges over which the bound follows.
-fn raising_game(
+// Solves the game of the vertices to be raised: Odd has the edges over which the bound follows.
+fn solve_raising(
     alloc: Global,
     ground: &GuessGround,
     bounds: &PerVertex<u64>,
     exceeding: Vec<u32>,
-) -> Result<Subgame, AllocError> {
+    budget: &mut Budget,
+) -> Result<Solved, AllocError> {
     let mut game = Subgame::new(alloc, &ground.graph, exceeding)?;
+    write_raising(ground, bounds, &mut game)?;
+    game.solve(alloc, budget)
+}
+
+fn write_raising(
+    ground: &GuessGround,
+    bounds: &PerVertex<u64>,
+    game: &mut Subgame,
+) -> Result<(), AllocError> {
     for at in 0..game.vertices.len() {
         if let Some(vertex) = game.vertices.get(at) {
             let v = *vertex;
-            raising_edges(ground, bounds, &mut game, v)?;
+            raising_edges(ground, bounds, game, v)?;
             game.vertex(&ground.graph, v)?;
         }
     }
-    Ok(game)
+    Ok(())
 }
 
 fn raising_edges(
@@ -213,15 +223,14 @@ impl<'a> Straight<'a> {
     }
 }
 
-// Ranks along Odd's straight moves, where they show all bounds. No game is solved.
-fn straight_ranks(
+// Odd's straight moves at the vertices to be raised.
+fn straight_choices(
     alloc: Global,
     ground: &GuessGround,
     guess: &Guess,
     raises: &Raises,
     table: &[u64],
-    budget: &mut Budget,
-) -> Result<Option<PerVertex<u64>>, AllocError> {
+) -> Result<PerVertex<Option<u32>>, AllocError> {
     let mut rising = PerVertex::of(alloc, ground.graph.vertices(), false)?;
     for v in &raises.exceeding {
         rising.set(*v, true);
@@ -233,17 +242,57 @@ fn straight_ranks(
         table,
         rising,
     };
-    let choice = straight.choices(alloc)?;
-    let ranks = ranks_along(alloc, ground, &choice, &raises.exceeding, budget)?;
-    for v in &raises.exceeding {
-        if ground.odd.top <= ranks.get(*v) {
-            return Ok(None);
-        }
-    }
-    Ok(Some(ranks))
+    straight.choices(alloc)
 }
 
-// Ranks of what Odd wins, along its moves; what it does not win keeps its value.
+// Whether all of these vertices have ranks below the top.
+fn are_ranked(ground: &GuessGround, ranks: &PerVertex<u64>, vertices: &[u32]) -> bool {
+    for v in vertices {
+        if ground.odd.top <= ranks.get(*v) {
+            return false;
+        }
+    }
+    true
+}
+
+// Ranks along Odd's straight moves, where they show all bounds. No game is solved.
+fn straight_ranks(
+    alloc: Global,
+    ground: &GuessGround,
+    guess: &Guess,
+    raises: &Raises,
+    table: &[u64],
+    budget: &mut Budget,
+) -> Result<Option<PerVertex<u64>>, AllocError> {
+    let choice = straight_choices(alloc, ground, guess, raises, table)?;
+    let ranks = ranks_along(alloc, ground, &choice, &raises.exceeding, budget)?;
+    Ok(if are_ranked(ground, &ranks, &raises.exceeding) {
+        Some(ranks)
+    } else {
+        None
+    })
+}
+
+// Ranks of what Odd wins, along its moves.
+fn ranks_won(
+    alloc: Global,
+    ground: &GuessGround,
+    bounds: &PerVertex<u64>,
+    solved: &Solved,
+    budget: &mut Budget,
+) -> Result<PerVertex<u64>, AllocError> {
+    let mut choice = PerVertex::of(alloc, ground.graph.vertices(), None)?;
+    let mut raised = Vec::new(alloc);
+    for v in solved.vertices() {
+        if solved.winner(*v) == Some(Player::Odd) {
+            choice.set(*v, move_of(ground, bounds, solved, *v));
+            raised.push(*v)?;
+        }
+    }
+    ranks_along(alloc, ground, &choice, &raised, budget)
+}
+
+// Ranks of what Odd wins; what it does not win keeps its value.
 fn rank(
     alloc: Global,
     ground: &GuessGround,
@@ -253,21 +302,44 @@ fn rank(
     budget: &mut Budget,
 ) -> Result<RankedBounds, AllocError> {
     let mut bounds = bounds;
-    let mut choice = PerVertex::of(alloc, ground.graph.vertices(), None)?;
-    let mut raised = Vec::new(alloc);
-    for v in solved.vertices() {
-        if solved.winner(*v) == Some(Player::Odd) {
-            choice.set(*v, move_of(ground, &bounds, solved, *v));
-            raised.push(*v)?;
-        }
-    }
+    let ranks = ranks_won(alloc, ground, &bounds, solved, budget)?;
     for v in solved.vertices() {
         if solved.winner(*v) != Some(Player::Odd) {
             bounds.set(*v, value_in(table, *v));
         }
     }
-    let ranks = ranks_along(alloc, ground, &choice, &raised, budget)?;
     Ok(RankedBounds { bounds, ranks })
+}
+
+// Ranks by a game over the vertices to be raised.
+fn rank_by_game(
+    alloc: Global,
+    ground: &GuessGround,
+    raises: Raises,
+    table: &[u64],
+    budget: &mut Budget,
+) -> Result<RankedBounds, AllocError> {
+    let Raises { bounds, exceeding } = raises;
+    let solved = solve_raising(alloc, ground, &bounds, exceeding, budget)?;
+    rank(alloc, ground, bounds, &solved, table, budget)
+}
+
+// Ranks by straight moves, and by a game where those do not do.
+fn rank_raises(
+    alloc: Global,
+    ground: &GuessGround,
+    guess: &Guess,
+    raises: Raises,
+    table: &[u64],
+    budget: &mut Budget,
+) -> Result<RankedBounds, AllocError> {
+    match straight_ranks(alloc, ground, guess, &raises, table, budget)? {
+        Some(ranks) => {
+            let Raises { bounds, .. } = raises;
+            Ok(RankedBounds { bounds, ranks })
+        }
+        None => rank_by_game(alloc, ground, raises, table, budget),
+    }
 }
 
 fn ranked_top(
@@ -298,13 +370,7 @@ fn ranked(
     if raises.exceeding.is_empty() {
         return Ok(None);
     }
-    let straight = straight_ranks(alloc, ground, guess, &raises, table, budget)?;
-    let Raises { bounds, exceeding } = raises;
-    if let Some(ranks) = straight {
-        return Ok(Some(RankedBounds { bounds, ranks }));
-    }
-    let solved = raising_game(alloc, ground, &bounds, exceeding)?.solve(alloc, budget)?;
-    Ok(Some(rank(alloc, ground, bounds, &solved, table, budget)?))
+    Ok(Some(rank_raises(alloc, ground, guess, raises, table, budget)?))
 }
 
 fn certificate_of(
@@ -405,6 +471,28 @@ fn ranked_part(
     ranked(alloc, &part.ground, &guess, &part.table, 1, budget)
 }
 
+// As `part_certificate`, where the part is known.
+fn certificate_of_part(
+    alloc: Global,
+    shape: &Shape,
+    dual_shape: &Shape,
+    arena: &Arena,
+    part: &Part,
+    table: &Table,
+    budget: &mut Budget,
+) -> Result<Option<Certificate>, AllocError>
+    requires { IsTableOf shape.now arena.now table.now }
+    ensures bounds { IfOk result (λ found. IfSome found (λ certificate. IsTableOf shape.now arena.now certificate.bounds)) }
+    ensures ranks { IfOk result (λ found. IfSome found (λ certificate. IsTableOf dual_shape.now arena.now certificate.ranks)) }
+{
+    match ranked_part(alloc, part, budget)? {
+        Some(ranked) => Ok(Some(certificate_around(
+            alloc, shape, dual_shape, arena, part, &ranked, table,
+        )?)),
+        None => Ok(None),
+    }
+}
+
 /// Bounds and ranks for a guess at the part that moves, or nothing where it exceeds the table nowhere.
 pub(crate) fn part_certificate(
     alloc: Global,
@@ -421,12 +509,7 @@ pub(crate) fn part_certificate(
     ensures ranks { IfOk result (λ found. IfSome found (λ certificate. IsTableOf dual_shape.now arena.now certificate.ranks)) }
 {
     let part = Part::of(alloc, ground, table.values(), moving)?;
-    match ranked_part(alloc, &part, budget)? {
-        Some(ranked) => Ok(Some(certificate_around(
-            alloc, shape, dual_shape, arena, &part, &ranked, table,
-        )?)),
-        None => Ok(None),
-    }
+    certificate_of_part(alloc, shape, dual_shape, arena, &part, table, budget)
 }
 
 /// Bounds and ranks for values cut to a weight, or nothing where they exceed the table nowhere.

@@ -63,18 +63,28 @@ impl<'a> Level<'a> {
         Ok(falling)
     }
 
-    // The game of these vertices over edges to values that are no greater above the even priority.
-    fn game(&self, alloc: Global, falling: Vec<u32>, even: u32) -> Result<Subgame, AllocError> {
-        let weight = self.scale.weight(even);
+    // Solves the game of these vertices over edges to values that are no greater above the even priority.
+    fn solved(
+        &self,
+        alloc: Global,
+        falling: Vec<u32>,
+        even: u32,
+        budget: &mut Budget,
+    ) -> Result<Solved, AllocError> {
         let mut game = Subgame::new(alloc, self.graph, falling)?;
+        self.write_down(&mut game, self.scale.weight(even))?;
+        game.solve(alloc, budget)
+    }
+
+    fn write_down(&self, game: &mut Subgame, weight: u64) -> Result<(), AllocError> {
         for at in 0..game.vertices.len() {
             if let Some(v) = game.vertices.get(at) {
                 let vertex = *v;
-                self.edges(&mut game, vertex, weight)?;
+                self.edges(game, vertex, weight)?;
                 game.vertex(self.graph, vertex)?;
             }
         }
-        Ok(game)
+        Ok(())
     }
 
     fn edges(&self, game: &mut Subgame, v: u32, weight: u64) -> Result<(), AllocError> {
@@ -113,6 +123,22 @@ impl<'a> Level<'a> {
         Ok(if wins { Some(choices) } else { None })
     }
 
+    // Choices of Even in a region that go round cycles of one even priority, where it wins by some.
+    fn choices_at(
+        &self,
+        alloc: Global,
+        region: &[u32],
+        even: u32,
+        budget: &mut Budget,
+    ) -> Result<Option<Vec<(u32, u32)>>, AllocError> {
+        let falling = self.falling(alloc, region, even)?;
+        if falling.is_empty() {
+            return Ok(None);
+        }
+        let solved = self.solved(alloc, falling, even, budget)?;
+        self.choices(alloc, &solved)
+    }
+
     /// Choices of Even in a region that go round such cycles, of the greatest even priority that has some.
     pub(crate) fn even_cycles(
         &self,
@@ -125,12 +151,8 @@ impl<'a> Level<'a> {
                 break;
             }
             budget.spend(region.len());
-            let falling = self.falling(alloc, region, *even)?;
-            if !falling.is_empty() {
-                let solved = self.game(alloc, falling, *even)?.solve(alloc, budget)?;
-                if let Some(choices) = self.choices(alloc, &solved)? {
-                    return Ok(choices);
-                }
+            if let Some(choices) = self.choices_at(alloc, region, *even, budget)? {
+                return Ok(choices);
             }
         }
         Ok(Vec::new(alloc))

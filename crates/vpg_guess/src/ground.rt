@@ -24,9 +24,9 @@ impl GuessGround {
         dual_shape: &Shape,
         arena: &Arena,
     ) -> Result<GuessGround, AllocError> {
-        let graph = Graph::of(alloc, arena)?;
         let even = Scale::of(alloc, arena, shape, Player::Even)?;
         let odd = Scale::of(alloc, arena, dual_shape, Player::Odd)?;
+        let graph = Graph::of(alloc, arena)?;
         Ok(GuessGround { graph, even, odd })
     }
 

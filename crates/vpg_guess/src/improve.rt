@@ -78,7 +78,7 @@ impl<'a> Improvement<'a> {
         }
     }
 
-    // Values the choices, and changes them until nothing is better.
+    // Values the choices in a region, and changes them until nothing is better.
     fn run(
         &mut self,
         alloc: Global,
@@ -89,19 +89,42 @@ impl<'a> Improvement<'a> {
         let mut look = self.open_all(alloc, region)?;
         let mut turns = 0u32;
         for _ in 0..u64::MAX {
-            let mut changed = self.lower(alloc, &look, budget)?;
-            if changed.is_empty() && turns < MOST_TURNS {
-                changed = self.switch_even_cycles(alloc, region, budget)?;
-                turns = turns.saturating_add(1);
-            }
+            let changed = self.changes(alloc, region, &look, &mut turns, budget)?;
             if changed.is_empty() || budget.is_spent() {
                 break;
             }
-            let affected = self.leading_to(changed, budget)?;
-            self.value(alloc, &affected, budget)?;
-            look = self.looks_again(alloc, &affected, budget)?;
+            look = self.value_again(alloc, changed, budget)?;
         }
         Ok(())
+    }
+
+    // Even's vertices that changed: for better moves, and else round even cycles, in so many turns at most.
+    fn changes(
+        &mut self,
+        alloc: Global,
+        region: &[u32],
+        look: &[u32],
+        turns: &mut u32,
+        budget: &mut Budget,
+    ) -> Result<Vec<u32>, AllocError> {
+        let changed = self.lower(alloc, look, budget)?;
+        if !changed.is_empty() || MOST_TURNS <= *turns {
+            return Ok(changed);
+        }
+        *turns = turns.saturating_add(1);
+        self.switch_even_cycles(alloc, region, budget)
+    }
+
+    // Values what leads to those that changed, and gives what is to be looked at again.
+    fn value_again(
+        &mut self,
+        alloc: Global,
+        changed: Vec<u32>,
+        budget: &mut Budget,
+    ) -> Result<Vec<u32>, AllocError> {
+        let affected = self.leading_to(changed, budget)?;
+        self.value(alloc, &affected, budget)?;
+        self.looks_again(alloc, &affected, budget)
     }
 
     fn value(
@@ -377,6 +400,23 @@ fn even_region(
     Ok(region)
 }
 
+// As `guess_table`, where Even's region is known.
+fn guess_over(
+    alloc: Global,
+    ground: &GuessGround,
+    regions: &Regions,
+    table: &[u64],
+    vertices: &[u32],
+    region: &[u32],
+    budget: &mut Budget,
+) -> Result<Guess, AllocError> {
+    let mut improvement = Improvement::new(alloc, ground, regions, table)?;
+    improvement.lose(regions, vertices);
+    improvement.run(alloc, region, budget)?;
+    let Improvement { values, choice, .. } = improvement;
+    Ok(Guess { values, choice })
+}
+
 /// Guesses the least progress table above a table that has its values but at some vertices: the top where Odd is taken to win, and
 /// elsewhere from Even's choices on. Where the budget is spent, the values are those of some choices.
 pub(crate) fn guess_table(
@@ -388,9 +428,5 @@ pub(crate) fn guess_table(
     budget: &mut Budget,
 ) -> Result<Guess, AllocError> {
     let region = even_region(alloc, ground, regions, table, vertices)?;
-    let mut improvement = Improvement::new(alloc, ground, regions, table)?;
-    improvement.lose(regions, vertices);
-    improvement.run(alloc, &region, budget)?;
-    let Improvement { values, choice, .. } = improvement;
-    Ok(Guess { values, choice })
+    guess_over(alloc, ground, regions, table, vertices, &region, budget)
 }

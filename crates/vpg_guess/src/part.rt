@@ -2,7 +2,7 @@
 use crate::ground::{GuessGround, value_in};
 use crate::improve::{Guess, guess_table};
 use std::alloc::{AllocError, Global};
-use vpg_regions::{Budget, Draft, PerVertex, solve_part};
+use vpg_regions::{Budget, Draft, Graph, PerVertex, solve_part};
 
 /// Vertices that move, and behind them the others that they move to, which have no moves here.
 #[derive(Drop)]
@@ -44,6 +44,24 @@ impl Numbered {
         }
         Ok(())
     }
+
+    // The values that a table of the whole game has there.
+    fn values(&self, alloc: Global, table: &[u64]) -> Result<Vec<u64>, AllocError> {
+        let mut values = Vec::with_capacity(alloc, self.vertices.len())?;
+        for v in &self.vertices {
+            values.push(value_in(table, *v))?;
+        }
+        Ok(values)
+    }
+
+    // The places of some of the vertices.
+    fn places_of(&self, alloc: Global, vertices: &[u32]) -> Result<Vec<u32>, AllocError> {
+        let mut places = Vec::with_capacity(alloc, vertices.len())?;
+        for v in vertices {
+            places.push(self.places.get(*v).unwrap_or(0))?;
+        }
+        Ok(places)
+    }
 }
 
 // The moving vertices first, and then those that they move to.
@@ -57,22 +75,32 @@ fn number(alloc: Global, ground: &GuessGround, moving: &[u32]) -> Result<Numbere
 }
 
 // The game of a part: the vertices behind those that move have no edges.
-fn draft_of(
+fn graph_of(
     alloc: Global,
     ground: &GuessGround,
     numbered: &Numbered,
     moving: usize,
-) -> Result<Draft, AllocError> {
+) -> Result<Graph, AllocError> {
     let mut draft = Draft::new(alloc);
+    write_down(ground, numbered, moving, &mut draft)?;
+    draft.as_written(alloc)
+}
+
+fn write_down(
+    ground: &GuessGround,
+    numbered: &Numbered,
+    moving: usize,
+    draft: &mut Draft,
+) -> Result<(), AllocError> {
     for at in 0..numbered.vertices.len() {
         if let Some(v) = numbered.vertices.get(at) {
             if at < moving {
-                add_edges(ground, numbered, &mut draft, *v)?;
+                add_edges(ground, numbered, draft, *v)?;
             }
             draft.vertex(ground.graph.owner(*v), ground.graph.priority(*v))?;
         }
     }
-    Ok(draft)
+    Ok(())
 }
 
 fn add_edges(
@@ -87,6 +115,19 @@ fn add_edges(
     Ok(())
 }
 
+// The ground of a part.
+fn ground_of(
+    alloc: Global,
+    ground: &GuessGround,
+    numbered: &Numbered,
+    moving: usize,
+) -> Result<GuessGround, AllocError> {
+    let even = ground.even.at(alloc, &numbered.vertices)?;
+    let odd = ground.odd.at(alloc, &numbered.vertices)?;
+    let graph = graph_of(alloc, ground, numbered, moving)?;
+    Ok(GuessGround { graph, even, odd })
+}
+
 impl Part {
     /// The part of these vertices, each of which stands there once.
     pub(crate) fn of(
@@ -96,22 +137,12 @@ impl Part {
         moving: &[u32],
     ) -> Result<Part, AllocError> {
         let numbered = number(alloc, ground, moving)?;
-        let graph = draft_of(alloc, ground, &numbered, moving.len())?.as_written(alloc)?;
-        let mut values = Vec::with_capacity(alloc, numbered.vertices.len())?;
-        for v in &numbered.vertices {
-            values.push(value_in(table, *v))?;
-        }
-        let mut own = Vec::with_capacity(alloc, moving.len())?;
-        for v in moving {
-            own.push(numbered.places.get(*v).unwrap_or(0))?;
-        }
+        let values = numbered.values(alloc, table)?;
+        let own = numbered.places_of(alloc, moving)?;
+        let ground = ground_of(alloc, ground, &numbered, moving.len())?;
         let Numbered { vertices, .. } = numbered;
         Ok(Part {
-            ground: GuessGround {
-                graph,
-                even: ground.even.at(alloc, &vertices)?,
-                odd: ground.odd.at(alloc, &vertices)?,
-            },
+            ground,
             table: values,
             vertices,
             moving: own,

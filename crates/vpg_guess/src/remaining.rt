@@ -45,28 +45,37 @@ impl Waiting {
         ground: &GuessGround,
         table: &[u64],
     ) -> Result<Waiting, AllocError> {
-        let vertices = ground.graph.vertices();
-        let mut waits = PerVertex::of(alloc, vertices, false)?;
-        let mut limits = PerVertex::of(alloc, vertices, u64::MAX)?;
-        let mut queue = VecDeque::new(alloc);
-        for v in 0..vertices {
-            let value = value_in(table, v);
-            if value < ground.even.top {
-                waits.set(v, true);
-                limits.set(v, ground.even.limit(v, value));
-                queue.push_back(v)?;
-            }
-        }
+        let mut waiting = Waiting::none(alloc, ground.graph.vertices())?;
+        waiting.add_all(ground, table)?;
+        Ok(waiting)
+    }
+
+    // None waits.
+    fn none(alloc: Global, vertices: u32) -> Result<Waiting, AllocError> {
         Ok(Waiting {
-            waits,
-            count: queue.len(),
-            limits,
-            queue,
+            waits: PerVertex::of(alloc, vertices, false)?,
+            count: 0,
+            limits: PerVertex::of(alloc, vertices, u64::MAX)?,
+            queue: VecDeque::new(alloc),
             raises: PerVertex::of(alloc, vertices, 0)?,
             moved: PerVertex::of(alloc, vertices, 0)?,
             turn: 0,
             climbs: CLIMBS,
         })
+    }
+
+    // All wait that are below the top, where none waited.
+    fn add_all(&mut self, ground: &GuessGround, table: &[u64]) -> Result<(), AllocError> {
+        for v in 0..ground.graph.vertices() {
+            let value = value_in(table, v);
+            if value < ground.even.top {
+                self.waits.set(v, true);
+                self.limits.set(v, ground.even.limit(v, value));
+                self.queue.push_back(v)?;
+            }
+        }
+        self.count = self.queue.len();
+        Ok(())
     }
 
     // Whether v waited; it waits no more.

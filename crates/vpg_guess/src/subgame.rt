@@ -54,16 +54,25 @@ impl Subgame {
             sink: _,
             draft,
         } = self;
-        let mut draft = draft;
-        draft.vertex(Player::Even, 0)?;
-        let graph = draft.finish(alloc)?;
-        let regions = solve_regions(alloc, &graph, Vec::new(alloc), budget)?;
+        let regions = solve_with_sink(alloc, draft, budget)?;
         Ok(Solved {
             vertices,
             places,
             regions,
         })
     }
+}
+
+// Solves a game with a dead end of Even behind its vertices.
+fn solve_with_sink(
+    alloc: Global,
+    draft: Draft,
+    budget: &mut Budget,
+) -> Result<Regions, AllocError> {
+    let mut draft = draft;
+    draft.vertex(Player::Even, 0)?;
+    let graph = draft.finish(alloc)?;
+    solve_regions(alloc, &graph, Vec::new(alloc), budget)
 }
 
 /// A game over some vertices and who wins where.

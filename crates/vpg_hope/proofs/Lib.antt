@@ -11,3 +11,4 @@ pub mod Trails
 pub mod Rows
 pub mod Selected
 pub mod ChangeSteps
+pub mod StillVertices

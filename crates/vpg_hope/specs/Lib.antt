@@ -9,3 +9,4 @@ pub mod PlainLaws
 pub mod PlainParts
 pub mod Selection
 pub mod Strategies
+pub mod Unmarked

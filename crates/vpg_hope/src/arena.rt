@@ -16,7 +16,7 @@ use vpg_game::{GuardedGame, Player};
 use vpg_partial::Partial;
 
 /// A vertex: its successors are those from `start` up to `end` in the arena's own list, or in the one that it shares.
-#[derive(Clone, Copy, Debug)]
+#[derive(Clone, Copy)]
 struct Row {
     owner: Player,
     is_own: bool,

@@ -21,7 +21,9 @@ pub mod laws;
 mod plain;
 mod projection;
 mod selection;
+mod unmarked;
 
 pub use arena::Arena;
 pub use plain::PlainGame;
 pub use projection::{ProjectFault, project};
+pub use unmarked::concerned_vertices;

@@ -27,7 +27,9 @@ pub mod RaisedTables
 pub mod Refuted
 pub mod Rounds
 pub mod Shapes
+pub mod SideGames
 pub mod Signature
+pub mod Staying
 pub mod Supported
 pub mod TwoGames
 pub mod Verdicts

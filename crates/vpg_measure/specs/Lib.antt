@@ -13,6 +13,7 @@ pub mod Numbers
 pub mod OrderFields
 pub mod OrderLaws
 pub mod Orders
+pub mod Still
 pub mod TableLaws
 pub mod Tables
 pub mod TwoGames

@@ -29,6 +29,7 @@ pub mod laws;
 pub mod lifts;
 pub mod order;
 pub mod shape;
+mod still;
 pub mod table;
 mod verdict;
 pub mod which;

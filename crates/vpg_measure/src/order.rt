@@ -71,6 +71,17 @@ pub struct Refused {
     pub dual: Table,
 }
 
+// Room for the two tables of a game.
+fn two_rooms(alloc: Global, game: &GuardedGame) -> Result<(Table, Table), AllocError>
+    ensures hopeful { IfOk result (λ rooms. length rooms.0 ≡ length game.now.vertices) }
+    ensures dual { IfOk result (λ rooms. length rooms.1 ≡ length game.now.vertices) }
+{
+    let vertices = game.vertices() as u32;
+    let hopeful = Table::zero(alloc, vertices)?;
+    let dual = Table::zero(alloc, vertices)?;
+    Ok((hopeful, dual))
+}
+
 // What decisions make of a game, to be shared, and room for its two tables.
 fn games_and_room(
     alloc: Global,
@@ -88,9 +99,7 @@ fn games_and_room(
         NamesConflict (clauses_of diagram.now.lines) (counts_of diagram.now.lines) (map literal_of decisions.now) f }
 {
     let games = PageGames::under(alloc, game, diagram, decisions)?.share(alloc)?;
-    let vertices = game.vertices() as u32;
-    let hopeful = Table::zero(alloc, vertices)?;
-    let dual = Table::zero(alloc, vertices)?;
+    let (hopeful, dual) = two_rooms(alloc, game)?;
     Ok((games, hopeful, dual))
 }
 
@@ -178,9 +187,7 @@ impl Order {
         ensures dual { IfOk result (λ order. order.dual ≡ dual) }
         ensures order { IfOk result IsOrder }
     {
-        let vertices = game.vertices() as u32;
-        let hopeful_room = Table::zero(alloc, vertices)?;
-        let dual_room = Table::zero(alloc, vertices)?;
+        let (hopeful_room, dual_room) = two_rooms(alloc, &game)?;
         Ok(Order {
             game,
             diagram,

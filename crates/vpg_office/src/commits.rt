@@ -100,12 +100,12 @@ impl<L: Terms> Log<L> {
                 enter(
                     &mut self.replay.chronicle,
                     &mut self.replay.newest,
+                    front,
                     &place,
                     session,
                     &asked,
                     answer,
                 );
-                *front = self.replay.newest.copy();
                 Ok(entries)
             }
             Err(refused) => {
@@ -120,12 +120,12 @@ impl<L: Terms> Log<L> {
                 enter(
                     &mut self.replay.chronicle,
                     &mut self.replay.newest,
+                    front,
                     &place,
                     session,
                     &asked,
                     answer,
                 );
-                *front = self.replay.newest.copy();
                 Err(Returned {
                     fault: Fault::Refused { fault },
                     value: harvest,

@@ -9,7 +9,7 @@ ghost use Rattle.vpg_desk.specs.Faults.{decide_refusal};
 ghost use Rattle.vpg_desk.specs.History.{book_after};
 ghost use Rattle.vpg_desk.specs.Lawful.{HandsIn, IsLawful};
 ghost use Rattle.vpg_office.specs.Faults.{Stops, Tells};
-ghost use Rattle.vpg_office.specs.Fronts.{Extends, calls_by, event, family_between};
+ghost use Rattle.vpg_office.specs.Fronts.{Extends, IsHistory, calls_by, event, family_between};
 ghost use Rattle.vpg_office.specs.Kept.{HasRoom, IsChronicle, IsEntryOf, lines_of};
 ghost use Rattle.vpg_office.specs.Story.{IsNamed, call_of, refusal_of, reply_of};
 
@@ -127,10 +127,11 @@ pub(crate) fn admit<L: Terms, F, R: Wait>(
     }
 }
 
-/// Puts the call and its answer behind the log.
+/// Puts the call and its answer behind the log. The front becomes the whole log.
 pub(crate) fn enter<L: Terms>(
     chronicle: &mut Chronicle,
     newest: &mut Front<L>,
+    front: &mut Front<L>,
     place: &Place,
     session: u32,
     asked: &Asked,
@@ -146,10 +147,13 @@ pub(crate) fn enter<L: Terms>(
     requires named { IsNamed L.game L.diagram asked.now answer }
     ensures kept { IsChronicle L.shelves L.game L.diagram chronicle.new newest.new }
     ensures newest { let family = family_between L.game L.diagram in newest.new ≡ newest.old ++ event session (call_of asked.now answer) (reply_of family (book_after family opened newest.old).present answer) ∷ [] }
+    ensures front { front.new ≡ newest.new }
+    ensures history { IsHistory (family_between L.game L.diagram) front.new }
 {
     let count = newest.len() + 1;
     chronicle.put(place, session, asked, answer);
     *newest = Front::at(place, answer, count);
+    *front = newest.copy();
 }
 
 /// Why the desk refuses to decide, where it isn't want of memory.
@@ -170,7 +174,6 @@ pub(crate) const MOST_SESSIONS: u32 = 1024;
 
 impl<L: Terms> Log<L> {
     ghost use Rattle.vpg_desk.specs.State.{IsOpened};
-    ghost use Rattle.vpg_office.specs.Fronts.{IsHistory};
 
     pub(crate) fn open(
         alloc: Global,
@@ -283,12 +286,12 @@ impl<L: Terms> Log<L> {
                 enter(
                     &mut self.replay.chronicle,
                     &mut self.replay.newest,
+                    front,
                     &place,
                     session,
                     &asked,
                     answer,
                 );
-                *front = self.replay.newest.copy();
                 let share = self.purse.issue();
                 Ok(Undo {
                     token,
@@ -304,12 +307,12 @@ impl<L: Terms> Log<L> {
                 enter(
                     &mut self.replay.chronicle,
                     &mut self.replay.newest,
+                    front,
                     &place,
                     session,
                     &asked,
                     answer,
                 );
-                *front = self.replay.newest.copy();
                 Err(Fault::Refused { fault })
             }
         }

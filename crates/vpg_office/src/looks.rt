@@ -22,7 +22,7 @@ use crate::fault::{Fault, Never};
 use crate::front::Front;
 use crate::log::{Log, admit, enter};
 use crate::terms::Terms;
-use std::alloc::Global;
+use std::alloc::{AllocError, Global};
 use std::sync::{Arc, Wait};
 use vpg_measure::{Order, PageGames, Verdict};
 use vpg_trail::Page;
@@ -59,12 +59,12 @@ impl<L: Terms> Log<L> {
         enter(
             &mut self.replay.chronicle,
             &mut self.replay.newest,
+            front,
             &place,
             session,
             &asked,
             Answer::IsSettled { settled: r },
         );
-        *front = self.replay.newest.copy();
         Ok(r)
     }
 
@@ -101,6 +101,7 @@ impl<L: Terms> Log<L> {
         enter(
             &mut self.replay.chronicle,
             &mut self.replay.newest,
+            front,
             &place,
             session,
             &asked,
@@ -109,7 +110,6 @@ impl<L: Terms> Log<L> {
                 sure: r.sure,
             },
         );
-        *front = self.replay.newest.copy();
         Ok(r)
     }
 
@@ -125,6 +125,7 @@ impl<L: Terms> Log<L> {
         requires row { row.now ≡ L.shelves }
         requires seen { IsPrefix front.old self.old }
         ensures done { IfOk result (λ r. Extends (family_between L.game L.diagram) front.old session book.Page (book.PageIs r.entries) front.new) }
+        ensures entries { IfOk result (λ r. r.entries ≡ (book_after (family_between L.game L.diagram) book.opened self.old).present) }
         ensures decisions { IfOk result (λ r. r.decisions ≡ decisions_of r.entries) }
         ensures hopeful { IfOk result (λ r. r.hopeful ≡ table_of Hopeful r.entries (length (graph_of L.game))) }
         ensures dual { IfOk result (λ r. r.dual ≡ table_of Dual r.entries (length (graph_of L.game))) }
@@ -154,16 +155,23 @@ impl<L: Terms> Log<L> {
         enter(
             &mut self.replay.chronicle,
             &mut self.replay.newest,
+            front,
             &place,
             session,
             &asked,
             Answer::PageIs,
         );
-        *front = self.replay.newest.copy();
         Ok(page)
     }
 
-    /// The present page, with what its decisions make of the game: the desk holds that, so nothing of it is made anew.
+    /// What the decisions of the present page make of the game: the desk holds it, so nothing of it is made anew.
+    fn games(&self) -> Result<Arc<PageGames>, AllocError>
+        ensures { IfOk result (λ games. ArePageGames L.game L.diagram (choices_of (book_after (family_between L.game L.diagram) book.opened self.now).present) (arc_value games)) }
+    {
+        self.replay.desk.games().clone()
+    }
+
+    /// The present page, with what its decisions make of the game.
     pub(crate) fn page_with_games<R: Wait>(
         &mut self,
         rt: &R,
@@ -185,36 +193,13 @@ impl<L: Terms> Log<L> {
         ensures reached { OnOk result (IsReached (setting_between L.game L.diagram) (book_after (family_between L.game L.diagram) book.opened front.new)) }
         ensures fault { IfErr result (Tells (family_between L.game L.diagram) L.limit never_refused book.Page session front.old front.new) }
     {
-        let asked = Asked::Page;
-        let place = match admit(
-            rt,
-            row,
-            &mut self.replay.chronicle,
-            &self.replay.newest,
-            front,
-            self.replay.room,
-            session,
-            &asked,
-        ) {
-            Ok(place) => place,
-            Err(fault) => return Err(fault),
-        };
-        let Ok(page) = self.replay.desk.page(alloc) else {
+        let Ok(games) = self.games() else {
             return Err(Fault::Memory);
         };
-        let Ok(games) = self.replay.desk.games().clone() else {
-            return Err(Fault::Memory);
-        };
-        enter(
-            &mut self.replay.chronicle,
-            &mut self.replay.newest,
-            &place,
-            session,
-            &asked,
-            Answer::PageIs,
-        );
-        *front = self.replay.newest.copy();
-        Ok((page, games))
+        match self.page(rt, alloc, row, session, front) {
+            Ok(present) => Ok((present, games)),
+            Err(fault) => Err(fault),
+        }
     }
 
     /// What lifters take along.
@@ -252,12 +237,12 @@ impl<L: Terms> Log<L> {
         enter(
             &mut self.replay.chronicle,
             &mut self.replay.newest,
+            front,
             &place,
             session,
             &asked,
             Answer::Ordered,
         );
-        *front = self.replay.newest.copy();
         Ok(r)
     }
 }

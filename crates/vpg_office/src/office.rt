@@ -1,6 +1,7 @@
 //! The office: the row of calls, and the log under a lock.
 ghost use Rattle.std.specs.Arc.{arc_value};
 ghost use Rattle.std.specs.Prelude.{◌≡◌, ◌⊎◌, ◌+◌, ◌<◌, ◌≤◌, ◌↔◌, ℕ, List, [], length, IfOk, IfErr, OnOk};
+ghost use Rattle.std.specs.Sync.Mutex.{mutex_guard_value};
 ghost use mathlib.Core.List.{IsPrefix};
 ghost use Rattle.vpg_diagram.specs.FeatureDiagram.{feature_count};
 ghost use Rattle.vpg_game.specs.Game.{IsAtLimit};
@@ -9,6 +10,7 @@ ghost use Rattle.vpg_desk.specs.Book.{opened};
 ghost use Rattle.vpg_desk.specs.History.{book_after};
 ghost use Rattle.vpg_desk.specs.State.{IsOpened};
 ghost use Rattle.vpg_office.specs.Fronts.{IsHistory, family_between};
+ghost use Rattle.vpg_office.specs.Kept.{IsLastGiven};
 
 use crate::chronicle::Row;
 use crate::front::Front;
@@ -209,6 +211,61 @@ impl<L: Terms> Shared<Row, L, Log<L>> {
         let watch = log.watch(rt, alloc);
         MutexGuard::unlock(log);
         watch
+    }
+
+    /// The log, locked where it has the front.
+    pub(crate) fn log_with<R: Wait>(&self, rt: &R, front: &Front<L>) -> MutexGuard<'_, Log<L>>
+        ensures { IsPrefix front.now (mutex_guard_value result) }
+    {
+        'again: for _ in rt.forever() {
+            let log = self.log.lock(rt);
+            if log.has(&self.row, front) {
+                return log;
+            }
+            MutexGuard::unlock(log);
+        }
+        unreachable!()
+    }
+
+    /// The log, locked where it has both fronts.
+    pub(crate) fn log_with_both<R: Wait>(
+        &self,
+        rt: &R,
+        front: &Front<L>,
+        other: &Front<L>,
+    ) -> MutexGuard<'_, Log<L>>
+        ensures front { IsPrefix front.now (mutex_guard_value result) }
+        ensures other { IsPrefix other.now (mutex_guard_value result) }
+    {
+        'again: for _ in rt.forever() {
+            let log = self.log_with(rt, front);
+            if log.has(&self.row, other) {
+                return log;
+            }
+            MutexGuard::unlock(log);
+        }
+        unreachable!()
+    }
+
+    /// The log, locked where it has the front, and a token's front with its last call that gave a token of the serial at the end.
+    pub(crate) fn log_holding<R: Wait>(
+        &self,
+        rt: &R,
+        front: &Front<L>,
+        serial: u64,
+        own: &Front<L>,
+    ) -> MutexGuard<'_, Log<L>>
+        ensures front { IsPrefix front.now (mutex_guard_value result) }
+        ensures own { IsLastGiven (mutex_guard_value result) serial own.now }
+    {
+        'again: for _ in rt.forever() {
+            let log = self.log_with(rt, front);
+            if log.holds(&self.row, serial, own) {
+                return log;
+            }
+            MutexGuard::unlock(log);
+        }
+        unreachable!()
     }
 
     /// The first becomes the longer of both.

@@ -68,12 +68,12 @@ impl<L: Terms> Log<L> {
                 enter(
                     &mut self.replay.chronicle,
                     &mut self.replay.newest,
+                    front,
                     &place,
                     session,
                     &asked,
                     answer,
                 );
-                *front = self.replay.newest.copy();
                 let share = self.purse.issue();
                 Ok(Undo {
                     token,
@@ -89,12 +89,12 @@ impl<L: Terms> Log<L> {
                 enter(
                     &mut self.replay.chronicle,
                     &mut self.replay.newest,
+                    front,
                     &place,
                     session,
                     &asked,
                     answer,
                 );
-                *front = self.replay.newest.copy();
                 Err(Fault::Refused { fault })
             }
         }

@@ -82,18 +82,11 @@ impl<L: Terms> Session<L> {
         ensures fault { IfErr result (Tells (family_between L.game L.diagram) L.limit decide_refusal (book.Decide feature value) self.old front.old front.new) }
         ensures same { self.new ≡ self.old }
     {
-        let number = self.number;
-        'again: for _ in rt.forever() {
-            let mut log = office.log.lock(rt);
-            if log.has(&office.row, front) {
-                let answer = log.decide(rt, alloc, &office.row, number, front, feature, value);
-                log.publish(rt, alloc, answer.is_ok());
-                MutexGuard::unlock(log);
-                return answer;
-            }
-            MutexGuard::unlock(log);
-        }
-        unreachable!()
+        let mut log = office.log_with(rt, front);
+        let answer = log.decide(rt, alloc, &office.row, self.number, front, feature, value);
+        log.publish(rt, alloc, answer.is_ok());
+        MutexGuard::unlock(log);
+        answer
     }
 
     /// Takes the decision on a feature back, as `Desk::retract`.
@@ -109,18 +102,11 @@ impl<L: Terms> Session<L> {
         ensures fault { IfErr result (Tells (family_between L.game L.diagram) L.limit retract_refusal (book.Retract feature) self.old front.old front.new) }
         ensures same { self.new ≡ self.old }
     {
-        let number = self.number;
-        'again: for _ in rt.forever() {
-            let mut log = office.log.lock(rt);
-            if log.has(&office.row, front) {
-                let answer = log.retract(rt, alloc, &office.row, number, front, feature);
-                log.publish(rt, alloc, answer.is_ok());
-                MutexGuard::unlock(log);
-                return answer;
-            }
-            MutexGuard::unlock(log);
-        }
-        unreachable!()
+        let mut log = office.log_with(rt, front);
+        let answer = log.retract(rt, alloc, &office.row, self.number, front, feature);
+        log.publish(rt, alloc, answer.is_ok());
+        MutexGuard::unlock(log);
+        answer
     }
 
     /// Takes the token's change back, as `Desk::undo`: the present page is the one just before the call that gave the token.
@@ -140,18 +126,11 @@ impl<L: Terms> Session<L> {
         ensures back { IfErr result (λ b. b.value ≡ token) }
         ensures same { self.new ≡ self.old }
     {
-        let number = self.number;
-        'again: for _ in rt.forever() {
-            let mut log = office.log.lock(rt);
-            if log.has(&office.row, front) && log.holds(&office.row, token.serial(), &token.place) {
-                let answer = log.undo(rt, alloc, &office.row, number, front, token);
-                log.publish(rt, alloc, answer.is_ok());
-                MutexGuard::unlock(log);
-                return answer;
-            }
-            MutexGuard::unlock(log);
-        }
-        unreachable!()
+        let mut log = office.log_holding(rt, front, token.serial(), &token.place);
+        let answer = log.undo(rt, alloc, &office.row, self.number, front, token);
+        log.publish(rt, alloc, answer.is_ok());
+        MutexGuard::unlock(log);
+        answer
     }
 
     /// Makes the token's change again, as `Desk::redo`: the present page is the one just before the call that gave the token.
@@ -171,18 +150,11 @@ impl<L: Terms> Session<L> {
         ensures back { IfErr result (λ b. b.value ≡ token) }
         ensures same { self.new ≡ self.old }
     {
-        let number = self.number;
-        'again: for _ in rt.forever() {
-            let mut log = office.log.lock(rt);
-            if log.has(&office.row, front) && log.holds(&office.row, token.serial(), &token.place) {
-                let answer = log.redo(rt, alloc, &office.row, number, front, token);
-                log.publish(rt, alloc, answer.is_ok());
-                MutexGuard::unlock(log);
-                return answer;
-            }
-            MutexGuard::unlock(log);
-        }
-        unreachable!()
+        let mut log = office.log_holding(rt, front, token.serial(), &token.place);
+        let answer = log.redo(rt, alloc, &office.row, self.number, front, token);
+        log.publish(rt, alloc, answer.is_ok());
+        MutexGuard::unlock(log);
+        answer
     }
 
     /// Spends a token, as `Desk::keep`.
@@ -199,17 +171,10 @@ impl<L: Terms> Session<L> {
         ensures back { IfErr result (λ b. b.value ≡ token) }
         ensures same { self.new ≡ self.old }
     {
-        let number = self.number;
-        'again: for _ in rt.forever() {
-            let mut log = office.log.lock(rt);
-            if log.has(&office.row, front) && log.has(&office.row, &token.place) {
-                let answer = log.keep(rt, &office.row, number, front, token);
-                MutexGuard::unlock(log);
-                return answer;
-            }
-            MutexGuard::unlock(log);
-        }
-        unreachable!()
+        let mut log = office.log_with_both(rt, front, &token.place);
+        let answer = log.keep(rt, &office.row, self.number, front, token);
+        MutexGuard::unlock(log);
+        answer
     }
 
     /// Spends a token, as `Desk::forget`.
@@ -226,17 +191,10 @@ impl<L: Terms> Session<L> {
         ensures back { IfErr result (λ b. b.value ≡ token) }
         ensures same { self.new ≡ self.old }
     {
-        let number = self.number;
-        'again: for _ in rt.forever() {
-            let mut log = office.log.lock(rt);
-            if log.has(&office.row, front) && log.has(&office.row, &token.place) {
-                let answer = log.forget(rt, &office.row, number, front, token);
-                MutexGuard::unlock(log);
-                return answer;
-            }
-            MutexGuard::unlock(log);
-        }
-        unreachable!()
+        let mut log = office.log_with_both(rt, front, &token.place);
+        let answer = log.forget(rt, &office.row, self.number, front, token);
+        MutexGuard::unlock(log);
+        answer
     }
 
     /// Whether both tables of the present page are progress tables.
@@ -250,17 +208,10 @@ impl<L: Terms> Session<L> {
         ensures fault { IfErr result (Tells (family_between L.game L.diagram) L.limit never_refused book.Settled self.old front.old front.new) }
         ensures same { self.new ≡ self.old }
     {
-        let number = self.number;
-        'again: for _ in rt.forever() {
-            let mut log = office.log.lock(rt);
-            if log.has(&office.row, front) {
-                let answer = log.settled(rt, &office.row, number, front);
-                MutexGuard::unlock(log);
-                return answer;
-            }
-            MutexGuard::unlock(log);
-        }
-        unreachable!()
+        let mut log = office.log_with(rt, front);
+        let answer = log.settled(rt, &office.row, self.number, front);
+        MutexGuard::unlock(log);
+        answer
     }
 
     /// What the present tables say of a vertex.
@@ -276,17 +227,10 @@ impl<L: Terms> Session<L> {
         ensures fault { IfErr result (Tells (family_between L.game L.diagram) L.limit never_refused (book.Verdict vertex) self.old front.old front.new) }
         ensures same { self.new ≡ self.old }
     {
-        let number = self.number;
-        'again: for _ in rt.forever() {
-            let mut log = office.log.lock(rt);
-            if log.has(&office.row, front) {
-                let answer = log.verdict(rt, &office.row, number, front, vertex);
-                MutexGuard::unlock(log);
-                return answer;
-            }
-            MutexGuard::unlock(log);
-        }
-        unreachable!()
+        let mut log = office.log_with(rt, front);
+        let answer = log.verdict(rt, &office.row, self.number, front, vertex);
+        MutexGuard::unlock(log);
+        answer
     }
 
     /// The present page, as `Desk::page`.
@@ -308,17 +252,10 @@ impl<L: Terms> Session<L> {
         ensures fault { IfErr result (Tells (family_between L.game L.diagram) L.limit never_refused book.Page self.old front.old front.new) }
         ensures same { self.new ≡ self.old }
     {
-        let number = self.number;
-        'again: for _ in rt.forever() {
-            let mut log = office.log.lock(rt);
-            if log.has(&office.row, front) {
-                let answer = log.page(rt, alloc, &office.row, number, front);
-                MutexGuard::unlock(log);
-                return answer;
-            }
-            MutexGuard::unlock(log);
-        }
-        unreachable!()
+        let mut log = office.log_with(rt, front);
+        let answer = log.page(rt, alloc, &office.row, self.number, front);
+        MutexGuard::unlock(log);
+        answer
     }
 
     /// The present page, as `Desk::page`, with what its decisions make of the game, as `Desk::games`: one call, so the two are of one
@@ -342,17 +279,10 @@ impl<L: Terms> Session<L> {
         ensures fault { IfErr result (Tells (family_between L.game L.diagram) L.limit never_refused book.Page self.old front.old front.new) }
         ensures same { self.new ≡ self.old }
     {
-        let number = self.number;
-        'again: for _ in rt.forever() {
-            let mut log = office.log.lock(rt);
-            if log.has(&office.row, front) {
-                let answer = log.page_with_games(rt, alloc, &office.row, number, front);
-                MutexGuard::unlock(log);
-                return answer;
-            }
-            MutexGuard::unlock(log);
-        }
-        unreachable!()
+        let mut log = office.log_with(rt, front);
+        let answer = log.page_with_games(rt, alloc, &office.row, self.number, front);
+        MutexGuard::unlock(log);
+        answer
     }
 
     /// What lifters take along.
@@ -368,17 +298,10 @@ impl<L: Terms> Session<L> {
         ensures fault { IfErr result (Tells (family_between L.game L.diagram) L.limit never_refused book.Order self.old front.old front.new) }
         ensures same { self.new ≡ self.old }
     {
-        let number = self.number;
-        'again: for _ in rt.forever() {
-            let mut log = office.log.lock(rt);
-            if log.has(&office.row, front) {
-                let answer = log.order(rt, alloc, &office.row, number, front);
-                MutexGuard::unlock(log);
-                return answer;
-            }
-            MutexGuard::unlock(log);
-        }
-        unreachable!()
+        let mut log = office.log_with(rt, front);
+        let answer = log.order(rt, alloc, &office.row, self.number, front);
+        MutexGuard::unlock(log);
+        answer
     }
 
     /// Raises the present tables to the harvest's, as `Desk::commit`.
@@ -396,18 +319,11 @@ impl<L: Terms> Session<L> {
         ensures back { IfErr result (λ b. b.value ≡ harvest) }
         ensures same { self.new ≡ self.old }
     {
-        let number = self.number;
-        'again: for _ in rt.forever() {
-            let mut log = office.log.lock(rt);
-            if log.has(&office.row, front) {
-                let answer = log.commit(rt, alloc, &office.row, number, front, harvest, false);
-                log.publish(rt, alloc, answer.is_ok());
-                MutexGuard::unlock(log);
-                return answer;
-            }
-            MutexGuard::unlock(log);
-        }
-        unreachable!()
+        let mut log = office.log_with(rt, front);
+        let answer = log.commit(rt, alloc, &office.row, self.number, front, harvest, false);
+        log.publish(rt, alloc, answer.is_ok());
+        MutexGuard::unlock(log);
+        answer
     }
 
     /// As `commit`, of a harvest whose order has the office's game and diagram, as those of `order` have: the two are not compared.
@@ -425,17 +341,10 @@ impl<L: Terms> Session<L> {
         ensures back { IfErr result (λ b. b.value ≡ harvest) }
         ensures same { self.new ≡ self.old }
     {
-        let number = self.number;
-        'again: for _ in rt.forever() {
-            let mut log = office.log.lock(rt);
-            if log.has(&office.row, front) {
-                let answer = log.commit(rt, alloc, &office.row, number, front, harvest, true);
-                log.publish(rt, alloc, answer.is_ok());
-                MutexGuard::unlock(log);
-                return answer;
-            }
-            MutexGuard::unlock(log);
-        }
-        unreachable!()
+        let mut log = office.log_with(rt, front);
+        let answer = log.commit(rt, alloc, &office.row, self.number, front, harvest, true);
+        log.publish(rt, alloc, answer.is_ok());
+        MutexGuard::unlock(log);
+        answer
     }
 }

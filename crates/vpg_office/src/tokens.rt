@@ -113,12 +113,12 @@ impl<L: Terms> Log<L> {
                 enter(
                     &mut self.replay.chronicle,
                     &mut self.replay.newest,
+                    front,
                     &place,
                     session,
                     &asked,
                     answer,
                 );
-                *front = self.replay.newest.copy();
                 Ok(Redo {
                     token: redo,
                     place: self.replay.newest.copy(),
@@ -145,12 +145,12 @@ impl<L: Terms> Log<L> {
                 enter(
                     &mut self.replay.chronicle,
                     &mut self.replay.newest,
+                    front,
                     &place,
                     session,
                     &asked,
                     answer,
                 );
-                *front = self.replay.newest.copy();
                 Err(Returned {
                     fault: Fault::Refused { fault },
                     value: token,
@@ -213,12 +213,12 @@ impl<L: Terms> Log<L> {
                 enter(
                     &mut self.replay.chronicle,
                     &mut self.replay.newest,
+                    front,
                     &place,
                     session,
                     &asked,
                     answer,
                 );
-                *front = self.replay.newest.copy();
                 Ok(Undo {
                     token: undo,
                     place: self.replay.newest.copy(),
@@ -245,12 +245,12 @@ impl<L: Terms> Log<L> {
                 enter(
                     &mut self.replay.chronicle,
                     &mut self.replay.newest,
+                    front,
                     &place,
                     session,
                     &asked,
                     answer,
                 );
-                *front = self.replay.newest.copy();
                 Err(Returned {
                     fault: Fault::Refused { fault },
                     value: token,
@@ -307,12 +307,12 @@ impl<L: Terms> Log<L> {
         enter(
             &mut self.replay.chronicle,
             &mut self.replay.newest,
+            front,
             &place,
             session,
             &asked,
             Answer::Spent,
         );
-        *front = self.replay.newest.copy();
         self.purse.take_back(share);
         Ok(())
     }
@@ -365,12 +365,12 @@ impl<L: Terms> Log<L> {
         enter(
             &mut self.replay.chronicle,
             &mut self.replay.newest,
+            front,
             &place,
             session,
             &asked,
             Answer::Spent,
         );
-        *front = self.replay.newest.copy();
         self.purse.take_back(share);
         Ok(())
     }

@@ -24,7 +24,7 @@ const MOST_SWEEPS: u64 = 1_000_000_000;
 const MOST_LABELS: u64 = 64;
 
 /// The words that name commands.
-#[derive(Clone, Copy, Debug)]
+#[derive(Clone, Copy)]
 pub enum Verb {
     Select,
     Exclude,
@@ -45,7 +45,7 @@ pub enum Verb {
 }
 
 /// A command. Names stand in the line that was read.
-#[derive(Clone, Copy, Debug)]
+#[derive(Clone, Copy)]
 pub enum Command<'t> {
     Select(&'t [u8]),
     Exclude(&'t [u8]),
@@ -81,7 +81,7 @@ pub enum LineFault {
 }
 
 /// A command under its label.
-#[derive(Clone, Copy, Debug)]
+#[derive(Clone, Copy)]
 pub struct Request<'t> {
     pub label: u32,
     pub command: Command<'t>,
@@ -305,7 +305,7 @@ ghost use Rattle.vpg_script.specs.Script.{requested, with_verb, after_label, lab
 ghost use Rattle.vpg_script.specs.View.{Says};
 
 /// Why a line gives no request.
-#[derive(Clone, Copy, Debug, PartialEq, Eq)]
+#[derive(Clone, Copy, Debug)]
 pub enum ReadFault {
     Line(LineFault),
     Memory,

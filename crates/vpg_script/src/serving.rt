@@ -18,7 +18,7 @@ use std::thread::Threads;
 use thiserror::Error;
 
 /// Why a server doesn't carry a request out.
-#[derive(Clone, Copy, Debug, PartialEq, Eq, Error)]
+#[derive(Clone, Copy, Debug, Error)]
 pub enum ServeFault {
     #[error("Memory")]
     Memory,
@@ -87,7 +87,7 @@ pub enum ScriptFault {
 }
 
 /// Why a line ends the run.
-#[derive(Clone, Copy, Debug)]
+#[derive(Clone, Copy)]
 pub enum LineStop {
     Fault(LineFault),
     Write,

@@ -11,7 +11,7 @@ use vpg_measure::Order;
 use vpg_partial::Decision;
 
 /// Some decisions that suffice, in the page's order.
-#[derive(Debug, Drop)]
+#[derive(Drop)]
 pub struct Explanation {
     pub decisions: Vec<Decision>,
     /// Whether it was shown that none of them can be left out.
@@ -57,7 +57,7 @@ fn front_suffices(
 }
 
 // The last decision that is needed, and whether it was shown that those before it do not suffice.
-#[derive(Clone, Copy, Debug)]
+#[derive(Clone, Copy)]
 struct Last {
     place: usize,
     exact: bool,

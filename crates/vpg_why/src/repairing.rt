@@ -12,7 +12,7 @@ use vpg_measure::{Order, Which};
 use vpg_partial::Decision;
 
 /// Decisions of a page, in its order: those that stay and those to retract.
-#[derive(Debug, Drop)]
+#[derive(Drop)]
 pub struct Retraction {
     pub kept: Vec<Decision>,
     pub retracted: Vec<Decision>,
@@ -21,7 +21,7 @@ pub struct Retraction {
 }
 
 /// What to retract so that a verdict no longer holds.
-#[derive(Debug, Drop)]
+#[derive(Drop)]
 pub enum Remedy {
     /// Once these are retracted, the vertex is not hopeless any more, for the first table; or not sure, for the second.
     Retract(Retraction),

@@ -15,7 +15,7 @@ use vpg_measure::{Order, Which};
 use vpg_partial::{Decision, Partial};
 
 /// What some decisions say of an aim.
-#[derive(Debug, Drop)]
+#[derive(Drop)]
 pub(crate) enum Outlook {
     /// No product that is left meets it.
     Lost,
@@ -28,7 +28,7 @@ pub(crate) enum Outlook {
 }
 
 /// A product that is left and meets an aim.
-#[derive(Debug, Drop)]
+#[derive(Drop)]
 pub struct Example {
     /// For each feature whether the product has it.
     pub features: Vec<bool>,
@@ -38,7 +38,7 @@ pub struct Example {
 }
 
 /// What a search found.
-#[derive(Debug, Drop)]
+#[derive(Drop)]
 pub enum Found {
     /// A product that is left and meets the aim.
     Product(Example),

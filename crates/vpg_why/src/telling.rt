@@ -43,7 +43,7 @@ pub fn why(
 }
 
 /// Why no product meets an aim: which decisions make it so, or a product that does.
-#[derive(Debug, Drop)]
+#[derive(Drop)]
 pub enum WhyLost {
     /// No product that agrees with these decisions alone meets the aim.
     Because(Explanation),

@@ -7,8 +7,6 @@
 mod help;
 mod reading;
 mod task;
-#[cfg(test)]
-mod tests;
 
 pub use reading::{not_text, read};
 pub use task::Task;

@@ -65,37 +65,66 @@ fn draw_command<'a>(alloc: Global) -> Result<Command<'a>, AllocError> {
     ))
 }
 
+/// A command, and one more within it.
+fn with_inner<'a>(
+    command: Command<'a>,
+    inner: Result<Command<'a>, AllocError>,
+) -> Result<Command<'a>, AllocError> {
+    match inner {
+        Ok(inner) => command.subcommand(inner),
+        Err(fault) => Err(fault),
+    }
+}
+
+fn check_command<'a>(alloc: Global) -> Result<Command<'a>, AllocError> {
+    over_family(
+        alloc,
+        "check",
+        "Counts vertices, edges, features and measures",
+    )
+}
+
 /// All that the program may be called with.
 fn command<'a>(alloc: Global) -> Result<Command<'a>, AllocError> {
-    Command::new(alloc, "vpgdesk")
+    let command = Command::new(alloc, "vpgdesk")
         .version("0.1.0")
         .about("Configures a product family whose behaviour is a variability parity game")
         .long_about(ABOUT)
         .after_help(SHORT_AFTER)
-        .after_long_help(AFTER)
-        .subcommand(run_command(alloc)?)?
-        .subcommand(project_command(alloc)?)?
-        .subcommand(over_family(
-            alloc,
-            "check",
-            "Counts vertices, edges, features and measures",
-        )?)?
-        .subcommand(draw_command(alloc)?)
+        .after_long_help(AFTER);
+    let command = with_inner(command, run_command(alloc))?;
+    let command = with_inner(command, project_command(alloc))?;
+    let command = with_inner(command, check_command(alloc))?;
+    with_inner(command, draw_command(alloc))
+}
+
+/// What is told of words that are wrong.
+fn wrong(alloc: Global, kind: ErrorKind, why: &str) -> Result<Error, AllocError> {
+    command(alloc)?.error(kind, why)
 }
 
 /// What is told of words that no text in UTF-8 spells.
 pub fn not_text(alloc: Global) -> Result<Error, AllocError> {
-    command(alloc)?.error(ErrorKind::ValueValidation, "a word is not text in UTF-8")
+    wrong(
+        alloc,
+        ErrorKind::ValueValidation,
+        "a word is not text in UTF-8",
+    )
 }
 
 /// What is told where a command lacks a word. The parser refuses such words before.
 fn lacking(alloc: Global) -> Result<Error, AllocError> {
-    command(alloc)?.error(ErrorKind::MissingRequiredArgument, "a word is missing")
+    wrong(
+        alloc,
+        ErrorKind::MissingRequiredArgument,
+        "a word is missing",
+    )
 }
 
 /// What is told of a number with a sign.
 fn signed(alloc: Global) -> Result<Error, AllocError> {
-    command(alloc)?.error(
+    wrong(
+        alloc,
         ErrorKind::ValueValidation,
         "the number of lifters is digits alone",
     )
@@ -163,9 +192,8 @@ fn task_of<'a>(
     }
 }
 
-/// What the words ask for, the first of them being the program's name; else what is told of them, help and the version among it.
-pub fn read<'a>(alloc: Global, words: &'a [String]) -> Result<Task<'a>, Error> {
-    let matches = command(alloc)?.try_get_matches_from(words)?;
+/// What words ask for that the parser accepted.
+fn accepted<'a>(alloc: Global, matches: &ArgMatches<'a>) -> Result<Task<'a>, Error> {
     let Some((name, inner)) = matches.subcommand() else {
         return Ok(Task::BuiltIn);
     };
@@ -176,4 +204,10 @@ pub fn read<'a>(alloc: Global, words: &'a [String]) -> Result<Task<'a>, Error> {
         Some(task) => Ok(task),
         None => Err(lacking(alloc)?),
     }
+}
+
+/// What the words ask for, the first of them being the program's name; else what is told of them, help and the version among it.
+pub fn read<'a>(alloc: Global, words: &'a [String]) -> Result<Task<'a>, Error> {
+    let matches = command(alloc)?.try_get_matches_from(words)?;
+    accepted(alloc, &matches)
 }

@@ -7,6 +7,9 @@ use Rattle.vpg_settle.proofs.sweeping.swept.Goals as goal
 pub returns-then-check-clause-swept : goal.returns-then-check-clause-swept
 returns-then-check-clause-swept g c = c.as_it_stands.ensures.swept c.args.sweeps
 
+pub returns-then-sweeps-le-FEW_SWEEPS-clause-swept : goal.returns-then-sweeps-le-FEW_SWEEPS-clause-swept
+returns-then-sweeps-le-FEW_SWEEPS-clause-swept g c = c.by_sweeps.ensures.swept
+
 pub returns-in-Ok-clause-swept : goal.returns-in-Ok-clause-swept
 returns-in-Ok-clause-swept g c = settled_early c.args.order c.in-Ok.swept.harvest 1 c.args.sweeps c.in-Ok.ensures.swept c.in-Ok.ensures.settled
 

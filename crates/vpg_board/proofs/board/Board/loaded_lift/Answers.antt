@@ -1,9 +1,10 @@
-use Rattle.std.proofs.Common.{◌≡◌, ℕ, ◌+◌, ◌<◌, ◌≤◌, length, List, ◌++◌, ◌∷◌, [], sym, ap, ◌∙◌, subst, arith, get_or, All}
+use Rattle.std.proofs.Common.{◌≡◌, ℕ, ◌+◌, ◌<◌, ◌≤◌, length, List, ◌++◌, ◌∷◌, [], refl, sym, ap, ◌∙◌, subst, arith, get_or, All}
 use Rattle.vpg_game.specs.declared.levels.Level.{Level}
+use Rattle.vpg_game.specs.declared.player.Player.{Player}
 use Rattle.vpg_game.specs.Levels.{top_of}
 use Rattle.vpg_hope.specs.Arena.{Vertex, vertex_at}
 use Rattle.vpg_measure.specs.Lifts.{best_for}
-use Rattle.vpg_measure.specs.Orders.{IsOrder, order_arena}
+use Rattle.vpg_measure.specs.Orders.{OrderView, IsOrder, order_arena}
 use Rattle.vpg_measure.proofs.OrderLemmas.{arena_count}
 use Rattle.vpg_board.specs.declared.lifter.Lifter.{Lifter}
 use Rattle.vpg_board.specs.Places.{vertices, places, place_of, lift_in}
@@ -85,3 +86,50 @@ returns-clause-steps c =
     let kept : c.kept-kept.result.now ≡ (vertex_at (order_arena c.args.which order) c.args.v).successors = c.kept-kept.ensures.kept ∙ ap (λ a. (vertex_at a c.args.v).successors) c.arena-arena.ensures in
     let all : length (vertex_at (order_arena c.args.which order) c.args.v).successors ≤ c.loop-successor.successor-index = subst (λ (l : List ℕ). length l ≤ c.loop-successor.successor-index) kept (omega (arith, c.loop-successor-test.false)) in
     loads_all order c.args.self.now.order c.args.which c.args.v c.loop-successor.successor-index c.args.seat.now.me.0 c.loop-successor.seat.me.0 same all c.loop-successor.invariant.steps
+
+pub loop-successor-init : goal.loop-successor-init
+loop-successor-init c =
+    let order = c.self.inside.order in
+    let x : Vertex = vertex_at (order_arena c.args.which order) c.args.v in
+    let owner : c.owner-owner.result ≡ x.owner = c.owner-owner.ensures ∙ ap (λ a. (vertex_at a c.args.v).owner) c.arena-arena.ensures in
+    record {
+      table = refl;
+      slots = refl;
+      sees = record { same = refl; wide = refl; more = λ k. omega arith };
+      safe = c.requires.safe;
+      run = c.requires.run;
+      steps = refl;
+      best = c.best_of_none-best.ensures ∙ ap (λ (o : Player). best_for o (top_of c.shape-shape.result.now) []) owner ∙ ap (λ (ls : List Level). best_for x.owner (top_of ls) []) c.shape-shape.ensures;
+    }
+
+pub word_of-word-requires : goal.word_of-word-requires
+word_of-word-requires c =
+    let order = c.self.inside.order in
+    let same : order ≡ c.args.self.now.order = ap (λ b. b.order) c.self.view_is in
+    let at : ℕ = c.loop-successor.successor-index in
+    let w : ℕ = get_or c.kept-kept.result.now at 0 in
+    let count : length c.arena-arena.result.now ≡ vertices order = ap length c.arena-arena.ensures ∙ arena_count order.known c.args.which order.game in
+    let less : w < vertices order = subst (λ n. w < n) count (c.kept-kept.ensures.closed at 0 c.loop-successor-test.true) in
+    subst (λ (o : OrderView). w < vertices o) same less
+
+pub lift_to-requires-clause-vertex : goal.lift_to-requires-clause-vertex
+lift_to-requires-clause-vertex c =
+    let order = c.self.inside.order in
+    let same : order ≡ c.args.self.now.order = ap (λ b. b.order) c.self.view_is in
+    let count : length c.arena-arena.result.now ≡ vertices order = ap length c.arena-arena.ensures ∙ arena_count order.known c.args.which order.game in
+    omega (arith, count, ap (λ (o : OrderView). vertices o) same, c.requires.vertex)
+
+pub returns-clause-table : goal.returns-clause-table
+returns-clause-table c = c.loop-successor.invariant.table
+
+pub returns-clause-slots : goal.returns-clause-slots
+returns-clause-slots c = c.loop-successor.invariant.slots
+
+pub returns-clause-seen : goal.returns-clause-seen
+returns-clause-seen c = c.loop-successor.invariant.sees
+
+pub returns-clause-safe : goal.returns-clause-safe
+returns-clause-safe c = c.loop-successor.invariant.safe
+
+pub returns-clause-run : goal.returns-clause-run
+returns-clause-run c = c.loop-successor.invariant.run

@@ -1,14 +1,18 @@
-use Rattle.std.proofs.Common.{◌≡◌, ◌∙◌, ◌+◌, ◌<◌, ◌≤◌, ◌++◌, ◌∷◌, [], ℕ, None, Result, Ok, Err, IfErr, IfSome, refl, sym, ap, subst, arith, map, false, List}
+use Rattle.std.proofs.Common.{◌≡◌, ◌∙◌, ◌+◌, ◌<◌, ◌≤◌, ◌++◌, ◌∷◌, [], ℕ, None, Result, Ok, Err, IfErr, IfSome, IsTrue, refl, sym, ap, subst, arith, map, List, length}
 use Rattle.std.proofs.lemmas.Result.{err_from_is_err_and}
 use Rattle.std.specs.Arc.{arc_value}
 use Rattle.std.specs.List.{AllByRecursion}
 use Rattle.vpg_diagram.specs.DiagramText.{NamedDiagram}
 use Rattle.vpg_diagram.specs.FeatureDiagram.{feature_count}
-use Rattle.vpg_measure.specs.Games.{ArePageGames}
-use Rattle.vpg_trail.specs.Page.{Decided, decisions_of, choices_of, decision_on}
+use Rattle.vpg_game.specs.Game.{graph_of}
+use Rattle.vpg_guards.specs.Known.{kleene}
+use Rattle.vpg_measure.specs.Games.{AreGamesOf, ArePageGames}
+use Rattle.vpg_measure.specs.TwoGames.{IsProgressOf}
+use Rattle.vpg_trail.specs.Page.{Which, Decided, decisions_of, choices_of, decision_on, table_of}
 use Rattle.vpg_trail.specs.Shown.{entry_of}
-use Rattle.vpg_desk.specs.Book.{Decide, Changed, Refused, UnknownFeature, AlreadyDecided, TooManyChanges}
-use Rattle.vpg_desk.specs.DeskFields.{desk_of}
+use Rattle.vpg_desk.specs.Book.{Decide, Changed, Refused, UnknownFeature, AlreadyDecided, TooManyChanges, IsSettledPage}
+use Rattle.vpg_desk.specs.Desk.{family_of}
+use Rattle.vpg_desk.specs.DeskFields.{desk_of, setting_in}
 use Rattle.vpg_desk.specs.Faults.{decide_refusal, ClosesWith}
 use Rattle.vpg_desk.specs.State.{DeskState, Replies, IsStep}
 use Rattle.vpg_desk.specs.declared.fault.DecideFault.TheVariants.{Memory}
@@ -17,6 +21,7 @@ use Rattle.vpg_desk.specs.declared.cuts.Cut.{Cut}
 use Rattle.vpg_desk.proofs.Unchanged.{still_desk}
 use Rattle.vpg_desk.proofs.Shared.{held_at}
 use Rattle.vpg_desk.proofs.Decided.{decide_unknown, decide_already, decide_too_many, decide_accepted, closes_refuses, decisions_inside, limits, decided_step, decided_desk}
+use Rattle.vpg_desk.proofs.StillSettled.{settled_with}
 use Rattle.vpg_desk.proofs.desk.Desk.decide.Goals as goal
 use Rattle.vpg_desk.proofs.desk.Desk.decide.Goals.{After-features, After-games_with, After-clear}
 
@@ -65,6 +70,18 @@ overflow_add-self c = omega (arith, (limits c.self.inside c.self.invariant).0, (
 games_are : (c : After-clear) → ArePageGames (arc_value c.self.inside.game) (arc_value c.self.inside.diagram) (choices_of (c.self.inside.trail.entries ++ Decided (record { serial = c.self.inside.changes + 1; session = c.args.session; feature = c.args.feature; value = c.args.value }) ∷ [])) (arc_value c.in_ok-games.games)
 games_are c = coe 0 1 (k. ArePageGames (c.deref-2.ensures k) (c.deref-3.ensures k) (choices_of (c.entries-entries.ensures.entries k ++ Decided (record { serial = c.self.inside.changes + 1; session = c.args.session; feature = c.args.feature; value = c.args.value }) ∷ [])) (arc_value c.in_ok-games.games)) c.in_ok-games.ensures.games
 
+pub stays_settled-is_noted-requires : goal.stays_settled-is_noted-requires
+stays_settled-is_noted-requires c = subst (λ (s : DeskState). AreGamesOf s.game s.diagram c.deref-5.result.now) c.self.view_is (
+  choices_of (c.self.inside.trail.entries ++ Decided (record { serial = c.self.inside.changes + 1; session = c.args.session; feature = c.args.feature; value = c.args.value }) ∷ []),
+  coe 0 1 (k. ArePageGames (c.deref-2.ensures k) (c.deref-3.ensures k) (choices_of (c.entries-entries.ensures.entries k ++ Decided (record { serial = c.self.inside.changes + 1; session = c.args.session; feature = c.args.feature; value = c.args.value }) ∷ [])) (sym c.deref-5.ensures k)) c.in_ok-games.ensures.games,
+)
+
+-- the note of the page with the decision is true
+settled : (c : After-clear) → IsTrue c.stays_settled-is_noted.result → IsSettledPage (family_of (setting_in c.self.inside)) (c.self.inside.trail.entries ++ Decided (record { serial = c.self.inside.changes + 1; session = c.args.session; feature = c.args.feature; value = c.args.value }) ∷ [])
+settled c t = settled_with c.self.inside c.self.invariant (arc_value c.in_ok-games.games) (record { serial = c.self.inside.changes + 1; session = c.args.session; feature = c.args.feature; value = c.args.value }) (games_are c)
+    (coe 0 1 (k. (which : Which) → IsProgressOf (kleene (c.deref-5.ensures k).known) which (graph_of (arc_value c.self.inside.game)) (table_of which c.self.inside.trail.entries (length (graph_of (arc_value c.self.inside.game)))))
+    (subst (λ (s : DeskState). (which : Which) → IsProgressOf (kleene c.deref-5.result.now.known) which (graph_of s.game) (table_of which s.book.present (length (graph_of s.game)))) (sym c.self.view_is) (c.stays_settled-is_noted.ensures t)))
+
 accepted : (c : After-clear) → Replies (desk_of c.self.inside) (Decide c.args.feature c.args.value) (Changed (c.self.inside.changes + 1))
 accepted c =
     decide_accepted c.self.inside c.self.invariant c.args.feature c.args.value
@@ -75,15 +92,15 @@ pub invariant_of-self-2 : goal.invariant_of-self-2
 invariant_of-self-2 c =
     let at = (goal.at.invariant_of-self-2 c).After-clear in
     decided_desk c.self.inside c.self.invariant c.args.session c.args.feature c.args.value c.in_ok-games.games c.push_decision.new.past c.push_decision.new.trail c.clear.new.self
-    c.in_ok-push_decision.ensures.past c.in_ok-push_decision.ensures.notes c.in_ok-push_decision.ensures.below c.in_ok-push_decision.ensures.trail c.clear.ensures.items (accepted at) (games_are at)
+    c.in_ok-push_decision.ensures.past c.in_ok-push_decision.ensures.notes c.in_ok-push_decision.ensures.below c.in_ok-push_decision.ensures.trail c.clear.ensures.items (accepted at) c.stays_settled-is_noted.result (settled at) (games_are at)
 
 pub returns-clause-accepted : goal.returns-clause-accepted
 returns-clause-accepted c =
     let at = (goal.at.returns-clause-accepted c).After-clear in
-    subst (λ (n : ℕ). IsStep c.args.self.now c.args.session (Decide c.args.feature c.args.value) (Changed n) (desk_of (record { game = c.self.inside.game; diagram = c.self.inside.diagram; games = c.in_ok-games.games; trail = c.push_decision.new.trail; past = c.push_decision.new.past; future = c.clear.new.self; changes = c.self.inside.changes + 1; tokens = c.self.inside.tokens + 1; is_noted = false }))) (sym c.of.ensures)
-    (subst (λ (s : DeskState). IsStep s c.args.session (Decide c.args.feature c.args.value) (Changed (c.self.inside.changes + 1)) (desk_of (record { game = c.self.inside.game; diagram = c.self.inside.diagram; games = c.in_ok-games.games; trail = c.push_decision.new.trail; past = c.push_decision.new.past; future = c.clear.new.self; changes = c.self.inside.changes + 1; tokens = c.self.inside.tokens + 1; is_noted = false }))) c.self.view_is
+    subst (λ (n : ℕ). IsStep c.args.self.now c.args.session (Decide c.args.feature c.args.value) (Changed n) (desk_of (record { game = c.self.inside.game; diagram = c.self.inside.diagram; games = c.in_ok-games.games; trail = c.push_decision.new.trail; past = c.push_decision.new.past; future = c.clear.new.self; changes = c.self.inside.changes + 1; tokens = c.self.inside.tokens + 1; is_noted = c.stays_settled-is_noted.result }))) (sym c.of.ensures)
+    (subst (λ (s : DeskState). IsStep s c.args.session (Decide c.args.feature c.args.value) (Changed (c.self.inside.changes + 1)) (desk_of (record { game = c.self.inside.game; diagram = c.self.inside.diagram; games = c.in_ok-games.games; trail = c.push_decision.new.trail; past = c.push_decision.new.past; future = c.clear.new.self; changes = c.self.inside.changes + 1; tokens = c.self.inside.tokens + 1; is_noted = c.stays_settled-is_noted.result }))) c.self.view_is
     (decided_step c.self.inside c.self.invariant c.args.session c.args.feature c.args.value c.in_ok-games.games c.push_decision.new.past c.push_decision.new.trail c.clear.new.self
-    c.in_ok-push_decision.ensures.past c.in_ok-push_decision.ensures.notes c.in_ok-push_decision.ensures.below c.in_ok-push_decision.ensures.trail c.clear.ensures.items (accepted at) (games_are at)))
+    c.in_ok-push_decision.ensures.past c.in_ok-push_decision.ensures.notes c.in_ok-push_decision.ensures.below c.in_ok-push_decision.ensures.trail c.clear.ensures.items (accepted at) c.stays_settled-is_noted.result (settled at) (games_are at)))
 
 -- want of memory comes only of a known feature that isn't decided
 unrefused : {T E X : Type 0} (fault : E) (r : Result T E) → X → IfErr r (λ f. f ≡ fault → X)

@@ -7,7 +7,7 @@ use Rattle.vpg_measure.specs.declared.which.Which.TheVariants.{Hopeful, Dual}
 use Rattle.vpg_measure.specs.Lifts.{raised}
 use Rattle.vpg_measure.specs.OrderFields.{order_of}
 use Rattle.vpg_measure.specs.Orders.{OrderView, order_room, with_room}
-use Rattle.vpg_measure.proofs.OrderGames.{own_levels, own_arena}
+use Rattle.vpg_measure.proofs.OrderGames.{own_levels, own_arena, room_table, room_vertex}
 use Rattle.vpg_measure.proofs.OrderLemmas.{room_put, room_count, room_changed, still_settled}
 use Rattle.vpg_measure.proofs.order.Order.raise_room.Goals as goal
 
@@ -58,3 +58,27 @@ returns-in-Dual-clause-rose c =
     subst (λ (w : Which). MatchBool c.raise-in-Dual.result (sum (order_room w c.args.self.now) < sum (order_room w (with_room Dual c.raise-in-Dual.new.table (order_of c.self.inside))))
     (order_room w (with_room Dual c.raise-in-Dual.new.table (order_of c.self.inside)) ≡ order_room w c.args.self.now)) (sym c.in-Dual.is)
     (told Dual (order_of c.self.inside) c.args.self.now c.raise-in-Dual.result c.raise-in-Dual.new.table c.self.view_is c.raise-in-Dual.ensures.rose)
+
+pub raise-requires-clause-vertex : goal.raise-requires-clause-vertex
+raise-requires-clause-vertex c =
+    room_vertex c.args.which Hopeful (order_of c.self.inside) c.args.self.now c.shape-shape.result.now c.arena-arena.result.now c.self.view_is c.in-Hopeful.is
+    (own_levels c.self.inside c.self.invariant c.deref.result.now c.deref.ensures c.args.which c.shape-shape.result.now c.shape-shape.ensures)
+    (own_arena c.self.inside c.self.invariant c.deref-2.result.now c.deref-2.ensures c.args.which c.arena-arena.result.now c.arena-arena.ensures) c.requires.table c.args.v c.requires.vertex
+
+pub raise-requires-clause-table : goal.raise-requires-clause-table
+raise-requires-clause-table c =
+    room_table c.args.which Hopeful (order_of c.self.inside) c.args.self.now c.shape-shape.result.now c.arena-arena.result.now c.self.view_is c.in-Hopeful.is
+    (own_levels c.self.inside c.self.invariant c.deref.result.now c.deref.ensures c.args.which c.shape-shape.result.now c.shape-shape.ensures)
+    (own_arena c.self.inside c.self.invariant c.deref-2.result.now c.deref-2.ensures c.args.which c.arena-arena.result.now c.arena-arena.ensures) c.requires.table
+
+pub raise-requires-in-Dual-clause-vertex : goal.raise-requires-in-Dual-clause-vertex
+raise-requires-in-Dual-clause-vertex c =
+    room_vertex c.args.which Dual (order_of c.self.inside) c.args.self.now c.shape-shape.result.now c.arena-arena.result.now c.self.view_is c.in-Dual.is
+    (own_levels c.self.inside c.self.invariant c.deref.result.now c.deref.ensures c.args.which c.shape-shape.result.now c.shape-shape.ensures)
+    (own_arena c.self.inside c.self.invariant c.deref-2.result.now c.deref-2.ensures c.args.which c.arena-arena.result.now c.arena-arena.ensures) c.requires.table c.args.v c.requires.vertex
+
+pub raise-requires-in-Dual-clause-table : goal.raise-requires-in-Dual-clause-table
+raise-requires-in-Dual-clause-table c =
+    room_table c.args.which Dual (order_of c.self.inside) c.args.self.now c.shape-shape.result.now c.arena-arena.result.now c.self.view_is c.in-Dual.is
+    (own_levels c.self.inside c.self.invariant c.deref.result.now c.deref.ensures c.args.which c.shape-shape.result.now c.shape-shape.ensures)
+    (own_arena c.self.inside c.self.invariant c.deref-2.result.now c.deref-2.ensures c.args.which c.arena-arena.result.now c.arena-arena.ensures) c.requires.table

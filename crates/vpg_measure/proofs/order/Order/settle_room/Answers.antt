@@ -4,7 +4,7 @@ use Rattle.vpg_hope.specs.Games.{Game}
 use Rattle.vpg_measure.specs.declared.which.Which.TheVariants.{Hopeful, Dual}
 use Rattle.vpg_measure.specs.Lifts.{after_rounds}
 use Rattle.vpg_measure.specs.OrderFields.{order_of}
-use Rattle.vpg_measure.proofs.OrderGames.{own_levels, own_arena}
+use Rattle.vpg_measure.proofs.OrderGames.{own_levels, own_arena, room_table}
 use Rattle.vpg_measure.proofs.OrderLemmas.{room_put, room_count, room_changed, still_settled}
 use Rattle.vpg_measure.proofs.order.Order.settle_room.Goals as goal
 
@@ -37,3 +37,15 @@ returns-in-Dual c =
     room_changed (λ (l : List Level) (g : Game) (t : List ℕ). after_rounds l g c.args.rounds t) (order_of c.self.inside) c.args.self.now c.args.which Dual
     c.shape-shape.result.now c.arena-arena.result.now c.settle_alone-in-Dual.new.table (own_levels c.self.inside c.self.invariant c.deref.result.now c.deref.ensures c.args.which c.shape-shape.result.now c.shape-shape.ensures)
     (own_arena c.self.inside c.self.invariant c.deref-2.result.now c.deref-2.ensures c.args.which c.arena-arena.result.now c.arena-arena.ensures) c.in-Dual.is c.settle_alone-in-Dual.ensures.after c.self.view_is
+
+pub settle_alone-requires : goal.settle_alone-requires
+settle_alone-requires c =
+    room_table c.args.which Hopeful (order_of c.self.inside) c.args.self.now c.shape-shape.result.now c.arena-arena.result.now c.self.view_is c.in-Hopeful.is
+    (own_levels c.self.inside c.self.invariant c.deref.result.now c.deref.ensures c.args.which c.shape-shape.result.now c.shape-shape.ensures)
+    (own_arena c.self.inside c.self.invariant c.deref-2.result.now c.deref-2.ensures c.args.which c.arena-arena.result.now c.arena-arena.ensures) c.requires
+
+pub settle_alone-requires-in-Dual : goal.settle_alone-requires-in-Dual
+settle_alone-requires-in-Dual c =
+    room_table c.args.which Dual (order_of c.self.inside) c.args.self.now c.shape-shape.result.now c.arena-arena.result.now c.self.view_is c.in-Dual.is
+    (own_levels c.self.inside c.self.invariant c.deref.result.now c.deref.ensures c.args.which c.shape-shape.result.now c.shape-shape.ensures)
+    (own_arena c.self.inside c.self.invariant c.deref-2.result.now c.deref-2.ensures c.args.which c.arena-arena.result.now c.arena-arena.ensures) c.requires

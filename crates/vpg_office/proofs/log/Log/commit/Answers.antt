@@ -1,4 +1,4 @@
-use Rattle.std.proofs.Common.{◌≡◌, Bool, Option, Some, IfSome, refl, sym, ap, ◌∙◌, subst, arith, option_map, true}
+use Rattle.std.proofs.Common.{◌≡◌, Bool, Option, Some, IfSome, refl, sym, ap, ◌∙◌, subst, option_map, true}
 use Rattle.std.specs.Prelude.{not}
 use Rattle.std.specs.Bool.{Decides}
 use Rattle.vpg_measure.specs.Orders.{HarvestView}
@@ -45,7 +45,7 @@ pub returns-in-Ok-hand_in-clause-done : goal.returns-in-Ok-hand_in-clause-done
 returns-in-Ok-hand_in-clause-done g c =
     let F = family_between g.L.Terms.game g.L.Terms.diagram in
     let e = extends c.args.front.now c.self.inside.replay.newest c.args.session (book.Commit (handed_in true c.of.result.value)) (book.Added c.in-Ok-hand_in.entries) (seen_here c.self.invariant c.args.front.now c.self.view_is c.requires.seen) c.in-Ok.ensures.none c.enter.ensures.newest c.enter.ensures.kept in
-    coe 0 1 (k. Extends F c.args.front.now c.args.session (book.Commit (handed_in true (c.of.ensures k))) (book.Added c.in-Ok-hand_in.entries) ((sym c.copy.ensures.same) k)) e
+    coe 0 1 (k. Extends F c.args.front.now c.args.session (book.Commit (handed_in true (c.of.ensures k))) (book.Added c.in-Ok-hand_in.entries) ((sym c.enter.ensures.front) k)) e
 
 pub returns-in-Ok-hand_in-clause-same : goal.returns-in-Ok-hand_in-clause-same
 returns-in-Ok-hand_in-clause-same g c = of_here c.self.invariant c.args.harvest.order c.in-Ok-hand_in.ensures.same
@@ -84,7 +84,7 @@ returns-clause-fault g c =
     let told : commit_refusal c.in-Err-hand_in.refused.fault ≡ Some (refusal_of c.in-Some.cause) = sym c.commit_cause.ensures ∙ ap (option_map refusal_of) c.in-Some.is in
     let r = refused_parts c.self.invariant c.args.harvest c.in-Some.cause (subst (λ (o : Option Refusal). IfSome o (λ r. (b : Bool) × (Decides b (IsOrderOf c.self.inside.replay.desk c.args.harvest.order) × Replies c.self.inside.replay.desk (book.Commit (handed_in b c.args.harvest)) (book.Refused r)))) told c.in-Err-hand_in.ensures.refused) in
     let e = extends c.args.front.now c.self.inside.replay.newest c.args.session (book.Commit (handed_in (not (tells_other c.in-Some.cause)) c.of.result.value)) (book.Refused (refusal_of c.in-Some.cause)) (seen_here c.self.invariant c.args.front.now c.self.view_is c.requires.seen) c.in-Ok.ensures.none c.enter-in-Err-hand_in.ensures.newest c.enter-in-Err-hand_in.ensures.kept in
-    (not (tells_other c.in-Some.cause), (r.0, (refusal_of c.in-Some.cause, (told, coe 0 1 (k. Extends F c.args.front.now c.args.session (book.Commit (handed_in (not (tells_other c.in-Some.cause)) (c.of.ensures k))) (book.Refused (refusal_of c.in-Some.cause)) ((sym c.copy-in-Err-hand_in.ensures.same) k)) e))))
+    (not (tells_other c.in-Some.cause), (r.0, (refusal_of c.in-Some.cause, (told, coe 0 1 (k. Extends F c.args.front.now c.args.session (book.Commit (handed_in (not (tells_other c.in-Some.cause)) (c.of.ensures k))) (book.Refused (refusal_of c.in-Some.cause)) ((sym c.enter-in-Err-hand_in.ensures.front) k)) e))))
 
 pub hand_in-requires : goal.hand_in-requires
 hand_in-requires g c = record { own = λ own. to_desk c.self.invariant c.args.harvest.order (c.requires.own own) }

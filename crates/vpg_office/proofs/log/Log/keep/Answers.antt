@@ -29,4 +29,4 @@ pub returns-clause-done : goal.returns-clause-done
 returns-clause-done g c =
     let F = family_between g.L.Terms.game g.L.Terms.diagram in
     let e = extends c.args.front.now c.self.inside.replay.newest c.args.session (book.Keep c.serial.result) book.Spent (seen_here c.self.invariant c.args.front.now c.self.view_is c.requires.seen) c.in-Ok.ensures.none c.enter.ensures.newest c.enter.ensures.kept in
-    coe 0 1 (k. Extends F c.args.front.now c.args.session (book.Keep (c.serial.ensures k)) book.Spent ((sym c.copy.ensures.same) k)) e
+    coe 0 1 (k. Extends F c.args.front.now c.args.session (book.Keep (c.serial.ensures k)) book.Spent ((sym c.enter.ensures.front) k)) e

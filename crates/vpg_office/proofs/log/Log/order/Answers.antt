@@ -30,7 +30,7 @@ returns-clause-done g c =
     let b = book_after F opened c.self.inside.replay.newest in
     let e = extends c.args.front.now c.self.inside.replay.newest c.args.session book.Order (book.Ordered (decisions_of b.present) (table_of Hopeful b.present (family_between g.L.Terms.game g.L.Terms.diagram).vertices) (table_of Dual b.present (family_between g.L.Terms.game g.L.Terms.diagram).vertices)) (seen_here c.self.invariant c.args.front.now c.self.view_is c.requires.seen) c.in-Ok.ensures.none c.enter.ensures.newest c.enter.ensures.kept in
     let same : (book.Ordered (decisions_of b.present) (table_of Hopeful b.present (family_between g.L.Terms.game g.L.Terms.diagram).vertices) (table_of Dual b.present (family_between g.L.Terms.game g.L.Terms.diagram).vertices)) ≡ (book.Ordered c.in-Ok-order.r.decisions c.in-Ok-order.r.hopeful c.in-Ok-order.r.dual) = reply_one F b book.Order (book.Ordered (decisions_of b.present) (table_of Hopeful b.present (family_between g.L.Terms.game g.L.Terms.diagram).vertices) (table_of Dual b.present (family_between g.L.Terms.game g.L.Terms.diagram).vertices)) (book.Ordered c.in-Ok-order.r.decisions c.in-Ok-order.r.hopeful c.in-Ok-order.r.dual) (None, (refl, refl)) (told_here c.self.invariant book.Order (book.Ordered c.in-Ok-order.r.decisions c.in-Ok-order.r.hopeful c.in-Ok-order.r.dual) c.in-Ok-order.ensures.reply) in
-    coe 0 1 (k. Extends F c.args.front.now c.args.session book.Order (same k) ((sym c.copy.ensures.same) k)) e
+    coe 0 1 (k. Extends F c.args.front.now c.args.session book.Order (same k) ((sym c.enter.ensures.front) k)) e
 
 pub returns-clause-ours : goal.returns-clause-ours
 returns-clause-ours g c = (c.in-Ok-order.ensures.game ∙ c.self.invariant.replay.of_game, c.in-Ok-order.ensures.diagram ∙ c.self.invariant.replay.of_diagram)

@@ -35,7 +35,13 @@ returns-clause-done g c =
     let b = book_after F opened c.self.inside.replay.newest in
     let e = extends c.args.front.now c.self.inside.replay.newest c.args.session book.Page (book.PageIs b.present) (seen_here c.self.invariant c.args.front.now c.self.view_is c.requires.seen) c.in-Ok.ensures.none c.enter.ensures.newest c.enter.ensures.kept in
     let same : (book.PageIs b.present) ≡ (book.PageIs c.in-Ok-page.page.entries) = reply_one F b book.Page (book.PageIs b.present) (book.PageIs c.in-Ok-page.page.entries) (None, (refl, refl)) (told_here c.self.invariant book.Page (book.PageIs c.in-Ok-page.page.entries) c.in-Ok-page.ensures.reply) in
-    coe 0 1 (k. Extends F c.args.front.now c.args.session book.Page (same k) ((sym c.copy.ensures.same) k)) e
+    coe 0 1 (k. Extends F c.args.front.now c.args.session book.Page (same k) ((sym c.enter.ensures.front) k)) e
+
+pub returns-clause-entries : goal.returns-clause-entries
+returns-clause-entries g c =
+    let i = c.self.invariant in
+    let F = family_between g.L.Terms.game g.L.Terms.diagram in
+    page_is c.self.inside.replay.desk c.in-Ok-page.page.entries c.in-Ok-page.ensures.reply ∙ (λ k. (i.replay.book k).present) ∙ (λ k. (book_after F opened (c.self.view_is k)).present)
 
 pub returns-clause-decisions : goal.returns-clause-decisions
 returns-clause-decisions g c = c.in-Ok-page.ensures.decisions ∙ ap decisions_of (sym (page_is c.self.inside.replay.desk c.in-Ok-page.page.entries c.in-Ok-page.ensures.reply))
@@ -72,5 +78,5 @@ returns-clause-reached g c =
     let i = c.self.invariant in
     let F = family_between g.L.Terms.game g.L.Terms.diagram in
     let b = book_after F opened c.self.inside.replay.newest in
-    let now : c.self.inside.replay.desk.book ≡ book_after F opened c.copy.result = leaves i c.args.session book.Page (book.PageIs b.present) ∙ ap (book_after F opened) (sym (c.copy.ensures.same ∙ c.enter.ensures.newest)) in
+    let now : c.self.inside.replay.desk.book ≡ book_after F opened c.enter.new.front = leaves i c.args.session book.Page (book.PageIs b.present) ∙ ap (book_after F opened) (sym (c.enter.ensures.front ∙ c.enter.ensures.newest)) in
     coe 0 1 (k. IsReached (setting_between (i.replay.of_game k) (i.replay.of_diagram k)) (now k)) c.in-Ok-page.ensures.reached

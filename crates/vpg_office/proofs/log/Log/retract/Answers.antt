@@ -34,7 +34,7 @@ pub returns-in-Ok-retract-clause-done : goal.returns-in-Ok-retract-clause-done
 returns-in-Ok-retract-clause-done g c =
     let F = family_between g.L.Terms.game g.L.Terms.diagram in
     let e = extends c.args.front.now c.self.inside.replay.newest c.args.session (book.Retract c.args.feature) (book.Changed c.serial.result) (seen_here c.self.invariant c.args.front.now c.self.view_is c.requires.seen) c.in-Ok.ensures.none c.enter.ensures.newest c.enter.ensures.kept in
-    (coe 0 1 (k. Extends F c.args.front.now c.args.session (book.Retract c.args.feature) (book.Changed (c.serial.ensures k)) ((sym c.copy.ensures.same) k)) e, c.copy-in-Ok-retract.ensures.same ∙ sym c.copy.ensures.same)
+    (coe 0 1 (k. Extends F c.args.front.now c.args.session (book.Retract c.args.feature) (book.Changed (c.serial.ensures k)) ((sym c.enter.ensures.front) k)) e, c.copy.ensures.same ∙ sym c.enter.ensures.front)
 
 pub enter-requires-in-Err-retract-clause-reply : goal.enter-requires-in-Err-retract-clause-reply
 enter-requires-in-Err-retract-clause-reply g c =

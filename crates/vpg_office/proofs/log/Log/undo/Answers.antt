@@ -1,9 +1,9 @@
-use Rattle.std.proofs.Common.{◌≡◌, List, [], ◌∷◌, ◌++◌, Option, Some, IfSome, sym, ap, ◌∙◌, subst, arith, option_map, eq-eqb}
+use Rattle.std.proofs.Common.{◌≡◌, List, [], ◌∷◌, ◌++◌, Option, Some, IfSome, sym, ap, ◌∙◌, subst, option_map, eq-eqb}
 use Rattle.std.specs.Prelude.{IsTrue}
 use Rattle.vpg_desk.specs.Book as book
 use Rattle.vpg_desk.specs.Book.{Book, Refusal, opened, IsReply}
 use Rattle.vpg_desk.specs.Faults.{undo_refusal}
-use Rattle.vpg_desk.specs.History.{Event, IsLegal, book_after, gives_undo}
+use Rattle.vpg_desk.specs.History.{Event, book_after, gives_undo}
 use Rattle.vpg_desk.specs.State.{Replies}
 use Rattle.vpg_office.specs.Fronts.{Extends, event, family_between}
 use Rattle.vpg_office.specs.Kept.{IsLastGiven}
@@ -28,7 +28,7 @@ pub invariant_of-result : goal.invariant_of-result
 invariant_of-result g c = (
   c.audit.ensures.amount ∙ c.token.invariant.0,
   c.audit.ensures.parts ∙ c.token.invariant.1,
-  record { before = c.self.inside.replay.newest; own = event c.args.session (book.Undo c.serial.result) (book.Undone c.serial-in-Ok-undo.result); is = c.copy-in-Ok-undo.ensures.same ∙ c.enter.ensures.newest; gave = eq-eqb _ _ c.serial-in-Ok-undo.ensures },
+  record { before = c.self.inside.replay.newest; own = event c.args.session (book.Undo c.serial.result) (book.Undone c.serial-in-Ok-undo.result); is = c.copy.ensures.same ∙ c.enter.ensures.newest; gave = eq-eqb _ _ c.serial-in-Ok-undo.ensures },
 )
 
 pub invariant_of-self-in-Ok-undo : goal.invariant_of-self-in-Ok-undo
@@ -44,7 +44,7 @@ pub returns-in-Ok-undo-clause-done : goal.returns-in-Ok-undo-clause-done
 returns-in-Ok-undo-clause-done g c =
     let F = family_between g.L.Terms.game g.L.Terms.diagram in
     let e = extends c.args.front.now c.self.inside.replay.newest c.args.session (book.Undo c.serial.result) (book.Undone c.serial-in-Ok-undo.result) (seen_here c.self.invariant c.args.front.now c.self.view_is c.requires.seen) c.in-Ok.ensures.none c.enter.ensures.newest c.enter.ensures.kept in
-    (coe 0 1 (k. Extends F c.args.front.now c.args.session (book.Undo (c.serial.ensures k)) (book.Undone (c.serial-in-Ok-undo.ensures k)) ((sym c.copy.ensures.same) k)) e, c.copy-in-Ok-undo.ensures.same ∙ sym c.copy.ensures.same)
+    (coe 0 1 (k. Extends F c.args.front.now c.args.session (book.Undo (c.serial.ensures k)) (book.Undone (c.serial-in-Ok-undo.ensures k)) ((sym c.enter.ensures.front) k)) e, c.copy.ensures.same ∙ sym c.enter.ensures.front)
 
 pub returns-in-Ok-undo-clause-goes_back : goal.returns-in-Ok-undo-clause-goes_back
 returns-in-Ok-undo-clause-goes_back g c =
@@ -54,9 +54,9 @@ returns-in-Ok-undo-clause-goes_back g c =
     told_here c.self.invariant (book.Undo c.args.token.serial) (book.Undone c.in-Ok-undo.redo) (coe 0 1 (k. Replies c.self.inside.replay.desk (book.Undo (serial k)) (book.Undone c.in-Ok-undo.redo)) (c.in-Ok-undo.ensures.accepted 0).step.0) in
     let held : IsLastGiven c.self.inside.replay.newest c.args.token.serial c.args.token.history = subst (λ (l : List Event). IsLastGiven l c.args.token.serial c.args.token.history) (sym c.self.view_is) c.requires.held in
     let ends : EndsWith (λ reply. IsTrue (gives_undo c.args.token.serial reply)) c.args.token.history = coe 0 1 (k. EndsWith (λ reply. IsTrue (gives_undo (c.token.view_is k).serial reply)) (c.token.view_is k).history) c.token.invariant.2 in
-    let is : c.copy.result ≡ c.self.inside.replay.newest ++ event c.args.session (book.Undo c.args.token.serial) (book.Undone c.in-Ok-undo.redo) ∷ [] =
-    c.copy.ensures.same ∙ c.enter.ensures.newest ∙ (λ k. c.self.inside.replay.newest ++ event c.args.session (book.Undo (c.serial.ensures k)) (book.Undone (c.serial-in-Ok-undo.ensures k)) ∷ []) in
-    undone_back F c.self.inside.replay.newest c.copy.result c.args.token.history c.args.session c.args.token.serial c.in-Ok-undo.redo told held ends is (subst (IsLegal F) (sym c.copy.ensures.same) c.copy.ensures.history.legal)
+    let is : c.enter.new.front ≡ c.self.inside.replay.newest ++ event c.args.session (book.Undo c.args.token.serial) (book.Undone c.in-Ok-undo.redo) ∷ [] =
+    c.enter.ensures.front ∙ c.enter.ensures.newest ∙ (λ k. c.self.inside.replay.newest ++ event c.args.session (book.Undo (c.serial.ensures k)) (book.Undone (c.serial-in-Ok-undo.ensures k)) ∷ []) in
+    undone_back F c.self.inside.replay.newest c.enter.new.front c.args.token.history c.args.session c.args.token.serial c.in-Ok-undo.redo told held ends is c.enter.ensures.history.legal
 
 pub enter-requires-in-Err-undo-clause-reply : goal.enter-requires-in-Err-undo-clause-reply
 enter-requires-in-Err-undo-clause-reply g c =
@@ -79,4 +79,4 @@ returns-clause-fault g c =
     let F = family_between g.L.Terms.game g.L.Terms.diagram in
     let told : undo_refusal c.in-Err-undo.refused.fault ≡ Some (refusal_of c.in-Some.cause) = sym c.undo_cause.ensures ∙ ap (option_map refusal_of) c.in-Some.is in
     let e = extends c.args.front.now c.self.inside.replay.newest c.args.session (book.Undo c.serial.result) (book.Refused (refusal_of c.in-Some.cause)) (seen_here c.self.invariant c.args.front.now c.self.view_is c.requires.seen) c.in-Ok.ensures.none c.enter-in-Err-undo.ensures.newest c.enter-in-Err-undo.ensures.kept in
-    (refusal_of c.in-Some.cause, (told, coe 0 1 (k. Extends F c.args.front.now c.args.session (book.Undo (c.serial.ensures k)) (book.Refused (refusal_of c.in-Some.cause)) ((sym c.copy-in-Err-undo.ensures.same) k)) e))
+    (refusal_of c.in-Some.cause, (told, coe 0 1 (k. Extends F c.args.front.now c.args.session (book.Undo (c.serial.ensures k)) (book.Refused (refusal_of c.in-Some.cause)) ((sym c.enter-in-Err-undo.ensures.front) k)) e))

@@ -25,4 +25,4 @@ pub returns-clause-done : goal.returns-clause-done
 returns-clause-done g c =
     let F = family_between g.L.Terms.game g.L.Terms.diagram in
     let e = extends c.args.front.now c.self.inside.replay.newest c.args.session (book.Verdict c.args.vertex) (book.VerdictIs c.verdict-r.result.hopeless c.verdict-r.result.sure) (seen_here c.self.invariant c.args.front.now c.self.view_is c.requires.seen) c.in-Ok.ensures.none c.enter.ensures.newest c.enter.ensures.kept in
-    subst (λ (l : List Event). Extends F c.args.front.now c.args.session (book.Verdict c.args.vertex) (book.VerdictIs c.verdict-r.result.hopeless c.verdict-r.result.sure) l) (sym c.copy.ensures.same) e
+    subst (λ (l : List Event). Extends F c.args.front.now c.args.session (book.Verdict c.args.vertex) (book.VerdictIs c.verdict-r.result.hopeless c.verdict-r.result.sure) l) (sym c.enter.ensures.front) e

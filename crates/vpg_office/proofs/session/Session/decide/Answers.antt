@@ -5,16 +5,14 @@ use Rattle.vpg_office.specs.Faults.{Tells}
 use Rattle.vpg_office.specs.Fronts.{Extends, family_between}
 use Rattle.vpg_office.proofs.session.Session.decide.Goals as goal
 
-pub returns-then-has-clause-done : goal.returns-then-has-clause-done
-returns-then-has-clause-done g c =
+pub returns-clause-done : goal.returns-clause-done
+returns-clause-done g c =
     let F = family_between g.L.Terms.game g.L.Terms.diagram in
-    let i = c.again.invariant in
     let n = c.self.view_is in
-    coe 0 1 (k. IfOk c.decide-answer.result (λ t. Extends F (i k) (n k) (book.Decide c.args.feature c.args.value) (book.Changed t.serial) c.decide-answer.new.front × (t.history ≡ c.decide-answer.new.front))) c.decide-answer.ensures.done
+    coe 0 1 (k. IfOk c.decide-answer.result (λ t. Extends F c.args.front.now (n k) (book.Decide c.args.feature c.args.value) (book.Changed t.serial) c.decide-answer.new.front × (t.history ≡ c.decide-answer.new.front))) c.decide-answer.ensures.done
 
-pub returns-then-has-clause-fault : goal.returns-then-has-clause-fault
-returns-then-has-clause-fault g c =
+pub returns-clause-fault : goal.returns-clause-fault
+returns-clause-fault g c =
     let F = family_between g.L.Terms.game g.L.Terms.diagram in
-    let i = c.again.invariant in
     let n = c.self.view_is in
-    coe 0 1 (k. IfErr c.decide-answer.result (Tells F g.L.Terms.limit decide_refusal (book.Decide c.args.feature c.args.value) (n k) (i k) c.decide-answer.new.front)) c.decide-answer.ensures.fault
+    coe 0 1 (k. IfErr c.decide-answer.result (Tells F g.L.Terms.limit decide_refusal (book.Decide c.args.feature c.args.value) (n k) c.args.front.now c.decide-answer.new.front)) c.decide-answer.ensures.fault

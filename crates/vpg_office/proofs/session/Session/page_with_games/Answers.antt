@@ -4,16 +4,14 @@ use Rattle.vpg_office.specs.Faults.{Tells, never_refused}
 use Rattle.vpg_office.specs.Fronts.{Extends, family_between}
 use Rattle.vpg_office.proofs.session.Session.page_with_games.Goals as goal
 
-pub returns-then-has-clause-done : goal.returns-then-has-clause-done
-returns-then-has-clause-done g c =
+pub returns-clause-done : goal.returns-clause-done
+returns-clause-done g c =
     let F = family_between g.L.Terms.game g.L.Terms.diagram in
-    let i = c.again.invariant in
     let n = c.self.view_is in
-    coe 0 1 (k. IfOk c.page_with_games-answer.result (λ r. Extends F (i k) (n k) book.Page (book.PageIs r.0.entries) c.page_with_games-answer.new.front)) c.page_with_games-answer.ensures.done
+    coe 0 1 (k. IfOk c.page_with_games-answer.result (λ r. Extends F c.args.front.now (n k) book.Page (book.PageIs r.0.entries) c.page_with_games-answer.new.front)) c.page_with_games-answer.ensures.done
 
-pub returns-then-has-clause-fault : goal.returns-then-has-clause-fault
-returns-then-has-clause-fault g c =
+pub returns-clause-fault : goal.returns-clause-fault
+returns-clause-fault g c =
     let F = family_between g.L.Terms.game g.L.Terms.diagram in
-    let i = c.again.invariant in
     let n = c.self.view_is in
-    coe 0 1 (k. IfErr c.page_with_games-answer.result (Tells F g.L.Terms.limit never_refused book.Page (n k) (i k) c.page_with_games-answer.new.front)) c.page_with_games-answer.ensures.fault
+    coe 0 1 (k. IfErr c.page_with_games-answer.result (Tells F g.L.Terms.limit never_refused book.Page (n k) c.args.front.now c.page_with_games-answer.new.front)) c.page_with_games-answer.ensures.fault

@@ -1,0 +1,14 @@
+use Rattle.std.proofs.Common.{option_map, sym, ap, ◌∙◌}
+use Rattle.vpg_diagram.specs.FormView.{view_form}
+use Rattle.vpg_diagram.proofs.ReadLoop.{form_read, form_refused}
+use Rattle.vpg_diagram.proofs.reading.read_line.Goals as goal
+
+pub returns-clause-line : goal.returns-clause-line
+returns-clause-line c =
+    form_read c.args.names.now c.line_at.new.names c.args.rules c.args.bytes.now (view_form c.in-Some.form) c.line_at.result
+    (sym c.in_ok-form.ensures ∙ ap (option_map view_form) c.in-Some.is) c.line_at.ensures.line c.line_at.ensures.names
+
+pub returns-clause-refused : goal.returns-clause-refused
+returns-clause-refused c =
+    form_refused c.args.names.now c.args.rules c.args.bytes.now (view_form c.in-Some.form) c.line_at.result
+    (sym c.in_ok-form.ensures ∙ ap (option_map view_form) c.in-Some.is) c.line_at.ensures.refused
