@@ -1,6 +1,7 @@
 #!/usr/bin/env python3
-"""What can be told of the repository in seconds, before the gate: each wrong body fits its text, each link leads somewhere, each name that a document cites
-stands in the code, each file is laid out.
+"""What can be told of the repository in seconds, before the gate: each wrong body fits its text, each link leads
+somewhere, each name that a document cites stands in the code, docs/DEFINITIONS.md is that of specs/, each file is laid
+out.
 
     python3 .ci/quick.py        names each fault, one a line, and exits with 1 where there is one
 
@@ -97,6 +98,12 @@ def of_names():
                         yield f"{short}:{number}: no code has the name {word}"
 
 
+def of_definitions():
+    ran = subprocess.run([sys.executable, f"{ROOT}/bench/definitions.py", "--check"], stdout=subprocess.PIPE, text=True)
+    if ran.returncode:
+        yield from ran.stdout.strip().split("\n")
+
+
 def of_layout():
     rt = shutil.which("rt")
     if not rt:
@@ -111,7 +118,7 @@ def of_layout():
 
 
 def main():
-    faults = [*of_edits(), *of_links(), *of_names(), *of_layout()]
+    faults = [*of_edits(), *of_links(), *of_names(), *of_definitions(), *of_layout()]
     for it in faults:
         print(f"quick: {it}")
     print(f"quick: {len(faults)} faults" if faults else "quick: ok")

@@ -9,6 +9,7 @@ use Rattle.vpg_measure.specs.Lifts.{lift_of}
 use Rattle.vpg_measure.specs.Orders.{OrderView, order_levels, order_arena}
 use Rattle.vpg_measure.specs.TwoGames.{IsProgressOf}
 
+-- how many vertices the order's game has
 abbrev pub vertices : OrderView → ℕ
 vertices order = length order.game.vertices
 
@@ -16,6 +17,7 @@ vertices order = length order.game.vertices
 abbrev pub places : OrderView → ℕ
 places order = vertices order + vertices order
 
+-- the place of a vertex: the two tables stand one after the other
 abbrev pub place_of : OrderView → Which → ℕ → ℕ
 place_of order Hopeful v = v
 place_of order Dual v = vertices order + v

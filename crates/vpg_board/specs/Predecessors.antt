@@ -11,6 +11,7 @@ pub record PredecessorsView : Type 0 where
   pub hopeful : List (List ℕ)
   pub dual : List (List ℕ)
 
+-- the lists of either game
 abbrev pub predecessors_in : Which → PredecessorsView → List (List ℕ)
 predecessors_in Hopeful predecessors = predecessors.hopeful
 predecessors_in Dual predecessors = predecessors.dual

@@ -47,7 +47,8 @@ pub record IsFair (v : Lifter) : Type 0 where
   pub bounded : v.empty ≤ v.stands
   pub later : v.opening ≡ false → v.splits ≡ 0
 
--- what holds of them after steps that seats may take
+-- what holds of the claims after steps that seats may take: no seat has more empty claims than seats that it stands
+-- for
 pub record ClaimsKept (order : OrderView) (b : BoardState) : Type 0 where
   pub counted : ClaimsCounted order b
   pub limit : total (λ v. v.splits) b.lifters ≤ 63

@@ -18,6 +18,7 @@ pub record SeatView : Type 0 where
   pub board : BoardView
   pub lifter : Lifter
 
+-- the seat that a new board begins with
 abbrev pub opening_seat : BoardView → SeatView
 opening_seat board = record { board = board; lifter = opener board.order }
 
@@ -45,7 +46,7 @@ AreAll order claims = (n : ℕ) → times n claims ≡ (if nat_lt n (places orde
 abbrev pub StandsForAll : Lifter → Type 0
 StandsForAll v = (v.opening ≡ true) × (v.stands ≡ 1 + v.splits)
 
--- where such a seat found none left, its claims are all places
+-- where the seat that is left of all found none left, its claims are all places
 abbrev pub HasAllAtEnd : Lifter → Type 0
 HasAllAtEnd v = StandsForAll v → 0 < v.empty → AreAll v.order v.claims
 

@@ -32,20 +32,23 @@ module _ (s : State (Unit {0}) Lifter) (id : ℕ) (v : Lifter) where
   abbrev pub written : ℕ → ℕ → State (Unit {0}) Lifter
   written word n = record { words = slice_set s.words word n; homes = s.homes; views = slice_set s.views id (sees v (word - 1) n) }
 
+  -- what a load leaves of the words and seats
   abbrev pub after_load : ℕ → State (Unit {0}) Lifter
   after_load word = written word (slice_index s.words word)
 
-  -- by one fetch-max
+  -- what a raise leaves of them, by one fetch-max
   abbrev pub after_raise : OrderView → ℕ → State (Unit {0}) Lifter
   after_raise order word = written word (max (slice_index s.words word) (lift_at order v.seen (word - 1)))
 
-  -- by one fetch-add of a word of 64 bits
+  -- what a claim leaves of them, by one fetch-add of a word of 64 bits
   abbrev pub after_claim : State (Unit {0}) Lifter
   after_claim = record { words = slice_set s.words 0 ((slice_index s.words 0 + 1) % 2 ^ 64); homes = s.homes; views = slice_set s.views id (claims (places v.order) v (slice_index s.words 0)) }
 
+  -- what a split leaves: one more seat
   abbrev pub after_split : State (Unit {0}) Lifter
   after_split = record { words = s.words; homes = s.homes; views = slice_set s.views id (splits v) ++ newcomer v ∷ [] }
 
+  -- what a join leaves: the other lifter is spent
   abbrev pub after_join : ℕ → Lifter → State (Unit {0}) Lifter
   after_join other w = record { words = s.words; homes = s.homes; views = slice_set (slice_set s.views id (both v w)) other spent }
 

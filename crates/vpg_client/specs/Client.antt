@@ -9,6 +9,7 @@ use Rattle.vpg_desk.specs.State.{DeskState, IsStep}
 use Rattle.vpg_office.specs.Fronts.{before_last, family_between}
 use Rattle.vpg_office.specs.Token.{Held}
 
+-- a desk, and how many calls stand in its office's log
 pub record ClientState : Type 0 where
   pub desk : DeskState
   -- how many calls stand in the log

@@ -27,14 +27,14 @@ CommitTells room old label harvest new (Refused fault) =
     (b : Bool) × (Decides b (IsOrderOf old.desk harvest.order) × Tells room commit_refusal old label (Commit (handed_in b harvest)) new (Refused fault))
 CommitTells room old label harvest new fault = Tells room commit_refusal old label (Commit (handed_in true harvest)) new fault
 
--- this holds but of a stray
+-- this holds of every fault but a stray call
 abbrev pub UnlessStray : {F : Type 0} → ClientFault F → Type 0 → Type 0
 UnlessStray Stray P = ⊤
 UnlessStray fault P = P
 
 -- ---- how the office's faults are sorted
 
--- there is no session of the label: another stands in its place, or memory is wanting
+-- there is no session of the label: another stands in its place, or it is out of memory
 abbrev pub IsAbsent : {F : Type 0} → ClientFault F → Type 0
 IsAbsent Stray = ⊤
 IsAbsent Memory = ⊤

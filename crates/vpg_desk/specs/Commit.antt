@@ -16,7 +16,7 @@ IsOrderOf state order = (order.game ≡ state.game) × (order.diagram ≡ state.
 abbrev pub handed_in : Bool → HarvestView → Harvest
 handed_in is_of_this_desk harvest = record { is_of_this_desk = is_of_this_desk; decisions = harvest.order.decisions; hopeful = harvest.hopeful; dual = harvest.dual }
 
--- want of memory is no refusal of the book
+-- the book's refusal that a fault of commit stands for; out of memory is none
 abbrev pub commit_refusal : CommitFault → Option Refusal
 commit_refusal IsOther = Some OtherGame
 commit_refusal (IsOutdated feature) = Some (Outdated feature)

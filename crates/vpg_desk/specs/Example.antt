@@ -15,6 +15,6 @@ small_game =
 abbrev pub small_diagram : List Line
 small_diagram = Optional 0 1 ∷ Optional 0 2 ∷ []
 
--- they are a setting, so the laws speak of something
+-- The small game and diagram are a setting, so the laws speak of something.
 abbrev pub SmallIsSetting : Type 0
 SmallIsSetting = IsSetting (record { game = small_game; lines = small_diagram })

@@ -17,7 +17,7 @@ use Rattle.vpg_desk.specs.declared.fault.UndoFault.TheVariants.{Sealed as IsSeal
 use Rattle.vpg_desk.specs.declared.fault.RedoFault.{RedoFault}
 use Rattle.vpg_desk.specs.declared.fault.RedoFault.TheVariants.{Overtaken as IsOvertaken, NotNext as IsNotNext, Memory as RedoMemory}
 
--- want of memory is no refusal of the book
+-- the book's refusal that a fault stands for; out of memory is none
 abbrev pub decide_refusal : DecideFault → Option Refusal
 decide_refusal IsUnknown = Some UnknownFeature
 decide_refusal (IsDecided serial) = Some (AlreadyDecided serial)
@@ -25,17 +25,20 @@ decide_refusal (HasConflict feature) = Some (Conflict feature)
 decide_refusal IsTooMany = Some TooManyChanges
 decide_refusal Memory = None
 
+-- the same of retract
 abbrev pub retract_refusal : RetractFault → Option Refusal
 retract_refusal RetractUnknown = Some UnknownFeature
 retract_refusal IsUndecided = Some NotDecided
 retract_refusal RetractTooMany = Some TooManyChanges
 retract_refusal RetractMemory = None
 
+-- the same of undo
 abbrev pub undo_refusal : UndoFault → Option Refusal
 undo_refusal IsSealed = Some Sealed
 undo_refusal (IsNotNewest newest) = Some (NotNewest newest)
 undo_refusal UndoMemory = None
 
+-- the same of redo
 abbrev pub redo_refusal : RedoFault → Option Refusal
 redo_refusal IsOvertaken = Some Overtaken
 redo_refusal (IsNotNext next) = Some (NotNext next)

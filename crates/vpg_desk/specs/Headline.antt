@@ -53,7 +53,8 @@ pub record Determines (setting : Setting) (page : List Entry) (known : List Tri)
   -- and none is both
   pub not_both : (v : ℕ) → v < length setting.game → ¬ (IsTopAt setting page Hopeful v) → ¬ (IsTopAt setting page Dual v) → ⊥
 
--- what a page says of the game
+-- what a page says of the game: its tables are below every progress table, a settled page's are the least, and
+-- hopeless and sure mean what they say
 pub record Tells (setting : Setting) (page : List Entry) : Type 0 where
   pub consistent : ¬ (HasConflict setting (choices_of page))
   pub below : PageIsBelow (family_of setting) page
@@ -72,7 +73,7 @@ verdict_of session v hopeless sure = record { session = session; call = Verdict 
 abbrev pub settled_of : ℕ → Bool → Event
 settled_of session b = record { session = session; call = Settled; reply = IsSettled b }
 
--- The headline of a legal history.
+-- What holds of a legal history into which lawful harvests alone were handed.
 pub record Headline (setting : Setting) (history : List Event) : Type 0 where
   -- each accepted undo of serial s leaves the page just before the last accepted decide, retract or redo of s
   pub undo : (front rest : List Event) (session s : ℕ) → history ≡ front ++ undo_of session s ∷ rest →
@@ -104,7 +105,7 @@ abbrev pub HarvestsAreLawful : Type 0
 HarvestsAreLawful = (setting : Setting) (harvest : Harvest) (known : List Tri) → IsSetting setting → IsKnownTable setting.lines (map literal_of harvest.decisions) known →
     ((which : Which) → IsTableBelow (kleene known) which setting.game (harvested harvest which)) → IsLawful (family_of setting) harvest
 
--- It holds of every legal history into which lawful harvests alone are handed.
+-- The headline holds of every legal history into which lawful harvests alone are handed.
 abbrev pub HeadlineHolds : Type 0
 HeadlineHolds = (setting : Setting) (history : List Event) → IsSetting setting → IsLegal (family_of setting) history → AllHandIn (IsLawful (family_of setting)) history → Headline setting history
 

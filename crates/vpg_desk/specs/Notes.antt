@@ -15,6 +15,7 @@ NotedAre P [] pages = ⊤
 NotedAre P (note ∷ notes) [] = ⊤
 NotedAre P (note ∷ notes) (k ∷ pages) = (IsTrue note → P k.page) × NotedAre P notes pages
 
+-- each page with a note is so
 pub record NotesHold (P : List Entry → Type 0) (notes : Notes) (book : Book) : Type 0 where
   pub present : IsTrue notes.present → P book.present
   pub past : NotedAre P notes.past book.past

@@ -9,6 +9,7 @@ use Rattle.vpg_desk.specs.History.{Event, IsLegal, IsBeforeLast, book_after, pag
 use Rattle.vpg_desk.specs.Lawful.{IsLawful, AllHandIn}
 use Rattle.vpg_desk.specs.Setting.{Setting, IsSetting}
 
+-- a desk as callers see it
 pub record DeskState : Type 0 where
   pub game : NamedGame
   pub diagram : NamedDiagram
@@ -18,6 +19,7 @@ pub record DeskState : Type 0 where
 abbrev pub setting_between : NamedGame → NamedDiagram → Setting
 setting_between game diagram = record { game = graph_of game; lines = diagram.lines }
 
+-- game and diagram of a desk as the laws see them
 abbrev pub setting_of : DeskState → Setting
 setting_of state = setting_between state.game state.diagram
 
@@ -41,7 +43,7 @@ IsReached setting book = (history : List Event) × IsHistoryOf setting book hist
 
 -- ---- one call
 
--- the reply is the one that the desk's book gives
+-- the reply is the one that the desk's book gives to this call
 abbrev pub Replies : DeskState → Call → Reply → Type 0
 Replies state call reply = IsReply (family_of (setting_of state)) state.book call reply
 

@@ -109,7 +109,8 @@ pub record Spells (text : List ℕ) (d : NamedDiagram) : Type 0 where
   pub root_is : SpellsForm root (RootLine (name_of d.names 0))
   pub others_are : AllZip (λ bytes line. SpellsForm bytes (named d.names line)) others d.lines
 
--- the text spells this diagram, within the limits
+-- The text spells this diagram, within the limits: its lines that are not blank have, in order, the forms of the
+-- root and of the diagram's lines.
 pub record IsTextOf (text : List ℕ) (d : NamedDiagram) : Type 0 where
   pub named_diagram : IsNamedDiagram d
   pub spells : Spells text d

@@ -105,6 +105,7 @@ fault_at line TwoParents = faults.TwoParents line
 fault_at line TooMany = faults.TooMany line
 fault_at line BadRange = faults.BadRange line
 
+-- the first line of a text that has a fault, with its first fault; or that all lines are blank
 abbrev pub IsFirstFault : List ℕ → DiagramFault → Type 0
 IsFirstFault text (faults.Syntax line) = IsFaultAt (lines text) line Syntax
 IsFirstFault text faults.NoRoot = filter not_blank (lines text) ≡ []

@@ -15,13 +15,13 @@ use Rattle.vpg_hope.specs.Plain.{projection, plain_text}
 use Rattle.vpg_family.specs.declared.fault.Fault.{Fault}
 use Rattle.vpg_family.specs.declared.fault.Fault.TheVariants as told
 
--- what is told of a text that is no diagram: want of memory is no fault of the diagram
+-- what is told of a text that is no diagram: out of memory is no fault of the diagram
 abbrev pub IsDiagramFault : List ℕ → Fault → Type 0
 IsDiagramFault text (told.Diagram fault) = (fault ≢ of_diagram.Memory) × IsFirstFault text fault
 IsDiagramFault text told.Memory = ⊤
 IsDiagramFault text fault = ⊥
 
--- what is told of a text that is no game over these names: want of memory is no fault of the game
+-- what is told of a text that is no game over these names: out of memory is no fault of the game
 abbrev pub IsGameFault : List (List ℕ) → List ℕ → Fault → Type 0
 IsGameFault names text (told.Game fault) = (fault ≢ of_game.Memory) × IsRefused names text fault
 IsGameFault names text told.Memory = ⊤
@@ -79,13 +79,13 @@ pub record IsNamedSet (names words : List (List ℕ)) (set : List Bool) : Type 0
 abbrev pub IsFirstUnknown : List (List ℕ) → List (List ℕ) → List ℕ → Type 0
 IsFirstUnknown names words name = (n : ℕ) × (slice_get words n ≡ Some name) × AreKnown names (take n words) × Lacks names name
 
--- what is told of a word that names no feature
+-- what is told of a word that names no feature: the word; or out of memory
 abbrev pub IsUnknown : List (List ℕ) → List ℕ → Fault → Type 0
 IsUnknown names word (told.UnknownFeature name) = (string_bytes name ≡ word) × Lacks names word
 IsUnknown names word told.Memory = ⊤
 IsUnknown names word fault = ⊥
 
--- what is told of words of which one names no feature
+-- what is told of words of which one names no feature: the first such word; or out of memory
 abbrev pub TellsUnknown : List (List ℕ) → List (List ℕ) → Fault → Type 0
 TellsUnknown names words (told.UnknownFeature name) = IsFirstUnknown names words (string_bytes name)
 TellsUnknown names words told.Memory = ⊤

@@ -49,6 +49,7 @@ line_text stops.Word = codes "Word"
 line_text stops.Args = codes "Args"
 line_text stops.TooLong = codes "TooLong"
 
+-- the text of a fault, of which those of guards', games', diagrams' and lines' faults are parts
 abbrev pub fault_text : Fault → List ℕ
 fault_text told.DiagramUnreadable = codes "diagram unreadable"
 fault_text (told.Diagram fault) = codes "diagram " ++ diagram_text fault

@@ -31,6 +31,7 @@ pub record NamedGame : Type 0 where
 abbrev pub dual_vertex : NamedVertex → NamedVertex
 dual_vertex v = record { id = v.id; owner = opponent v.owner; priority = v.priority + 1; edges = v.edges }
 
+-- the dual: owners exchanged, priorities plus one
 abbrev pub dual_of : NamedGame → NamedGame
 dual_of game = record { vertices = map dual_vertex game.vertices; features = game.features }
 
@@ -38,6 +39,7 @@ dual_of game = record { vertices = map dual_vertex game.vertices; features = gam
 abbrev pub unnamed : NamedVertex → GuardedVertex Formula
 unnamed v = record { owner = v.owner; priority = v.priority; edges = v.edges }
 
+-- a game as a list of vertices with guarded edges
 abbrev pub graph_of : NamedGame → GuardedGame Formula
 graph_of game = map unnamed game.vertices
 
@@ -45,16 +47,19 @@ graph_of game = map unnamed game.vertices
 abbrev pub vertex_in : GuardedGame Formula → ℕ → GuardedVertex Formula
 vertex_in graph v = slice_index_or graph v (unnamed no_vertex)
 
+-- the identifiers, in file order
 abbrev pub vertex_ids : List NamedVertex → List ℕ
 vertex_ids vs = map (λ v. v.id) vs
 
+-- the priorities, in file order
 abbrev pub priorities_of : List NamedVertex → List ℕ
 priorities_of vs = map (λ v. v.priority) vs
 
--- the number of the top measure, and that of the dual game
+-- the number of the top measure of these priorities
 abbrev pub top_in : List ℕ → ℕ
 top_in priorities = top_of (levels_of priorities)
 
+-- that of the dual's, which are one greater
 abbrev pub dual_top_in : List ℕ → ℕ
 dual_top_in priorities = top_of (levels_of (map (λ p. p + 1) priorities))
 
@@ -125,7 +130,8 @@ pub record AreSound (entries : List SpelledEntry) : Type 0 where
   pub found : AllFound (entry_ids entries) entries
   pub narrow : IsNarrow (entry_priorities entries)
 
--- the text spells the game
+-- the text spells the game: successors are looked up by identifier, and a target that is named twice has the `or` of
+-- its guards
 pub record SpellsGame (names : List (List ℕ)) (text : List ℕ) (game : NamedGame) : Type 0 where
   pub entries : List SpelledEntry
   pub spelled : SpellsEntries names text entries
@@ -164,6 +170,8 @@ abbrev pub AreVertices : ℕ → ℕ → List NamedVertex → Type 0
 AreVertices vertices features [] = Unit {0}
 AreVertices vertices features (v ∷ vs) = (v.id < 2 ^ 32) × (v.priority ≤ 65536) × AreEdges vertices features v.edges × AreVertices vertices features vs
 
+-- A game within the limits: identifiers differ, and targets of one vertex; guards can be read again; both top
+-- measures are at most 2^62.
 pub record IsGame (game : NamedGame) : Type 0 where
   pub some : 0 < length game.vertices
   pub few : length game.vertices ≤ 65536

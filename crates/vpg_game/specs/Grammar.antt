@@ -50,6 +50,7 @@ pub record Heading : Type 0 where
   pub number : Number
   pub before_end : List ℕ
 
+-- the parts of a file, with all blanks
 pub record File : Type 0 where
   pub header : Option Heading
   pub start : Option Heading
@@ -94,6 +95,7 @@ abbrev pub entries_text : List Entry → List ℕ → List ℕ
 entries_text [] rest = rest
 entries_text (e ∷ es) rest = entry_text e (entries_text es rest)
 
+-- the bytes of a file
 abbrev pub file_text : File → List ℕ
 file_text f = heading_text (codes "parity") f.header (heading_text (codes "start") f.start (entry_text f.first (entries_text f.entries f.blanks)))
 
@@ -167,6 +169,7 @@ abbrev pub IsHeading : Option Heading → Type 0
 IsHeading None = Unit {0}
 IsHeading (Some h) = AreBlank h.before × IsNumber h.number × IsApart h.number × AreBlank h.before_end
 
+-- the parts are such as the format allows, with guards over these names
 pub record IsFile (names : List (List ℕ)) (f : File) : Type 0 where
   pub header : IsHeading f.header
   pub start : IsHeading f.start

@@ -13,9 +13,11 @@ pub record GuardedVertex (Guard : Type 0) : Type 0 where
   pub priority : ℕ
   pub edges : List (GuardedEdge Guard)
 
+-- a list of vertices with owner, priority and guarded edges
 abbrev pub GuardedGame : Type 0 → Type 0
 GuardedGame Guard = List (GuardedVertex Guard)
 
+-- the priorities, in order
 abbrev pub guarded_priorities : {Guard : Type 0} → GuardedGame Guard → List ℕ
 guarded_priorities game = map (λ vertex. vertex.priority) game
 

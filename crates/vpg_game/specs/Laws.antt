@@ -28,6 +28,7 @@ pub record IsGraph (features : ℕ) (graph : GuardedGame Formula) : Type 0 where
   pub top : top_of (levels_of (guarded_priorities graph)) ≤ 2 ^ 62
   pub dual_top : top_of (levels_of (guarded_priorities (dual graph))) ≤ 2 ^ 62
 
+-- The graph of every game is closed, its guards can be read again, and both tops are within the limit.
 abbrev pub GamesHaveGraphs : Type 0
 GamesHaveGraphs = (game : NamedGame) → IsGame game → IsGraph game.features (graph_of game)
 
@@ -37,6 +38,7 @@ pub record GraphAgrees (game : NamedGame) : Type 0 where
   pub priorities : guarded_priorities (graph_of game) ≡ priorities_of game.vertices
   pub of_dual : graph_of (dual_of game) ≡ dual (graph_of game)
 
+-- The graph of every game has its vertices, and the graph of the dual is the dual of the graph.
 abbrev pub GraphsAgree : Type 0
 GraphsAgree = (game : NamedGame) → GraphAgrees game
 

@@ -22,6 +22,7 @@ abbrev pub bound_of : List ℕ → ℕ
 bound_of [] = 0
 bound_of (p ∷ ps) = max (p + 1) (bound_of ps)
 
+-- the odd priorities that occur with their counts, greatest first
 abbrev pub levels_of : List ℕ → List Level
 levels_of priorities = levels_below (bound_of priorities) priorities
 

@@ -38,7 +38,7 @@ WritingsSpellTheGuard = (names : List (List ℕ)) (g : Formula) → IsReadable (
 abbrev pub SpelledGuardsAreReadable : Type 0
 SpelledGuardsAreReadable = (names : List (List ℕ)) (text : List ℕ) (g : Formula) → Spells names text g → IsReadable (length names) g
 
--- so can the `or` of two such guards
+-- the `or` of two guards that can be written and read again can be, too
 abbrev pub DisjunctionsAreReadable : Type 0
 DisjunctionsAreReadable = (n : ℕ) (g h : Formula) → IsReadable n g → IsReadable n h → IsReadable n (either g h)
 
@@ -49,6 +49,7 @@ pub record MeanBoth (set : List Bool) (known : List Tri) (g h : Formula) : Type 
   pub both_known : kleene known (both g h) ≡ tri_and (kleene known g) (kleene known h)
   pub either_known : kleene known (either g h) ≡ tri_or (kleene known g) (kleene known h)
 
+-- The `and` and the `or` of two guards have the truth and the three-valued value of both.
 abbrev pub JoinedGuardsMeanBoth : Type 0
 JoinedGuardsMeanBoth = (set : List Bool) (known : List Tri) (g h : Formula) → MeanBoth set known g h
 
@@ -68,5 +69,6 @@ pub record ValueOfParts (known : List Tri) (gs : Parts) : Type 0 where
   pub any_yes : (kleene known (any gs) ≡ Yes) ↔ SomeHas known Yes gs
   pub any_no : (kleene known (any gs) ≡ No) ↔ EachHas known No gs
 
+-- The value of an `and` or an `or` follows from those of its parts.
 abbrev pub PartsDecideTheValue : Type 0
 PartsDecideTheValue = (known : List Tri) (gs : Parts) → ValueOfParts known gs

@@ -5,6 +5,7 @@ pub use Rattle.vpg_hope.specs.Games.{Vertex, IsClosed}
 use Rattle.vpg_hope.specs.Games.{isolated}
 use Rattle.vpg_hope.specs.declared.arena.Row.{Row}
 
+-- the vertex at a place
 abbrev pub vertex_at : List Vertex → ℕ → Vertex
 vertex_at arena v = slice_index_or arena v isolated
 

@@ -3,11 +3,13 @@ use Rattle.std.specs.Prelude.{ℕ, ◌<◌, List, [], length, map, slice_index_o
 use Rattle.vpg_game.specs.declared.player.Player.{Player}
 use Rattle.vpg_game.specs.declared.player.Player.TheVariants.{Even}
 
+-- a vertex of a plain parity game
 pub record Vertex : Type 0 where
   pub owner : Player
   pub priority : ℕ
   pub successors : List ℕ
 
+-- A plain parity game. A vertex may have no successor.
 abbrev pub Game : Type 0
 Game = List Vertex
 

@@ -15,7 +15,7 @@ restrict keeps game = map (λ vertex. record {
   successors = map (λ edge. edge.to) (filter (λ edge. keeps vertex.owner edge.guard) vertex.edges);
 }) game
 
--- the game of a product, by the truth of guards in it
+-- the game of a product: the edges whose guard is true in it
 abbrev pub product_game : {Guard : Type 0} → (Guard → Bool) → GuardedGame Guard → Game
 product_game truth game = restrict (λ mover guard. truth guard) game
 
@@ -28,6 +28,7 @@ keeps_in_hope Odd No = false
 keeps_in_hope Odd Unknown = false
 keeps_in_hope Odd Yes = true
 
+-- Even's vertices keep the edges whose value is not `No`, Odd's those whose value is `Yes`
 abbrev pub hopeful_game : {Guard : Type 0} → (Guard → Tri) → GuardedGame Guard → Game
 hopeful_game value game = restrict (λ mover guard. keeps_in_hope mover (value guard)) game
 

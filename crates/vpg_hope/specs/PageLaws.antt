@@ -11,7 +11,7 @@ use Rattle.vpg_game.specs.Guarded.{GuardedGame, AllGuards, dual}
 use Rattle.vpg_hope.specs.Comparison.{IsEasier, dual_game}
 use Rattle.vpg_hope.specs.Hope.{product_game, hopeful_game}
 
--- it favours Even at least as much as the game of each product that agrees with the choices
+-- the hopeful game favours Even at least as much as the game of each product that agrees with the choices
 abbrev pub RemainingProductsAreHarder : Type 0
 RemainingProductsAreHarder = (lines : List Line) (choices : List Literal) (known : List Tri) (set : List Bool) (game : GuardedGame Formula) →
     IsDiagram lines → IsKnownTable lines choices known → IsRemaining lines choices set →
@@ -23,7 +23,7 @@ DualsOfRemainingProductsAreHarder = (lines : List Line) (choices : List Literal)
     IsDiagram lines → IsKnownTable lines choices known → IsRemaining lines choices set →
     IsEasier (hopeful_game (kleene known) (dual game)) (dual_game (product_game (truth set) game))
 
--- it favours Even at least as much as the hopeful game after further choices
+-- the hopeful game favours Even at least as much as the one after further choices
 abbrev pub MoreChoicesAreHarder : Type 0
 MoreChoicesAreHarder = (lines : List Line) (few many : List Literal) (known more : List Tri) (game : GuardedGame Formula) →
     AreAmong few many → IsKnownTable lines few known → IsKnownTable lines many more →

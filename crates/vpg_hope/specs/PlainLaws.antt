@@ -12,6 +12,6 @@ pub record IsReadAgain (plain : IdentifiedGame) : Type 0 where
   pub spelled : SpellsGame [] (plain_text plain) (guarded_of plain)
   pub same : (set : List Bool) → projection set (guarded_of plain) ≡ plain
 
--- so it is with the game of each set of features, where no priority is at the limit
+-- the text of the game of each set of features is read as that game, where no priority is at the limit
 abbrev pub PlainTextsAreReadAgain : Type 0
 PlainTextsAreReadAgain = (set : List Bool) (game : NamedGame) → IsGame game → ¬ IsAtLimit game → IsReadAgain (projection set game)

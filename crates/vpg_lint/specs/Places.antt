@@ -13,9 +13,10 @@ abbrev pub to_line_feed : List ℕ → List ℕ
 to_line_feed [] = []
 to_line_feed (b ∷ bs) = if is_line_feed b then [] else b ∷ to_line_feed bs
 
--- lines and columns count from 1: line feeds before the byte, and characters between the last of them and the byte
+-- lines count from 1: one more than the line feeds before the byte
 abbrev pub line_of : List ℕ → ℕ
 line_of before = count_by is_line_feed before + 1
 
+-- so do columns: one more than the characters of UTF-8 that begin between the last line feed and the byte
 abbrev pub column_of : List ℕ → ℕ
 column_of before = count_by begins_character (to_line_feed (reverse before)) + 1

@@ -4,6 +4,7 @@ use Rattle.vpg_partial.specs.declared.fault.PartialFault.TheVariants.{Conflict a
 use Rattle.vpg_measure.specs.declared.fault.OrderFault.{OrderFault}
 use Rattle.vpg_measure.specs.declared.fault.OrderFault.TheVariants.{Conflict, Memory}
 
+-- the fault of an order that stands for a fault of closing its decisions
 abbrev pub order_fault : PartialFault → OrderFault
 order_fault (PartialConflict f) = Conflict f
 order_fault PartialMemory = Memory

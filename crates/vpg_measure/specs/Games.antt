@@ -20,10 +20,12 @@ pub record GamesView : Type 0 where
   pub dual_levels : List Level
   pub dual_arena : Game
 
+-- the levels of either game
 abbrev pub games_levels : Which → GamesView → List Level
 games_levels Hopeful games = games.hopeful_levels
 games_levels Dual games = games.dual_levels
 
+-- the kept edges of either game
 abbrev pub games_arena : Which → GamesView → Game
 games_arena Hopeful games = games.hopeful_arena
 games_arena Dual games = games.dual_arena

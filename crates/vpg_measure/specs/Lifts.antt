@@ -27,10 +27,11 @@ abbrev pub FitsEdges : Player → (ℕ → Type 0) → List ℕ → Type 0
 FitsEdges Even P successors = Any P successors
 FitsEdges Odd P successors = All P successors
 
+-- the number fits at a vertex: it is the top, or fits one of Even's edges, or all of Odd's
 abbrev pub NumberFitsAt : List Level → List ℕ → Vertex → ℕ → Type 0
 NumberFitsAt ls table x n = (n ≡ top_of ls) ⊎ FitsEdges x.owner (λ w. NumberFitsEdge ls x.priority n (slice_index table w)) x.successors
 
--- every value fits
+-- at every vertex the value fits
 abbrev pub IsProgressTable : List Level → List Vertex → List ℕ → Type 0
 IsProgressTable ls arena table = (v : ℕ) → v < length arena → NumberFitsAt ls table (vertex_at arena v) (slice_index table v)
 
@@ -49,6 +50,7 @@ abbrev pub best_for : Player → ℕ → List ℕ → ℕ
 best_for Even top progs = least_of top progs
 best_for Odd top progs = greatest_of progs
 
+-- the least number that fits at a vertex: Even's least `prog`, Odd's greatest
 abbrev pub lift_of : List Level → List ℕ → Vertex → ℕ
 lift_of ls table x = best_for x.owner (top_of ls) (map (λ w. prog_of ls x.priority (slice_index table w)) x.successors)
 
@@ -66,6 +68,7 @@ raised_before ls arena (suc v) table = raised ls arena (raised_before ls arena v
 abbrev pub round_of : List Level → List Vertex → List ℕ → List ℕ
 round_of ls arena table = raised_before ls arena (length arena) table
 
+-- the table after so many rounds
 abbrev pub after_rounds : List Level → List Vertex → ℕ → List ℕ → List ℕ
 after_rounds ls arena zero table = table
 after_rounds ls arena (suc k) table = round_of ls arena (after_rounds ls arena k table)
@@ -97,6 +100,7 @@ choice_of ls table x n =
     then find (λ w. prog_of ls x.priority (slice_index table w) == lift_of ls table x) x.successors
     else None
 
+-- for each vertex its choice
 abbrev pub AreChoices : List Level → List Vertex → List ℕ → List (Option ℕ) → Type 0
 AreChoices ls arena table choices =
     (length choices ≡ length arena) ×

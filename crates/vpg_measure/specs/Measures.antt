@@ -15,7 +15,7 @@ pub record IsShape (vertex_priorities : List ℕ) (shape : Shape) : Type 0 where
   pub occurring : All (λ place. Contains vertex_priorities place.priority) shape
   pub complete : All (λ q. IsOdd q → Contains (map (λ place. place.priority) shape) q) vertex_priorities
 
--- Top is above all tuples
+-- a tuple with one component for each odd priority that occurs, or Top, which is above all tuples
 pub data Measure : Type 0 where
   Top : Measure
   Components : (cs : List ℕ) → Measure
@@ -37,6 +37,7 @@ LexBelow (x ∷ xs) (y ∷ ys) = (x < y) ⊎ ((x ≡ y) × LexBelow xs ys)
 abbrev pub LexAtMost : List ℕ → List ℕ → Type 0
 LexAtMost xs ys = (xs ≡ ys) ⊎ LexBelow xs ys
 
+-- lexicographic, the greatest priority first
 abbrev pub AtMost : Measure → Measure → Type 0
 AtMost Top Top = ⊤
 AtMost (Components a) Top = ⊤

@@ -17,6 +17,7 @@ MeasuresHaveNumbers = (ls : List Level) (m : Measure) → IsMeasure ls m → (nu
 abbrev pub NumbersAreMeasures : Type 0
 NumbersAreMeasures = (ls : List Level) (n : ℕ) → n ≤ top_of ls → IsMeasure ls (measure_of ls n) × (number_of ls (measure_of ls n) ≡ n)
 
+-- Measures compare as their numbers do.
 abbrev pub OrderIsNumeric : Type 0
 OrderIsNumeric = (ls : List Level) (m n : Measure) → IsMeasure ls m → IsMeasure ls n → AtMost m n ↔ (number_of ls m ≤ number_of ls n)
 

@@ -8,6 +8,7 @@ abbrev pub value_of : List Level → List ℕ → ℕ
 value_of (l ∷ ls) (c ∷ cs) = c * top_of ls + value_of ls cs
 value_of _ _ = 0
 
+-- a measure in mixed radix, the greatest priority most significant
 abbrev pub number_of : List Level → Measure → ℕ
 number_of ls Top = top_of ls
 number_of ls (Components cs) = value_of ls cs

@@ -38,10 +38,12 @@ pub record HarvestView : Type 0 where
 abbrev pub harvest_of : OrderView → HarvestView
 harvest_of order = record { order = order; hopeful = order.hopeful_room; dual = order.dual_room }
 
+-- either table of an order
 abbrev pub order_table : Which → OrderView → List ℕ
 order_table Hopeful order = order.hopeful
 order_table Dual order = order.dual
 
+-- either table of a harvest
 abbrev pub harvest_table : Which → HarvestView → List ℕ
 harvest_table Hopeful harvest = harvest.hopeful
 harvest_table Dual harvest = harvest.dual
@@ -60,10 +62,11 @@ abbrev pub other_table : Which → Which
 other_table Hopeful = Dual
 other_table Dual = Hopeful
 
--- the levels and the kept edges of each of the order's two games
+-- the levels of either of the order's two games
 abbrev pub order_levels : Which → OrderView → List Level
 order_levels which order = levels_for which (graph_of order.game)
 
+-- the kept edges of either of the order's two games
 abbrev pub order_arena : Which → OrderView → Game
 order_arena which order = arena_for (kleene order.known) which (graph_of order.game)
 
@@ -72,7 +75,7 @@ abbrev pub IsOpeningTable : NamedGame → NamedDiagram → List Decision → Whi
 IsOpeningTable game diagram decisions which table =
     (known : List Tri) → IsKnownTable diagram.lines (map literal_of decisions) known → IsTableBelow (kleene known) which (graph_of game) table
 
--- what every order keeps
+-- what every order keeps: above all, its tables are below every progress table of their games
 pub record IsOrder (order : OrderView) : Type 0 where
   pub game : IsGame order.game
   pub not_at_limit : ¬ IsAtLimit order.game
@@ -84,7 +87,7 @@ pub record IsOrder (order : OrderView) : Type 0 where
   pub hopeful_room : length order.hopeful_room ≡ length order.game.vertices
   pub dual_room : length order.dual_room ≡ length order.game.vertices
 
--- what every harvest keeps
+-- what every harvest keeps: its tables are on or above its order's, and below every progress table
 pub record IsHarvest (harvest : HarvestView) : Type 0 where
   pub order : IsOrder harvest.order
   pub above : (which : Which) → IsBelowTable (order_table which harvest.order) (harvest_table which harvest)

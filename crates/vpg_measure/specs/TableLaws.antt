@@ -66,6 +66,7 @@ abbrev pub LeastOfNumbers : Type 0
 LeastOfNumbers = (levels : List Level) (arena : List Node) (table : List ℕ) → IsClosed arena → IsTableOf levels arena table →
     IsLeastTable levels arena table ↔ IsLeastProgress levels arena (measures_of levels table)
 
+-- A closed arena has a least table of numbers.
 abbrev pub LeastTableExists : Type 0
 LeastTableExists = (levels : List Level) (arena : List Node) → IsClosed arena → (table : List ℕ) × IsLeastTable levels arena table
 
@@ -101,7 +102,7 @@ HopelessNumber Guard = (value : Guard → Tri) (game : GuardedGame Guard) (arena
     (v : ℕ) → v < length arena → slice_index table v ≡ top_of (levels_of (guarded_priorities game)) →
     (truth : Guard → Bool) → AgreesWithTruth value truth game → (strategy : Strategy) → Wins (product_game truth game) Player.Even strategy v → ⊥
 
--- a sure vertex has none for Odd
+-- a sure vertex has no winning strategy for Odd in any product that agrees with what is known
 abbrev pub SureNumber : Type 0 → Type 0
 SureNumber Guard = (value : Guard → Tri) (game : GuardedGame Guard) (arena : List Node) (table : List ℕ) → arena ≡ hopeful_game value (dual game) → IsClosed arena → IsClosedGuarded game →
     IsTableOf (levels_of (guarded_priorities (dual game))) arena table → IsBelowProgressTables (levels_of (guarded_priorities (dual game))) arena table →
@@ -120,7 +121,7 @@ UnsureNumber Guard = (value : Guard → Tri) (truth : Guard → Bool) (game : Gu
     arena ≡ hopeful_game value (dual game) → IsClosed arena → IsClosedGuarded game → IsTableOf levels arena table → IsProgressTable levels arena table → AreChoices levels arena table choices →
     (v : ℕ) → v < length arena → slice_index table v < top_of levels → Wins (product_game truth game) Player.Odd (strategy_of choices) v
 
--- so no vertex is both
+-- where everything is known, no vertex is both possible and unsure
 abbrev pub NotBothNumbers : Type 0 → Type 0
 NotBothNumbers Guard = (value : Guard → Tri) (truth : Guard → Bool) (game : GuardedGame Guard) → IsFullOf value truth game → IsClosedGuarded game →
     (levels dual_levels : List Level) (arena dual_arena : List Node) (table dual_table : List ℕ) → arena ≡ hopeful_game value game → dual_arena ≡ hopeful_game value (dual game) →

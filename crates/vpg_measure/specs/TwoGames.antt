@@ -16,9 +16,11 @@ abbrev pub game_for : {Guard : Type 0} → Which → GuardedGame Guard → Guard
 game_for Hopeful game = game
 game_for Dual game = dual game
 
+-- the levels of the game, or of its dual
 abbrev pub levels_for : {Guard : Type 0} → Which → GuardedGame Guard → List Level
 levels_for which game = levels_of (guarded_priorities (game_for which game))
 
+-- the number of the top measure of the game, or of its dual
 abbrev pub top_for : {Guard : Type 0} → Which → GuardedGame Guard → ℕ
 top_for which game = top_of (levels_for which game)
 

@@ -19,6 +19,6 @@ abbrev pub start_of : Option Heading → Option ℕ
 start_of None = None
 start_of (Some h) = Some (min no_identifier (number_value h.number))
 
--- what a file tells, its entries in order
+-- what a file tells: the names of its entries in order, empty where there is none, and the identifier of its `start`
 abbrev pub told_by : File → Told
 told_by f = record { names = name_bytes f.first.name ∷ map (λ e. name_bytes e.name) f.entries; start = start_of f.start }

@@ -22,7 +22,7 @@ Stops limit front session log (DeskRefuses fault) = ⊥
 Stops limit front session log Memory = ⊤
 
 -- A call with this front lent gives nothing, and leaves this one. The desk's own refusal is logged. Else the front stays: the log is full,
--- or it has room and a further call of this session, or memory is wanting.
+-- or it has room and a further call of this session, or it is out of memory.
 abbrev pub Tells : {L F : Type 0} → Family → ℕ → (F → Option Refusal) → Call → ℕ → List Event → List Event → Fault L F → Type 0
 Tells family limit refusal call session front new (LogFull f) = (new ≡ front) × IsPrefix front f × (length f ≡ limit) × IsHistory family f
 Tells family limit refusal call session front new (Doubled f) = (new ≡ front) × (length f < limit) × Overtakes family front session f
@@ -34,7 +34,7 @@ abbrev pub Begins : {L F : Type 0} → List Event → List Event → Fault L F �
 Begins history new (DeskRefuses fault) = IsPrefix history new
 Begins history new _ = ⊤
 
--- of calls that the desk never refuses
+-- the refusal that a fault stands for, of a call that the desk never refuses: none
 abbrev pub never_refused : {F : Type 0} → F → Option Refusal
 never_refused fault = None
 

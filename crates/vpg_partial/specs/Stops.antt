@@ -12,7 +12,7 @@ abbrev pub fault_named : Stop → ℕ → PartialFault
 fault_named Contradiction feature = Conflict feature
 fault_named NoMemory feature = Memory
 
--- the fault names a conflict of the choices, or tells of want of memory
+-- the fault names a conflict of the choices, or tells of out of memory
 abbrev pub IsFaultOf : List (List Literal) → List Tally → List Literal → PartialFault → Type 0
 IsFaultOf clauses counts choices (Conflict feature) = NamesConflict clauses counts choices feature
 IsFaultOf clauses counts choices Memory = ⊤

@@ -56,12 +56,12 @@ abbrev pub IsPlaceOf : Option ℕ → List ℕ → Option ℕ → Type 0
 IsPlaceOf meant serials None = meant ≡ None
 IsPlaceOf meant serials (Some place) = (s : ℕ) × ((meant ≡ Some s) × (position (λ n. n == s) serials ≡ Some place))
 
--- The answer to a refused call; want of memory has none.
+-- The answer to a refused call; out of memory has none.
 abbrev pub TellsRefusal : List (List ℕ) → Option Refusal → List ℕ → List ℕ → Type 0
 TellsRefusal names None before after = ⊥
 TellsRefusal names (Some refusal) before after = after ≡ before ++ refused_line (refusal_text names refusal)
 
--- The answer to a call that the client doesn't make: that the log is full, or the desk's refusal; a stray and want of memory have none.
+-- The answer to a call that the client doesn't make: that the log is full, or the desk's refusal; a stray and out of memory have none.
 abbrev pub TellsFault : {F : Type 0} → List (List ℕ) → (F → Option Refusal) → ClientFault F → List ℕ → List ℕ → Type 0
 TellsFault names refusal LogFull before after = after ≡ before ++ full_line
 TellsFault names refusal (Refused fault) before after = TellsRefusal names (refusal fault) before after
@@ -73,7 +73,7 @@ IsOpenFault game diagram AtLimit = IsAtLimit game
 IsOpenFault game diagram (Conflict f) = (¬ IsAtLimit game) × HasConflictOf diagram.lines [] × (f ≡ 0)
 IsOpenFault game diagram Memory = ⊤
 
--- the same, where want of memory is told otherwise
+-- why an office isn't opened, but for out of memory, which is reported otherwise
 abbrev pub IsOpenRefusal : NamedGame → NamedDiagram → OpenFault → Type 0
 IsOpenRefusal game diagram Memory = ⊥
 IsOpenRefusal game diagram fault = IsOpenFault game diagram fault

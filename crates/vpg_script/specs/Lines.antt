@@ -40,7 +40,7 @@ ComesNext (next.Line line) text rest = IsEnded text line.items rest ⊎ IsLast t
 ComesNext next.End text rest = text ≡ []
 ComesNext next.TooLong text rest = BeginsTooLong text
 
--- the same, where the bytes are known
+-- what comes next and what is left, where the bytes are known
 abbrev pub ComesKnown : Next → Option (List ℕ) → Option (List ℕ) → Type 0
 ComesKnown n None new = ⊤
 ComesKnown n (Some text) None = ⊥

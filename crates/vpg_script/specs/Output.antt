@@ -70,6 +70,7 @@ FaultyKnown fault (Some rest) = BeginsFaulty fault rest
 abbrev pub lines_left : ℕ → ℕ → ℕ
 lines_left reads held = (16777216 - reads) * 8193 + held
 
+-- a line was read
 abbrev pub IsLine : Next → Type 0
 IsLine (next.Line line) = ⊤
 IsLine next.End = ⊥

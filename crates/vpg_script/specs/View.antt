@@ -29,6 +29,7 @@ command_shown commands.Count = script.Count
 abbrev pub texts : List (Bor (List ℕ)) → List (List ℕ)
 texts words = map (λ w. w.now) words
 
+-- a request of the code as definitions see it
 abbrev pub request_shown : Request → script.Request
 request_shown r = record { label = r.label; command = command_shown r.command }
 

@@ -33,7 +33,7 @@ pub record PlansUnder (scene : Scene) (known : List Tri) (hopeful dual text : Li
 abbrev pub IsPlanned : Scene → List Decision → (hopeful dual text : List ℕ) → Type 0
 IsPlanned scene decisions hopeful dual text = UnderKnown scene decisions (λ known. PlansUnder scene known hopeful dual text)
 
--- why there is none: some feature isn't known, or each is and some table is no progress table; want of memory tells nothing
+-- why there is none: some feature isn't known, or each is and some table is no progress table; out of memory tells nothing
 abbrev pub IsPlanFault : Scene → List Decision → (hopeful dual : List ℕ) → PlanFault → Type 0
 IsPlanFault scene decisions hopeful dual NotFull = UnderKnown scene decisions (λ known. ¬ (AreAllKnown (length known) known))
 IsPlanFault scene decisions hopeful dual NotSettled =

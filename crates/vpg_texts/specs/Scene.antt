@@ -15,6 +15,7 @@ use Rattle.vpg_measure.specs.TwoGames.{top_for, IsProgressOf}
 use Rattle.vpg_trail.specs.Page.{Which, Hopeful, Dual, Entry, Decided, Lifted, Decision, literal_of}
 use Rattle.vpg_texts.specs.Text.{show_text, count_text, products_text}
 
+-- what texts need of a game and of the diagram over whose features it is
 pub record Scene : Type 0 where
   pub game : GuardedGame Formula
   pub lines : List Line
@@ -22,6 +23,7 @@ pub record Scene : Type 0 where
   pub names : List (List ℕ)
   pub identifiers : List ℕ
 
+-- what texts need of a game and of the diagram over whose features it is
 abbrev pub scene_of : NamedGame → NamedDiagram → Scene
 scene_of game diagram =
     record {

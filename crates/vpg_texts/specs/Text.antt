@@ -13,7 +13,7 @@ blank_number n = 32 ∷ decimal n
 abbrev pub name_of : List (List ℕ) → ℕ → List ℕ
 name_of names f = slice_index_or names f []
 
--- ` F`
+-- a blank, and then a feature's name
 abbrev pub blank_name : List (List ℕ) → ℕ → List ℕ
 blank_name names f = 32 ∷ name_of names f
 
@@ -93,6 +93,7 @@ entry_line names identifiers (Lifted l) =
     table_text l.table ++ blank_number (slice_index identifiers l.vertex) ++ blank_number l.old ++ blank_number l.new
     ++ choices_text names l.under ++ 10 ∷ []
 
+-- a line for each entry, and their number
 abbrev pub trail_text : List (List ℕ) → List ℕ → List Entry → List ℕ
 trail_text names identifiers entries = flat_map (entry_line names identifiers) entries ++ codes "entries" ++ blank_number (length entries) ++ 10 ∷ []
 
@@ -115,6 +116,7 @@ names_known names known value (suc n) = names_known names known value n ++ name_
 abbrev pub products_line : List ℕ → List (List ℕ) → List Tri → Tri → List ℕ
 products_line word names known value = word ++ names_known names known value (length names) ++ 10 ∷ []
 
+-- three lines: the features that are in, those that are out, and the open ones
 abbrev pub products_text : List (List ℕ) → List Tri → List ℕ
 products_text names known =
     products_line (codes "in") names known Yes

@@ -68,7 +68,7 @@ IsFound game diagram aim choices (founds.Product example) = IsFoundProduct game 
 IsFound game diagram aim choices founds.Nothing = NoneMeets game diagram aim choices
 IsFound game diagram aim choices founds.Unsettled = ⊤
 
--- no limit was met
+-- no limit was met in the search
 abbrev pub IsFoundExact : Found → Type 0
 IsFoundExact (founds.Product example) = IsTrue example.first
 IsFoundExact founds.Nothing = ⊤
@@ -80,6 +80,7 @@ IsWhyLost game diagram aim decisions (whys.Because found) = Explains (Suffice ga
 IsWhyLost game diagram aim decisions (whys.Unless example) = IsFoundProduct game diagram aim (choices decisions) example.features.items example.first
 IsWhyLost game diagram aim decisions whys.Unsettled = ⊤
 
+-- no limit was met in saying why
 abbrev pub IsWhyLostExact : WhyLost → Type 0
 IsWhyLostExact (whys.Because found) = IsTrue found.exact
 IsWhyLostExact (whys.Unless example) = IsTrue example.first
@@ -92,6 +93,7 @@ AreFoundNeeds game diagram aim choices (demands.These found) =
 AreFoundNeeds game diagram aim choices demands.Nothing = NoneMeets game diagram aim choices
 AreFoundNeeds game diagram aim choices demands.Unsettled = ⊤
 
+-- no limit was met in listing what is needed
 abbrev pub AreNeedsExact : Demand → Type 0
 AreNeedsExact (demands.These found) = IsTrue found.exact
 AreNeedsExact demands.Nothing = ⊤

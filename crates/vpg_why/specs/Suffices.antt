@@ -40,7 +40,8 @@ SufficeIn game lines (asks.Lost aim) choices = NoneMeetsIn game lines aim choice
 SufficeIn game lines (asks.Known feature value) choices = (known : List Tri) → IsKnownTable lines choices known → IsTrue (literals_in known (choice feature value))
 SufficeIn game lines (asks.Conflict feature value) choices = HasConflictOf lines (choices ++ choice feature value ∷ [])
 
--- the same, where vertices have identifiers, and features names
+-- of a game over the features of a diagram: the choices alone make it so, where vertices have identifiers, and
+-- features names
 abbrev pub Suffice : NamedGame → NamedDiagram → Question → List Literal → Type 0
 Suffice game diagram = SufficeIn (graph_of game) diagram.lines
 
