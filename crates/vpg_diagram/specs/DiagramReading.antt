@@ -52,7 +52,8 @@ group_form (w ∷ p ∷ []) (c ∷ cs) =
     cond (bytes_eq w (codes "alternative")) (if_names (p ∷ c ∷ cs) (AlternativeLine p (c ∷ cs)))
     (cond (bytes_eq w (codes "or")) (if_names (p ∷ c ∷ cs) (OrLine p (c ∷ cs))) None)
 group_form (w ∷ p ∷ i ∷ j ∷ []) (c ∷ cs) =
-    cond (bytes_eq w (codes "group") && is_numeral i && is_numeral j) (if_names (p ∷ c ∷ cs) (GroupLine p (digits_value 10 i) (digits_value 10 j) (c ∷ cs))) None
+    cond (bytes_eq w (codes "group") && is_numeral i && is_numeral j)
+    (if_names (p ∷ c ∷ cs) (GroupLine p (digits_value 10 i) (digits_value 10 j) (c ∷ cs))) None
 group_form head members = None
 
 abbrev pub form_by_colon : List ℕ → Option (List ℕ × List ℕ) → Option Form
@@ -90,11 +91,15 @@ rule_at rules (Some a) (Some b) line = checked (nat_lt rules 16384) TooMany (Ok 
 -- the line of a form, behind lines with these names and so many rules
 abbrev pub line_at : List (List ℕ) → ℕ → Form → Result Line LineFault
 line_at names rules (RootLine r) = Err TwoRoots
-line_at names rules (MandatoryLine p c) = children_at names (place_of_name names p) (c ∷ []) (λ k _. Mandatory k (length names)) true
-line_at names rules (OptionalLine p c) = children_at names (place_of_name names p) (c ∷ []) (λ k _. Optional k (length names)) true
+line_at names rules (MandatoryLine p c) =
+    children_at names (place_of_name names p) (c ∷ []) (λ k _. Mandatory k (length names)) true
+line_at names rules (OptionalLine p c) =
+    children_at names (place_of_name names p) (c ∷ []) (λ k _. Optional k (length names)) true
 line_at names rules (AlternativeLine p cs) = children_at names (place_of_name names p) cs Alternative true
 line_at names rules (OrLine p cs) = children_at names (place_of_name names p) cs Or true
-line_at names rules (GroupLine p low high cs) = children_at names (place_of_name names p) cs (λ k ks. Group k low high ks) (nat_le low high && nat_le high (length cs))
+line_at names rules (GroupLine p low high cs) =
+    children_at names (place_of_name names p) cs (λ k ks. Group k low high ks)
+    (nat_le low high && nat_le high (length cs))
 line_at names rules (RequiresLine a b) = rule_at rules (place_of_name names a) (place_of_name names b) Requires
 line_at names rules (ExcludesLine a b) = rule_at rules (place_of_name names a) (place_of_name names b) Excludes
 
@@ -108,11 +113,14 @@ with_root root (Ok d) = Ok (record { names = root ∷ d.names; lines = d.lines }
 with_root root (Err fault) = Err fault
 
 -- what a line gives, and then what is read behind it, by the names and rules up to there
-abbrev pub after_line : ℕ → List (List ℕ) → ℕ → Form → Result Line LineFault → (List (List ℕ) → ℕ → Result NamedDiagram Fault) → Result NamedDiagram Fault
+abbrev pub after_line : ℕ → List (List ℕ) → ℕ → Form → Result Line LineFault →
+    (List (List ℕ) → ℕ → Result NamedDiagram Fault) → Result NamedDiagram Fault
 after_line number names rules form (Err fault) rest = Err (At number fault)
-after_line number names rules form (Ok line) rest = with_line line (new_names form) (rest (names ++ new_names form) (rules + rules_in form))
+after_line number names rules form (Ok line) rest =
+    with_line line (new_names form) (rest (names ++ new_names form) (rules + rules_in form))
 
-abbrev pub after_form : ℕ → List (List ℕ) → ℕ → Option Form → (List (List ℕ) → ℕ → Result NamedDiagram Fault) → Result NamedDiagram Fault
+abbrev pub after_form : ℕ → List (List ℕ) → ℕ → Option Form → (List (List ℕ) → ℕ → Result NamedDiagram Fault) →
+    Result NamedDiagram Fault
 after_form number names rules None rest = Err (At number Syntax)
 after_form number names rules (Some form) rest = after_line number names rules form (line_at names rules form) rest
 

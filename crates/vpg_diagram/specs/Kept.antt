@@ -7,7 +7,8 @@ use Rattle.vpg_diagram.specs.Tally.{Tally}
 use Rattle.vpg_diagram.specs.declared.clause.Literal.{Literal}
 
 -- a named diagram with its clauses and counts, and an index of them
-pub record IsKept (d : NamedDiagram) (clauses : List (List Literal)) (counts : List Tally) (index : List (List ℕ)) : Type 0 where
+pub record IsKept (d : NamedDiagram) (clauses : List (List Literal)) (counts : List Tally)
+    (index : List (List ℕ)) : Type 0 where
   pub named : IsNamedDiagram d
   pub clauses_are : clauses ≡ clauses_of d.lines
   pub counts_are : counts ≡ counts_of d.lines

@@ -14,8 +14,11 @@ use Rattle.vpg_diagram.specs.declared.reading.Family.{Family}
 use Rattle.vpg_diagram.specs.declared.reading.Reader.{Reader}
 
 -- children of a parent, read behind names
-pub record IsFamily (names : List (List ℕ)) (parent : List ℕ) (members : List (List ℕ)) (fits : Bool) (family : Family) : Type 0 where
-  pub read : (line : ℕ → List ℕ → Line) → children_at names (place_of_name names parent) members line fits ≡ Ok (line family.parent (members_of family.members))
+pub record IsFamily (names : List (List ℕ)) (parent : List ℕ) (members : List (List ℕ)) (fits : Bool)
+    (family : Family) : Type 0 where
+  pub read : (line : ℕ → List ℕ → Line) →
+      children_at names (place_of_name names parent) members line fits
+      ≡ Ok (line family.parent (members_of family.members))
   pub first : family.members.first ≡ length names
   pub few : length names + length members ≤ 512
   pub in_range : fits ≡ true
@@ -23,7 +26,8 @@ pub record IsFamily (names : List (List ℕ)) (parent : List ℕ) (members : Lis
 -- why children are refused
 abbrev pub IsChildrenError : List (List ℕ) → List ℕ → List (List ℕ) → Bool → LineError → Type 0
 IsChildrenError names parent members fits Memory = ⊤
-IsChildrenError names parent members fits (Refused kind) = (line : ℕ → List ℕ → Line) → children_at names (place_of_name names parent) members line fits ≡ Err kind
+IsChildrenError names parent members fits (Refused kind) =
+    (line : ℕ → List ℕ → Line) → children_at names (place_of_name names parent) members line fits ≡ Err kind
 
 -- why a form is refused
 abbrev pub IsFormError : List (List ℕ) → ℕ → Form → LineError → Type 0
@@ -31,7 +35,8 @@ IsFormError names rules form Memory = ⊤
 IsFormError names rules form (Refused kind) = line_at names rules form ≡ Err kind
 
 -- the line that bytes spell, behind lines with these names and so many rules, and the names with those of the line
-pub record ReadsLine (names : List (List ℕ)) (rules : ℕ) (bytes : List ℕ) (after : List (List ℕ)) (line : Line) : Type 0 where
+pub record ReadsLine (names : List (List ℕ)) (rules : ℕ) (bytes : List ℕ) (after : List (List ℕ))
+    (line : Line) : Type 0 where
   pub form : Form
   pub form_is : form_of bytes ≡ Some form
   pub line_is : line_at names rules form ≡ Ok line
@@ -50,7 +55,9 @@ pub record AddsLine (old : Reader) (bytes : List ℕ) (new : Reader) : Type 0 wh
 -- why a line is refused
 abbrev pub IsLineError : List (List ℕ) → ℕ → List ℕ → LineError → Type 0
 IsLineError names rules bytes Memory = ⊤
-IsLineError names rules bytes (Refused kind) = ((form_of bytes ≡ None) × (kind ≡ Syntax)) ⊎ ((form : Form) × (form_of bytes ≡ Some form) × (line_at names rules form ≡ Err kind))
+IsLineError names rules bytes (Refused kind) =
+    ((form_of bytes ≡ None) × (kind ≡ Syntax)) ⊎
+    ((form : Form) × (form_of bytes ≡ Some form) × (line_at names rules form ≡ Err kind))
 
 -- the reading of a text whose root line has this name and number, and this behind it
 abbrev pub behind_root : List ℕ → ℕ → List ℕ → Result NamedDiagram Fault

@@ -30,7 +30,8 @@ fn push_pairs_of(
     feature: u16,
     others: &[u16],
 ) -> Result<(), AllocError>
-    ensures { IfOk result (λ _. clauses.new.items ≡ clauses.old.items ++ map (λ d. feature_out feature ∷ feature_out d ∷ []) others.now) }
+    ensures { IfOk result (λ _. clauses.new.items ≡ clauses.old.items
+        ++ map (λ d. feature_out feature ∷ feature_out d ∷ []) others.now) }
 {
     for other in others {
         clauses.push(Clause::not_both(alloc, feature, *other))?;
@@ -55,7 +56,9 @@ fn push_alternative(
     parent: u16,
     members: &[u16],
 ) -> Result<(), AllocError>
-    ensures { IfOk result (λ _. clauses.new.items ≡ clauses.old.items ++ (feature_out parent ∷ map feature_in members.now) ∷ (parent_clauses parent members.now ++ pair_clauses members.now)) }
+    ensures { IfOk result (λ _. clauses.new.items ≡ clauses.old.items
+        ++ (feature_out parent ∷ map feature_in members.now)
+        ∷ (parent_clauses parent members.now ++ pair_clauses members.now)) }
 {
     clauses.push(Clause::some_member(alloc, parent, members)?)?;
     push_parents(alloc, clauses, parent, members)?;

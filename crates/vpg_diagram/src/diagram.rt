@@ -38,7 +38,8 @@ impl Model for Diagram {
 
     ghost view = { λ d. record { names = d.names; lines = lines_of d.lines.items } };
 
-    ghost invariant = { λ d. IsKept (record { names = d.names; lines = lines_of d.lines.items }) d.clauses.items d.counts.items d.index };
+    ghost invariant = { λ d.
+        IsKept (record { names = d.names; lines = lines_of d.lines.items }) d.clauses.items d.counts.items d.index };
 }
 
 impl Diagram {
@@ -62,17 +63,19 @@ impl Diagram {
         })
     }
 
-    /// The diagram that a text spells, of at most 512 features and 16,384 rules. A text that is refused has the first fault
-    /// of its first faulty line, in the order of `DiagramFault`.
+    /// The diagram that a text spells, of at most 512 features and 16,384 rules. A text that is refused has the first
+    /// fault of its first faulty line, in the order of `DiagramFault`.
     pub fn read(alloc: Global, text: &[u8]) -> Result<Diagram, DiagramFault>
         // What is read is spelled so.
         ensures found { IfOk result (IsTextOf text.now) }
         // A text that is refused spells no diagram within the limits.
-        ensures refused { IfErr result (λ fault. fault ≢ DiagramFault.Memory → (d : NamedDiagram) → IsTextOf text.now d → ⊥) }
+        ensures refused { IfErr result
+            (λ fault. fault ≢ DiagramFault.Memory → (d : NamedDiagram) → IsTextOf text.now d → ⊥) }
         // The fault is that of the first faulty line, and the first that this line has.
         ensures fault { IfErr result (IsFirstFault text.now) }
         // What is spelled so is read, unless memory runs out.
-        ensures only { (d : NamedDiagram) → IsTextOf text.now d → MatchResult result (λ read. read ≡ d) (λ fault. fault ≡ DiagramFault.Memory) }
+        ensures only { (d : NamedDiagram) → IsTextOf text.now d →
+            MatchResult result (λ read. read ≡ d) (λ fault. fault ≡ DiagramFault.Memory) }
     {
         let reader = match read_text(alloc, text) {
             Ok(reader) => reader,
@@ -124,8 +127,8 @@ impl Diagram {
         &self.counts
     }
 
-    /// For each feature the numbers of the clauses and counts that speak of it. The clauses have the first numbers, in order, and
-    /// then come the counts.
+    /// For each feature the numbers of the clauses and counts that speak of it. The clauses have the first numbers, in
+    /// order, and then come the counts.
     pub fn index(&self) -> &Index
         ensures { IsIndex (clauses_of self.now.lines) (counts_of self.now.lines) result.now }
     {

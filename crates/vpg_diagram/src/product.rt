@@ -83,7 +83,8 @@ fn meets_all(clauses: &[Clause], counts: &[Count], features: &[bool]) -> bool
 
 /// Whether a set of features is a product of the diagram of these clauses and counts.
 pub(crate) fn is_product(clauses: &[Clause], counts: &[Count], features: &[bool]) -> bool
-    ensures { (lines : List Line) → IsDiagram lines → clauses.now ≡ clauses_of lines → counts.now ≡ counts_of lines → length features.now ≡ feature_count lines → IsTrue result ↔ IsProduct lines features.now }
+    ensures { (lines : List Line) → IsDiagram lines → clauses.now ≡ clauses_of lines → counts.now ≡ counts_of lines →
+        length features.now ≡ feature_count lines → IsTrue result ↔ IsProduct lines features.now }
 {
     meets_all(clauses, counts, features)
 }

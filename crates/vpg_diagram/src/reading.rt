@@ -105,8 +105,13 @@ fn rule_of(
     first: &[u8],
     second: &[u8],
 ) -> Result<(u16, u16), LineFault>
-    ensures ok { IfOk result (λ pair. (line : ℕ → ℕ → DiagramLine) → rule_at rules (place_of_name names.now first.now) (place_of_name names.now second.now) line ≡ Ok (line pair.0 pair.1)) }
-    ensures err { IfErr result (λ kind. (line : ℕ → ℕ → DiagramLine) → rule_at rules (place_of_name names.now first.now) (place_of_name names.now second.now) line ≡ Err kind) }
+    ensures ok { IfOk result
+        (λ pair. (line : ℕ → ℕ → DiagramLine) →
+        rule_at rules (place_of_name names.now first.now) (place_of_name names.now second.now) line
+        ≡ Ok (line pair.0 pair.1)) }
+    ensures err { IfErr result
+        (λ kind. (line : ℕ → ℕ → DiagramLine) →
+        rule_at rules (place_of_name names.now first.now) (place_of_name names.now second.now) line ≡ Err kind) }
 {
     let Some(first) = names.get(first) else {
         return Err(LineFault::UnknownFeature);
@@ -252,7 +257,8 @@ ghost use Rattle.vpg_diagram.specs.ReadCode.{IsReadingFault, behind_root};
 /// The name in a root line.
 fn root_name(alloc: Global, line: &[u8], number: usize) -> Result<&[u8], DiagramFault>
     ensures name { IfOk result (λ name. line_form line.now ≡ Some (RootLine name.now)) }
-    ensures refused { IfErr result (λ e. (rest : List (List ℕ)) → IsReadingFault (after_root number (line_form line.now) rest) e) }
+    ensures refused { IfErr result
+        (λ e. (rest : List (List ℕ)) → IsReadingFault (after_root number (line_form line.now) rest) e) }
 {
     let Some(form) = form_of(alloc, line)? else {
         return Err(DiagramFault::Syntax { line: number });
@@ -289,7 +295,8 @@ fn read_root(alloc: Global, text: &[u8]) -> Result<Root, DiagramFault>
 
 /// Reads the names and lines of a text.
 pub(crate) fn read_text(alloc: Global, text: &[u8]) -> Result<Reader, DiagramFault>
-    ensures read { IfOk result (λ r. reading text.now ≡ Ok (record { names = r.names; lines = lines_of r.lines.items })) }
+    ensures read { IfOk result
+        (λ r. reading text.now ≡ Ok (record { names = r.names; lines = lines_of r.lines.items })) }
     ensures refused { IfErr result (IsReadingFault (reading text.now)) }
 {
     let root = read_root(alloc, text)?;
@@ -310,8 +317,11 @@ fn read_behind(alloc: Global, root: Root, reader: &mut Reader) -> Result<(), Dia
     requires lines { reader.old.lines.items ≡ [] }
     requires rules { reader.old.rules ≡ 0 }
     requires room { root.number + length root.behind.now < 2 ^ 64 }
-    ensures read { IfOk result (λ _. behind_root root.entry.name.now root.entry.number root.entry.behind.now ≡ Ok (record { names = reader.new.names; lines = lines_of reader.new.lines.items })) }
-    ensures refused { IfErr result (IsReadingFault (behind_root root.entry.name.now root.entry.number root.entry.behind.now)) }
+    ensures read { IfOk result
+        (λ _. behind_root root.entry.name.now root.entry.number root.entry.behind.now
+        ≡ Ok (record { names = reader.new.names; lines = lines_of reader.new.lines.items })) }
+    ensures refused { IfErr result
+        (IsReadingFault (behind_root root.entry.name.now root.entry.number root.entry.behind.now)) }
 {
     add_names(alloc, &mut reader.names, &[root.name])?;
     let mut rest = root.behind;

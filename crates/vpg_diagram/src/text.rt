@@ -145,7 +145,8 @@ fn range_form<'a>(
     high: &'a [u8],
     members: Vec<&'a [u8]>,
 ) -> Option<LineForm<'a>>
-    ensures { option_map view_form result ≡ group_form (word.now ∷ parent.now ∷ low.now ∷ high.now ∷ []) (texts members.entry.items) }
+    ensures { option_map view_form result
+        ≡ group_form (word.now ∷ parent.now ∷ low.now ∷ high.now ∷ []) (texts members.entry.items) }
 {
     if members.is_empty() || !is_name(parent) || !are_names(&members) {
         return None;

@@ -38,7 +38,8 @@ AreReadable features (s ∷ ss) = IsReadable features s.guard × AreReadable fea
 
 abbrev pub AreLimited : ℕ → List SpelledEntry → Type 0
 AreLimited features [] = Unit {0}
-AreLimited features (e ∷ es) = (e.id < 2 ^ 32) × (e.priority < 65536) × AreReadable features e.successors × AreLimited features es
+AreLimited features (e ∷ es) =
+    (e.id < 2 ^ 32) × (e.priority < 65536) × AreReadable features e.successors × AreLimited features es
 
 pub record IsLimited (features : ℕ) (es : List SpelledEntry) : Type 0 where
   pub some : 0 < length es

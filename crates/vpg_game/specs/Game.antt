@@ -97,7 +97,8 @@ join_edge (f ∷ fs) e =
 -- the edges behind some that are there
 abbrev pub joined_edges : List ℕ → List (GuardedEdge Formula) → List SpelledSuccessor → List (GuardedEdge Formula)
 joined_edges ids edges [] = edges
-joined_edges ids edges (s ∷ ss) = joined_edges ids (join_edge edges (record { to = place_of ids s.id; guard = s.guard })) ss
+joined_edges ids edges (s ∷ ss) =
+    joined_edges ids (join_edge edges (record { to = place_of ids s.id; guard = s.guard })) ss
 
 abbrev pub vertex_of : List ℕ → SpelledEntry → NamedVertex
 vertex_of ids e = record { id = e.id; owner = e.owner; priority = e.priority; edges = joined_edges ids [] e.successors }
@@ -146,10 +147,13 @@ IsFirstDouble ids id = (n : ℕ) × AreDistinct (take n ids) × (slice_get ids n
 
 -- the first successor of an entry that no entry has
 abbrev pub IsFirstNotHeld : List ℕ → List SpelledSuccessor → ℕ → Type 0
-IsFirstNotHeld ids ss id = (n : ℕ) × (s : SpelledSuccessor) × (slice_get ss n ≡ Some s) × (s.id ≡ id) × AllHeld ids (take n ss) × Lacks ids id
+IsFirstNotHeld ids ss id =
+    (n : ℕ) × (s : SpelledSuccessor) × (slice_get ss n ≡ Some s) × (s.id ≡ id) × AllHeld ids (take n ss) × Lacks ids id
 
 abbrev pub IsFirstMissing : List ℕ → List SpelledEntry → ℕ → Type 0
-IsFirstMissing ids es id = (n : ℕ) × (e : SpelledEntry) × (slice_get es n ≡ Some e) × AllFound ids (take n es) × IsFirstNotHeld ids e.successors id
+IsFirstMissing ids es id =
+    (n : ℕ) × (e : SpelledEntry) × (slice_get es n ≡ Some e) × AllFound ids (take n es) ×
+    IsFirstNotHeld ids e.successors id
 
 pub record IsMissing (entries : List SpelledEntry) (id : ℕ) : Type 0 where
   pub distinct : AreDistinct (entry_ids entries)
@@ -164,11 +168,13 @@ pub record AreTooWide (entries : List SpelledEntry) : Type 0 where
 
 abbrev pub AreEdges : ℕ → ℕ → List (GuardedEdge Formula) → Type 0
 AreEdges vertices features [] = Unit {0}
-AreEdges vertices features (e ∷ es) = (e.to < vertices) × IsReadable features e.guard × Lacks (map (λ f. f.to) es) e.to × AreEdges vertices features es
+AreEdges vertices features (e ∷ es) =
+    (e.to < vertices) × IsReadable features e.guard × Lacks (map (λ f. f.to) es) e.to × AreEdges vertices features es
 
 abbrev pub AreVertices : ℕ → ℕ → List NamedVertex → Type 0
 AreVertices vertices features [] = Unit {0}
-AreVertices vertices features (v ∷ vs) = (v.id < 2 ^ 32) × (v.priority ≤ 65536) × AreEdges vertices features v.edges × AreVertices vertices features vs
+AreVertices vertices features (v ∷ vs) =
+    (v.id < 2 ^ 32) × (v.priority ≤ 65536) × AreEdges vertices features v.edges × AreVertices vertices features vs
 
 -- A game within the limits: identifiers differ, and targets of one vertex; guards can be read again; both top
 -- measures are at most 2^62.

@@ -97,7 +97,9 @@ entries_text (e ∷ es) rest = entry_text e (entries_text es rest)
 
 -- the bytes of a file
 abbrev pub file_text : File → List ℕ
-file_text f = heading_text (codes "parity") f.header (heading_text (codes "start") f.start (entry_text f.first (entries_text f.entries f.blanks)))
+file_text f =
+    heading_text (codes "parity") f.header
+    (heading_text (codes "start") f.start (entry_text f.first (entries_text f.entries f.blanks)))
 
 -- ---- what may stand there
 
@@ -199,7 +201,8 @@ abbrev pub player_of : ℕ → Player
 player_of n = if nat_eq n 0 then Even else Odd
 
 abbrev pub entry_of : Entry → SpelledEntry
-entry_of e = record { id = number_value e.id; priority = number_value e.priority; owner = player_of (number_value e.owner); successors = all_successors_of e.successors }
+entry_of e =
+    record { id = number_value e.id; priority = number_value e.priority; owner = player_of (number_value e.owner); successors = all_successors_of e.successors }
 
 abbrev pub entries_of : List Entry → List SpelledEntry
 entries_of [] = []

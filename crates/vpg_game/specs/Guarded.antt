@@ -27,7 +27,8 @@ IsClosedGuarded game = All (λ vertex. All (λ edge. edge.to < length game) vert
 
 -- owners exchanged, priorities plus one
 abbrev pub dual : {Guard : Type 0} → GuardedGame Guard → GuardedGame Guard
-dual game = map (λ vertex. record { owner = opponent vertex.owner; priority = suc vertex.priority; edges = vertex.edges }) game
+dual game = map (λ vertex.
+    record { owner = opponent vertex.owner; priority = suc vertex.priority; edges = vertex.edges }) game
 
 abbrev pub AllGuards : {Guard : Type 0} → (Guard → Type 0) → GuardedGame Guard → Type 0
 AllGuards P game = All (λ vertex. All (λ edge. P edge.guard) vertex.edges) game

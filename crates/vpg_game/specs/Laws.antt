@@ -11,11 +11,15 @@ use Rattle.vpg_game.specs.Writing.{game_text}
 
 -- a text spells one game at most
 abbrev pub TextsSpellOneGame : Type 0
-TextsSpellOneGame = (names : List (List ℕ)) (text : List ℕ) (g h : NamedGame) → AreNames names → SpellsGame names text g → SpellsGame names text h → g ≡ h
+TextsSpellOneGame =
+    (names : List (List ℕ)) (text : List ℕ) (g h : NamedGame) → AreNames names → SpellsGame names text g →
+    SpellsGame names text h → g ≡ h
 
 -- what is written spells the game, where no priority is at the limit
 abbrev pub WritingsSpellTheGame : Type 0
-WritingsSpellTheGame = (names : List (List ℕ)) (game : NamedGame) → AreNames names → length names ≡ game.features → IsGame game → ¬ IsAtLimit game → SpellsGame names (game_text names game) game
+WritingsSpellTheGame =
+    (names : List (List ℕ)) (game : NamedGame) → AreNames names → length names ≡ game.features → IsGame game →
+    ¬ IsAtLimit game → SpellsGame names (game_text names game) game
 
 -- what the graph of every game keeps
 pub record IsGraph (features : ℕ) (graph : GuardedGame Formula) : Type 0 where
@@ -50,8 +54,12 @@ SomeEdgeHolds set to (e ∷ es) = ((e.to ≡ to) × (truth set e.guard ≡ true)
 -- some successor that names the vertex has such a guard
 abbrev pub SomeNamedHolds : List Bool → List ℕ → ℕ → List SpelledSuccessor → Type 0
 SomeNamedHolds set ids to [] = ⊥
-SomeNamedHolds set ids to (s ∷ ss) = ((place_of ids s.id ≡ to) × (truth set s.guard ≡ true)) ⊎ SomeNamedHolds set ids to ss
+SomeNamedHolds set ids to (s ∷ ss) =
+    ((place_of ids s.id ≡ to) × (truth set s.guard ≡ true)) ⊎ SomeNamedHolds set ids to ss
 
--- a vertex has an edge in the game of a product exactly where its entry names a successor whose guard the product satisfies
+-- a vertex has an edge in the game of a product exactly where its entry names a successor whose guard the product
+-- satisfies
 abbrev pub EdgesHoldAsNamed : Type 0
-EdgesHoldAsNamed = (set : List Bool) (ids : List ℕ) (entry : SpelledEntry) (to : ℕ) → SomeEdgeHolds set to (vertex_of ids entry).edges ↔ SomeNamedHolds set ids to entry.successors
+EdgesHoldAsNamed =
+    (set : List Bool) (ids : List ℕ) (entry : SpelledEntry) (to : ℕ) →
+    SomeEdgeHolds set to (vertex_of ids entry).edges ↔ SomeNamedHolds set ids to entry.successors

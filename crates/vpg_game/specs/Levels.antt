@@ -71,4 +71,6 @@ pub record AreWeights (ls : List Level) (weights : List ℕ) (top : ℕ) : Type 
 
 -- exchanging the players twice gives the same top
 abbrev pub DualOfDualHasTop : Type 0
-DualOfDualHasTop = (priorities : List ℕ) → top_of (levels_of (map (λ p. p + 1) (map (λ p. p + 1) priorities))) ≡ top_of (levels_of priorities)
+DualOfDualHasTop =
+    (priorities : List ℕ) →
+    top_of (levels_of (map (λ p. p + 1) (map (λ p. p + 1) priorities))) ≡ top_of (levels_of priorities)

@@ -12,4 +12,5 @@ features_named (e ∷ es) = named e.guard ++ features_named es
 -- for each of so many features exactly the vertices that name it
 pub record IsNaming (features : ℕ) (vertices : List NamedVertex) (naming : List (List ℕ)) : Type 0 where
   pub count : length naming ≡ features
-  pub exact : (f v : ℕ) → Contains (slice_index_or naming f []) v ↔ Contains (features_named (slice_index_or vertices v no_vertex).edges) f
+  pub exact : (f v : ℕ) → Contains (slice_index_or naming f []) v ↔
+      Contains (features_named (slice_index_or vertices v no_vertex).edges) f

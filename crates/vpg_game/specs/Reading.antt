@@ -63,7 +63,9 @@ abbrev pub closed_guard : List (List ℕ) → List ℕ → List ℕ → Read For
 closed_guard names inside tail = behind_first tail >>= λ rest. guard_at names inside >>= λ g. Some (g, rest)
 
 unfoldable pub bracket_at : List (List ℕ) → List ℕ → Read Formula
-bracket_at names text = choice (after_sign 91 text) (λ rest. closed_guard names (take (len_before 93 rest) rest) (drop (len_before 93 rest) rest)) (Some (always, text))
+bracket_at names text =
+    choice (after_sign 91 text)
+    (λ rest. closed_guard names (take (len_before 93 rest) rest) (drop (len_before 93 rest) rest)) (Some (always, text))
 
 abbrev pub with_guard : ℕ → (Formula × List ℕ) → Read SpelledSuccessor
 with_guard id x = Some (record { id = id; guard = x.0 }, x.1)
@@ -74,7 +76,9 @@ successor_at names text = number_at (2 ^ 32) text >>= λ x. bracket_at names x.1
 -- further successors behind those read, so many at most
 unfoldable pub more_successors : List (List ℕ) → ℕ → List SpelledSuccessor → List ℕ → Read (List SpelledSuccessor)
 more_successors names zero read text = choice (after_sign 44 text) (λ rest. None) (Some (read, text))
-more_successors names (suc n) read text = choice (after_sign 44 text) (λ rest. successor_at names rest >>= λ x. more_successors names n (read ++ x.0 ∷ []) x.1) (Some (read, text))
+more_successors names (suc n) read text =
+    choice (after_sign 44 text)
+    (λ rest. successor_at names rest >>= λ x. more_successors names n (read ++ x.0 ∷ []) x.1) (Some (read, text))
 
 abbrev pub starts_with_digit : List ℕ → Bool
 starts_with_digit [] = false
@@ -125,17 +129,20 @@ if_spaced (b ∷ rest) = if is_blank b then Some (b ∷ rest) else None
 
 -- what follows a header or a start, behind its first byte
 abbrev pub heading_rest : List ℕ → List ℕ → Option (List ℕ)
-heading_rest word text = after_word word text >>= λ t. if_spaced t >>= λ u. digits_at (after_blanks u) >>= λ x. after_sign 59 x.1
+heading_rest word text =
+    after_word word text >>= λ t. if_spaced t >>= λ u. digits_at (after_blanks u) >>= λ x. after_sign 59 x.1
 
 unfoldable pub after_heading : ℕ → List ℕ → List ℕ → Option (List ℕ)
 after_heading first word text = choice (after_sign first text) (heading_rest word) (Some text)
 
 abbrev pub all_entries : List (List ℕ) → List ℕ → Option (List SpelledEntry)
-all_entries names text = entry_at names 1048576 text >>= λ x. more_entries names 65535 (1048576 - length x.0.successors) (x.0 ∷ []) x.1
+all_entries names text =
+    entry_at names 1048576 text >>= λ x. more_entries names 65535 (1048576 - length x.0.successors) (x.0 ∷ []) x.1
 
 -- the entries that a whole text spells
 unfoldable pub entries_at : List (List ℕ) → List ℕ → Option (List SpelledEntry)
-entries_at names text = after_heading 112 (codes "arity") text >>= λ t. after_heading 115 (codes "tart") t >>= all_entries names
+entries_at names text =
+    after_heading 112 (codes "arity") text >>= λ t. after_heading 115 (codes "tart") t >>= all_entries names
 
 -- What a function returned, seen by view, is what reading gives, unless memory ran out.
 abbrev pub Fails : {Y : Type 0} → GameFault → Option Y → Type 0

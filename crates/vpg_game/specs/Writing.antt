@@ -29,7 +29,9 @@ owner_digit Odd = 49
 
 -- `identifier priority owner`, a blank and the edges where there are any, and `;`
 abbrev pub vertex_text : List (List ℕ) → List NamedVertex → NamedVertex → List ℕ
-vertex_text names vs v = decimal v.id ++ 32 ∷ (decimal v.priority ++ 32 ∷ (owner_digit v.owner ∷ (edges_behind names vs 32 v.edges ++ codes ";\n")))
+vertex_text names vs v =
+    decimal v.id ++ 32 ∷ (decimal v.priority
+    ++ 32 ∷ (owner_digit v.owner ∷ (edges_behind names vs 32 v.edges ++ codes ";\n")))
 
 abbrev pub vertices_text : List (List ℕ) → List NamedVertex → List NamedVertex → List ℕ
 vertices_text names vs [] = []
@@ -42,4 +44,5 @@ greatest (n ∷ ns) = max n (greatest ns)
 -- `parity`, the greatest identifier, and a line for each vertex
 abbrev pub game_text : List (List ℕ) → NamedGame → List ℕ
 game_text names game =
-    codes "parity " ++ (decimal (greatest (vertex_ids game.vertices)) ++ (codes ";\n" ++ vertices_text names game.vertices game.vertices))
+    codes "parity " ++ (decimal (greatest (vertex_ids game.vertices))
+    ++ (codes ";\n" ++ vertices_text names game.vertices game.vertices))

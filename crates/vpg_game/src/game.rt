@@ -40,7 +40,9 @@ impl Model for GuardedGame {
 
     ghost view = { λ g. record { vertices = g.vertices.items; features = g.features } };
 
-    ghost invariant = { λ g. IsGame (record { vertices = g.vertices.items; features = g.features }) × (g.ids.keys ≡ vertex_ids g.vertices.items) × (g.tops.0 ≡ top_in (priorities_of g.vertices.items)) × (g.tops.1 ≡ dual_top_in (priorities_of g.vertices.items)) × IsNaming g.features g.vertices.items g.naming };
+    ghost invariant = { λ g. IsGame (record { vertices = g.vertices.items; features = g.features }) ×
+        (g.ids.keys ≡ vertex_ids g.vertices.items) × (g.tops.0 ≡ top_in (priorities_of g.vertices.items)) ×
+        (g.tops.1 ≡ dual_top_in (priorities_of g.vertices.items)) × IsNaming g.features g.vertices.items g.naming };
 }
 
 impl GuardedGame {
@@ -128,11 +130,12 @@ impl GuardedGame {
         self.tops
     }
 
-    /// The vertices that have an edge whose guard names the feature, in file order. A guard has the same value under any two
-    /// valuations that agree on the features that it names (`vpg_guards::laws`), so these are the vertices that a change of
-    /// what is known of the feature concerns.
+    /// The vertices that have an edge whose guard names the feature, in file order. A guard has the same value under
+    /// any two valuations that agree on the features that it names (`vpg_guards::laws`), so these are the vertices that
+    /// a change of what is known of the feature concerns.
     pub fn naming(&self, feature: u16) -> &[usize]
-        ensures { (v : ℕ) → Contains result.now v ↔ Contains (features_named (vertex_in (graph_of self.now) v).edges) feature }
+        ensures { (v : ℕ) → Contains result.now v ↔
+            Contains (features_named (vertex_in (graph_of self.now) v).edges) feature }
     {
         self.naming.numbers(feature)
     }
@@ -142,16 +145,17 @@ impl GuardedGame {
     /// The game that a text spells, over the features of these names.
     ///
     /// It has at most 65,536 entries and 1,048,576 successors as named, priorities up to 65,535 and identifiers up to
-    /// 4,294,967,295. Refusals, in their order: of `Syntax`, `BadOwner`, `PriorityTooLarge`, `TooMany` and `Guard` the one
-    /// that stands leftmost; `DoubleVertex`; `MissingVertex`; `TooWide`, where the number of the top measure of the game
-    /// or of its dual exceeds 2^62. The second and third are told for the first place in the file.
+    /// 4,294,967,295. Refusals, in their order: of `Syntax`, `BadOwner`, `PriorityTooLarge`, `TooMany` and `Guard` the
+    /// one that stands leftmost; `DoubleVertex`; `MissingVertex`; `TooWide`, where the number of the top measure of the
+    /// game or of its dual exceeds 2^62. The second and third are told for the first place in the file.
     pub fn read(alloc: Global, text: &[u8], names: &Names) -> Result<GuardedGame, GameFault>
         // What is read is spelled so.
         ensures found { IfOk result (λ game. SpellsGame names.now text.now game) }
         // A refusal comes only where the text, or its entries, show it.
         ensures refused { IfErr result (IsRefused names.now text.now) }
         // What is spelled so is read, unless memory runs out.
-        ensures only { (game : NamedGame) → SpellsGame names.now text.now game → MatchResult result (λ g. g ≡ game) (λ e. e ≡ GameFault.Memory) }
+        ensures only { (game : NamedGame) → SpellsGame names.now text.now game →
+            MatchResult result (λ g. g ≡ game) (λ e. e ≡ GameFault.Memory) }
     {
         // `len` tells that the names are feature names, each once.
         let features = names.len();

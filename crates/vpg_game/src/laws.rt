@@ -17,7 +17,8 @@ pub fn edges_hold_as_named()
     ensures { EdgesHoldAsNamed }
 {}
 
-/// In the graph of a game each edge leads to a vertex, each guard names features of the game, and both tops are within the limit.
+/// In the graph of a game each edge leads to a vertex, each guard names features of the game, and both tops are within
+/// the limit.
 pub fn games_have_graphs()
     ensures { GamesHaveGraphs }
 {}

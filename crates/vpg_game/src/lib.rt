@@ -1,4 +1,5 @@
-//! Guarded games: parity games whose edges have guards over features (FASE 2020), in a profile of PGSolver's text format.
+//! Guarded games: parity games whose edges have guards over features (FASE 2020), in a profile of PGSolver's text
+//! format.
 //!
 //! `GuardedGame::read` gives the game that a text spells, `write` its one writing, which is read as the same game, and
 //! `dual` the game with the players exchanged. The layers above go over `vertices`, `owner`, `priority` and `edges`,

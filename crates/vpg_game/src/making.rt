@@ -73,7 +73,8 @@ fn join(
     requires within { to < length places.old }
     requires places { ArePlaces places.old edges.old.items }
     requires small { length places.old ≤ 2 ^ 32 }
-    ensures edges { IfOk result (λ _. edges.new.items ≡ join_edge edges.old.items (record { to = to; guard = formula_of guard })) }
+    ensures edges { IfOk result
+        (λ _. edges.new.items ≡ join_edge edges.old.items (record { to = to; guard = formula_of guard })) }
     ensures places { IfOk result (λ _. ArePlaces places.new edges.new.items) }
 {
     let at = places[to];
@@ -136,7 +137,8 @@ fn resolved(
 
 /// The priorities of entries, and those of the dual game.
 fn priorities(alloc: Global, entries: &[Entry]) -> Result<(Vec<u32>, Vec<u32>), AllocError>
-    requires { (i : ℕ) → (e : SpelledEntry) → i < length entries.now → e ≡ slice_index_or entries.now i e → e.priority < 65536 }
+    requires { (i : ℕ) → (e : SpelledEntry) → i < length entries.now → e ≡ slice_index_or entries.now i e →
+        e.priority < 65536 }
     ensures own { IfOk result (λ v. v.0.items ≡ entry_priorities entries.now) }
     ensures dual { IfOk result (λ v. v.1.items ≡ map (λ p. p + 1) (entry_priorities entries.now)) }
 {
@@ -151,7 +153,9 @@ fn priorities(alloc: Global, entries: &[Entry]) -> Result<(Vec<u32>, Vec<u32>), 
 
 /// The numbers of the top measures over these priorities and over those of the dual, where both are within the limit.
 fn tops_of(alloc: Global, own: &[u32], dual: &[u32]) -> Result<Option<(u64, u64)>, AllocError>
-    ensures { IfOk result (λ tops. SomeIff tops ((top_of (levels_of own.now) ≤ 2 ^ 62) × (top_of (levels_of dual.now) ≤ 2 ^ 62)) (top_of (levels_of own.now), top_of (levels_of dual.now))) }
+    ensures { IfOk result (λ tops.
+        SomeIff tops ((top_of (levels_of own.now) ≤ 2 ^ 62) × (top_of (levels_of dual.now) ≤ 2 ^ 62))
+        (top_of (levels_of own.now), top_of (levels_of dual.now))) }
 {
     let Some(top) = top_within_limit(alloc, own)? else {
         return Ok(None);
@@ -164,8 +168,11 @@ fn tops_of(alloc: Global, own: &[u32], dual: &[u32]) -> Result<Option<(u64, u64)
 
 /// The numbers of the top measures over the priorities of entries, where both are within the limit.
 fn tops(alloc: Global, entries: &[Entry]) -> Result<Option<(u64, u64)>, AllocError>
-    requires { (i : ℕ) → (e : SpelledEntry) → i < length entries.now → e ≡ slice_index_or entries.now i e → e.priority < 65536 }
-    ensures { IfOk result (λ tops. SomeIff tops (IsNarrow (entry_priorities entries.now)) (top_in (entry_priorities entries.now), dual_top_in (entry_priorities entries.now))) }
+    requires { (i : ℕ) → (e : SpelledEntry) → i < length entries.now → e ≡ slice_index_or entries.now i e →
+        e.priority < 65536 }
+    ensures { IfOk result (λ tops.
+        SomeIff tops (IsNarrow (entry_priorities entries.now))
+        (top_in (entry_priorities entries.now), dual_top_in (entry_priorities entries.now))) }
 {
     let (own, dual) = priorities(alloc, entries)?;
     tops_of(alloc, &own, &dual)
@@ -189,9 +196,11 @@ fn parts_of(
     requires limited { IsLimited features entries.items }
     requires ids { ids.now.keys ≡ entry_ids entries.items }
     requires distinct { AreDistinct ids.now.keys }
-    ensures vertices { IfOk result (λ parts. parts.vertices.items ≡ map (vertex_of (entry_ids entries.items)) entries.items) }
+    ensures vertices { IfOk result
+        (λ parts. parts.vertices.items ≡ map (vertex_of (entry_ids entries.items)) entries.items) }
     ensures sound { IfOk result (λ _. AreSound entries.items) }
-    ensures tops { IfOk result (λ parts. parts.tops ≡ (top_in (entry_priorities entries.items), dual_top_in (entry_priorities entries.items))) }
+    ensures tops { IfOk result
+        (λ parts. parts.tops ≡ (top_in (entry_priorities entries.items), dual_top_in (entry_priorities entries.items))) }
     ensures naming { IfOk result (λ parts. IsNaming features parts.vertices.items parts.naming) }
     ensures err { IfErr result (IsMakingFault entries.items) }
 {

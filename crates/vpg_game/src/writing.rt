@@ -18,7 +18,8 @@ impl GuardedGame {
         ensures ok { OnOk result (out.new.items ≡ out.old.items ++ game_text names.now self.now) }
         ensures err { OnErr result (out.new.items ≡ out.old.items) }
         // What is written spells the game, so `read` gives it again, but for a dual with a priority at the limit.
-        ensures again { OnOk result (¬ IsAtLimit self.now → SpellsGame names.now (game_text names.now self.now) self.now) }
+        ensures again { OnOk result
+            (¬ IsAtLimit self.now → SpellsGame names.now (game_text names.now self.now) self.now) }
     {
         // `len` tells that the names are feature names, each once.
         let _count = names.len();

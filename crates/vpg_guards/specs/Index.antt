@@ -4,4 +4,5 @@ use Rattle.std.specs.Prelude.{ℕ, ◌≡◌, ◌↔◌, ◌⊎◌, List, [], le
 -- of these features the number is noted too, and nothing else is
 pub record NotesAlso (old : List (List ℕ)) (number : ℕ) (features : List ℕ) (new : List (List ℕ)) : Type 0 where
   pub same_length : length new ≡ length old
-  pub exact : (f k : ℕ) → Contains (slice_index_or new f []) k ↔ (Contains (slice_index_or old f []) k ⊎ ((k ≡ number) × Contains features f))
+  pub exact : (f k : ℕ) → Contains (slice_index_or new f []) k ↔
+      (Contains (slice_index_or old f []) k ⊎ ((k ≡ number) × Contains features f))

@@ -10,33 +10,42 @@ use Rattle.vpg_guards.specs.Writing.{guard_text, IsReadable}
 
 -- a value that is known holds in each set that agrees with what is known
 abbrev pub KnownValuesHold : Type 0
-KnownValuesHold = (known : List Tri) (set : List Bool) (g : Formula) → IsCompletion known set → Agrees (kleene known g) (truth set g)
+KnownValuesHold =
+    (known : List Tri) (set : List Bool) (g : Formula) → IsCompletion known set → Agrees (kleene known g) (truth set g)
 
 -- who knows more has the same value, where there was one
 abbrev pub FinerValuesRefine : Type 0
-FinerValuesRefine = (known more : List Tri) (g : Formula) → IsFiner known more → IsFinerValue (kleene known g) (kleene more g)
+FinerValuesRefine =
+    (known more : List Tri) (g : Formula) → IsFiner known more → IsFinerValue (kleene known g) (kleene more g)
 
 -- where every feature is known, so is the truth of each guard
 abbrev pub FullValuesDecide : Type 0
-FullValuesDecide = (n : ℕ) (known : List Tri) (set : List Bool) (g : Formula) → AreAllKnown n known → IsCompletion known set → IsBelow n g →
+FullValuesDecide =
+    (n : ℕ) (known : List Tri) (set : List Bool) (g : Formula) → AreAllKnown n known → IsCompletion known set →
+    IsBelow n g →
     kleene known g ≡ (if truth set g then Yes else No)
 
 -- the value rests on the features that the guard names, and on no other
 abbrev pub ValuesRestOnNamedFeatures : Type 0
 ValuesRestOnNamedFeatures = (known other : List Tri) (g : Formula) →
-    ((f : ℕ) → Contains (named g) f → slice_index_or known f Unknown ≡ slice_index_or other f Unknown) → kleene known g ≡ kleene other g
+    ((f : ℕ) → Contains (named g) f → slice_index_or known f Unknown ≡ slice_index_or other f Unknown) →
+    kleene known g ≡ kleene other g
 
 -- a text spells one guard at most
 abbrev pub TextsSpellOneGuard : Type 0
-TextsSpellOneGuard = (names : List (List ℕ)) (text : List ℕ) (g h : Formula) → AreNames names → Spells names text g → Spells names text h → g ≡ h
+TextsSpellOneGuard =
+    (names : List (List ℕ)) (text : List ℕ) (g h : Formula) → AreNames names → Spells names text g →
+    Spells names text h → g ≡ h
 
 -- what is written spells the guard
 abbrev pub WritingsSpellTheGuard : Type 0
-WritingsSpellTheGuard = (names : List (List ℕ)) (g : Formula) → IsReadable (length names) g → Spells names (guard_text names g) g
+WritingsSpellTheGuard =
+    (names : List (List ℕ)) (g : Formula) → IsReadable (length names) g → Spells names (guard_text names g) g
 
 -- what a text spells can be written and read again
 abbrev pub SpelledGuardsAreReadable : Type 0
-SpelledGuardsAreReadable = (names : List (List ℕ)) (text : List ℕ) (g : Formula) → Spells names text g → IsReadable (length names) g
+SpelledGuardsAreReadable =
+    (names : List (List ℕ)) (text : List ℕ) (g : Formula) → Spells names text g → IsReadable (length names) g
 
 -- the `or` of two guards that can be written and read again can be, too
 abbrev pub DisjunctionsAreReadable : Type 0
@@ -62,7 +71,8 @@ abbrev pub EachHas : List Tri → Tri → Parts → Type 0
 EachHas known t no_parts = Unit {0}
 EachHas known t (part g gs) = (kleene known g ≡ t) × EachHas known t gs
 
--- an `and` is No where a part is No and Yes where all are Yes, an `or` is Yes where a part is Yes and No where all are No
+-- an `and` is No where a part is No and Yes where all are Yes, an `or` is Yes where a part is Yes and No where all are
+-- No
 pub record ValueOfParts (known : List Tri) (gs : Parts) : Type 0 where
   pub all_no : (kleene known (all gs) ≡ No) ↔ SomeHas known No gs
   pub all_yes : (kleene known (all gs) ≡ Yes) ↔ EachHas known Yes gs

@@ -22,5 +22,6 @@ pub record IsShortestConflict (lines : List Line) (choices : List Literal) (fron
 -- no product agrees with the shortest front that has a conflict
 abbrev pub LeavesNoProduct : List Line → List Literal → PartialFault → Type 0
 LeavesNoProduct lines choices (Conflict feature) =
-    (front : ℕ) × IsShortestConflict lines choices front × ((features : List Bool) → IsRemaining lines (take front choices) features → ⊥)
+    (front : ℕ) × IsShortestConflict lines choices front ×
+    ((features : List Bool) → IsRemaining lines (take front choices) features → ⊥)
 LeavesNoProduct lines choices Memory = ⊤

@@ -13,7 +13,8 @@ IsClosedAt set (AtClause clause) = IsClosedAtClause set clause
 IsClosedAt set (AtCount count) = IsClosedAtCount set count
 
 -- a literal that the table lacks, and that each closed set has which has the table's literals
-pub record IsMissing (clauses : List (List Literal)) (counts : List Tally) (known : List Tri) (l : Literal) : Type 0 where
+pub record IsMissing (clauses : List (List Literal)) (counts : List Tally) (known : List Tri)
+    (l : Literal) : Type 0 where
   pub below : l.feature < length known
   pub absent : literals_in known l ≡ false
   pub follows : (set : Literal → Bool) → IsClosed clauses counts set → Includes set (literals_in known) → IsTrue (set l)
@@ -27,13 +28,15 @@ abbrev pub IsDone : List Tri → List ℕ → Rule → Type 0
 IsDone known waiting rule = IsClosedAt (literals_in known) rule ⊎ Awaits waiting rule
 
 abbrev pub IsDoneAt : List (List Literal) → List Tally → List Tri → List ℕ → ℕ → Type 0
-IsDoneAt clauses counts known waiting number = (rule : Rule) → HasNumber clauses counts number rule → IsDone known waiting rule
+IsDoneAt clauses counts known waiting number =
+    (rule : Rule) → HasNumber clauses counts number rule → IsDone known waiting rule
 
 abbrev pub AreDone : List (List Literal) → List Tally → List Tri → List ℕ → Type 0
 AreDone clauses counts known waiting = (number : ℕ) → IsDoneAt clauses counts known waiting number
 
 -- From one state of a worklist to a later one: what is added follows, what was done stays done, and no work is made.
-pub record Advances (clauses : List (List Literal)) (counts : List Tally) (known : List Tri) (waiting : List ℕ) (more : List Tri) (later : List ℕ) : Type 0 where
+pub record Advances (clauses : List (List Literal)) (counts : List Tally) (known : List Tri) (waiting : List ℕ)
+    (more : List Tri) (later : List ℕ) : Type 0 where
   pub grows : Grows (IsClosed clauses counts) known more
   pub stays : (rule : Rule) → IsDone known waiting rule → IsDone more later rule
   pub work : unknown_count more + length later ≤ unknown_count known + length waiting

@@ -49,11 +49,12 @@ impl Model for Partial {
 }
 
 impl Partial {
-    /// What the decisions make known: the least set of literals that has each decision and to which neither the unit rule
-    /// at a clause nor the counting rule at a count of the diagram adds anything (this project's own).
+    /// What the decisions make known: the least set of literals that has each decision and to which neither the unit
+    /// rule at a clause nor the counting rule at a count of the diagram adds anything (this project's own).
     ///
-    /// Each decision is of a feature of the diagram. Errors, in this order: `Conflict` where a feature is known both ways,
-    /// named by the first decision up to which there is a conflict (by the root, where the diagram alone has one); `Memory`.
+    /// Each decision is of a feature of the diagram. Errors, in this order: `Conflict` where a feature is known both
+    /// ways, named by the first decision up to which there is a conflict (by the root, where the diagram alone has
+    /// one); `Memory`.
     pub fn close(
         alloc: Global,
         diagram: &Diagram,
@@ -63,7 +64,8 @@ impl Partial {
         ensures known { IfOk result (IsKnownTable diagram.now.lines (map literal_of decisions.now)) }
 
         // Every product that agrees with the decisions agrees with what is known.
-        ensures agrees { (features : List Bool) → IsRemaining diagram.now.lines (map literal_of decisions.now) features →
+        ensures agrees { (features : List Bool) →
+            IsRemaining diagram.now.lines (map literal_of decisions.now) features →
             IfOk result (λ known. IsCompletion known features) }
 
         ensures conflict { IfErr result (IsCloseFault diagram.now.lines (map literal_of decisions.now)) }
@@ -106,7 +108,8 @@ impl Partial {
     /// Where each feature is known, the one product that agrees with the decisions: for each feature whether it is in.
     pub fn product(&self, alloc: Global) -> Result<Option<Vec<bool>>, AllocError>
         ensures full { IfOk result (λ found. IsSome found ↔ AreAllKnown (length self.now) self.now) }
-        ensures product { (lines : List Line) (choices : List Literal) → IsDiagram lines → AreChoicesOf lines choices → IsKnownTable lines choices self.now →
+        ensures product { (lines : List Line) (choices : List Literal) → IsDiagram lines → AreChoicesOf lines choices →
+            IsKnownTable lines choices self.now →
             IfOk result (λ found. IfSome found (λ features. IsOnlyRemaining lines choices features.items)) }
 
         // Want of memory is answered only where there is a product to be made.

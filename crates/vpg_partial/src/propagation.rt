@@ -61,7 +61,8 @@ fn visit(
 ) -> Result<(), Stop>
     requires clauses { AllByRecursion (IsClauseBelow (length known.old)) clauses.now }
     requires counts { AllByRecursion (IsCountBelow (length known.old)) counts.now }
-    ensures advances { OnOk result (Advances clauses.now counts.now known.old waiting.old.items known.new waiting.new.items) }
+    ensures advances { OnOk result
+        (Advances clauses.now counts.now known.old waiting.old.items known.new waiting.new.items) }
     ensures done { OnOk result (IsDoneAt clauses.now counts.now known.new waiting.new.items number) }
     ensures contradiction { result ≡ Err Stop.Contradiction → Contradicts (IsClosed clauses.now counts.now) known.old }
 {
@@ -84,8 +85,11 @@ fn visit_each(
 ) -> Result<(), Stop>
     requires clauses { AllByRecursion (IsClauseBelow (length known.old)) clauses.now }
     requires counts { AllByRecursion (IsCountBelow (length known.old)) counts.now }
-    ensures advances { OnOk result (Advances clauses.now counts.now known.old waiting.old.items known.new waiting.new.items) }
-    ensures done { OnOk result ((number : ℕ) → Contains numbers.now number → IsDoneAt clauses.now counts.now known.new waiting.new.items number) }
+    ensures advances { OnOk result
+        (Advances clauses.now counts.now known.old waiting.old.items known.new waiting.new.items) }
+    ensures done { OnOk result
+        ((number : ℕ) → Contains numbers.now number →
+        IsDoneAt clauses.now counts.now known.new waiting.new.items number) }
     ensures contradiction { result ≡ Err Stop.Contradiction → Contradicts (IsClosed clauses.now counts.now) known.old }
 {
     for number in numbers {
@@ -103,7 +107,8 @@ fn visit_all(
 ) -> Result<(), Stop>
     requires clauses { AllByRecursion (IsClauseBelow (length known.old)) clauses.now }
     requires counts { AllByRecursion (IsCountBelow (length known.old)) counts.now }
-    ensures advances { OnOk result (Advances clauses.now counts.now known.old waiting.old.items known.new waiting.new.items) }
+    ensures advances { OnOk result
+        (Advances clauses.now counts.now known.old waiting.old.items known.new waiting.new.items) }
     ensures done { OnOk result (AreDone clauses.now counts.now known.new waiting.new.items) }
     ensures contradiction { result ≡ Err Stop.Contradiction → Contradicts (IsClosed clauses.now counts.now) known.old }
 {
@@ -172,7 +177,8 @@ fn decide(
     requires closed { IsClosed clauses.now counts.now (literals_in known.old) }
     ensures grows { OnOk result (Grows (ClosedWith clauses.now counts.now (literal_of decision)) known.old known.new) }
     ensures closed { OnOk result (ClosedWith clauses.now counts.now (literal_of decision) (literals_in known.new)) }
-    ensures contradiction { result ≡ Err Stop.Contradiction → Contradicts (ClosedWith clauses.now counts.now (literal_of decision)) known.old }
+    ensures contradiction { result ≡ Err Stop.Contradiction →
+        Contradicts (ClosedWith clauses.now counts.now (literal_of decision)) known.old }
     ensures none_waits { OnOk result (waiting.new.items ≡ []) }
 {
     add(
@@ -202,7 +208,8 @@ pub(crate) fn decide_all(
     requires index { IsIndex clauses.now counts.now index.now }
     requires decisions { AllByRecursion (λ d. d.feature < length known.old) decisions.now }
     requires nothing { known.old ≡ replicate (length known.old) Tri.Unknown }
-    ensures table { OnOk result (IsClosedTable clauses.now counts.now (map literal_of decisions.now) (length known.old) known.new) }
+    ensures table { OnOk result
+        (IsClosedTable clauses.now counts.now (map literal_of decisions.now) (length known.old) known.new) }
     ensures fault { IfErr result (IsFaultOf clauses.now counts.now (map literal_of decisions.now)) }
 {
     if let Err(stop) = start(clauses, counts, index, known, waiting) {

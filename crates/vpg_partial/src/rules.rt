@@ -74,7 +74,8 @@ fn known_members(members: &[u16], known: &[Tri], value: bool) -> usize
 
 /// The first member of which nothing is known.
 fn first_unknown(members: &[u16], known: &[Tri]) -> Option<u16>
-    ensures { result ≡ find (λ c. not (literals_in known.now (feature_in c)) && not (literals_in known.now (feature_out c))) members.now }
+    ensures { result ≡ find (λ c. not (literals_in known.now (feature_in c))
+        && not (literals_in known.now (feature_out c))) members.now }
 {
     members.iter().copied().find(|c| !is_known(known, *c, true) && !is_known(known, *c, false))
 }
@@ -123,8 +124,10 @@ pub(crate) fn missing_at(
     requires clauses { AllByRecursion (IsClauseBelow (length known.now)) clauses.now }
     requires counts { AllByRecursion (IsCountBelow (length known.now)) counts.now }
     ensures missing { IfSome result (IsMissing clauses.now counts.now known.now) }
-    ensures mentioned { IfSome result (λ l. (rule : Rule) → HasNumber clauses.now counts.now number rule → Contains (features_of rule) l.feature) }
-    ensures closed { IfNone result ((rule : Rule) → HasNumber clauses.now counts.now number rule → IsClosedAt (literals_in known.now) rule) }
+    ensures mentioned { IfSome result
+        (λ l. (rule : Rule) → HasNumber clauses.now counts.now number rule → Contains (features_of rule) l.feature) }
+    ensures closed { IfNone result
+        ((rule : Rule) → HasNumber clauses.now counts.now number rule → IsClosedAt (literals_in known.now) rule) }
 {
     match clauses.get(number) {
         Some(clause) => missing_at_clause(clause, known),

@@ -10,7 +10,8 @@ use Rattle.vpg_trail.specs.declared.entry.Entry.TheVariants.{Decide, Lift}
 -- an entry of the code, with the list of what a lift assumed
 abbrev pub entry_of : Entry → Step
 entry_of (Decide d) = Decided d
-entry_of (Lift table vertex old new under) = Lifted (record { table = table; vertex = vertex; old = old; new = new; under = under.value })
+entry_of (Lift table vertex old new under) =
+    Lifted (record { table = table; vertex = vertex; old = old; new = new; under = under.value })
 
 -- a lift's vertex is below n
 abbrev pub VertexBelow : ℕ → Step → Type 0
@@ -27,7 +28,8 @@ pub record Track : Type 0 where
 -- the table once the entry is put behind the page that gives it
 abbrev pub after_entry : Which → List ℕ → Step → List ℕ
 after_entry table values (Decided d) = values
-after_entry table values (Lifted l) = if same_table table l.table then slice_set values l.vertex (max (slice_index values l.vertex) l.new) else values
+after_entry table values (Lifted l) =
+    if same_table table l.table then slice_set values l.vertex (max (slice_index values l.vertex) l.new) else values
 
 -- the table once the entry is taken from behind the page that gives it
 abbrev pub before_entry : Which → List ℕ → Step → List ℕ

@@ -138,8 +138,10 @@ pub fn decided(entries: &[Entry], feature: u16) -> Option<Decision>
 pub fn place_of(entries: &[Entry], feature: u16) -> Option<usize>
     ensures decided { is_some result ≡ has_decided feature (map entry_of entries.now) }
     ensures place { IfSome result (λ place. place < length entries.now) }
-    ensures before { IfSome result (λ place. map entry_of (take place entries.now) ≡ before_decision feature (map entry_of entries.now)) }
-    ensures after { IfSome result (λ place. map entry_of (drop (place + 1) entries.now) ≡ after_decision feature (map entry_of entries.now)) }
+    ensures before { IfSome result
+        (λ place. map entry_of (take place entries.now) ≡ before_decision feature (map entry_of entries.now)) }
+    ensures after { IfSome result
+        (λ place. map entry_of (drop (place + 1) entries.now) ≡ after_decision feature (map entry_of entries.now)) }
 {
     for place in 0..entries.len() {
         if let Entry::Decide(decision) = &entries[place] {

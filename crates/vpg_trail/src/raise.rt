@@ -20,7 +20,9 @@ pub fn lifts(
 ) -> Result<Vec<Entry>, AllocError>
     requires present { length present.now ≡ vertices }
     requires values { length values.now ≡ vertices }
-    ensures lifts { IfOk result (λ lifts. (page : List Step) → present.now ≡ table_of table page vertices → map entry_of lifts.items ≡ raises under.now.value page table values.now vertices) }
+    ensures lifts { IfOk result
+        (λ lifts. (page : List Step) → present.now ≡ table_of table page vertices →
+        map entry_of lifts.items ≡ raises under.now.value page table values.now vertices) }
     ensures vertices { IfOk result (λ lifts. All (λ e. VertexBelow vertices (entry_of e)) lifts.items) }
 {
     let mut lifts = Vec::new(alloc);

@@ -45,8 +45,10 @@ pub(crate) fn take_all(entries: &[Entry], hopeful: &mut Table, dual: &mut Table,
     requires below { All (λ e. VertexBelow vertices (entry_of e)) entries.now }
     requires hopeful_len { length hopeful.old ≡ vertices }
     requires dual_len { length dual.old ≡ vertices }
-    ensures hopeful { (page : List Step) → hopeful.old ≡ table_of Hopeful page vertices → hopeful.new ≡ table_of Hopeful (page ++ map entry_of entries.now) vertices }
-    ensures dual { (page : List Step) → dual.old ≡ table_of Dual page vertices → dual.new ≡ table_of Dual (page ++ map entry_of entries.now) vertices }
+    ensures hopeful { (page : List Step) → hopeful.old ≡ table_of Hopeful page vertices →
+        hopeful.new ≡ table_of Hopeful (page ++ map entry_of entries.now) vertices }
+    ensures dual { (page : List Step) → dual.old ≡ table_of Dual page vertices →
+        dual.new ≡ table_of Dual (page ++ map entry_of entries.now) vertices }
 {
     for entry in entries {
         take_in(hopeful, dual, entry);
@@ -81,8 +83,11 @@ pub(crate) fn take_all_back(entries: &[Entry], hopeful: &mut Table, dual: &mut T
     requires below { All (λ e. VertexBelow vertices (entry_of e)) entries.now }
     requires hopeful_len { length hopeful.old ≡ vertices }
     requires dual_len { length dual.old ≡ vertices }
-    ensures hopeful { (page : List Step) → LiftsStandAfter page (map entry_of entries.now) → hopeful.old ≡ table_of Hopeful (page ++ map entry_of entries.now) vertices → hopeful.new ≡ table_of Hopeful page vertices }
-    ensures dual { (page : List Step) → LiftsStandAfter page (map entry_of entries.now) → dual.old ≡ table_of Dual (page ++ map entry_of entries.now) vertices → dual.new ≡ table_of Dual page vertices }
+    ensures hopeful { (page : List Step) → LiftsStandAfter page (map entry_of entries.now) →
+        hopeful.old ≡ table_of Hopeful (page ++ map entry_of entries.now) vertices →
+        hopeful.new ≡ table_of Hopeful page vertices }
+    ensures dual { (page : List Step) → LiftsStandAfter page (map entry_of entries.now) →
+        dual.old ≡ table_of Dual (page ++ map entry_of entries.now) vertices → dual.new ≡ table_of Dual page vertices }
     ensures hopeful_kept { length hopeful.new ≡ vertices }
     ensures dual_kept { length dual.new ≡ vertices }
 {

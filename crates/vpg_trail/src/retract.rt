@@ -9,8 +9,8 @@ use crate::replay::{replay, take_in};
 use std::alloc::{AllocError, Global};
 use vpg_measure::{Table, Which};
 
-/// What stays of an entry: nothing of a lift that assumed the feature, else the entry with the old value that the tables
-/// give.
+/// What stays of an entry: nothing of a lift that assumed the feature, else the entry with the old value that the
+/// tables give.
 fn reset_entry(
     entry: &Entry,
     feature: u16,
@@ -19,7 +19,8 @@ fn reset_entry(
 ) -> Result<Option<Entry>, AllocError>
     requires hopeful { VertexBelow (length hopeful.now) (entry_of entry.now) }
     requires dual { VertexBelow (length dual.now) (entry_of entry.now) }
-    ensures stays { IfOk result (λ stays. map entry_of (option_to_list stays) ≡ what_stays feature hopeful.now dual.now (entry_of entry.now)) }
+    ensures stays { IfOk result
+        (λ stays. map entry_of (option_to_list stays) ≡ what_stays feature hopeful.now dual.now (entry_of entry.now)) }
     ensures hopeful { IfOk result (λ stays. IfSome stays (λ e. VertexBelow (length hopeful.now) (entry_of e))) }
     ensures dual { IfOk result (λ stays. IfSome stays (λ e. VertexBelow (length dual.now) (entry_of e))) }
 {
@@ -61,9 +62,14 @@ pub fn kept_after(
 ) -> Result<Vec<Entry>, AllocError>
     requires place { place < length entries.now }
     requires vertices { All (λ e. VertexBelow vertices (entry_of e)) entries.now }
-    ensures kept { IfOk result (λ kept. map entry_of kept.items ≡ reset_all (map entry_of (take place entries.now)) (filter (λ e. not (assumes_of feature e)) (map entry_of (drop (place + 1) entries.now)))) }
+    ensures kept { IfOk result
+        (λ kept. map entry_of kept.items
+        ≡ reset_all (map entry_of (take place entries.now))
+        (filter (λ e. not (assumes_of feature e)) (map entry_of (drop (place + 1) entries.now)))) }
     ensures vertices { IfOk result (λ kept. All (λ e. VertexBelow vertices (entry_of e)) kept.items) }
-    ensures lifts { IfOk result (λ kept. LiftsStandAfter [] (map entry_of entries.now) → LiftsStandAfter (map entry_of (take place entries.now)) (map entry_of kept.items)) }
+    ensures lifts { IfOk result
+        (λ kept. LiftsStandAfter [] (map entry_of entries.now) →
+        LiftsStandAfter (map entry_of (take place entries.now)) (map entry_of kept.items)) }
 {
     let mut hopeful = Table::zero(alloc, vertices)?;
     let mut dual = Table::zero(alloc, vertices)?;

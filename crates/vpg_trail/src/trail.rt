@@ -121,12 +121,13 @@ impl Trail {
         count_decisions(&self.entries[..place])
     }
 
-    /// Puts one entry behind the others. A lift's old value is what they give, below its new one. The entry comes back where
-    /// memory was refused; the trail is then as it was.
+    /// Puts one entry behind the others. A lift's old value is what they give, below its new one. The entry comes back
+    /// where memory was refused; the trail is then as it was.
     pub fn append(&mut self, entry: Entry) -> Result<(), AllocFailed<Entry>>
         requires vertices { VertexBelow self.old.vertices (entry_of entry) }
         requires lifts { LiftStands self.old.entries (entry_of entry) }
-        ensures appended { OnOk result (self.new ≡ record { vertices = self.old.vertices; entries = self.old.entries ++ entry_of entry ∷ [] }) }
+        ensures appended { OnOk result
+            (self.new ≡ record { vertices = self.old.vertices; entries = self.old.entries ++ entry_of entry ∷ [] }) }
         ensures err { OnErr result (self.new ≡ self.old) }
         ensures back { IfErr result (λ e. e.value ≡ entry) }
     {
@@ -138,12 +139,13 @@ impl Trail {
         Ok(())
     }
 
-    /// Puts these entries behind the others. Each lift's old value is what the entries before it give, below its new one. The
-    /// entries come back where memory was refused; the trail is then as it was.
+    /// Puts these entries behind the others. Each lift's old value is what the entries before it give, below its new
+    /// one. The entries come back where memory was refused; the trail is then as it was.
     pub fn extend(&mut self, more: Vec<Entry>) -> Result<(), AllocFailed<Vec<Entry>>>
         requires vertices { All (λ e. VertexBelow self.old.vertices (entry_of e)) more.items }
         requires lifts { LiftsStandAfter self.old.entries (map entry_of more.items) }
-        ensures extended { OnOk result (self.new ≡ record { vertices = self.old.vertices; entries = self.old.entries ++ map entry_of more.items }) }
+        ensures extended { OnOk result
+            (self.new ≡ record { vertices = self.old.vertices; entries = self.old.entries ++ map entry_of more.items }) }
         ensures err { OnErr result (self.new ≡ self.old) }
         ensures back { IfErr result (λ e. e.value.items ≡ more.items) }
     {
@@ -156,9 +158,9 @@ impl Trail {
         Ok(())
     }
 
-    /// Puts the suffix in place of the entries from a place on, and gives those. Each lift's old value is what the entries
-    /// before it give, below its new one. The tables change by the lifts of both suffixes alone. The suffix comes back where
-    /// memory was refused; the trail is then as it was.
+    /// Puts the suffix in place of the entries from a place on, and gives those. Each lift's old value is what the
+    /// entries before it give, below its new one. The tables change by the lifts of both suffixes alone. The suffix
+    /// comes back where memory was refused; the trail is then as it was.
     pub fn splice(
         &mut self,
         place: usize,
@@ -167,10 +169,13 @@ impl Trail {
         requires place { place ≤ length self.old.entries }
         requires vertices { All (λ e. VertexBelow self.old.vertices (entry_of e)) suffix.items }
         requires lifts { LiftsStandAfter (take place self.old.entries) (map entry_of suffix.items) }
-        ensures spliced { OnOk result (self.new ≡ record { vertices = self.old.vertices; entries = take place self.old.entries ++ map entry_of suffix.items }) }
+        ensures spliced { OnOk result
+            (self.new ≡ record { vertices = self.old.vertices; entries = take place self.old.entries ++ map entry_of suffix.items }) }
         ensures removed { IfOk result (λ removed. map entry_of removed.items ≡ drop place self.old.entries) }
-        ensures removed_vertices { IfOk result (λ removed. All (λ e. VertexBelow self.old.vertices (entry_of e)) removed.items) }
-        ensures removed_lifts { IfOk result (λ removed. LiftsStandAfter (take place self.old.entries) (map entry_of removed.items)) }
+        ensures removed_vertices { IfOk result
+            (λ removed. All (λ e. VertexBelow self.old.vertices (entry_of e)) removed.items) }
+        ensures removed_lifts { IfOk result
+            (λ removed. LiftsStandAfter (take place self.old.entries) (map entry_of removed.items)) }
         ensures err { OnErr result (self.new ≡ self.old) }
         ensures back { IfErr result (λ e. e.value.items ≡ suffix.items) }
     {
