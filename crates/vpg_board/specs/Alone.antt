@@ -14,7 +14,9 @@ pub record Rises (old new : HarvestView) : Type 0 where
 
 -- the lift of a vertex over a harvest's table (Jurdzinski 2000)
 abbrev pub lift_over : Which → HarvestView → ℕ → ℕ
-lift_over which harvest v = lift_of (order_levels which harvest.order) (harvest_table which harvest) (vertex_at (order_arena which harvest.order) v)
+lift_over which harvest v =
+    lift_of (order_levels which harvest.order) (harvest_table which harvest)
+    (vertex_at (order_arena which harvest.order) v)
 
 -- at the first n vertices the table is on or above the lift of the table before
 abbrev pub AreLifted : Which → HarvestView → HarvestView → ℕ → Type 0

@@ -12,7 +12,8 @@ greater (x ∷ t) (y ∷ u) = max x y ∷ greater t u
 
 -- the lifter of a new board: it has seen the order's tables
 abbrev pub opener : OrderView → Lifter
-opener order = record { order = order; seen = values order; claims = []; empty = 0; splits = 0; stands = 1; opening = true }
+opener order =
+    record { order = order; seen = values order; claims = []; empty = 0; splits = 0; stands = 1; opening = true }
 
 -- this number was seen at this place
 abbrev pub sees : Lifter → ℕ → ℕ → Lifter

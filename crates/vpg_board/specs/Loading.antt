@@ -11,4 +11,5 @@ use Rattle.vpg_board.specs.Places.{table_in}
 abbrev pub best_of : OrderView → Which → List ℕ → ℕ → ℕ → ℕ
 best_of order which seen v n =
     let x = vertex_at (order_arena which order) v in
-    best_for x.owner (top_of (order_levels which order)) (map (λ w. slice_index (table_in order which seen) w) (take n x.successors))
+    best_for x.owner (top_of (order_levels which order))
+    (map (λ w. slice_index (table_in order which seen) w) (take n x.successors))

@@ -1,4 +1,5 @@
--- The measures of a board: both tables of an order, one behind the other. A place is a vertex of the first table, or a vertex of the second behind all of the first. This project's own.
+-- The measures of a board: both tables of an order, one behind the other. A place is a vertex of the first table, or a
+-- vertex of the second behind all of the first. This project's own.
 use Rattle.std.specs.Prelude.{◌≡◌, ℕ, ◌+◌, ◌-◌, ◌≤◌, nat_lt, if◌then◌else◌, List, ◌++◌, length, take, drop, slice_index}
 use Rattle.vpg_guards.specs.Known.{kleene}
 use Rattle.vpg_game.specs.Game.{graph_of}
@@ -33,15 +34,19 @@ table_in order Dual seen = drop (vertices order) seen
 
 -- the lift of a vertex over these values (Jurdzinski 2000)
 abbrev pub lift_in : OrderView → Which → List ℕ → ℕ → ℕ
-lift_in order which seen v = lift_of (order_levels which order) (table_in order which seen) (vertex_at (order_arena which order) v)
+lift_in order which seen v =
+    lift_of (order_levels which order) (table_in order which seen) (vertex_at (order_arena which order) v)
 
 abbrev pub lift_at : OrderView → List ℕ → ℕ → ℕ
-lift_at order seen place = if nat_lt place (vertices order) then lift_in order Hopeful seen place else lift_in order Dual seen (place - vertices order)
+lift_at order seen place =
+    if nat_lt place (vertices order) then lift_in order Hopeful seen place
+    else lift_in order Dual seen (place - vertices order)
 
 -- both tables are progress tables of their games
 pub record AreProgress (order : OrderView) (words : List ℕ) : Type 0 where
   pub wide : length words ≡ places order
-  pub each : (which : Which) → IsProgressOf (kleene order.known) which (graph_of order.game) (table_in order which words)
+  pub each : (which : Which) →
+      IsProgressOf (kleene order.known) which (graph_of order.game) (table_in order which words)
 
 -- each value is at most the other's, where nothing stands for zero
 abbrev pub Below : List ℕ → List ℕ → Type 0

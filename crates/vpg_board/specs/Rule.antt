@@ -34,13 +34,16 @@ pub record MeasuresKept (order : OrderView) (b : BoardState) : Type 0 where
   pub under : (t : List ℕ) → AreProgress order t → Below b.measures t
   pub seen : (i : ℕ) (v : Lifter) → get_elem? b.lifters i ≡ some v → 0 < v.stands → HasSeen order b.measures v
 
--- what holds of the claims after any steps: each number below the claim number is claimed once where it is a place, and no other; the empty claims are what the claim number exceeds the places by
+-- what holds of the claims after any steps: each number below the claim number is claimed once where it is a place, and
+-- no other; the empty claims are what the claim number exceeds the places by
 pub record ClaimsCounted (order : OrderView) (b : BoardState) : Type 0 where
-  pub each : (n : ℕ) → total (λ v. times n v.claims) b.lifters ≡ (if nat_lt n b.claimed && nat_lt n (places order) then 1 else 0)
+  pub each : (n : ℕ) →
+      total (λ v. times n v.claims) b.lifters ≡ (if nat_lt n b.claimed && nat_lt n (places order) then 1 else 0)
   pub empty : total (λ v. v.empty) b.lifters ≡ b.claimed - places order
   pub stand : total (λ v. v.stands) b.lifters ≡ 1 + total (λ v. v.splits) b.lifters
   pub one : total openings b.lifters ≡ 1
-  pub spent : (i : ℕ) (v : Lifter) → get_elem? b.lifters i ≡ some v → v.stands ≡ 0 → (v.claims ≡ []) × (v.opening ≡ false)
+  pub spent : (i : ℕ) (v : Lifter) → get_elem? b.lifters i ≡ some v → v.stands ≡ 0 → (v.claims ≡ []) ×
+      (v.opening ≡ false)
 
 -- no lifter has more empty claims than it stands for, and only the opening one has splits
 pub record IsFair (v : Lifter) : Type 0 where

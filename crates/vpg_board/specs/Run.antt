@@ -36,8 +36,10 @@ module _ (order : OrderView) where
 
   abbrev pub after : BoardState → Move → BoardState
   after b (load i p) = record b { lifters = slice_set b.lifters i (sees (lifter b i) p (slice_index b.measures p)) }
-  after b (raise i p) = record b { measures = slice_set b.measures p (raised_to b i p); lifters = slice_set b.lifters i (sees (lifter b i) p (raised_to b i p)) }
-  after b (claim i) = record b { claimed = b.claimed + 1; lifters = slice_set b.lifters i (claims (places order) (lifter b i) b.claimed) }
+  after b (raise i p) =
+      record b { measures = slice_set b.measures p (raised_to b i p); lifters = slice_set b.lifters i (sees (lifter b i) p (raised_to b i p)) }
+  after b (claim i) =
+      record b { claimed = b.claimed + 1; lifters = slice_set b.lifters i (claims (places order) (lifter b i) b.claimed) }
   after b (split i) = record b { lifters = slice_set b.lifters i (splits (lifter b i)) ++ newcomer (lifter b i) ∷ [] }
   after b (join i j) = record b { lifters = slice_set (slice_set b.lifters i (both (lifter b i) (lifter b j))) j spent }
 

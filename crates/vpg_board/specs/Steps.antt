@@ -1,4 +1,5 @@
--- The rule of the shared words: they and the seats are a board that some run reached. And what each atomic step leaves and tells.
+-- The rule of the shared words: they and the seats are a board that some run reached. And what each atomic step leaves
+-- and tells.
 use Rattle.std.specs.Prelude.{◌≡◌, ℕ, ◌+◌, ◌-◌, ◌%◌, ◌^◌, ◌<◌, ◌≤◌, max, [], ◌∷◌, ◌++◌, slice_index, slice_set, All}
 use Rattle.atomic_table.specs.Table.{State, Me, Step}
 use Rattle.vpg_measure.specs.Orders.{OrderView}
@@ -18,7 +19,8 @@ pub record Shows (s : State (Unit {0}) Lifter) (b : BoardState) : Type 0 where
 abbrev pub IsBoard : OrderView → State (Unit {0}) Lifter → Type 0
 IsBoard order s = (b : BoardState) × Reached order b × Shows s b
 
--- the one state shows a board that some run reached, the step may be taken there, and the other state shows the board after it
+-- the one state shows a board that some run reached, the step may be taken there, and the other state shows the board
+-- after it
 pub record Leads (order : OrderView) (m : Move) (s t : State (Unit {0}) Lifter) : Type 0 where
   pub board : BoardState
   pub reached : Reached order board
@@ -26,11 +28,13 @@ pub record Leads (order : OrderView) (m : Move) (s t : State (Unit {0}) Lifter) 
   pub may : May order board m
   pub behind : Shows t (after order board m)
 
--- what each atomic step of the seat with this number, which knows v, leaves of the words and seats; the measure of a place stands one word behind it
+-- what each atomic step of the seat with this number, which knows v, leaves of the words and seats; the measure of a
+-- place stands one word behind it
 module _ (s : State (Unit {0}) Lifter) (id : ℕ) (v : Lifter) where
   -- the word becomes n, and the seat has seen it
   abbrev pub written : ℕ → ℕ → State (Unit {0}) Lifter
-  written word n = record { words = slice_set s.words word n; homes = s.homes; views = slice_set s.views id (sees v (word - 1) n) }
+  written word n =
+      record { words = slice_set s.words word n; homes = s.homes; views = slice_set s.views id (sees v (word - 1) n) }
 
   -- what a load leaves of the words and seats
   abbrev pub after_load : ℕ → State (Unit {0}) Lifter
@@ -42,7 +46,8 @@ module _ (s : State (Unit {0}) Lifter) (id : ℕ) (v : Lifter) where
 
   -- what a claim leaves of them, by one fetch-add of a word of 64 bits
   abbrev pub after_claim : State (Unit {0}) Lifter
-  after_claim = record { words = slice_set s.words 0 ((slice_index s.words 0 + 1) % 2 ^ 64); homes = s.homes; views = slice_set s.views id (claims (places v.order) v (slice_index s.words 0)) }
+  after_claim =
+      record { words = slice_set s.words 0 ((slice_index s.words 0 + 1) % 2 ^ 64); homes = s.homes; views = slice_set s.views id (claims (places v.order) v (slice_index s.words 0)) }
 
   -- what a split leaves: one more seat
   abbrev pub after_split : State (Unit {0}) Lifter
@@ -50,19 +55,26 @@ module _ (s : State (Unit {0}) Lifter) (id : ℕ) (v : Lifter) where
 
   -- what a join leaves: the other lifter is spent
   abbrev pub after_join : ℕ → Lifter → State (Unit {0}) Lifter
-  after_join other w = record { words = s.words; homes = s.homes; views = slice_set (slice_set s.views id (both v w)) other spent }
+  after_join other w =
+      record { words = s.words; homes = s.homes; views = slice_set (slice_set s.views id (both v w)) other spent }
 
 -- the word at a place was found, no less than what was seen there
 abbrev pub Loads : Step (Unit {0}) → Me (Unit {0}) Lifter → ℕ → Me (Unit {0}) Lifter → Type 0
-Loads s v found w = (w ≡ (sees v.0 (s.word - 1) found, v.1)) × (slice_index v.0.seen (s.word - 1) ≤ found) × IsSafe w.0 × Takes (λ i. load i (s.word - 1)) v.0 w.0 × IsOnBoard w.0
+Loads s v found w =
+    (w ≡ (sees v.0 (s.word - 1) found, v.1)) × (slice_index v.0.seen (s.word - 1) ≤ found) × IsSafe w.0 ×
+    Takes (λ i. load i (s.word - 1)) v.0 w.0 × IsOnBoard w.0
 
 -- the same, and the word became no less than the operand
 abbrev pub Raises : Step (Unit {0}) → Me (Unit {0}) Lifter → ℕ → Me (Unit {0}) Lifter → Type 0
-Raises s v found w = (w ≡ (sees v.0 (s.word - 1) (max found s.first), v.1)) × (slice_index v.0.seen (s.word - 1) ≤ found) × IsSafe w.0 × Takes (λ i. raise i (s.word - 1)) v.0 w.0 × IsOnBoard w.0
+Raises s v found w =
+    (w ≡ (sees v.0 (s.word - 1) (max found s.first), v.1)) × (slice_index v.0.seen (s.word - 1) ≤ found) × IsSafe w.0 ×
+    Takes (λ i. raise i (s.word - 1)) v.0 w.0 × IsOnBoard w.0
 
 -- a claim, which comes behind all that the seat had
 abbrev pub Claims : Step (Unit {0}) → Me (Unit {0}) Lifter → ℕ → Me (Unit {0}) Lifter → Type 0
-Claims s v found w = (w ≡ (claims (places v.0.order) v.0 found, v.1)) × All (λ m. m < found) v.0.claims × AreSeatClaims w.0 × Takes claim v.0 w.0 × IsOnBoard w.0
+Claims s v found w =
+    (w ≡ (claims (places v.0.order) v.0 found, v.1)) × All (λ m. m < found) v.0.claims × AreSeatClaims w.0 ×
+    Takes claim v.0 w.0 × IsOnBoard w.0
 
 -- a look that tells what holds of the seat
 abbrev pub Looks : Step (Unit {0}) → Me (Unit {0}) Lifter → ℕ → Me (Unit {0}) Lifter → Type 0

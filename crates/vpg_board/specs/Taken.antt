@@ -39,4 +39,5 @@ raise_of order which v i = raise i (place_of order which v)
 -- a lift loads the word of its vertex and those of the kept successors, and then raises the first or does not
 abbrev pub lift_steps : OrderView → Which → ℕ → Bool → List (ℕ → Move)
 lift_steps order which v false = map (load_of order which) (v ∷ (vertex_at (order_arena which order) v).successors)
-lift_steps order which v true = map (load_of order which) (v ∷ (vertex_at (order_arena which order) v).successors) ++ raise_of order which v ∷ []
+lift_steps order which v true =
+    map (load_of order which) (v ∷ (vertex_at (order_arena which order) v).successors) ++ raise_of order which v ∷ []

@@ -118,10 +118,12 @@ pub(crate) fn sweep_alone<J: Vertices, G: Gate>(
     requires predecessors { predecessors.now.vertices ≡ J.vertices }
     ensures order { IsSameOrder result.order order }
     ensures lifted { (which : Which) (v : ℕ) → v < vertices order →
-        lift_of (order_levels which order) (order_table which order) (vertex_at (order_arena which order) v) ≤ slice_index (harvest_table which result) v }
+        lift_of (order_levels which order) (order_table which order)
+        (vertex_at (order_arena which order) v) ≤ slice_index (harvest_table which result) v }
     ensures above { (which : Which) → IsBelowTable (order_table which order) (harvest_table which result) }
     ensures harvest { IsHarvest result }
-    ensures moved { ¬ IsSettledHarvest result → sum order.hopeful + sum order.dual < sum result.hopeful + sum result.dual }
+    ensures moved { ¬ IsSettledHarvest result →
+        sum order.hopeful + sum order.dual < sum result.hopeful + sum result.dual }
 {
     let _game = order.game();
     let mut hints: Hints<J> = if predecessors.are_none() {

@@ -84,7 +84,8 @@ fn copy_tables(
     requires full { IsFull closed.now.words }
     requires words { slots_len closed.now.words ≡ vertices + vertices + 1 }
     ensures hopeful { IfOk result (λ tables. tables.0.items ≡ take vertices (drop 1 (slots_items closed.now.words))) }
-    ensures dual { IfOk result (λ tables. tables.1.items ≡ take vertices (drop (vertices + 1) (slots_items closed.now.words))) }
+    ensures dual { IfOk result
+        (λ tables. tables.1.items ≡ take vertices (drop (vertices + 1) (slots_items closed.now.words))) }
 {
     let hopeful = copy_words(alloc, closed, 1, vertices)?;
     let dual = copy_words(alloc, closed, vertices as usize + 1, vertices)?;
@@ -92,7 +93,8 @@ fn copy_tables(
 }
 
 impl Board {
-    /// A board of the order, and its opening seat, which has seen the order's tables. For want of memory the order comes back.
+    /// A board of the order, and its opening seat, which has seen the order's tables. For want of memory the order
+    /// comes back.
     pub fn open(alloc: Global, order: Order) -> Result<(Board, Seat), Order>
         ensures order { IfOk result (λ opened. opened.0.order ≡ order) }
         ensures is_order { IfOk result (λ opened. IsOrder opened.0.order) }
@@ -128,13 +130,14 @@ impl Board {
         ))
     }
 
-    /// A new seat, which has seen what this one has and has no claims. The opening seat alone splits, or one that took it in, and
-    /// it splits 63 times: any other call is refused and changes nothing.
+    /// A new seat, which has seen what this one has and has no claims. The opening seat alone splits, or one that took
+    /// it in, and it splits 63 times: any other call is refused and changes nothing.
     pub fn split(&self, seat: &mut Seat) -> Result<Seat, TooManyLifters>
         requires { seat.old.board ≡ self.now }
         ensures board { seat.new.board ≡ seat.old.board }
         ensures split { IfOk result (λ _. seat.new.lifter ≡ splits seat.old.lifter) }
-        ensures other { IfOk result (λ other. (other.board ≡ seat.old.board) × (other.lifter ≡ newcomer seat.old.lifter)) }
+        ensures other { IfOk result
+            (λ other. (other.board ≡ seat.old.board) × (other.lifter ≡ newcomer seat.old.lifter)) }
         ensures step { IfOk result (λ _. Takes split seat.old.lifter seat.new.lifter) }
         ensures run { IfOk result (λ other. IsOnBoard other.lifter) }
         ensures allowed { OnOk result ((seat.old.lifter.opening ≡ true) × (seat.old.lifter.splits < 63)) }
@@ -154,16 +157,20 @@ impl Board {
         })
     }
 
-    /// The next vertex that no seat has claimed: those of the hopeful table, then those of the dual, in file order over all seats.
-    /// A seat that got `None`, or took in one that did, gets `None` without a step.
+    /// The next vertex that no seat has claimed: those of the hopeful table, then those of the dual, in file order over
+    /// all seats. A seat that got `None`, or took in one that did, gets `None` without a step.
     pub fn claim(&self, seat: &mut Seat) -> Option<(Which, u32)>
         requires { seat.old.board ≡ self.now }
         ensures board { seat.new.board ≡ seat.old.board }
-        ensures claimed { IfSome result (λ c. seat.new.lifter ≡ record seat.old.lifter { claims = seat.old.lifter.claims ++ place_of self.now.order c.0 c.1 ∷ [] }) }
+        ensures claimed { IfSome result
+            (λ c. seat.new.lifter ≡ record seat.old.lifter { claims = seat.old.lifter.claims ++ place_of self.now.order c.0 c.1 ∷ [] }) }
         ensures vertex { IfSome result (λ c. c.1 < vertices self.now.order) }
-        ensures later { IfSome result (λ c. All (λ earlier. earlier < place_of self.now.order c.0 c.1) seat.old.lifter.claims) }
+        ensures later { IfSome result
+            (λ c. All (λ earlier. earlier < place_of self.now.order c.0 c.1) seat.old.lifter.claims) }
         ensures once { AreOnce seat.new.lifter.claims }
-        ensures none { IfNone result ((seat.new.lifter ≡ record seat.old.lifter { empty = seat.new.lifter.empty }) × (0 < seat.new.lifter.empty)) }
+        ensures none { IfNone result
+            ((seat.new.lifter ≡ record seat.old.lifter { empty = seat.new.lifter.empty }) ×
+            (0 < seat.new.lifter.empty)) }
         ensures still_none { 0 < seat.old.lifter.empty → (result ≡ None) × (seat.new ≡ seat.old) }
 
         // It is the step `claim` on a board that some run reached.
@@ -183,8 +190,8 @@ impl Board {
         claimed
     }
 
-    /// Loads the word and the kept successors of a vertex, and raises the word to the lift of what the seat has then seen, by one
-    /// `fetch_max`, unless what it loaded there was as much. True where the word was raised.
+    /// Loads the word and the kept successors of a vertex, and raises the word to the lift of what the seat has then
+    /// seen, by one `fetch_max`, unless what it loaded there was as much. True where the word was raised.
     pub fn lift(&self, seat: &mut Seat, which: Which, v: u32) -> bool
         requires board { seat.old.board ≡ self.now }
         requires vertex { v < vertices self.now.order }
@@ -192,12 +199,16 @@ impl Board {
         ensures seen { SeesMore seat.old.lifter seat.new.lifter }
         ensures safe { IsSafe seat.new.lifter }
 
-        // It loads the word and those of the kept successors, and raises the word once or not at all, each time on a board that
-        // some run reached.
-        ensures steps { (raises : Bool) × TakesAll (lift_steps self.now.order which v raises) seat.old.lifter seat.new.lifter }
+        // It loads the word and those of the kept successors, and raises the word once or not at all, each time on a
+        // board that some run reached.
+        ensures steps { (raises : Bool) ×
+            TakesAll (lift_steps self.now.order which v raises) seat.old.lifter seat.new.lifter }
 
-        ensures lifted { lift_in self.now.order which seat.old.lifter.seen v ≤ slice_index (table_in self.now.order which seat.new.lifter.seen) v }
-        ensures raised { IsTrue result → slice_index (table_in self.now.order which seat.old.lifter.seen) v < slice_index (table_in self.now.order which seat.new.lifter.seen) v }
+        ensures lifted { lift_in self.now.order which seat.old.lifter.seen v ≤ slice_index
+            (table_in self.now.order which seat.new.lifter.seen) v }
+        ensures raised { IsTrue result →
+            slice_index (table_in self.now.order which seat.old.lifter.seen) v < slice_index
+            (table_in self.now.order which seat.new.lifter.seen) v }
     {
         self.raise(&mut seat.inner, which, v)
     }
@@ -226,12 +237,14 @@ impl Board {
         seat.done = seat.done || done;
     }
 
-    /// Ends the board: the harvest of its order, on or above all that the seat and those joined into it saw. For want of memory
-    /// the order comes back.
+    /// Ends the board: the harvest of its order, on or above all that the seat and those joined into it saw. For want
+    /// of memory the order comes back.
     pub fn close(self, alloc: Global, seat: Seat) -> Result<Harvest, Order>
         requires { seat.board ≡ self }
         ensures order { IfOk result (λ harvest. IsSameOrder harvest.order self.order) }
-        ensures seen { IfOk result (λ harvest. (which : Which) → IsBelowTable (table_in self.order which seat.lifter.seen) (harvest_table which harvest)) }
+        ensures seen { IfOk result
+            (λ harvest. (which : Which) →
+            IsBelowTable (table_in self.order which seat.lifter.seen) (harvest_table which harvest)) }
 
         // On or above the order's tables, and below every progress table of its games.
         ensures harvest { IfOk result IsHarvest }
@@ -259,7 +272,8 @@ impl Board {
 
     // The vertex at a place.
     fn vertex_at(&self, place: u64) -> Option<(Which, u32)>
-        ensures { MatchOption result (places self.now.order ≤ place) (λ c. (c.1 < vertices self.now.order) × (place_of self.now.order c.0 c.1 ≡ place)) }
+        ensures { MatchOption result (places self.now.order ≤ place)
+            (λ c. (c.1 < vertices self.now.order) × (place_of self.now.order c.0 c.1 ≡ place)) }
     {
         let vertices = self.vertices as u64;
         if place < vertices {
@@ -294,7 +308,9 @@ impl Board {
         ensures slots { seat.new.me.1 ≡ seat.old.me.1 }
         ensures seen { SeesMore seat.old.me.0 seat.new.me.0 }
         ensures safe { IsSafe seat.new.me.0 }
-        ensures steps { TakesAll (map (load_of self.now.order which) (vertex_at (order_arena which self.now.order) v).successors) seat.old.me.0 seat.new.me.0 }
+        ensures steps { TakesAll
+            (map (load_of self.now.order which)
+            (vertex_at (order_arena which self.now.order) v).successors) seat.old.me.0 seat.new.me.0 }
         ensures run { IsOnBoard seat.new.me.0 }
         ensures lift { result ≡ lift_in self.now.order which seat.new.me.0.seen v }
     {
@@ -322,10 +338,14 @@ impl Board {
         ensures slots { seat.new.me.1 ≡ seat.old.me.1 }
         ensures seen { SeesMore seat.old.me.0 seat.new.me.0 }
         ensures safe { IsSafe seat.new.me.0 }
-        ensures steps { (raises : Bool) × TakesAll (lift_steps self.now.order which v raises) seat.old.me.0 seat.new.me.0 }
+        ensures steps { (raises : Bool) ×
+            TakesAll (lift_steps self.now.order which v raises) seat.old.me.0 seat.new.me.0 }
         ensures run { IsOnBoard seat.new.me.0 }
-        ensures lifted { lift_in self.now.order which seat.old.me.0.seen v ≤ slice_index (table_in self.now.order which seat.new.me.0.seen) v }
-        ensures raised { IsTrue result → slice_index (table_in self.now.order which seat.old.me.0.seen) v < slice_index (table_in self.now.order which seat.new.me.0.seen) v }
+        ensures lifted { lift_in self.now.order which seat.old.me.0.seen v ≤ slice_index
+            (table_in self.now.order which seat.new.me.0.seen) v }
+        ensures raised { IsTrue result →
+            slice_index (table_in self.now.order which seat.old.me.0.seen) v < slice_index
+            (table_in self.now.order which seat.new.me.0.seen) v }
     {
         let word = self.word_of(which, v);
         let before = self.table.shared.load::<Load>(seat, word);

@@ -80,7 +80,8 @@ fn steal<J: Vertices>(other: &Other<J>) -> Option<(Which, u32)>
     }
 }
 
-/// Hints for so many lifters, fewer where there is no memory: each takes from the one before it, and the first from the last.
+/// Hints for so many lifters, fewer where there is no memory: each takes from the one before it, and the first from the
+/// last.
 pub(crate) fn hints_of<J: Vertices>(alloc: Global, lifters: u32) -> Vec<Hints<J>> {
     let mut crew = Vec::new(alloc);
     let mut last = None;

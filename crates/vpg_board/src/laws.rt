@@ -1,5 +1,5 @@
-//! What every run of a board keeps, and that its atomic steps are the steps of runs: each law is the contract of a function that
-//! does nothing.
+//! What every run of a board keeps, and that its atomic steps are the steps of runs: each law is the contract of a
+//! function that does nothing.
 
 ghost use Rattle.std.specs.Prelude.{◌≡◌, ◌<◌, ◌-◌, ℕ, List, [], ◌∷◌, true};
 ghost use mathlib.Core.Option.{some};
@@ -13,56 +13,66 @@ ghost use Rattle.vpg_board.specs.Run.{Move, load, raise, claim, split, join, ran
 ghost use Rattle.vpg_board.specs.Rule.{MeasuresKept, ClaimsCounted, ClaimsKept};
 ghost use Rattle.vpg_board.specs.Steps.{IsBoard, Leads, after_load, after_raise, after_claim, after_split, after_join};
 
-/// Any steps of any lifters keep the measures: no word falls under what a seat has seen, and each stays below every progress table.
+/// Any steps of any lifters keep the measures: no word falls under what a seat has seen, and each stays below every
+/// progress table.
 pub fn every_run_keeps_the_measures()
-    ensures { (order : OrderView) (run : List Move) → IsOrder order → IsRun order run → MeasuresKept order (ran order run) }
+    ensures { (order : OrderView) (run : List Move) → IsOrder order → IsRun order run →
+        MeasuresKept order (ran order run) }
 {}
 
-/// Any steps of any lifters keep the counts: each place below the claim number is claimed by one seat, and no other number is a
-/// claim; the empty claims are those past the places; the seats stood for are one more than the splits.
+/// Any steps of any lifters keep the counts: each place below the claim number is claimed by one seat, and no other
+/// number is a claim; the empty claims are those past the places; the seats stood for are one more than the splits.
 pub fn every_run_keeps_the_counts()
     ensures { (order : OrderView) (run : List Move) → IsRun order run → ClaimsCounted order (ran order run) }
 {}
 
-/// Where lifters claim until they found none left, and the opening one alone splits, 63 times, none has more empty claims than it
-/// stands for.
+/// Where lifters claim until they found none left, and the opening one alone splits, 63 times, none has more empty
+/// claims than it stands for.
 pub fn every_board_run_keeps_the_claims()
     ensures run { (order : OrderView) (run : List Move) → IsBoardRun order run → IsRun order run }
     ensures claims { (order : OrderView) (run : List Move) → IsBoardRun order run → ClaimsKept order (ran order run) }
 {}
 
-/// An atomic load of a measure is the step `load`: whatever board the words and seats show, they show the board after it then.
+/// An atomic load of a measure is the step `load`: whatever board the words and seats show, they show the board after
+/// it then.
 pub fn loads_are_steps()
-    ensures { (order : OrderView) (s : State (Unit {0}) Lifter) (id word : ℕ) (v : Lifter) → IsBoard order s → get_elem? s.views id ≡ some v → 0 < v.stands
+    ensures { (order : OrderView) (s : State (Unit {0}) Lifter) (id word : ℕ) (v : Lifter) → IsBoard order s →
+        get_elem? s.views id ≡ some v → 0 < v.stands
         → 0 < word → word - 1 < places order → Leads order (load id (word - 1)) s (after_load s id v word) }
 {}
 
 /// An atomic maximum of a measure and the lift of what the seat has seen is the step `raise`.
 pub fn raises_are_steps()
-    ensures { (order : OrderView) (s : State (Unit {0}) Lifter) (id word : ℕ) (v : Lifter) → IsBoard order s → get_elem? s.views id ≡ some v → 0 < v.stands
+    ensures { (order : OrderView) (s : State (Unit {0}) Lifter) (id word : ℕ) (v : Lifter) → IsBoard order s →
+        get_elem? s.views id ≡ some v → 0 < v.stands
         → 0 < word → word - 1 < places order → Leads order (raise id (word - 1)) s (after_raise s id v order word) }
 {}
 
 /// An atomic sum of the first word and one is the step `claim`.
 pub fn claims_are_steps()
-    ensures { (order : OrderView) (s : State (Unit {0}) Lifter) (id : ℕ) (v : Lifter) → IsOrder order → IsBoard order s → get_elem? s.views id ≡ some v → 0 < v.stands
+    ensures { (order : OrderView) (s : State (Unit {0}) Lifter) (id : ℕ) (v : Lifter) → IsOrder order →
+        IsBoard order s → get_elem? s.views id ≡ some v → 0 < v.stands
         → v.empty ≡ 0 → Leads order (claim id) s (after_claim s id v) }
 {}
 
 /// A new seat beside the opening one is the step `split`.
 pub fn splits_are_steps()
-    ensures { (order : OrderView) (s : State (Unit {0}) Lifter) (id : ℕ) (v : Lifter) → IsBoard order s → get_elem? s.views id ≡ some v → 0 < v.stands
+    ensures { (order : OrderView) (s : State (Unit {0}) Lifter) (id : ℕ) (v : Lifter) → IsBoard order s →
+        get_elem? s.views id ≡ some v → 0 < v.stands
         → v.opening ≡ true → v.splits < 63 → Leads order (split id) s (after_split s id v) }
 {}
 
 /// A seat that takes in another is the step `join`.
 pub fn joins_are_steps()
-    ensures { (order : OrderView) (s : State (Unit {0}) Lifter) (id other : ℕ) (v w : Lifter) → IsBoard order s → get_elem? s.views id ≡ some v → 0 < v.stands
-        → ¬ (other ≡ id) → get_elem? s.views other ≡ some w → 0 < w.stands → Leads order (join id other) s (after_join s id v other w) }
+    ensures { (order : OrderView) (s : State (Unit {0}) Lifter) (id other : ℕ) (v w : Lifter) → IsBoard order s →
+        get_elem? s.views id ≡ some v → 0 < v.stands
+        → ¬ (other ≡ id) → get_elem? s.views other ≡ some w → 0 < w.stands →
+        Leads order (join id other) s (after_join s id v other w) }
 {}
 
 /// What a step leads to shows a board that some run reached; so does an order's opening.
 pub fn steps_stay_on_boards()
     ensures opening { (order : OrderView) → IsBoard order (opening (0 ∷ values order) [] (opener order)) }
-    ensures steps { (order : OrderView) (m : Move) (s t : State (Unit {0}) Lifter) → Leads order m s t → IsBoard order t }
+    ensures steps { (order : OrderView) (m : Move) (s t : State (Unit {0}) Lifter) → Leads order m s t →
+        IsBoard order t }
 {}

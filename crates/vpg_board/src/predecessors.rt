@@ -92,7 +92,8 @@ impl Chains {
         }
     }
 
-    /// The edge before this place: where it comes from, and one more than the place of the edge before it that leads to the same vertex, or 0.
+    /// The edge before this place: where it comes from, and one more than the place of the edge before it that leads to
+    /// the same vertex, or 0.
     pub(crate) fn edge_before(&self, place: u32) -> Option<(u32, u32)>
         ensures inside { (n : ℕ) → LeadFrom n self.now.edges.items → IfSome result (λ e. e.0 < n) }
         // It is the head of the chain from this place, and its own place leads to the rest.
@@ -106,8 +107,8 @@ impl Chains {
     }
 }
 
-/// Of each vertex of an order's two games those that keep an edge to it: along them the lifters of a sweep hint at what to lift
-/// next. They serve every order of the same games.
+/// Of each vertex of an order's two games those that keep an edge to it: along them the lifters of a sweep hint at what
+/// to lift next. They serve every order of the same games.
 ///
 /// Contracts see of how many vertices they are, and for each vertex a list of those that keep an edge to it, in either
 /// game.

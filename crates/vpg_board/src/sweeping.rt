@@ -21,8 +21,8 @@ use std::sync::Wait;
 use std::thread::{Threads, join};
 use vpg_measure::{Harvest, Order, Which};
 
-/// What each lifter of a sweep calls before each claim and after each lift, of a vertex that it claimed or was hinted at. Lifters
-/// are numbered from 1, which is the calling thread.
+/// What each lifter of a sweep calls before each claim and after each lift, of a vertex that it claimed or was hinted
+/// at. Lifters are numbered from 1, which is the calling thread.
 pub trait Gate {
     fn before_claim(&self, lifter: u32);
 
@@ -57,7 +57,8 @@ fn lift_and_hint<J: Vertices>(
     ensures board { seat.new.board ≡ seat.old.board }
     ensures seen { SeesMore seat.old.lifter seat.new.lifter }
     ensures safe { IsSafe seat.new.lifter }
-    ensures lifted { lift_in board.now.order which seat.old.lifter.seen v ≤ slice_index (table_in board.now.order which seat.new.lifter.seen) v }
+    ensures lifted { lift_in board.now.order which seat.old.lifter.seen v ≤ slice_index
+        (table_in board.now.order which seat.new.lifter.seen) v }
 {
     if board.lift(seat, which, v) {
         hints.give_all(which, predecessors.in_game(which), v);
@@ -123,7 +124,8 @@ fn split_off(board: &Board, seat: &mut Seat) -> Option<Seat>
     requires { Works board.now seat.old }
     ensures works { IfSome result (λ _. Works board.now seat.new) }
     ensures other { IfSome result (Works board.now) }
-    ensures split { IfSome result (λ other. (seat.new.lifter ≡ splits seat.old.lifter) × (other.lifter ≡ newcomer seat.old.lifter)) }
+    ensures split { IfSome result
+        (λ other. (seat.new.lifter ≡ splits seat.old.lifter) × (other.lifter ≡ newcomer seat.old.lifter)) }
     ensures same { IfNone result (seat.new ≡ seat.old) }
 {
     board.split(seat).ok()
@@ -193,12 +195,14 @@ fn work_with_hints<J: Vertices + Send + Sync, G: Gate + Sync, R: Threads + Wait 
     work_together(rt, board, gate, lifters, seat, predecessors, crew)
 }
 
-/// Lifts each vertex of both tables of the order at least once, by 1 to 64 lifters at once: the calling thread is lifter 1, the
-/// others get threads of their own. Where the machine has no thread for one, the calling thread does its work. After a raise the
-/// lifter hints at the vertices that keep an edge to the raised one, for itself and for one other, and behind each claim it lifts
-/// at most 16 hinted vertices. For want of memory the order comes back; where only hints found none, they are left out.
+/// Lifts each vertex of both tables of the order at least once, by 1 to 64 lifters at once: the calling thread is
+/// lifter 1, the others get threads of their own. Where the machine has no thread for one, the calling thread does its
+/// work. After a raise the lifter hints at the vertices that keep an edge to the raised one, for itself and for one
+/// other, and behind each claim it lifts at most 16 hinted vertices. For want of memory the order comes back; where
+/// only hints found none, they are left out.
 ///
-/// One lifter shares its tables with nobody: it raises them in the order's room, without a board, and always brings a harvest.
+/// One lifter shares its tables with nobody: it raises them in the order's room, without a board, and always brings a
+/// harvest.
 ///
 /// A sweep whose harvest has no greater value than its order proves the order settled.
 pub fn sweep<G: Gate + Sync, R: Threads + Wait + Sync>(
@@ -213,14 +217,18 @@ pub fn sweep<G: Gate + Sync, R: Threads + Wait + Sync>(
 
     // At every vertex of both tables it is on or above the lift of the order's table.
     ensures lifted { IfOk result (λ harvest. (which : Which) (v : ℕ) → v < vertices order →
-        lift_of (order_levels which order) (order_table which order) (vertex_at (order_arena which order) v) ≤ slice_index (harvest_table which harvest) v) }
+        lift_of (order_levels which order) (order_table which order)
+        (vertex_at (order_arena which order) v) ≤ slice_index (harvest_table which harvest) v) }
 
     // On or above the order's tables, and below every progress table of its games.
-    ensures above { IfOk result (λ harvest. (which : Which) → IsBelowTable (order_table which order) (harvest_table which harvest)) }
+    ensures above { IfOk result
+        (λ harvest. (which : Which) → IsBelowTable (order_table which order) (harvest_table which harvest)) }
     ensures harvest { IfOk result IsHarvest }
 
     // A harvest that does not check has risen, in sum: so where nothing rose the order was settled.
-    ensures moved { IfOk result (λ harvest. ¬ IsSettledHarvest harvest → sum order.hopeful + sum order.dual < sum harvest.hopeful + sum harvest.dual) }
+    ensures moved { IfOk result
+        (λ harvest. ¬ IsSettledHarvest harvest →
+        sum order.hopeful + sum order.dual < sum harvest.hopeful + sum harvest.dual) }
     ensures back { IfErr result (λ returned. returned ≡ order) }
     // One lifter never gives it back.
     ensures several { OnErr result (1 < lifters) }
@@ -244,14 +252,18 @@ pub fn sweep_along<G: Gate + Sync, R: Threads + Wait + Sync>(
 
     // At every vertex of both tables it is on or above the lift of the order's table.
     ensures lifted { IfOk result (λ harvest. (which : Which) (v : ℕ) → v < vertices order →
-        lift_of (order_levels which order) (order_table which order) (vertex_at (order_arena which order) v) ≤ slice_index (harvest_table which harvest) v) }
+        lift_of (order_levels which order) (order_table which order)
+        (vertex_at (order_arena which order) v) ≤ slice_index (harvest_table which harvest) v) }
 
     // On or above the order's tables, and below every progress table of its games.
-    ensures above { IfOk result (λ harvest. (which : Which) → IsBelowTable (order_table which order) (harvest_table which harvest)) }
+    ensures above { IfOk result
+        (λ harvest. (which : Which) → IsBelowTable (order_table which order) (harvest_table which harvest)) }
     ensures harvest { IfOk result IsHarvest }
 
     // A harvest that does not check has risen, in sum: so where nothing rose the order was settled.
-    ensures moved { IfOk result (λ harvest. ¬ IsSettledHarvest harvest → sum order.hopeful + sum order.dual < sum harvest.hopeful + sum harvest.dual) }
+    ensures moved { IfOk result
+        (λ harvest. ¬ IsSettledHarvest harvest →
+        sum order.hopeful + sum order.dual < sum harvest.hopeful + sum harvest.dual) }
     ensures back { IfErr result (λ returned. returned ≡ order) }
     // One lifter never gives it back.
     ensures several { OnErr result (1 < lifters) }

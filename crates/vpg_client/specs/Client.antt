@@ -24,8 +24,10 @@ abbrev pub client_after : NamedGame → NamedDiagram → List Event → ClientSt
 client_after game diagram events =
     record { desk = record { game = game; diagram = diagram; book = book_after (family_between game diagram) opened events }; calls = length events }
 
--- The log, which takes so many calls, had room for the call. It is one step of the desk under the label, and is counted.
-pub record IsLogged (room : ℕ) (old : ClientState) (label : ℕ) (call : Call) (reply : Reply) (new : ClientState) : Type 0 where
+-- The log, which takes so many calls, had room for the call. It is one step of the desk under the label, and is
+-- counted.
+pub record IsLogged (room : ℕ) (old : ClientState) (label : ℕ) (call : Call) (reply : Reply)
+    (new : ClientState) : Type 0 where
   pub had_room : old.calls < room
   pub step : IsStep old.desk label call reply new.desk
   pub counted : new.calls ≡ old.calls + 1

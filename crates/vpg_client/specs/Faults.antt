@@ -13,19 +13,24 @@ use Rattle.vpg_client.specs.Client.{ClientState, IsLogged}
 use Rattle.vpg_client.specs.declared.fault.ClientFault.{ClientFault}
 use Rattle.vpg_client.specs.declared.fault.ClientFault.TheVariants.{LogFull, Refused, Stray, Memory}
 
--- The log is full, exactly where it has as many calls as it takes, and nothing changes. The desk's own refusal is logged. Want of
--- memory changes nothing. A stray leaves the desk's game and diagram.
-abbrev pub Tells : {F : Type 0} → ℕ → (F → Option Refusal) → ClientState → ℕ → Call → ClientState → ClientFault F → Type 0
+-- The log is full, exactly where it has as many calls as it takes, and nothing changes. The desk's own refusal is
+-- logged. Want of memory changes nothing. A stray leaves the desk's game and diagram.
+abbrev pub Tells : {F : Type 0} → ℕ → (F → Option Refusal) → ClientState → ℕ → Call → ClientState → ClientFault F →
+    Type 0
 Tells room refusal old label call new LogFull = (old.calls ≡ room) × (new ≡ old)
-Tells room refusal old label call new (Refused fault) = (r : Refusal) × ((refusal fault ≡ Some r) × IsLogged room old label call (book.Refused r) new)
+Tells room refusal old label call new (Refused fault) =
+    (r : Refusal) × ((refusal fault ≡ Some r) × IsLogged room old label call (book.Refused r) new)
 Tells room refusal old label call new Stray = (new.desk.game ≡ old.desk.game) × (new.desk.diagram ≡ old.desk.diagram)
 Tells room refusal old label call new Memory = new ≡ old
 
 -- The same of a commit, whose harvest may be of another game or diagram.
 abbrev pub CommitTells : ℕ → ClientState → ℕ → HarvestView → ClientState → ClientFault CommitFault → Type 0
 CommitTells room old label harvest new (Refused fault) =
-    (b : Bool) × (Decides b (IsOrderOf old.desk harvest.order) × Tells room commit_refusal old label (Commit (handed_in b harvest)) new (Refused fault))
-CommitTells room old label harvest new fault = Tells room commit_refusal old label (Commit (handed_in true harvest)) new fault
+    (b : Bool) ×
+    (Decides b (IsOrderOf old.desk harvest.order) ×
+    Tells room commit_refusal old label (Commit (handed_in b harvest)) new (Refused fault))
+CommitTells room old label harvest new fault =
+    Tells room commit_refusal old label (Commit (handed_in true harvest)) new fault
 
 -- this holds of every fault but a stray call
 abbrev pub UnlessStray : {F : Type 0} → ClientFault F → Type 0 → Type 0

@@ -15,7 +15,9 @@ pub(crate) fn answered<L: Terms, T, F: Drop>(
 ) -> Result<T, Returned<F, Option<T>>>
     ensures made { IfOk result (λ made. answer ≡ Ok made) }
     ensures more { OnOk result (length front.now ≡ calls + 1) }
-    ensures fault { IfErr result (λ r. MatchResult answer (λ _. r.fault ≡ ClientFault.Stray) (λ fault. Sorts calls (length front.now) fault r.fault × (r.value ≡ None))) }
+    ensures fault { IfErr result
+        (λ r. MatchResult answer (λ _. r.fault ≡ ClientFault.Stray)
+        (λ fault. Sorts calls (length front.now) fault r.fault × (r.value ≡ None))) }
     ensures fits { length front.now ≤ L.limit }
 {
     let is_next = has_one_more(front, calls);
@@ -45,7 +47,9 @@ pub(crate) fn looked<L: Terms, T: Drop, F: Drop>(
 ) -> Result<T, ClientFault<F>>
     ensures made { IfOk result (λ made. answer ≡ Ok made) }
     ensures more { OnOk result (length front.now ≡ calls + 1) }
-    ensures fault { IfErr result (λ told. MatchResult answer (λ _. told ≡ ClientFault.Stray) (λ fault. Sorts calls (length front.now) fault told)) }
+    ensures fault { IfErr result
+        (λ told. MatchResult answer (λ _. told ≡ ClientFault.Stray)
+        (λ fault. Sorts calls (length front.now) fault told)) }
     ensures fits { length front.now ≤ L.limit }
 {
     let is_next = has_one_more(front, calls);
@@ -61,7 +65,8 @@ pub(crate) fn looked<L: Terms, T: Drop, F: Drop>(
     }
 }
 
-/// What a session answered to what it was handed, where the front had so many calls before the call. That comes back unless it was taken.
+/// What a session answered to what it was handed, where the front had so many calls before the call. That comes back
+/// unless it was taken.
 pub(crate) fn handed_in<L: Terms, T: Drop, F: Drop, V>(
     answer: Result<T, vpg_office::Returned<L, F, V>>,
     calls: usize,
@@ -69,7 +74,9 @@ pub(crate) fn handed_in<L: Terms, T: Drop, F: Drop, V>(
 ) -> Result<T, Returned<F, Option<V>>>
     ensures made { IfOk result (λ made. answer ≡ Ok made) }
     ensures more { OnOk result (length front.now ≡ calls + 1) }
-    ensures fault { IfErr result (λ r. MatchResult answer (λ _. r.fault ≡ ClientFault.Stray) (λ b. Sorts calls (length front.now) b.fault r.fault × (r.value ≡ Some b.value))) }
+    ensures fault { IfErr result
+        (λ r. MatchResult answer (λ _. r.fault ≡ ClientFault.Stray)
+        (λ b. Sorts calls (length front.now) b.fault r.fault × (r.value ≡ Some b.value))) }
     ensures fits { length front.now ≤ L.limit }
 {
     let is_next = has_one_more(front, calls);
@@ -91,7 +98,8 @@ pub(crate) fn handed_in<L: Terms, T: Drop, F: Drop, V>(
     }
 }
 
-/// What a session answered to an undo, where the front had so many calls before the call. A token comes back with each refusal.
+/// What a session answered to an undo, where the front had so many calls before the call. A token comes back with each
+/// refusal.
 pub(crate) fn undone<L: Terms>(
     answer: Result<Redo<L>, vpg_office::Returned<L, UndoFault, Undo<L>>>,
     calls: usize,
@@ -99,7 +107,9 @@ pub(crate) fn undone<L: Terms>(
 ) -> Result<Redo<L>, Returned<UndoFault, Token<L>>>
     ensures made { IfOk result (λ made. answer ≡ Ok made) }
     ensures more { OnOk result (length front.now ≡ calls + 1) }
-    ensures fault { IfErr result (λ r. MatchResult answer (λ _. r.fault ≡ ClientFault.Stray) (λ b. Sorts calls (length front.now) b.fault r.fault × (r.value ≡ Token.Undo b.value))) }
+    ensures fault { IfErr result
+        (λ r. MatchResult answer (λ _. r.fault ≡ ClientFault.Stray)
+        (λ b. Sorts calls (length front.now) b.fault r.fault × (r.value ≡ Token.Undo b.value))) }
     ensures fits { length front.now ≤ L.limit }
 {
     let is_next = has_one_more(front, calls);
@@ -121,7 +131,8 @@ pub(crate) fn undone<L: Terms>(
     }
 }
 
-/// What a session answered to a redo, where the front had so many calls before the call. A token comes back with each refusal.
+/// What a session answered to a redo, where the front had so many calls before the call. A token comes back with each
+/// refusal.
 pub(crate) fn redone<L: Terms>(
     answer: Result<Undo<L>, vpg_office::Returned<L, RedoFault, Redo<L>>>,
     calls: usize,
@@ -129,7 +140,9 @@ pub(crate) fn redone<L: Terms>(
 ) -> Result<Undo<L>, Returned<RedoFault, Token<L>>>
     ensures made { IfOk result (λ made. answer ≡ Ok made) }
     ensures more { OnOk result (length front.now ≡ calls + 1) }
-    ensures fault { IfErr result (λ r. MatchResult answer (λ _. r.fault ≡ ClientFault.Stray) (λ b. Sorts calls (length front.now) b.fault r.fault × (r.value ≡ Token.Redo b.value))) }
+    ensures fault { IfErr result
+        (λ r. MatchResult answer (λ _. r.fault ≡ ClientFault.Stray)
+        (λ b. Sorts calls (length front.now) b.fault r.fault × (r.value ≡ Token.Redo b.value))) }
     ensures fits { length front.now ≤ L.limit }
 {
     let is_next = has_one_more(front, calls);

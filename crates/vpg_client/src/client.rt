@@ -17,8 +17,8 @@ use vpg_diagram::Diagram;
 use vpg_game::GuardedGame;
 use vpg_office::{Front, NotOpened, Office, Redo, Session, Site, Terms, Undo};
 
-/// The one caller of an office, for labels from 1 to 1,024. Contracts see the desk that it serves and the number of calls in the log. A
-/// client can't be let go: `end` ends it.
+/// The one caller of an office, for labels from 1 to 1,024. Contracts see the desk that it serves and the number of
+/// calls in the log. A client can't be let go: `end` ends it.
 pub struct Client<L: Terms> {
     pub(crate) office: Office<L>,
     pub(crate) front: Front<L>,
@@ -41,7 +41,8 @@ impl<L: Terms> Model for Client<L> {
 }
 
 impl<L: Terms> Client<L> {
-    /// A client of an office of its own, whose log takes `room` calls. Refused as `Office::open`; what was handed in comes back.
+    /// A client of an office of its own, whose log takes `room` calls. Refused as `Office::open`; what was handed in
+    /// comes back.
     pub fn open<R: Wait>(
         rt: &R,
         alloc: Global,
@@ -57,7 +58,9 @@ impl<L: Terms> Client<L> {
         ensures opened { IfOk result (λ client. client ≡ client_of L.game L.diagram) }
         ensures fits { OnOk result (IsOpened L.game L.diagram) }
         ensures at_limit { IfErr result (λ refused. (refused.fault ≡ OpenFault.AtLimit) ↔ IsAtLimit (arc_value game)) }
-        ensures conflict { IfErr result (λ refused. (f : ℕ) → refused.fault ≡ OpenFault.Conflict f → HasConflictOf (arc_value diagram).lines [] × (f ≡ 0)) }
+        ensures conflict { IfErr result
+            (λ refused. (f : ℕ) → refused.fault ≡ OpenFault.Conflict f → HasConflictOf (arc_value diagram).lines [] ×
+            (f ≡ 0)) }
         ensures game_back { IfErr result (λ refused. arc_value refused.game ≡ arc_value game) }
         ensures diagram_back { IfErr result (λ refused. arc_value refused.diagram ≡ arc_value diagram) }
         ensures site_back { IfErr result (λ refused. refused.site ≡ site) }
@@ -72,8 +75,8 @@ impl<L: Terms> Client<L> {
         }
     }
 
-    /// Spends the tokens handed in, and ends the office. Answers how many further tokens are out, or `None` where the log has calls
-    /// that this client didn't make.
+    /// Spends the tokens handed in, and ends the office. Answers how many further tokens are out, or `None` where the
+    /// log has calls that this client didn't make.
     pub fn end<R: Wait>(self, rt: &R, undos: Vec<Undo<L>>, redos: Vec<Redo<L>>) -> Option<u64>
         ensures { IfSome result (λ further. further + length undos.items + length redos.items ≡ self.desk.book.tokens) }
     {
@@ -91,7 +94,8 @@ impl<L: Terms> Client<L> {
     }
 }
 
-/// The place of a label's session. Where the label is new, the sessions up to it are joined. A label that no session bears strays.
+/// The place of a label's session. Where the label is new, the sessions up to it are joined. A label that no session
+/// bears strays.
 pub(crate) fn seat<L: Terms, R: Wait, F>(
     rt: &R,
     office: &Office<L>,

@@ -14,7 +14,8 @@ IsOrderOf state order = (order.game ≡ state.game) × (order.diagram ≡ state.
 
 -- the harvest as the book sees it: whether its order is of the desk, its decisions and its two tables
 abbrev pub handed_in : Bool → HarvestView → Harvest
-handed_in is_of_this_desk harvest = record { is_of_this_desk = is_of_this_desk; decisions = harvest.order.decisions; hopeful = harvest.hopeful; dual = harvest.dual }
+handed_in is_of_this_desk harvest =
+    record { is_of_this_desk = is_of_this_desk; decisions = harvest.order.decisions; hopeful = harvest.hopeful; dual = harvest.dual }
 
 -- the book's refusal that a fault of commit stands for; out of memory is none
 abbrev pub commit_refusal : CommitFault → Option Refusal

@@ -22,7 +22,8 @@ notes_of cuts = map (λ c. c.is_noted) (reverse cuts)
 
 -- the book by its cuts
 abbrev pub cut_book : List Cut → List Step → List Cut → ℕ → ℕ → CutBook
-cut_book past entries future changes tokens = record { past = cuts_of past; entries = entries; future = cuts_of future; changes = changes; tokens = tokens }
+cut_book past entries future changes tokens =
+    record { past = cuts_of past; entries = entries; future = cuts_of future; changes = changes; tokens = tokens }
 
 -- the suffixes are on vertices below n
 abbrev pub SuffixesBelow : ℕ → List Cut → Type 0
@@ -32,8 +33,10 @@ SuffixesBelow n cuts = All (λ c. All (λ e. VertexBelow n (entry_of e)) c.suffi
 abbrev pub pages_of : List Step → List Cut → List Kept
 pages_of entries cuts = pages_over entries (cuts_of cuts)
 
--- the nearest page of the one side is the present one now, and the one that was present is the nearest of the other side
-pub record IsSwung (from : List Cut) (entries : List Step) (to from_after : List Cut) (entries_after : List Step) (to_after : List Cut) : Type 0 where
+-- the nearest page of the one side is the present one now, and the one that was present is the nearest of the other
+-- side
+pub record IsSwung (from : List Cut) (entries : List Step) (to from_after : List Cut) (entries_after : List Step)
+    (to_after : List Cut) : Type 0 where
   pub nearest : Saved
   pub left : cuts_of from ≡ nearest ∷ cuts_of from_after
   pub entries_are : entries_after ≡ spliced entries nearest.place nearest.suffix

@@ -46,7 +46,8 @@ redo_refusal RedoMemory = None
 
 -- why a closure with one decision more gives none
 abbrev pub ClosesWith : List Line → List Literal → ℕ → DecideFault → Type 0
-ClosesWith lines choices feature (HasConflict f) = (f ≡ feature) × ((g : ℕ) × NamesConflict (clauses_of lines) (counts_of lines) choices g)
+ClosesWith lines choices feature (HasConflict f) =
+    (f ≡ feature) × ((g : ℕ) × NamesConflict (clauses_of lines) (counts_of lines) choices g)
 ClosesWith lines choices feature Memory = ⊤
 ClosesWith lines choices feature _ = ⊥
 

@@ -30,12 +30,15 @@ WinsIn setting set player strategy v = Wins (product_game (truth set) setting.ga
 
 -- no positional strategy of the player wins from the vertex in any product that agrees with the page's decisions
 abbrev pub NeverWins : Setting → List Entry → Player → ℕ → Type 0
-NeverWins setting page player v = (set : List Bool) → IsRemaining setting.lines (choices_of page) set → (strategy : Strategy) → WinsIn setting set player strategy v → ⊥
+NeverWins setting page player v =
+    (set : List Bool) → IsRemaining setting.lines (choices_of page) set → (strategy : Strategy) →
+    WinsIn setting set player strategy v → ⊥
 
 -- the choices made at the page's table
 abbrev pub AreChoicesAt : Setting → List Tri → List Entry → Which → List (Option ℕ) → Type 0
 AreChoicesAt setting known page which choices =
-    AreChoices (levels_for which setting.game) (arena_for (kleene known) which setting.game) (table_of which page (length setting.game)) choices
+    AreChoices (levels_for which setting.game) (arena_for (kleene known) which setting.game)
+    (table_of which page (length setting.game)) choices
 
 -- what a full and settled page says of its one product
 pub record Determines (setting : Setting) (page : List Entry) (known : List Tri) (set : List Bool) : Type 0 where
@@ -43,15 +46,20 @@ pub record Determines (setting : Setting) (page : List Entry) (known : List Tri)
   pub only : (other : List Bool) → IsRemaining setting.lines (choices_of page) other → other ≡ set
   -- Even wins from each possible vertex, by the choices of the first table
   pub possible : (choices : List (Option ℕ)) → AreChoicesAt setting known page Hopeful choices →
-      (v : ℕ) → v < length setting.game → ¬ (IsTopAt setting page Hopeful v) → WinsIn setting set Player.Even (strategy_of choices) v
+      (v : ℕ) → v < length setting.game → ¬ (IsTopAt setting page Hopeful v) →
+      WinsIn setting set Player.Even (strategy_of choices) v
   -- Odd wins from each unsure one, by those of the second
   pub unsure : (choices : List (Option ℕ)) → AreChoicesAt setting known page Dual choices →
-      (v : ℕ) → v < length setting.game → ¬ (IsTopAt setting page Dual v) → WinsIn setting set Player.Odd (strategy_of choices) v
+      (v : ℕ) → v < length setting.game → ¬ (IsTopAt setting page Dual v) →
+      WinsIn setting set Player.Odd (strategy_of choices) v
   -- so Even has a winning strategy from each possible vertex, and Odd from each unsure one
-  pub even_wins : (v : ℕ) → v < length setting.game → ¬ (IsTopAt setting page Hopeful v) → (strategy : Strategy) × WinsIn setting set Player.Even strategy v
-  pub odd_wins : (v : ℕ) → v < length setting.game → ¬ (IsTopAt setting page Dual v) → (strategy : Strategy) × WinsIn setting set Player.Odd strategy v
+  pub even_wins : (v : ℕ) → v < length setting.game → ¬ (IsTopAt setting page Hopeful v) → (strategy : Strategy) ×
+      WinsIn setting set Player.Even strategy v
+  pub odd_wins : (v : ℕ) → v < length setting.game → ¬ (IsTopAt setting page Dual v) → (strategy : Strategy) ×
+      WinsIn setting set Player.Odd strategy v
   -- and none is both
-  pub not_both : (v : ℕ) → v < length setting.game → ¬ (IsTopAt setting page Hopeful v) → ¬ (IsTopAt setting page Dual v) → ⊥
+  pub not_both : (v : ℕ) → v < length setting.game → ¬ (IsTopAt setting page Hopeful v) →
+      ¬ (IsTopAt setting page Dual v) → ⊥
 
 -- what a page says of the game: its tables are below every progress table, a settled page's are the least, and
 -- hopeless and sure mean what they say
@@ -61,10 +69,13 @@ pub record Tells (setting : Setting) (page : List Entry) : Type 0 where
   -- its tables, which an order takes along, are below every progress table of its two games
   pub tables : (known : List Tri) → IsKnownTable setting.lines (choices_of page) known → (which : Which) →
       IsTableBelow (kleene known) which setting.game (table_of which page (length setting.game))
-  pub settled : IsSettledPage (family_of setting) page → (which : Which) → IsLeastUnder setting (choices_of page) which (table_of which page (length setting.game))
-  pub hopeless : (v : ℕ) → v < length setting.game → IsTopAt setting page Hopeful v → NeverWins setting page Player.Even v
+  pub settled : IsSettledPage (family_of setting) page → (which : Which) →
+      IsLeastUnder setting (choices_of page) which (table_of which page (length setting.game))
+  pub hopeless : (v : ℕ) → v < length setting.game → IsTopAt setting page Hopeful v →
+      NeverWins setting page Player.Even v
   pub sure : (v : ℕ) → v < length setting.game → IsTopAt setting page Dual v → NeverWins setting page Player.Odd v
-  pub full : (known : List Tri) → IsKnownTable setting.lines (choices_of page) known → AreAllKnown (feature_count setting.lines) known → IsSettledPage (family_of setting) page →
+  pub full : (known : List Tri) → IsKnownTable setting.lines (choices_of page) known →
+      AreAllKnown (feature_count setting.lines) known → IsSettledPage (family_of setting) page →
       (set : List Bool) × Determines setting page known set
 
 abbrev pub verdict_of : ℕ → ℕ → Bool → Bool → Event
@@ -77,37 +88,62 @@ settled_of session b = record { session = session; call = Settled; reply = IsSet
 pub record Headline (setting : Setting) (history : List Event) : Type 0 where
   -- each accepted undo of serial s leaves the page just before the last accepted decide, retract or redo of s
   pub undo : (front rest : List Event) (session s : ℕ) → history ≡ front ++ undo_of session s ∷ rest →
-      (before : List Event) × (IsBeforeLast (gives_undo s) before front × (page_after (family_of setting) (front ++ undo_of session s ∷ []) ≡ page_after (family_of setting) before))
+      (before : List Event) ×
+      (IsBeforeLast (gives_undo s) before front ×
+      (page_after (family_of setting) (front ++ undo_of session s ∷ []) ≡ page_after (family_of setting) before))
   -- each accepted redo of serial s leaves the page just before the last accepted undo of s
   pub redo : (front rest : List Event) (session s : ℕ) → history ≡ front ++ redo_of session s ∷ rest →
-      (before : List Event) × (IsBeforeLast (gives_redo s) before front × (page_after (family_of setting) (front ++ redo_of session s ∷ []) ≡ page_after (family_of setting) before))
+      (before : List Event) ×
+      (IsBeforeLast (gives_redo s) before front ×
+      (page_after (family_of setting) (front ++ redo_of session s ∷ []) ≡ page_after (family_of setting) before))
   -- the tables and verdicts of the present and of each past and future page say what they mean
   pub pages : EachPage (Tells setting) (book_after (family_of setting) opened history)
-  -- so each verdict that was answered is true of the page that it was asked of, and `settled` says whether the page is settled
-  pub verdicts : (front rest : List Event) (session v : ℕ) (hopeless sure : Bool) → history ≡ front ++ verdict_of session v hopeless sure ∷ rest → v < length setting.game →
-      (IsTrue hopeless → NeverWins setting (page_after (family_of setting) front) Player.Even v) × (IsTrue sure → NeverWins setting (page_after (family_of setting) front) Player.Odd v)
-  pub settled : (front rest : List Event) (session : ℕ) (b : Bool) → history ≡ front ++ settled_of session b ∷ rest → Decides b (IsSettledPage (family_of setting) (page_after (family_of setting) front))
+  -- so each verdict that was answered is true of the page that it was asked of, and `settled` says whether the page is
+  -- settled
+  pub verdicts : (front rest : List Event) (session v : ℕ) (hopeless sure : Bool) →
+      history ≡ front ++ verdict_of session v hopeless sure ∷ rest → v < length setting.game →
+      (IsTrue hopeless → NeverWins setting (page_after (family_of setting) front) Player.Even v) ×
+      (IsTrue sure → NeverWins setting (page_after (family_of setting) front) Player.Odd v)
+  pub settled : (front rest : List Event) (session : ℕ) (b : Bool) → history ≡ front ++ settled_of session b ∷ rest →
+      Decides b (IsSettledPage (family_of setting) (page_after (family_of setting) front))
   -- settled tables are those of the surviving decisions alone: whatever history led to the same choices, they are equal
-  pub alone : (other : List Event) → IsLegal (family_of setting) other → AllHandIn (IsLawful (family_of setting)) other →
-      AllStand (choices_of (page_after (family_of setting) history)) (choices_of (page_after (family_of setting) other)) →
-      AllStand (choices_of (page_after (family_of setting) other)) (choices_of (page_after (family_of setting) history)) →
-      IsSettledPage (family_of setting) (page_after (family_of setting) history) → IsSettledPage (family_of setting) (page_after (family_of setting) other) →
-      (which : Which) → table_of which (page_after (family_of setting) history) (length setting.game) ≡ table_of which (page_after (family_of setting) other) (length setting.game)
+  pub alone : (other : List Event) → IsLegal (family_of setting) other →
+      AllHandIn (IsLawful (family_of setting)) other →
+      AllStand (choices_of (page_after (family_of setting) history))
+      (choices_of (page_after (family_of setting) other)) →
+      AllStand (choices_of (page_after (family_of setting) other))
+      (choices_of (page_after (family_of setting) history)) →
+      IsSettledPage (family_of setting) (page_after (family_of setting) history) →
+      IsSettledPage (family_of setting) (page_after (family_of setting) other) →
+      (which : Which) →
+      table_of which (page_after (family_of setting) history) (length setting.game)
+      ≡ table_of which (page_after (family_of setting) other) (length setting.game)
   -- and so are the verdicts
-  pub same_verdicts : (other : List Event) → IsLegal (family_of setting) other → AllHandIn (IsLawful (family_of setting)) other →
-      AllStand (choices_of (page_after (family_of setting) history)) (choices_of (page_after (family_of setting) other)) →
-      AllStand (choices_of (page_after (family_of setting) other)) (choices_of (page_after (family_of setting) history)) →
-      IsSettledPage (family_of setting) (page_after (family_of setting) history) → IsSettledPage (family_of setting) (page_after (family_of setting) other) →
-      (which : Which) (v : ℕ) → v < length setting.game → IsTopAt setting (page_after (family_of setting) history) which v ↔ IsTopAt setting (page_after (family_of setting) other) which v
+  pub same_verdicts : (other : List Event) → IsLegal (family_of setting) other →
+      AllHandIn (IsLawful (family_of setting)) other →
+      AllStand (choices_of (page_after (family_of setting) history))
+      (choices_of (page_after (family_of setting) other)) →
+      AllStand (choices_of (page_after (family_of setting) other))
+      (choices_of (page_after (family_of setting) history)) →
+      IsSettledPage (family_of setting) (page_after (family_of setting) history) →
+      IsSettledPage (family_of setting) (page_after (family_of setting) other) →
+      (which : Which) (v : ℕ) → v < length setting.game →
+      IsTopAt setting (page_after (family_of setting) history) which v ↔
+      IsTopAt setting (page_after (family_of setting) other) which v
 
 -- A harvest is lawful where its tables are below every progress table of the two games that its own decisions give.
 abbrev pub HarvestsAreLawful : Type 0
-HarvestsAreLawful = (setting : Setting) (harvest : Harvest) (known : List Tri) → IsSetting setting → IsKnownTable setting.lines (map literal_of harvest.decisions) known →
-    ((which : Which) → IsTableBelow (kleene known) which setting.game (harvested harvest which)) → IsLawful (family_of setting) harvest
+HarvestsAreLawful =
+    (setting : Setting) (harvest : Harvest) (known : List Tri) → IsSetting setting →
+    IsKnownTable setting.lines (map literal_of harvest.decisions) known →
+    ((which : Which) → IsTableBelow (kleene known) which setting.game (harvested harvest which)) →
+    IsLawful (family_of setting) harvest
 
 -- The headline holds of every legal history into which lawful harvests alone are handed.
 abbrev pub HeadlineHolds : Type 0
-HeadlineHolds = (setting : Setting) (history : List Event) → IsSetting setting → IsLegal (family_of setting) history → AllHandIn (IsLawful (family_of setting)) history → Headline setting history
+HeadlineHolds =
+    (setting : Setting) (history : List Event) → IsSetting setting → IsLegal (family_of setting) history →
+    AllHandIn (IsLawful (family_of setting)) history → Headline setting history
 
 -- A progress table of more decisions is one of fewer.
 abbrev pub FamilyIsMonotone : Type 0

@@ -56,4 +56,5 @@ pub record IsStep (old : DeskState) (session : ℕ) (call : Call) (reply : Reply
 -- the new page is the one just before the last event of any history of the old book that gave a token of this serial
 abbrev pub Restores : (ℕ → Reply → Bool) → DeskState → ℕ → DeskState → Type 0
 Restores gives old serial new = (history : List Event) → IsHistoryOf (setting_of old) old.book history →
-    (before : List Event) × (IsBeforeLast (gives serial) before history × (new.book.present ≡ page_after (family_of (setting_of old)) before))
+    (before : List Event) ×
+    (IsBeforeLast (gives serial) before history × (new.book.present ≡ page_after (family_of (setting_of old)) before))

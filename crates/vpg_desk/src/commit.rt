@@ -110,10 +110,12 @@ fn are_same(one: &[Tri], other: &[Tri]) -> bool
     true
 }
 
-/// Whether a page is known to be settled once it has taken a harvest in: it was so before, or the harvest is, and its decisions make
-/// known what is known of the page.
+/// Whether a page is known to be settled once it has taken a harvest in: it was so before, or the harvest is, and its
+/// decisions make known what is known of the page.
 fn settles(was: bool, harvest: &Harvest, present: &PageGames) -> bool
-    ensures { IsTrue result → IsTrue was ⊎ (IsSettledHarvest harvest.now × IsKnownTable harvest.now.order.diagram.lines (map literal_of harvest.now.order.decisions) present.now.known) }
+    ensures { IsTrue result → IsTrue was ⊎
+        (IsSettledHarvest harvest.now ×
+        IsKnownTable harvest.now.order.diagram.lines (map literal_of harvest.now.order.decisions) present.now.known) }
 {
     if was {
         return true;
@@ -127,14 +129,22 @@ impl Desk {
     ghost use Rattle.vpg_desk.specs.Commit.{IsOrderOf, handed_in, commit_refusal};
     ghost use Rattle.vpg_desk.specs.State.{IsStep, Replies};
 
-    /// Raises the present tables to the harvest's, by one lift for each value above the present one, and gives the number of
-    /// these lifts: at most 131,072. Refused, in this order: the order's game or diagram isn't the desk's; a decision of the
-    /// order doesn't stand; want of memory. A refusal changes nothing, and the harvest comes back.
+    /// Raises the present tables to the harvest's, by one lift for each value above the present one, and gives the
+    /// number of these lifts: at most 131,072. Refused, in this order: the order's game or diagram isn't the desk's; a
+    /// decision of the order doesn't stand; want of memory. A refusal changes nothing, and the harvest comes back.
     pub fn commit(&mut self, alloc: Global, harvest: Harvest) -> Result<u32, CommitRefused>
-        ensures accepted { IfOk result (λ added. (session : ℕ) → IsStep self.old session (Commit (handed_in true harvest)) (Added added) self.new) }
+        ensures accepted { IfOk result
+            (λ added. (session : ℕ) →
+            IsStep self.old session (Commit (handed_in true harvest)) (Added added) self.new) }
         ensures same { OnOk result (IsOrderOf self.old harvest.order) }
-        ensures refused { IfErr result (λ r. IfSome (commit_refusal r.fault) (λ refusal. (b : Bool) × (Decides b (IsOrderOf self.old harvest.order) × Replies self.old (Commit (handed_in b harvest)) (Refused refusal)))) }
-        ensures last { IfErr result (λ r. r.fault ≡ CommitFault.Memory → IsOrderOf self.old harvest.order × (refuses_commit self.old.book (handed_in true harvest) ≡ None)) }
+        ensures refused { IfErr result
+            (λ r. IfSome (commit_refusal r.fault)
+            (λ refusal. (b : Bool) ×
+            (Decides b (IsOrderOf self.old harvest.order) ×
+            Replies self.old (Commit (handed_in b harvest)) (Refused refusal)))) }
+        ensures last { IfErr result
+            (λ r. r.fault ≡ CommitFault.Memory → IsOrderOf self.old harvest.order ×
+            (refuses_commit self.old.book (handed_in true harvest) ≡ None)) }
         ensures err { OnErr result (self.new ≡ self.old) }
         ensures back { IfErr result (λ r. r.harvest ≡ harvest) }
     {
@@ -147,9 +157,14 @@ impl Desk {
     /// As `commit`, of a harvest whose order has this desk's game and diagram: the two are not compared.
     pub fn commit_own(&mut self, alloc: Global, harvest: Harvest) -> Result<u32, CommitRefused>
         requires { IsOrderOf self.old harvest.order }
-        ensures accepted { IfOk result (λ added. (session : ℕ) → IsStep self.old session (Commit (handed_in true harvest)) (Added added) self.new) }
-        ensures refused { IfErr result (λ r. IfSome (commit_refusal r.fault) (λ refusal. Replies self.old (Commit (handed_in true harvest)) (Refused refusal))) }
-        ensures last { IfErr result (λ r. r.fault ≡ CommitFault.Memory → refuses_commit self.old.book (handed_in true harvest) ≡ None) }
+        ensures accepted { IfOk result
+            (λ added. (session : ℕ) →
+            IsStep self.old session (Commit (handed_in true harvest)) (Added added) self.new) }
+        ensures refused { IfErr result
+            (λ r. IfSome (commit_refusal r.fault)
+            (λ refusal. Replies self.old (Commit (handed_in true harvest)) (Refused refusal))) }
+        ensures last { IfErr result
+            (λ r. r.fault ≡ CommitFault.Memory → refuses_commit self.old.book (handed_in true harvest) ≡ None) }
         ensures err { OnErr result (self.new ≡ self.old) }
         ensures back { IfErr result (λ r. r.harvest ≡ harvest) }
     {
@@ -160,10 +175,18 @@ impl Desk {
     }
 
     fn take_in(&mut self, alloc: Global, harvest: &Harvest) -> Result<u32, CommitFault>
-        ensures accepted { IfOk result (λ added. (session : ℕ) → IsStep self.old session (Commit (handed_in true harvest.now)) (Added added) self.new) }
+        ensures accepted { IfOk result
+            (λ added. (session : ℕ) →
+            IsStep self.old session (Commit (handed_in true harvest.now)) (Added added) self.new) }
         ensures same { OnOk result (IsOrderOf self.old harvest.now.order) }
-        ensures refused { IfErr result (λ fault. IfSome (commit_refusal fault) (λ refusal. (b : Bool) × (Decides b (IsOrderOf self.old harvest.now.order) × Replies self.old (Commit (handed_in b harvest.now)) (Refused refusal)))) }
-        ensures last { IfErr result (λ fault. fault ≡ CommitFault.Memory → IsOrderOf self.old harvest.now.order × (refuses_commit self.old.book (handed_in true harvest.now) ≡ None)) }
+        ensures refused { IfErr result
+            (λ fault. IfSome (commit_refusal fault)
+            (λ refusal. (b : Bool) ×
+            (Decides b (IsOrderOf self.old harvest.now.order) ×
+            Replies self.old (Commit (handed_in b harvest.now)) (Refused refusal)))) }
+        ensures last { IfErr result
+            (λ fault. fault ≡ CommitFault.Memory → IsOrderOf self.old harvest.now.order ×
+            (refuses_commit self.old.book (handed_in true harvest.now) ≡ None)) }
         ensures err { OnErr result (self.new ≡ self.old) }
     {
         if !is_order_of(harvest.order(), &self.game, &self.diagram) {
@@ -174,9 +197,14 @@ impl Desk {
 
     fn take_own(&mut self, alloc: Global, harvest: &Harvest) -> Result<u32, CommitFault>
         requires { IsOrderOf self.old harvest.now.order }
-        ensures accepted { IfOk result (λ added. (session : ℕ) → IsStep self.old session (Commit (handed_in true harvest.now)) (Added added) self.new) }
-        ensures refused { IfErr result (λ fault. IfSome (commit_refusal fault) (λ refusal. Replies self.old (Commit (handed_in true harvest.now)) (Refused refusal))) }
-        ensures last { IfErr result (λ fault. fault ≡ CommitFault.Memory → refuses_commit self.old.book (handed_in true harvest.now) ≡ None) }
+        ensures accepted { IfOk result
+            (λ added. (session : ℕ) →
+            IsStep self.old session (Commit (handed_in true harvest.now)) (Added added) self.new) }
+        ensures refused { IfErr result
+            (λ fault. IfSome (commit_refusal fault)
+            (λ refusal. Replies self.old (Commit (handed_in true harvest.now)) (Refused refusal))) }
+        ensures last { IfErr result
+            (λ fault. fault ≡ CommitFault.Memory → refuses_commit self.old.book (handed_in true harvest.now) ≡ None) }
         ensures err { OnErr result (self.new ≡ self.old) }
     {
         let order = harvest.order();

@@ -36,9 +36,14 @@ fn games_with(
     requires features { game.now.features ≡ feature_count diagram.now.lines }
     requires held { AreGamesOf game.now diagram.now present.now }
     requires not_at_limit { ¬ IsAtLimit game.now }
-    requires inside { AllByRecursion (λ d. d.feature < feature_count diagram.now.lines) (decisions_of (map entry_of entries.now) ++ decision ∷ []) }
-    ensures games { IfOk result (λ games. ArePageGames game.now diagram.now (choices_of (map entry_of entries.now ++ Decided decision ∷ [])) (arc_value games)) }
-    ensures fault { IfErr result (ClosesWith diagram.now.lines (choices_of (map entry_of entries.now ++ Decided decision ∷ [])) decision.feature) }
+    requires inside { AllByRecursion (λ d. d.feature < feature_count diagram.now.lines)
+        (decisions_of (map entry_of entries.now) ++ decision ∷ []) }
+    ensures games { IfOk result
+        (λ games. ArePageGames game.now diagram.now (choices_of (map entry_of entries.now ++ Decided decision ∷ []))
+        (arc_value games)) }
+    ensures fault { IfErr result
+        (ClosesWith diagram.now.lines
+        (choices_of (map entry_of entries.now ++ Decided decision ∷ [])) decision.feature) }
 {
     let mut decisions = decisions_among(alloc, entries)?;
     decisions.push(decision)?;
@@ -52,8 +57,8 @@ fn games_with(
     }
 }
 
-/// Puts a decision behind the present page, and keeps the page before it, which was known to be settled or not, under the
-/// decision's serial.
+/// Puts a decision behind the present page, and keeps the page before it, which was known to be settled or not, under
+/// the decision's serial.
 fn push_decision(
     alloc: Global,
     past: &mut Vec<Cut>,
@@ -61,10 +66,14 @@ fn push_decision(
     decision: Decision,
     was: bool,
 ) -> Result<(), AllocError>
-    ensures past { OnOk result (cuts_of past.new.items ≡ record { serial = decision.serial; place = length trail.old.entries; suffix = [] } ∷ cuts_of past.old.items) }
+    ensures past { OnOk result
+        (cuts_of past.new.items ≡ record { serial = decision.serial; place = length trail.old.entries; suffix = [] }
+        ∷ cuts_of past.old.items) }
     ensures notes { OnOk result (notes_of past.new.items ≡ was ∷ notes_of past.old.items) }
-    ensures below { OnOk result (SuffixesBelow trail.old.vertices past.old.items → SuffixesBelow trail.old.vertices past.new.items) }
-    ensures trail { OnOk result (trail.new ≡ record { vertices = trail.old.vertices; entries = trail.old.entries ++ Decided decision ∷ [] }) }
+    ensures below { OnOk result
+        (SuffixesBelow trail.old.vertices past.old.items → SuffixesBelow trail.old.vertices past.new.items) }
+    ensures trail { OnOk result
+        (trail.new ≡ record { vertices = trail.old.vertices; entries = trail.old.entries ++ Decided decision ∷ [] }) }
     ensures err_past { OnErr result (past.new.items ≡ past.old.items) }
     ensures err_trail { OnErr result (trail.new ≡ trail.old) }
 {
@@ -86,11 +95,11 @@ impl Desk {
     ghost use Rattle.vpg_desk.specs.Faults.{decide_refusal};
     ghost use Rattle.vpg_desk.specs.State.{IsStep, Replies};
 
-    /// Decides a feature in or out, as the next change, and gives the change's token. A feature that is known but not decided may
-    /// be decided the same way. Refused, in this order: the diagram has no such feature; it is decided already; the decision
-    /// contradicts the diagram and the present decisions; the desk has made its most changes; want of memory. It takes
-    /// memory to tell whether there is a contradiction, so want of it may come in the place of the last two. A refusal changes
-    /// nothing.
+    /// Decides a feature in or out, as the next change, and gives the change's token. A feature that is known but not
+    /// decided may be decided the same way. Refused, in this order: the diagram has no such feature; it is decided
+    /// already; the decision contradicts the diagram and the present decisions; the desk has made its most changes;
+    /// want of memory. It takes memory to tell whether there is a contradiction, so want of it may come in the place of
+    /// the last two. A refusal changes nothing.
     pub fn decide(
         &mut self,
         alloc: Global,
@@ -98,9 +107,14 @@ impl Desk {
         feature: u16,
         value: bool,
     ) -> Result<Undo, DecideFault>
-        ensures accepted { IfOk result (λ undo. IsStep self.old session (Decide feature value) (Changed undo) self.new) }
-        ensures refused { IfErr result (λ fault. IfSome (decide_refusal fault) (λ refusal. Replies self.old (Decide feature value) (Refused refusal))) }
-        ensures last { IfErr result (λ fault. fault ≡ DecideFault.Memory → (feature < feature_count self.old.diagram.lines) × (decision_on feature self.old.book.present ≡ None)) }
+        ensures accepted { IfOk result
+            (λ undo. IsStep self.old session (Decide feature value) (Changed undo) self.new) }
+        ensures refused { IfErr result
+            (λ fault. IfSome (decide_refusal fault)
+            (λ refusal. Replies self.old (Decide feature value) (Refused refusal))) }
+        ensures last { IfErr result
+            (λ fault. fault ≡ DecideFault.Memory → (feature < feature_count self.old.diagram.lines) ×
+            (decision_on feature self.old.book.present ≡ None)) }
         ensures err { OnErr result (self.new ≡ self.old) }
     {
         if feature as usize >= self.diagram.features() {
@@ -141,11 +155,14 @@ impl Desk {
         Ok(Undo::of(serial))
     }
 
-    /// Whether the present page is known to be settled, and both its tables are so under these games of the same game too: no lift
-    /// raises them at a vertex that the change of what is known concerns. Without the memory to look, that isn't known.
+    /// Whether the present page is known to be settled, and both its tables are so under these games of the same game
+    /// too: no lift raises them at a vertex that the change of what is known concerns. Without the memory to look, that
+    /// isn't known.
     fn stays_settled(&self, alloc: Global, games: &PageGames) -> bool
         requires { AreGamesOf self.now.game self.now.diagram games.now }
-        ensures { IsTrue result → (which : Side) → IsProgressOf (kleene games.now.known) which (graph_of self.now.game) (table_of which self.now.book.present (length (graph_of self.now.game))) }
+        ensures { IsTrue result → (which : Side) →
+            IsProgressOf (kleene games.now.known) which (graph_of self.now.game)
+            (table_of which self.now.book.present (length (graph_of self.now.game))) }
     {
         if !self.is_noted {
             return false;

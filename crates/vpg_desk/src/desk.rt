@@ -70,8 +70,8 @@ impl Model for Desk {
 }
 
 impl Desk {
-    /// A desk without decisions; both tables are zero. Refused, in this order: a priority is 65,536, so that there is no dual; the
-    /// diagram alone has a conflict, which names its root; want of memory. What was handed in comes back.
+    /// A desk without decisions; both tables are zero. Refused, in this order: a priority is 65,536, so that there is
+    /// no dual; the diagram alone has a conflict, which names its root; want of memory. What was handed in comes back.
     pub fn open(
         alloc: Global,
         game: Arc<GuardedGame>,
@@ -83,7 +83,9 @@ impl Desk {
         ensures diagram { IfOk result (λ desk. desk.diagram ≡ arc_value diagram) }
         ensures fits { OnOk result (IsOpened (arc_value game) (arc_value diagram)) }
         ensures at_limit { IfErr result (λ refused. (refused.fault ≡ OpenFault.AtLimit) ↔ IsAtLimit (arc_value game)) }
-        ensures conflict { IfErr result (λ refused. (f : ℕ) → refused.fault ≡ OpenFault.Conflict f → HasConflictOf (arc_value diagram).lines [] × (f ≡ 0)) }
+        ensures conflict { IfErr result
+            (λ refused. (f : ℕ) → refused.fault ≡ OpenFault.Conflict f → HasConflictOf (arc_value diagram).lines [] ×
+            (f ≡ 0)) }
         ensures game_back { IfErr result (λ refused. arc_value refused.game ≡ arc_value game) }
         ensures diagram_back { IfErr result (λ refused. arc_value refused.diagram ≡ arc_value diagram) }
     {
@@ -125,18 +127,21 @@ impl Desk {
 
     /// What the present decisions make of the game: what is known, and the shapes and the kept edges of both games.
     pub fn games(&self) -> &Arc<PageGames>
-        ensures { ArePageGames self.now.game self.now.diagram (choices_of self.now.book.present) (arc_value result.now) }
+        ensures { ArePageGames self.now.game self.now.diagram (choices_of self.now.book.present)
+            (arc_value result.now) }
     {
         &self.games
     }
 
-    /// Whether both tables of the present page are progress tables. They are then the least ones. Once a commit of a settled harvest
-    /// has settled a page this is known of it, also when undo or redo come back to it, and still after decisions by which no lift
-    /// raises a vertex that names a feature of which something else is known then. Else it is a pass over the kept edges, which
-    /// ends at the first vertex that a lift raises.
+    /// Whether both tables of the present page are progress tables. They are then the least ones. Once a commit of a
+    /// settled harvest has settled a page this is known of it, also when undo or redo come back to it, and still after
+    /// decisions by which no lift raises a vertex that names a feature of which something else is known then. Else it
+    /// is a pass over the kept edges, which ends at the first vertex that a lift raises.
     pub fn settled(&self) -> bool
         ensures reply { Replies self.now Settled (IsSettled result) }
-        ensures least { IsTrue result → (which : Side) → IsLeastUnder (setting_of self.now) (choices_of self.now.book.present) which (table_of which self.now.book.present (length (graph_of self.now.game))) }
+        ensures least { IsTrue result → (which : Side) →
+            IsLeastUnder (setting_of self.now) (choices_of self.now.book.present) which
+            (table_of which self.now.book.present (length (graph_of self.now.game))) }
     {
         self.is_noted || self.looks_settled()
     }
@@ -148,7 +153,9 @@ impl Desk {
     }
 
     fn is_settled(&self, which: Which) -> bool
-        ensures settled { IsTrue result ↔ IsProgressUnder (setting_of self.now) (choices_of self.now.book.present) which (table_of which self.now.book.present (length (graph_of self.now.game))) }
+        ensures settled { IsTrue result ↔
+            IsProgressUnder (setting_of self.now) (choices_of self.now.book.present) which
+            (table_of which self.now.book.present (length (graph_of self.now.game))) }
         ensures tells { Tells (setting_of self.now) self.now.book.present }
     {
         let shape = self.games.shape(which);
@@ -163,7 +170,8 @@ impl Desk {
     pub fn verdict(&self, v: u32) -> Verdict
         requires { v < length self.now.game.vertices }
         ensures reply { Replies self.now (AsksVerdict v) (VerdictIs result.hopeless result.sure) }
-        ensures hopeless { IsTrue result.hopeless → NeverWins (setting_of self.now) self.now.book.present Player.Even v }
+        ensures hopeless { IsTrue result.hopeless →
+            NeverWins (setting_of self.now) self.now.book.present Player.Even v }
         ensures sure { IsTrue result.sure → NeverWins (setting_of self.now) self.now.book.present Player.Odd v }
     {
         Verdict {
@@ -172,15 +180,18 @@ impl Desk {
         }
     }
 
-    /// What lifters take along: the game, the diagram, the present decisions and both present tables, with a note where the page is
-    /// known to be settled.
+    /// What lifters take along: the game, the diagram, the present decisions and both present tables, with a note where
+    /// the page is known to be settled.
     pub fn order(&self, alloc: Global) -> Result<Order, AllocError>
-        ensures reply { IfOk result (λ order. Replies self.now AsksOrder (Ordered order.decisions order.hopeful order.dual)) }
+        ensures reply { IfOk result
+            (λ order. Replies self.now AsksOrder (Ordered order.decisions order.hopeful order.dual)) }
         ensures game { IfOk result (λ order. order.game ≡ self.now.game) }
         ensures diagram { IfOk result (λ order. order.diagram ≡ self.now.diagram) }
         ensures decisions { IfOk result (λ order. order.decisions ≡ decisions_of self.now.book.present) }
-        ensures hopeful { IfOk result (λ order. order.hopeful ≡ table_of Hopeful self.now.book.present (length (graph_of self.now.game))) }
-        ensures dual { IfOk result (λ order. order.dual ≡ table_of Dual self.now.book.present (length (graph_of self.now.game))) }
+        ensures hopeful { IfOk result
+            (λ order. order.hopeful ≡ table_of Hopeful self.now.book.present (length (graph_of self.now.game))) }
+        ensures dual { IfOk result
+            (λ order. order.dual ≡ table_of Dual self.now.book.present (length (graph_of self.now.game))) }
         ensures order { IfOk result IsOrder }
     {
         let decisions = decisions_among(alloc, self.trail.entries())?;
@@ -197,8 +208,10 @@ impl Desk {
     pub fn page(&self, alloc: Global) -> Result<Page, AllocError>
         ensures reply { IfOk result (λ page. Replies self.now AsksPage (PageIs page.entries)) }
         ensures decisions { IfOk result (λ page. page.decisions ≡ decisions_of self.now.book.present) }
-        ensures hopeful { IfOk result (λ page. page.hopeful ≡ table_of Hopeful self.now.book.present (length (graph_of self.now.game))) }
-        ensures dual { IfOk result (λ page. page.dual ≡ table_of Dual self.now.book.present (length (graph_of self.now.game))) }
+        ensures hopeful { IfOk result
+            (λ page. page.hopeful ≡ table_of Hopeful self.now.book.present (length (graph_of self.now.game))) }
+        ensures dual { IfOk result
+            (λ page. page.dual ≡ table_of Dual self.now.book.present (length (graph_of self.now.game))) }
         ensures below { IfOk result (λ _. PageIsBelow (family_of (setting_of self.now)) self.now.book.present) }
         ensures tells { IfOk result (λ _. Tells (setting_of self.now) self.now.book.present) }
         ensures setting { IfOk result (λ _. IsSetting (setting_of self.now)) }

@@ -28,8 +28,11 @@ pub(crate) fn games_of_page(
     requires features { game.now.features ≡ feature_count diagram.now.lines }
     requires held { AreGamesOf game.now diagram.now present.now }
     requires not_at_limit { ¬ IsAtLimit game.now }
-    requires consistent { ¬ (HasConflict (setting_between game.now diagram.now) (choices_of (map entry_of before.now ++ map entry_of suffix.now))) }
-    ensures { IfOk result (λ games. ArePageGames game.now diagram.now (choices_of (map entry_of before.now ++ map entry_of suffix.now)) (arc_value games)) }
+    requires consistent { ¬ (HasConflict (setting_between game.now diagram.now)
+        (choices_of (map entry_of before.now ++ map entry_of suffix.now))) }
+    ensures { IfOk result (λ games.
+        ArePageGames game.now diagram.now (choices_of (map entry_of before.now ++ map entry_of suffix.now))
+        (arc_value games)) }
 {
     let mut decisions = decisions_among(alloc, before)?;
     let mut later = decisions_among(alloc, suffix)?;

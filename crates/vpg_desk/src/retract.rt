@@ -12,8 +12,8 @@ use crate::undo_token::Undo;
 use std::alloc::{AllocError, Global};
 use vpg_trail::{Entry, Trail, kept_after, place_of};
 
-/// Puts the suffix, whose lifts stand, in place of the entries from a place on, and keeps the page before it, which was known to be
-/// settled or not, under the serial.
+/// Puts the suffix, whose lifts stand, in place of the entries from a place on, and keeps the page before it, which was
+/// known to be settled or not, under the serial.
 fn cut_out(
     past: &mut Vec<Cut>,
     trail: &mut Trail,
@@ -25,10 +25,14 @@ fn cut_out(
     requires place { place ≤ length trail.old.entries }
     requires vertices { All (λ e. VertexBelow trail.old.vertices (entry_of e)) suffix.items }
     requires lifts { LiftsStandAfter (take place trail.old.entries) (map entry_of suffix.items) }
-    ensures past { OnOk result (cuts_of past.new.items ≡ record { serial = serial; place = place; suffix = drop place trail.old.entries } ∷ cuts_of past.old.items) }
+    ensures past { OnOk result
+        (cuts_of past.new.items ≡ record { serial = serial; place = place; suffix = drop place trail.old.entries }
+        ∷ cuts_of past.old.items) }
     ensures notes { OnOk result (notes_of past.new.items ≡ was ∷ notes_of past.old.items) }
-    ensures below { OnOk result (SuffixesBelow trail.old.vertices past.old.items → SuffixesBelow trail.old.vertices past.new.items) }
-    ensures trail { OnOk result (trail.new ≡ record { vertices = trail.old.vertices; entries = take place trail.old.entries ++ map entry_of suffix.items }) }
+    ensures below { OnOk result
+        (SuffixesBelow trail.old.vertices past.old.items → SuffixesBelow trail.old.vertices past.new.items) }
+    ensures trail { OnOk result
+        (trail.new ≡ record { vertices = trail.old.vertices; entries = take place trail.old.entries ++ map entry_of suffix.items }) }
     ensures err_past { OnErr result (past.new.items ≡ past.old.items) }
     ensures err_trail { OnErr result (trail.new ≡ trail.old) }
 {
@@ -49,10 +53,10 @@ impl Desk {
     ghost use Rattle.vpg_desk.specs.Faults.{retract_refusal};
     ghost use Rattle.vpg_desk.specs.State.{IsStep, Replies};
 
-    /// Takes the decision on a feature back, as the next change, and gives the change's token. Of the later entries it drops the
-    /// lifts that assumed the decision; the others stay, with the old values that the entries now before them give. Refused, in
-    /// this order: the diagram has no such feature; it isn't decided; the desk has made its most changes; want of memory. A
-    /// refusal changes nothing.
+    /// Takes the decision on a feature back, as the next change, and gives the change's token. Of the later entries it
+    /// drops the lifts that assumed the decision; the others stay, with the old values that the entries now before them
+    /// give. Refused, in this order: the diagram has no such feature; it isn't decided; the desk has made its most
+    /// changes; want of memory. A refusal changes nothing.
     pub fn retract(
         &mut self,
         alloc: Global,
@@ -60,8 +64,12 @@ impl Desk {
         feature: u16,
     ) -> Result<Undo, RetractFault>
         ensures accepted { IfOk result (λ undo. IsStep self.old session (Retract feature) (Changed undo) self.new) }
-        ensures refused { IfErr result (λ fault. IfSome (retract_refusal fault) (λ refusal. Replies self.old (Retract feature) (Refused refusal))) }
-        ensures last { IfErr result (λ fault. fault ≡ RetractFault.Memory → Replies self.old (Retract feature) (Changed (self.old.book.changes + 1))) }
+        ensures refused { IfErr result
+            (λ fault. IfSome (retract_refusal fault)
+            (λ refusal. Replies self.old (Retract feature) (Refused refusal))) }
+        ensures last { IfErr result
+            (λ fault. fault ≡ RetractFault.Memory →
+            Replies self.old (Retract feature) (Changed (self.old.book.changes + 1))) }
         ensures err { OnErr result (self.new ≡ self.old) }
     {
         if feature as usize >= self.diagram.features() {

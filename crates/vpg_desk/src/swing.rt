@@ -32,7 +32,8 @@ fn has_serial(cuts: &[Cut], serial: u64) -> bool
 
 /// Why the newest past page isn't that of the serial.
 pub(crate) fn undo_fault(past: &[Cut], serial: u64) -> Option<UndoFault>
-    ensures { MatchOption result (refuses_undo serial (serials_from_top past.now) ≡ None) (λ fault. refuses_undo serial (serials_from_top past.now) ≡ undo_refusal fault) }
+    ensures { MatchOption result (refuses_undo serial (serials_from_top past.now) ≡ None)
+        (λ fault. refuses_undo serial (serials_from_top past.now) ≡ undo_refusal fault) }
 {
     let Some(newest) = past.last() else {
         return Some(UndoFault::Sealed);
@@ -50,7 +51,8 @@ pub(crate) fn undo_fault(past: &[Cut], serial: u64) -> Option<UndoFault>
 
 /// Why the nearest future page isn't that of the serial.
 pub(crate) fn redo_fault(future: &[Cut], serial: u64) -> Option<RedoFault>
-    ensures { MatchOption result (refuses_redo serial (serials_from_top future.now) ≡ None) (λ fault. refuses_redo serial (serials_from_top future.now) ≡ redo_refusal fault) }
+    ensures { MatchOption result (refuses_redo serial (serials_from_top future.now) ≡ None)
+        (λ fault. refuses_redo serial (serials_from_top future.now) ≡ redo_refusal fault) }
 {
     let Some(nearest) = future.last() else {
         return Some(RedoFault::Overtaken);
@@ -80,16 +82,20 @@ pub(crate) fn games_over(
     requires features { game.now.features ≡ feature_count diagram.now.lines }
     requires held { AreGamesOf game.now diagram.now present.now }
     requires not_at_limit { ¬ IsAtLimit game.now }
-    requires consistent { AllByRecursion (λ k. ¬ (HasConflict (setting_between game.now diagram.now) (choices_of k.page))) (pages_of trail.now.entries cuts.now) }
-    ensures { IfOk result (λ games. (cut : Saved) (further : List Saved) → cuts_of cuts.now ≡ cut ∷ further → ArePageGames game.now diagram.now (choices_of (spliced trail.now.entries cut.place cut.suffix)) (arc_value games)) }
+    requires consistent { AllByRecursion
+        (λ k. ¬ (HasConflict (setting_between game.now diagram.now) (choices_of k.page)))
+        (pages_of trail.now.entries cuts.now) }
+    ensures { IfOk result (λ games. (cut : Saved) (further : List Saved) → cuts_of cuts.now ≡ cut ∷ further →
+        ArePageGames game.now diagram.now (choices_of (spliced trail.now.entries cut.place cut.suffix))
+        (arc_value games)) }
 {
     let cut = cuts.last().unwrap();
     let before = &trail.entries()[..cut.place];
     games_of_page(alloc, game, diagram, before, &cut.suffix, present)
 }
 
-/// Takes the nearest page of the one side in place of the present one, which was known to be settled or not, and becomes the nearest
-/// of the other side. Gives whether the page that is present now is known to be settled.
+/// Takes the nearest page of the one side in place of the present one, which was known to be settled or not, and
+/// becomes the nearest of the other side. Gives whether the page that is present now is known to be settled.
 pub(crate) fn swing(
     from: &mut Vec<Cut>,
     trail: &mut Trail,
@@ -100,7 +106,8 @@ pub(crate) fn swing(
     requires fits { FitOver trail.old.entries (cuts_of from.old.items) }
     requires below { SuffixesBelow trail.old.vertices from.old.items }
     requires well_formed { AllByRecursion (λ k. IsWellFormed k.page) (pages_of trail.old.entries from.old.items) }
-    ensures swung { OnOk result (IsSwung from.old.items trail.old.entries to.old.items from.new.items trail.new.entries to.new.items) }
+    ensures swung { OnOk result
+        (IsSwung from.old.items trail.old.entries to.old.items from.new.items trail.new.entries to.new.items) }
     ensures note { IfOk result (λ note. notes_of from.old.items ≡ note ∷ notes_of from.new.items) }
     ensures left { OnOk result (notes_of to.new.items ≡ was ∷ notes_of to.old.items) }
     ensures vertices { trail.new.vertices ≡ trail.old.vertices }

@@ -3,7 +3,8 @@ ghost use Rattle.std.specs.Prelude.{◌≡◌};
 
 use std::marker::Model;
 
-/// Stands for a change, which an undo takes back. It can be neither copied nor let go: `Desk::undo` or `Desk::keep` spends it.
+/// Stands for a change, which an undo takes back. It can be neither copied nor let go: `Desk::undo` or `Desk::keep`
+/// spends it.
 pub struct Undo {
     serial: u64,
 }

@@ -14,16 +14,19 @@ impl Desk {
     ghost use Rattle.vpg_desk.specs.History.{gives_undo, gives_redo};
     ghost use Rattle.vpg_desk.specs.State.{IsStep, Replies, Restores};
 
-    /// Takes the token's change back, and gives a token to redo it: the present page is the one in which the change was made.
-    /// Refused, in this order: the past has no page of this change any more; a newer change has to be undone first; want of
-    /// memory. A refusal changes nothing, and the token comes back.
+    /// Takes the token's change back, and gives a token to redo it: the present page is the one in which the change was
+    /// made. Refused, in this order: the past has no page of this change any more; a newer change has to be undone
+    /// first; want of memory. A refusal changes nothing, and the token comes back.
     pub fn undo(&mut self, alloc: Global, token: Undo) -> Result<Redo, UndoRefused>
         requires { 0 < self.old.book.tokens }
-        ensures accepted { IfOk result (λ redo. (session : ℕ) → IsStep self.old session (AsksUndo token) (Undone redo) self.new) }
+        ensures accepted { IfOk result
+            (λ redo. (session : ℕ) → IsStep self.old session (AsksUndo token) (Undone redo) self.new) }
         ensures restores { OnOk result (Restores gives_undo self.old token self.new) }
-        ensures refused { IfErr result (λ r. IfSome (undo_refusal r.fault) (λ refusal. Replies self.old (AsksUndo token) (Refused refusal))) }
+        ensures refused { IfErr result
+            (λ r. IfSome (undo_refusal r.fault) (λ refusal. Replies self.old (AsksUndo token) (Refused refusal))) }
         ensures newer { IfErr result (λ r. (n : ℕ) → r.fault ≡ UndoFault.NotNewest n → token < n) }
-        ensures last { IfErr result (λ r. r.fault ≡ UndoFault.Memory → Replies self.old (AsksUndo token) (Undone token)) }
+        ensures last { IfErr result
+            (λ r. r.fault ≡ UndoFault.Memory → Replies self.old (AsksUndo token) (Undone token)) }
         ensures err { OnErr result (self.new ≡ self.old) }
         ensures back { IfErr result (λ r. r.token ≡ token) }
     {
@@ -33,16 +36,19 @@ impl Desk {
         }
     }
 
-    /// Makes the token's change again, and gives a token to undo it: the present page is the one in which the change was undone.
-    /// Refused, in this order: the future has no page of this change any more; an earlier change has to be redone first; want
-    /// of memory. A refusal changes nothing, and the token comes back.
+    /// Makes the token's change again, and gives a token to undo it: the present page is the one in which the change
+    /// was undone. Refused, in this order: the future has no page of this change any more; an earlier change has to be
+    /// redone first; want of memory. A refusal changes nothing, and the token comes back.
     pub fn redo(&mut self, alloc: Global, token: Redo) -> Result<Undo, RedoRefused>
         requires { 0 < self.old.book.tokens }
-        ensures accepted { IfOk result (λ undo. (session : ℕ) → IsStep self.old session (AsksRedo token) (Redone undo) self.new) }
+        ensures accepted { IfOk result
+            (λ undo. (session : ℕ) → IsStep self.old session (AsksRedo token) (Redone undo) self.new) }
         ensures restores { OnOk result (Restores gives_redo self.old token self.new) }
-        ensures refused { IfErr result (λ r. IfSome (redo_refusal r.fault) (λ refusal. Replies self.old (AsksRedo token) (Refused refusal))) }
+        ensures refused { IfErr result
+            (λ r. IfSome (redo_refusal r.fault) (λ refusal. Replies self.old (AsksRedo token) (Refused refusal))) }
         ensures nearer { IfErr result (λ r. (n : ℕ) → r.fault ≡ RedoFault.NotNext n → n < token) }
-        ensures last { IfErr result (λ r. r.fault ≡ RedoFault.Memory → Replies self.old (AsksRedo token) (Redone token)) }
+        ensures last { IfErr result
+            (λ r. r.fault ≡ RedoFault.Memory → Replies self.old (AsksRedo token) (Redone token)) }
         ensures err { OnErr result (self.new ≡ self.old) }
         ensures back { IfErr result (λ r. r.token ≡ token) }
     {
@@ -54,10 +60,13 @@ impl Desk {
 
     /// Goes back to the newest past page, where that has the serial.
     fn swing_back(&mut self, alloc: Global, serial: u64) -> Result<(), UndoFault>
-        ensures accepted { OnOk result ((session : ℕ) → IsStep self.old session (AsksUndo serial) (Undone serial) self.new) }
-        ensures refused { IfErr result (λ fault. IfSome (undo_refusal fault) (λ refusal. Replies self.old (AsksUndo serial) (Refused refusal))) }
+        ensures accepted { OnOk result
+            ((session : ℕ) → IsStep self.old session (AsksUndo serial) (Undone serial) self.new) }
+        ensures refused { IfErr result
+            (λ fault. IfSome (undo_refusal fault) (λ refusal. Replies self.old (AsksUndo serial) (Refused refusal))) }
         ensures newer { IfErr result (λ fault. (n : ℕ) → fault ≡ UndoFault.NotNewest n → serial < n) }
-        ensures last { IfErr result (λ fault. fault ≡ UndoFault.Memory → Replies self.old (AsksUndo serial) (Undone serial)) }
+        ensures last { IfErr result
+            (λ fault. fault ≡ UndoFault.Memory → Replies self.old (AsksUndo serial) (Undone serial)) }
         ensures err { OnErr result (self.new ≡ self.old) }
     {
         if let Some(fault) = undo_fault(&self.past, serial) {
@@ -80,10 +89,13 @@ impl Desk {
 
     /// Goes forth to the nearest future page, where that has the serial.
     fn swing_forth(&mut self, alloc: Global, serial: u64) -> Result<(), RedoFault>
-        ensures accepted { OnOk result ((session : ℕ) → IsStep self.old session (AsksRedo serial) (Redone serial) self.new) }
-        ensures refused { IfErr result (λ fault. IfSome (redo_refusal fault) (λ refusal. Replies self.old (AsksRedo serial) (Refused refusal))) }
+        ensures accepted { OnOk result
+            ((session : ℕ) → IsStep self.old session (AsksRedo serial) (Redone serial) self.new) }
+        ensures refused { IfErr result
+            (λ fault. IfSome (redo_refusal fault) (λ refusal. Replies self.old (AsksRedo serial) (Refused refusal))) }
         ensures nearer { IfErr result (λ fault. (n : ℕ) → fault ≡ RedoFault.NotNext n → n < serial) }
-        ensures last { IfErr result (λ fault. fault ≡ RedoFault.Memory → Replies self.old (AsksRedo serial) (Redone serial)) }
+        ensures last { IfErr result
+            (λ fault. fault ≡ RedoFault.Memory → Replies self.old (AsksRedo serial) (Redone serial)) }
         ensures err { OnErr result (self.new ≡ self.old) }
     {
         if let Some(fault) = redo_fault(&self.future, serial) {

@@ -1,6 +1,6 @@
--- The picture of a feature diagram, in Graphviz's language (DOT): a filled dot at the end of a mandatory edge and an empty one at that of an
--- optional one, as in FODA (Kang et al. 1990). Graphviz has no arcs between edges, so a triangle stands for the arc of a group: filled for or,
--- empty for alternative, and with its range for a cardinality.
+-- The picture of a feature diagram, in Graphviz's language (DOT): a filled dot at the end of a mandatory edge and an
+-- empty one at that of an optional one, as in FODA (Kang et al. 1990). Graphviz has no arcs between edges, so a
+-- triangle stands for the arc of a group: filled for or, empty for alternative, and with its range for a cardinality.
 use Rattle.std.specs.Prelude.{ℕ, zero, suc, Bool, if◌then◌else◌, ◌==◌, ◌||◌, List, [], ◌∷◌, ◌++◌, length, filter, Option, Some, None, codes, bytes_eq, flat_map, slice_index_or}
 use Rattle.std.specs.List.{slice_split}
 use Rattle.vpg_guards.specs.declared.tri.Tri.{Tri}
@@ -54,7 +54,8 @@ feature_text name value = codes "  " ++ quoted name ++ value_look value
 -- those of the features below n
 abbrev pub features_text : List (List ℕ) → List Tri → ℕ → List ℕ
 features_text names known zero = []
-features_text names known (suc n) = features_text names known n ++ feature_text (feature_name names n) (slice_index_or known n Unknown)
+features_text names known (suc n) =
+    features_text names known n ++ feature_text (feature_name names n) (slice_index_or known n Unknown)
 
 -- ---- lines
 
@@ -72,7 +73,8 @@ arc_name first = codes "group " ++ first
 -- the arc, and the way to it
 unfoldable pub arc_text : List ℕ → List ℕ → List ℕ → List ℕ
 arc_text parent look arc =
-    codes "  " ++ quoted arc ++ codes " [shape=triangle, height=0.2, width=0.3, " ++ look ++ arrow_text parent (codes " [arrowhead=none];\n") arc
+    codes "  " ++ quoted arc ++ codes " [shape=triangle, height=0.2, width=0.3, " ++ look
+    ++ arrow_text parent (codes " [arrowhead=none];\n") arc
 
 -- so far as there are members: the arc, and the ways from it
 abbrev pub group_text : List ℕ → List ℕ → List (List ℕ) → List ℕ
@@ -82,14 +84,18 @@ group_text parent look (first ∷ more) =
     ++ arrows_text (arc_name first) (codes " [arrowhead=none];\n") more
 
 abbrev pub range_look : List ℕ → List ℕ → List ℕ
-range_look low high = codes "fillcolor=white, label=\"\", xlabel=\"" ++ flat_map label_byte low ++ codes ".." ++ flat_map label_byte high ++ codes "\"];\n"
+range_look low high =
+    codes "fillcolor=white, label=\"\", xlabel=\"" ++ flat_map label_byte low ++ codes ".." ++ flat_map label_byte high
+    ++ codes "\"];\n"
 
 -- what a line of this kind draws: its parent, and what stands behind it
 abbrev pub kind_text : Kind → List ℕ → List (List ℕ) → List ℕ
 kind_text kinds.Mandatory parent words = arrows_text parent (codes " [arrowhead=dot];\n") words
 kind_text kinds.Optional parent words = arrows_text parent (codes " [arrowhead=odot];\n") words
-kind_text kinds.Requires parent words = arrows_text parent (codes " [label=requires, style=dashed, constraint=false];\n") words
-kind_text kinds.Excludes parent words = arrows_text parent (codes " [label=excludes, style=dashed, constraint=false, dir=both];\n") words
+kind_text kinds.Requires parent words =
+    arrows_text parent (codes " [label=requires, style=dashed, constraint=false];\n") words
+kind_text kinds.Excludes parent words =
+    arrows_text parent (codes " [label=excludes, style=dashed, constraint=false, dir=both];\n") words
 kind_text kinds.Alternative parent words = group_text parent (codes "fillcolor=white, label=\"\"];\n") words
 kind_text kinds.Or parent words = group_text parent (codes "fillcolor=black, label=\"\"];\n") words
 kind_text kinds.Group parent (low ∷ high ∷ words) = group_text parent (range_look low high) words

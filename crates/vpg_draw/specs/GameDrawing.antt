@@ -1,4 +1,5 @@
--- The picture of a game on a page, in Graphviz's language (DOT). As in PGSolver's pictures, Even's vertices are diamonds and Odd's boxes.
+-- The picture of a game on a page, in Graphviz's language (DOT). As in PGSolver's pictures, Even's vertices are
+-- diamonds and Odd's boxes.
 use Rattle.std.specs.Prelude.{ℕ, zero, suc, Bool, true, false, if◌then◌else◌, List, [], ◌∷◌, ◌++◌, length, codes, decimal, flat_map, slice_index, slice_index_or}
 use Rattle.vpg_guards.specs.declared.tri.Tri.{Tri}
 use Rattle.vpg_guards.specs.declared.tri.Tri.TheVariants.{No, Unknown, Yes}
@@ -34,7 +35,8 @@ name_line (b ∷ name) = codes "\\n" ++ wrapped 0 (b ∷ name)
 abbrev pub vertex_text : NamedVertex → List ℕ → Verdict → List ℕ
 vertex_text v name verdict =
     codes "  " ++ decimal v.id ++ codes " [shape=" ++ shape_text v.owner
-    ++ codes ", label=\"" ++ decimal v.id ++ codes " : " ++ decimal v.priority ++ name_line name ++ codes "\"" ++ colours_text verdict.hopeless verdict.sure
+    ++ codes ", label=\"" ++ decimal v.id ++ codes " : " ++ decimal v.priority ++ name_line name ++ codes "\""
+    ++ colours_text verdict.hopeless verdict.sure
 
 -- what a look-up past the end gives
 abbrev pub no_verdict : Verdict
@@ -45,7 +47,8 @@ abbrev pub vertices_text : List NamedVertex → List (List ℕ) → List Verdict
 vertices_text vertices labels verdicts zero = []
 vertices_text vertices labels verdicts (suc n) =
     vertices_text vertices labels verdicts n
-    ++ vertex_text (slice_index_or vertices n no_vertex) (slice_index_or labels n []) (slice_index_or verdicts n no_verdict)
+    ++ vertex_text (slice_index_or vertices n no_vertex) (slice_index_or labels n [])
+    (slice_index_or verdicts n no_verdict)
 
 -- ---- edges
 
@@ -71,7 +74,8 @@ edges_text names known vertices v = flat_map (edge_text names known vertices v.i
 -- those of the vertices below n
 abbrev pub all_edges_text : List (List ℕ) → List Tri → List NamedVertex → ℕ → List ℕ
 all_edges_text names known vertices zero = []
-all_edges_text names known vertices (suc n) = all_edges_text names known vertices n ++ edges_text names known vertices (slice_index_or vertices n no_vertex)
+all_edges_text names known vertices (suc n) =
+    all_edges_text names known vertices n ++ edges_text names known vertices (slice_index_or vertices n no_vertex)
 
 -- ---- the picture
 

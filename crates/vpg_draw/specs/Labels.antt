@@ -1,4 +1,5 @@
--- What stands between the quotes of a Graphviz label (Graphviz's documentation, "Attribute types", escString and lblString).
+-- What stands between the quotes of a Graphviz label (Graphviz's documentation, "Attribute types", escString and
+-- lblString).
 use Rattle.std.specs.Prelude.{ℕ, ◌+◌, Bool, if◌then◌else◌, ◌==◌, ◌&&◌, nat_le, nat_lt, List, [], ◌∷◌, ◌++◌, codes, decimal, flat_map, slice_index_or}
 use Rattle.vpg_diagram.specs.declared.clause.Literal.{Literal}
 
@@ -17,7 +18,8 @@ ends_line column b = (b == 32) && nat_le 12 column
 -- a name in lines, where so many bytes stand on the present one
 abbrev pub wrapped : ℕ → List ℕ → List ℕ
 wrapped column [] = []
-wrapped column (b ∷ bytes) = if ends_line column b then codes "\\n" ++ wrapped 0 bytes else label_byte b ++ wrapped (column + 1) bytes
+wrapped column (b ∷ bytes) =
+    if ends_line column b then codes "\\n" ++ wrapped 0 bytes else label_byte b ++ wrapped (column + 1) bytes
 
 -- the name of a feature
 abbrev pub feature_name : List (List ℕ) → ℕ → List ℕ

@@ -150,7 +150,8 @@ fn arrow(from: &[u8], look: &[u8], to: &[u8], out: &mut Vec<u8>) -> Result<(), A
 
 /// Appends an edge to each of the words.
 fn arrows(from: &[u8], look: &[u8], words: &[&[u8]], out: &mut Vec<u8>) -> Result<(), AllocError>
-    ensures { OnOk result (out.new.items ≡ out.old.items ++ arrows_text from.now look.now (map (λ w. w.now) words.now)) }
+    ensures { OnOk result (out.new.items ≡ out.old.items
+        ++ arrows_text from.now look.now (map (λ w. w.now) words.now)) }
 {
     for word in words {
         arrow(from, look, word, out)?;
@@ -189,7 +190,8 @@ fn members(
     more: &[&[u8]],
     out: &mut Vec<u8>,
 ) -> Result<(), AllocError>
-    ensures { OnOk result (out.new.items ≡ out.old.items ++ group_text parent.now look.now (first.now ∷ map (λ w. w.now) more.now)) }
+    ensures { OnOk result (out.new.items ≡ out.old.items
+        ++ group_text parent.now look.now (first.now ∷ map (λ w. w.now) more.now)) }
 {
     let name = arc_name(alloc, first)?;
     arc(parent, look, &name, out)?;
@@ -205,7 +207,8 @@ fn group(
     words: &[&[u8]],
     out: &mut Vec<u8>,
 ) -> Result<(), AllocError>
-    ensures { OnOk result (out.new.items ≡ out.old.items ++ group_text parent.now look.now (map (λ w. w.now) words.now)) }
+    ensures { OnOk result (out.new.items ≡ out.old.items
+        ++ group_text parent.now look.now (map (λ w. w.now) words.now)) }
 {
     match words {
         [] => Ok(()),
@@ -233,7 +236,8 @@ fn ranged(
     words: &[&[u8]],
     out: &mut Vec<u8>,
 ) -> Result<(), AllocError>
-    ensures { OnOk result (out.new.items ≡ out.old.items ++ group_text parent.now (range_look low.now high.now) (map (λ w. w.now) words.now)) }
+    ensures { OnOk result (out.new.items ≡ out.old.items
+        ++ group_text parent.now (range_look low.now high.now) (map (λ w. w.now) words.now)) }
 {
     let look = range_look(alloc, low, high)?;
     group(alloc, parent, &look, words, out)
@@ -241,7 +245,8 @@ fn ranged(
 
 /// Appends what a group with a cardinality draws.
 fn range(alloc: Global, parent: &[u8], words: &[&[u8]], out: &mut Vec<u8>) -> Result<(), AllocError>
-    ensures { OnOk result (out.new.items ≡ out.old.items ++ kind_text Kind.Group parent.now (map (λ w. w.now) words.now)) }
+    ensures { OnOk result (out.new.items ≡ out.old.items
+        ++ kind_text Kind.Group parent.now (map (λ w. w.now) words.now)) }
 {
     match words {
         [] | [_] => Ok(()),
@@ -299,7 +304,8 @@ fn of_kind(
     words: &[&[u8]],
     out: &mut Vec<u8>,
 ) -> Result<(), AllocError>
-    ensures { OnOk result (out.new.items ≡ out.old.items ++ known_kind_text kind parent.now (map (λ w. w.now) words.now)) }
+    ensures { OnOk result (out.new.items ≡ out.old.items
+        ++ known_kind_text kind parent.now (map (λ w. w.now) words.now)) }
 {
     match kind {
         Some(kind) => by_kind(alloc, kind, parent, words, out),
@@ -357,10 +363,12 @@ fn defaults(out: &mut Vec<u8>) -> Result<(), AllocError>
     out.extend_from_slice(b"\", labelloc=t];\n  node [shape=box, style=filled, height=0.3];\n")
 }
 
-/// Appends the picture of a feature diagram: the decisions; each feature in the diagram's order, green where it is known in, grey where it
-/// is known out, white and dashed where it is open; then what each line of the text draws, in their order.
+/// Appends the picture of a feature diagram: the decisions; each feature in the diagram's order, green where it is
+/// known in, grey where it is known out, white and dashed where it is open; then what each line of the text draws, in
+/// their order.
 ///
-/// `text` is the one that the diagram was read from, and `known` has what is known of each feature. `Err` leaves `out` as it was.
+/// `text` is the one that the diagram was read from, and `known` has what is known of each feature. `Err` leaves `out`
+/// as it was.
 pub fn draw_features(
     alloc: Global,
     text: &[u8],
@@ -371,7 +379,9 @@ pub fn draw_features(
 ) -> Result<(), AllocError>
     requires known { length known.now ≡ length diagram.now.names }
     requires decisions { All (λ d. d.feature < length diagram.now.names) decisions.now }
-    ensures drawn { OnOk result (out.new.items ≡ out.old.items ++ feature_drawing diagram.now.names known.now (map literal_of decisions.now) text.now) }
+    ensures drawn { OnOk result
+        (out.new.items ≡ out.old.items
+        ++ feature_drawing diagram.now.names known.now (map literal_of decisions.now) text.now) }
     ensures unchanged { OnErr result (out.new.items ≡ out.old.items) }
 {
     let names = diagram.names();

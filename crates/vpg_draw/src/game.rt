@@ -64,7 +64,8 @@ fn vertex(
     out: &mut Vec<u8>,
 ) -> Result<(), AllocError>
     requires { v < length game.now.vertices }
-    ensures { OnOk result (out.new.items ≡ out.old.items ++ vertex_text (slice_index_or game.now.vertices v no_vertex) name.now verdict) }
+    ensures { OnOk result (out.new.items ≡ out.old.items
+        ++ vertex_text (slice_index_or game.now.vertices v no_vertex) name.now verdict) }
 {
     let id = identifier(game, v);
     out.extend_from_slice(b"  ")?;
@@ -88,7 +89,8 @@ fn vertices(
     out: &mut Vec<u8>,
 ) -> Result<(), AllocError>
     requires { length verdicts.now ≡ length game.now.vertices }
-    ensures { OnOk result (out.new.items ≡ out.old.items ++ vertices_text game.now.vertices names.now.names verdicts.now (length game.now.vertices)) }
+    ensures { OnOk result (out.new.items ≡ out.old.items
+        ++ vertices_text game.now.vertices names.now.names verdicts.now (length game.now.vertices)) }
 {
     let count = game.vertices() as u32;
     for v in 0..count {
@@ -140,7 +142,8 @@ fn edge(
     requires known { length known.now ≡ length features.now }
     requires to { edge.now.to < length game.now.vertices }
     requires guard { IsBelow (length features.now) edge.now.guard }
-    ensures { OnOk result (out.new.items ≡ out.old.items ++ edge_text features.now known.now game.now.vertices id edge.now) }
+    ensures { OnOk result (out.new.items ≡ out.old.items
+        ++ edge_text features.now known.now game.now.vertices id edge.now) }
 {
     out.extend_from_slice(b"  ")?;
     number(id, out)?;
@@ -164,7 +167,8 @@ fn edges(
     requires known { length known.now ≡ length features.now }
     requires features { length features.now ≡ game.now.features }
     requires v { v < length game.now.vertices }
-    ensures { OnOk result (out.new.items ≡ out.old.items ++ edges_text features.now known.now game.now.vertices (slice_index_or game.now.vertices v no_vertex)) }
+    ensures { OnOk result (out.new.items ≡ out.old.items
+        ++ edges_text features.now known.now game.now.vertices (slice_index_or game.now.vertices v no_vertex)) }
 {
     let _count = game.vertices();
     let id = identifier(game, v);
@@ -185,7 +189,8 @@ fn all_edges(
 ) -> Result<(), AllocError>
     requires known { length known.now ≡ length features.now }
     requires features { length features.now ≡ game.now.features }
-    ensures { OnOk result (out.new.items ≡ out.old.items ++ all_edges_text features.now known.now game.now.vertices (length game.now.vertices)) }
+    ensures { OnOk result (out.new.items ≡ out.old.items
+        ++ all_edges_text features.now known.now game.now.vertices (length game.now.vertices)) }
 {
     let count = game.vertices() as u32;
     for v in 0..count {
@@ -218,9 +223,10 @@ fn heading(features: &Names, decisions: &[Decision], out: &mut Vec<u8>) -> Resul
     defaults(out)
 }
 
-/// Appends the picture of a game on a page: the decisions, then each vertex in file order, a diamond for Even and a box for Odd, with its
-/// identifier, its priority, its name where it has one, and a colour for its verdict (red hopeless, green sure); then each edge with its
-/// guard, solid where it is kept, dashed where it may be, dotted where it is left out.
+/// Appends the picture of a game on a page: the decisions, then each vertex in file order, a diamond for Even and a box
+/// for Odd, with its identifier, its priority, its name where it has one, and a colour for its verdict (red hopeless,
+/// green sure); then each edge with its guard, solid where it is kept, dashed where it may be, dotted where it is left
+/// out.
 ///
 /// `known` has what is known of each feature, `verdicts` one verdict for each vertex. `Err` leaves the text as it was.
 pub fn draw_game(
@@ -237,7 +243,9 @@ pub fn draw_game(
     requires known { length known.now ≡ game.now.features }
     requires decisions { All (λ d. d.feature < game.now.features) decisions.now }
     requires verdicts { length verdicts.now ≡ length game.now.vertices }
-    ensures drawn { OnOk result (out.new.items ≡ out.old.items ++ game_drawing features.now known.now (map literal_of decisions.now) names.now.names verdicts.now game.now) }
+    ensures drawn { OnOk result
+        (out.new.items ≡ out.old.items
+        ++ game_drawing features.now known.now (map literal_of decisions.now) names.now.names verdicts.now game.now) }
     ensures unchanged { OnErr result (out.new.items ≡ out.old.items) }
 {
     let mut text = Vec::new(alloc);

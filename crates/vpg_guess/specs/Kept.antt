@@ -8,4 +8,5 @@ use Rattle.vpg_measure.specs.Lifts.{IsTableOf, IsProgressTable, IsBelowTable}
 pub record IsRaisedFrom (levels : List Level) (arena : List Node) (old new : List ℕ) : Type 0 where
   pub table : IsTableOf levels arena new
   pub above : IsBelowTable old new
-  pub below : (other : List ℕ) → IsTableOf levels arena other → IsProgressTable levels arena other → IsBelowTable old other → IsBelowTable new other
+  pub below : (other : List ℕ) → IsTableOf levels arena other → IsProgressTable levels arena other →
+      IsBelowTable old other → IsBelowTable new other

@@ -180,8 +180,8 @@ struct Straight<'a> {
 }
 
 impl<'a> Straight<'a> {
-    // Odd's move over which the bound of v follows: that of the guess where Odd is taken to win; else out of the vertices to be raised;
-    // else to the one of the greatest present value.
+    // Odd's move over which the bound of v follows: that of the guess where Odd is taken to win; else out of the
+    // vertices to be raised; else to the one of the greatest present value.
     fn move_from(&self, v: u32) -> Option<u32> {
         let bounds = &self.raises.bounds;
         if self.ground.even.top <= bounds.get(v)
@@ -400,8 +400,10 @@ pub(crate) fn top_certificate(
     table: &Table,
     budget: &mut Budget,
 ) -> Result<Option<Certificate>, AllocError>
-    ensures bounds { IfOk result (λ found. IfSome found (λ certificate. IsTableOf shape.now arena.now certificate.bounds)) }
-    ensures ranks { IfOk result (λ found. IfSome found (λ certificate. IsTableOf dual_shape.now arena.now certificate.ranks)) }
+    ensures bounds { IfOk result
+        (λ found. IfSome found (λ certificate. IsTableOf shape.now arena.now certificate.bounds)) }
+    ensures ranks { IfOk result
+        (λ found. IfSome found (λ certificate. IsTableOf dual_shape.now arena.now certificate.ranks)) }
 {
     match ranked_top(alloc, ground, regions, table.values(), budget)? {
         Some(ranked) => Ok(Some(certificate_of(alloc, shape, dual_shape, arena, &ranked)?)),
@@ -482,8 +484,10 @@ fn certificate_of_part(
     budget: &mut Budget,
 ) -> Result<Option<Certificate>, AllocError>
     requires { IsTableOf shape.now arena.now table.now }
-    ensures bounds { IfOk result (λ found. IfSome found (λ certificate. IsTableOf shape.now arena.now certificate.bounds)) }
-    ensures ranks { IfOk result (λ found. IfSome found (λ certificate. IsTableOf dual_shape.now arena.now certificate.ranks)) }
+    ensures bounds { IfOk result
+        (λ found. IfSome found (λ certificate. IsTableOf shape.now arena.now certificate.bounds)) }
+    ensures ranks { IfOk result
+        (λ found. IfSome found (λ certificate. IsTableOf dual_shape.now arena.now certificate.ranks)) }
 {
     match ranked_part(alloc, part, budget)? {
         Some(ranked) => Ok(Some(certificate_around(
@@ -505,8 +509,10 @@ pub(crate) fn part_certificate(
     budget: &mut Budget,
 ) -> Result<Option<Certificate>, AllocError>
     requires { IsTableOf shape.now arena.now table.now }
-    ensures bounds { IfOk result (λ found. IfSome found (λ certificate. IsTableOf shape.now arena.now certificate.bounds)) }
-    ensures ranks { IfOk result (λ found. IfSome found (λ certificate. IsTableOf dual_shape.now arena.now certificate.ranks)) }
+    ensures bounds { IfOk result
+        (λ found. IfSome found (λ certificate. IsTableOf shape.now arena.now certificate.bounds)) }
+    ensures ranks { IfOk result
+        (λ found. IfSome found (λ certificate. IsTableOf dual_shape.now arena.now certificate.ranks)) }
 {
     let part = Part::of(alloc, ground, table.values(), moving)?;
     certificate_of_part(alloc, shape, dual_shape, arena, &part, table, budget)
@@ -524,8 +530,10 @@ pub(crate) fn certificate(
     weight: u64,
     budget: &mut Budget,
 ) -> Result<Option<Certificate>, AllocError>
-    ensures bounds { IfOk result (λ found. IfSome found (λ certificate. IsTableOf shape.now arena.now certificate.bounds)) }
-    ensures ranks { IfOk result (λ found. IfSome found (λ certificate. IsTableOf dual_shape.now arena.now certificate.ranks)) }
+    ensures bounds { IfOk result
+        (λ found. IfSome found (λ certificate. IsTableOf shape.now arena.now certificate.bounds)) }
+    ensures ranks { IfOk result
+        (λ found. IfSome found (λ certificate. IsTableOf dual_shape.now arena.now certificate.ranks)) }
 {
     match ranked(alloc, ground, guess, table.values(), weight, budget)? {
         Some(ranked) => Ok(Some(certificate_of(alloc, shape, dual_shape, arena, &ranked)?)),

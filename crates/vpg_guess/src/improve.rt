@@ -1,6 +1,7 @@
-//! The least values of Even's region, by strategy improvement: each strategy is valued exactly, and then changed where that is better.
-//! A better move lowers the value at once, and those of the vertices that move there: so most choices are found before the next
-//! valuing. Only what leads to a changed choice is valued again, and only what moves to a changed value is looked at again.
+//! The least values of Even's region, by strategy improvement: each strategy is valued exactly, and then changed where
+//! that is better. A better move lowers the value at once, and those of the vertices that move there: so most choices
+//! are found before the next valuing. Only what leads to a changed choice is valued again, and only what moves to a
+//! changed value is looked at again.
 use crate::even_cycles::Level;
 use crate::ground::{GuessGround, value_in};
 use crate::scale::Scale;
@@ -165,8 +166,8 @@ impl<'a> Improvement<'a> {
         Ok(own)
     }
 
-    // Takes better moves from these vertices on, lowers values along, and gives Even's vertices that changed. What is not looked at
-    // for want of looks is looked at the next time.
+    // Takes better moves from these vertices on, lowers values along, and gives Even's vertices that changed. What is
+    // not looked at for want of looks is looked at the next time.
     fn lower(
         &mut self,
         alloc: Global,
@@ -417,8 +418,8 @@ fn guess_over(
     Ok(Guess { values, choice })
 }
 
-/// Guesses the least progress table above a table that has its values but at some vertices: the top where Odd is taken to win, and
-/// elsewhere from Even's choices on. Where the budget is spent, the values are those of some choices.
+/// Guesses the least progress table above a table that has its values but at some vertices: the top where Odd is taken
+/// to win, and elsewhere from Even's choices on. Where the budget is spent, the values are those of some choices.
 pub(crate) fn guess_table(
     alloc: Global,
     ground: &GuessGround,

@@ -1,13 +1,14 @@
 //! Guesses that make settling fast: the least progress table of a game, without lifts.
 //!
-//! Lifting alone climbs one step a round to a top that may be near 2^62. Here the least progress table is guessed. Who wins where is
-//! the work of `vpg_regions`. What Odd wins goes to the top, lifts do most of the rest, and where they don't, strategy improvement
-//! gives the values of what still moves. A table that is not of zeros is guessed at where it moves alone, while that is a small part.
-//! Nothing is promised of a guess but that it is safe and ends. What it says is taken over only as far as certificates show it
-//! (`vpg_measure::raise_to_bounds`). So the raised table stays below every progress table that it was below.
+//! Lifting alone climbs one step a round to a top that may be near 2^62. Here the least progress table is guessed. Who
+//! wins where is the work of `vpg_regions`. What Odd wins goes to the top, lifts do most of the rest, and where they
+//! don't, strategy improvement gives the values of what still moves. A table that is not of zeros is guessed at where
+//! it moves alone, while that is a small part. Nothing is promised of a guess but that it is safe and ends. What it
+//! says is taken over only as far as certificates show it (`vpg_measure::raise_to_bounds`). So the raised table stays
+//! below every progress table that it was below.
 //!
-//! The layer above uses `raise_by_bounds` for one table and `harvest_by_bounds` for both tables of an order. Definitions: those of
-//! `vpg_measure` (`specs/Bounds`, `specs/Lifts`, `specs/Orders`).
+//! The layer above uses `raise_by_bounds` for one table and `harvest_by_bounds` for both tables of an order.
+//! Definitions: those of `vpg_measure` (`specs/Bounds`, `specs/Lifts`, `specs/Orders`).
 #![tactic(auto)]
 
 mod certificates;

@@ -1,5 +1,5 @@
-//! Lifts of what remains: each vertex of which a successor rose, in the order of the vertices where they are many, and else first come,
-//! first served.
+//! Lifts of what remains: each vertex of which a successor rose, in the order of the vertices where they are many, and
+//! else first come, first served.
 ghost use Rattle.vpg_guess.specs.Kept.{IsRaisedFrom};
 ghost use Rattle.vpg_measure.specs.Lifts.{IsTableOf};
 
@@ -20,8 +20,8 @@ const FALL: usize = 16;
 /// How often a vertex rises in the first turn before it is taken to climb.
 const CLIMBS: u32 = 2;
 
-/// The vertices that are to be looked at: those whose lift may exceed their value. And how often each rose in this turn, and in which
-/// turn each was found to move last.
+/// The vertices that are to be looked at: those whose lift may exceed their value. And how often each rose in this
+/// turn, and in which turn each was found to move last.
 #[derive(Drop)]
 pub(crate) struct Waiting {
     waits: PerVertex<bool>,
@@ -131,8 +131,8 @@ impl Waiting {
         }
     }
 
-    /// Those that wait or climbed when this turn ended, and from where moves lead there over others that did so when an earlier one
-    /// ended; none where nothing waits.
+    /// Those that wait or climbed when this turn ended, and from where moves lead there over others that did so when an
+    /// earlier one ended; none where nothing waits.
     pub(crate) fn moving(
         &mut self,
         alloc: Global,
@@ -304,8 +304,8 @@ fn lift_waiting(
     Ok(())
 }
 
-/// Lifts until nothing waits, or so many edges and vertices were looked at, or the budget is spent; or until so many were looked at
-/// as patience has, and as many wait as before.
+/// Lifts until nothing waits, or so many edges and vertices were looked at, or the budget is spent; or until so many
+/// were looked at as patience has, and as many wait as before.
 pub(crate) fn lift_remaining(
     shape: &Shape,
     arena: &Arena,

@@ -89,12 +89,14 @@ impl Scale {
             .min(self.top)
     }
 
-    /// Whether the least number over an edge from this vertex to one of this value is at least a bound, itself such a number.
+    /// Whether the least number over an edge from this vertex to one of this value is at least a bound, itself such a
+    /// number.
     pub(crate) fn reaches(&self, v: u32, bound: u64, value: u64) -> bool {
         bound <= value.saturating_add(self.steps.get(v))
     }
 
-    /// The least value over an edge to which the number at this vertex exceeds its own, itself such a number; past all values at the top.
+    /// The least value over an edge to which the number at this vertex exceeds its own, itself such a number; past all
+    /// values at the top.
     pub(crate) fn limit(&self, v: u32, own: u64) -> u64 {
         if own < self.top {
             let gap = self.weights.get(v).saturating_sub(self.steps.get(v));

@@ -14,4 +14,5 @@ pub record IsEasier (easy hard : Game) : Type 0 where
 
 -- owners exchanged, priorities plus one
 abbrev pub dual_game : Game → Game
-dual_game game = map (λ vertex. record { owner = opponent vertex.owner; priority = suc vertex.priority; successors = vertex.successors }) game
+dual_game game =
+    map (λ vertex. record { owner = opponent vertex.owner; priority = suc vertex.priority; successors = vertex.successors }) game

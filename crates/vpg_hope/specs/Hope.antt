@@ -34,11 +34,13 @@ hopeful_game value game = restrict (λ mover guard. keeps_in_hope mover (value g
 
 -- what is known of a guard of the game is true of it
 abbrev pub AgreesWithTruth : {Guard : Type 0} → (Guard → Tri) → (Guard → Bool) → GuardedGame Guard → Type 0
-AgreesWithTruth value truth game = AllGuards (λ guard. (value guard ≡ Yes → truth guard ≡ true) × (value guard ≡ No → truth guard ≡ false)) game
+AgreesWithTruth value truth game =
+    AllGuards (λ guard. (value guard ≡ Yes → truth guard ≡ true) × (value guard ≡ No → truth guard ≡ false)) game
 
 -- what is known stays known
 abbrev pub Extends : {Guard : Type 0} → (Guard → Tri) → (Guard → Tri) → GuardedGame Guard → Type 0
-Extends later earlier game = AllGuards (λ guard. (earlier guard ≡ Yes → later guard ≡ Yes) × (earlier guard ≡ No → later guard ≡ No)) game
+Extends later earlier game =
+    AllGuards (λ guard. (earlier guard ≡ Yes → later guard ≡ Yes) × (earlier guard ≡ No → later guard ≡ No)) game
 
 -- the truth of each guard is known
 abbrev pub IsFullOf : {Guard : Type 0} → (Guard → Tri) → (Guard → Bool) → GuardedGame Guard → Type 0

@@ -12,7 +12,8 @@ use Rattle.vpg_hope.specs.Hope.{product_game, hopeful_game, AgreesWithTruth, Ext
 
 -- Even and Odd do not both win from one vertex.
 abbrev pub NotBothWin : Type 0
-NotBothWin = (game : Game) (for_even for_odd : Strategy) (v : ℕ) → Wins game Even for_even v → Wins game Odd for_odd v → ⊥
+NotBothWin =
+    (game : Game) (for_even for_odd : Strategy) (v : ℕ) → Wins game Even for_even v → Wins game Odd for_odd v → ⊥
 
 -- A strategy wins for a player exactly where it wins for the other player in the dual.
 abbrev pub DualExchangesWins : Type 0
@@ -21,16 +22,24 @@ DualExchangesWins = (game : Game) (player : Player) (strategy : Strategy) (v : �
 
 -- the hopeful game favours Even at least as much as the game of each product that agrees with what is known
 abbrev pub HopefulIsEasier : Type 0 → Type 0
-HopefulIsEasier Guard = (value : Guard → Tri) (truth : Guard → Bool) (game : GuardedGame Guard) → AgreesWithTruth value truth game → IsEasier (hopeful_game value game) (product_game truth game)
+HopefulIsEasier Guard =
+    (value : Guard → Tri) (truth : Guard → Bool) (game : GuardedGame Guard) → AgreesWithTruth value truth game →
+    IsEasier (hopeful_game value game) (product_game truth game)
 
 -- and as much as the hopeful game where more is known
 abbrev pub EarlierIsEasier : Type 0 → Type 0
-EarlierIsEasier Guard = (earlier later : Guard → Tri) (game : GuardedGame Guard) → Extends later earlier game → IsEasier (hopeful_game earlier game) (hopeful_game later game)
+EarlierIsEasier Guard =
+    (earlier later : Guard → Tri) (game : GuardedGame Guard) → Extends later earlier game →
+    IsEasier (hopeful_game earlier game) (hopeful_game later game)
 
 -- where everything is known the hopeful game is that of the product
 abbrev pub FullIsProduct : Type 0 → Type 0
-FullIsProduct Guard = (value : Guard → Tri) (truth : Guard → Bool) (game : GuardedGame Guard) → IsFullOf value truth game → hopeful_game value game ≡ product_game truth game
+FullIsProduct Guard =
+    (value : Guard → Tri) (truth : Guard → Bool) (game : GuardedGame Guard) → IsFullOf value truth game →
+    hopeful_game value game ≡ product_game truth game
 
 -- In a product the dual's game is the dual of the game.
 abbrev pub DualOfProduct : Type 0 → Type 0
-DualOfProduct Guard = (truth : Guard → Bool) (game : GuardedGame Guard) → product_game truth (dual game) ≡ dual_game (product_game truth game)
+DualOfProduct Guard =
+    (truth : Guard → Bool) (game : GuardedGame Guard) →
+    product_game truth (dual game) ≡ dual_game (product_game truth game)

@@ -13,25 +13,32 @@ use Rattle.vpg_hope.specs.Hope.{product_game, hopeful_game}
 
 -- the hopeful game favours Even at least as much as the game of each product that agrees with the choices
 abbrev pub RemainingProductsAreHarder : Type 0
-RemainingProductsAreHarder = (lines : List Line) (choices : List Literal) (known : List Tri) (set : List Bool) (game : GuardedGame Formula) →
+RemainingProductsAreHarder =
+    (lines : List Line) (choices : List Literal) (known : List Tri) (set : List Bool) (game : GuardedGame Formula) →
     IsDiagram lines → IsKnownTable lines choices known → IsRemaining lines choices set →
     IsEasier (hopeful_game (kleene known) game) (product_game (truth set) game)
 
 -- and the hopeful game of the dual does so for the dual of each of these games, in which Even stands for Odd
 abbrev pub DualsOfRemainingProductsAreHarder : Type 0
-DualsOfRemainingProductsAreHarder = (lines : List Line) (choices : List Literal) (known : List Tri) (set : List Bool) (game : GuardedGame Formula) →
+DualsOfRemainingProductsAreHarder =
+    (lines : List Line) (choices : List Literal) (known : List Tri) (set : List Bool) (game : GuardedGame Formula) →
     IsDiagram lines → IsKnownTable lines choices known → IsRemaining lines choices set →
     IsEasier (hopeful_game (kleene known) (dual game)) (dual_game (product_game (truth set) game))
 
 -- the hopeful game favours Even at least as much as the one after further choices
 abbrev pub MoreChoicesAreHarder : Type 0
-MoreChoicesAreHarder = (lines : List Line) (few many : List Literal) (known more : List Tri) (game : GuardedGame Formula) →
+MoreChoicesAreHarder =
+    (lines : List Line) (few many : List Literal) (known more : List Tri) (game : GuardedGame Formula) →
     AreAmong few many → IsKnownTable lines few known → IsKnownTable lines many more →
     IsEasier (hopeful_game (kleene known) game) (hopeful_game (kleene more) game)
 
 -- where every feature is known, both are exact: the game of the one product that agrees with the choices, and its dual
 abbrev pub FullPagesHaveTheProductsGame : Type 0
-FullPagesHaveTheProductsGame = (lines : List Line) (choices : List Literal) (known : List Tri) (game : GuardedGame Formula) →
-    IsDiagram lines → AreChoicesOf lines choices → IsKnownTable lines choices known → AreAllKnown (feature_count lines) known → AllGuards (IsBelow (feature_count lines)) game →
-    (set : List Bool) × IsRemaining lines choices set × ((other : List Bool) → IsRemaining lines choices other → other ≡ set) ×
-    (hopeful_game (kleene known) game ≡ product_game (truth set) game) × (hopeful_game (kleene known) (dual game) ≡ dual_game (product_game (truth set) game))
+FullPagesHaveTheProductsGame =
+    (lines : List Line) (choices : List Literal) (known : List Tri) (game : GuardedGame Formula) →
+    IsDiagram lines → AreChoicesOf lines choices → IsKnownTable lines choices known →
+    AreAllKnown (feature_count lines) known → AllGuards (IsBelow (feature_count lines)) game →
+    (set : List Bool) × IsRemaining lines choices set ×
+    ((other : List Bool) → IsRemaining lines choices other → other ≡ set) ×
+    (hopeful_game (kleene known) game ≡ product_game (truth set) game) ×
+    (hopeful_game (kleene known) (dual game) ≡ dual_game (product_game (truth set) game))

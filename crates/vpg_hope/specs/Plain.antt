@@ -26,7 +26,8 @@ abbrev pub unguarded : List ℕ → Game → List NamedVertex
 unguarded [] vertices = []
 unguarded (id ∷ ids) [] = []
 unguarded (id ∷ ids) (vertex ∷ vertices) =
-    record { id = id; owner = vertex.owner; priority = vertex.priority; edges = map unguarded_edge vertex.successors } ∷ unguarded ids vertices
+    record { id = id; owner = vertex.owner; priority = vertex.priority; edges = map unguarded_edge vertex.successors }
+    ∷ unguarded ids vertices
 
 -- A plain game is written as that guarded game. It names no feature, and a guard that is `true` isn't written.
 abbrev pub plain_text : IdentifiedGame → List ℕ

@@ -14,4 +14,5 @@ pub record IsReadAgain (plain : IdentifiedGame) : Type 0 where
 
 -- the text of the game of each set of features is read as that game, where no priority is at the limit
 abbrev pub PlainTextsAreReadAgain : Type 0
-PlainTextsAreReadAgain = (set : List Bool) (game : NamedGame) → IsGame game → ¬ IsAtLimit game → IsReadAgain (projection set game)
+PlainTextsAreReadAgain =
+    (set : List Bool) (game : NamedGame) → IsGame game → ¬ IsAtLimit game → IsReadAgain (projection set game)

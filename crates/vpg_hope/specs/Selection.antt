@@ -53,4 +53,5 @@ AreStill before now edges = All (λ edge. kleene before edge.guard ≡ kleene no
 -- a vertex without a mark is as it is selected
 abbrev pub IsHeldUnmarked : Selection → List Bool → GuardedGame Formula → Game → Type 0
 IsHeldUnmarked selection marks graph arena =
-    (v : ℕ) → v < length graph → slice_index_or marks v false ≡ false → slice_index_or arena v isolated ≡ vertex_under selection (vertex_in graph v)
+    (v : ℕ) → v < length graph → slice_index_or marks v false ≡ false →
+    slice_index_or arena v isolated ≡ vertex_under selection (vertex_in graph v)

@@ -60,7 +60,9 @@ fn push_row(
     requires vertex { v < length game.now.vertices }
     requires features { features_under selection ≡ game.now.features }
     requires room { length own.old.items + length (vertex_in (graph_of game.now) v).edges < 2 ^ 32 }
-    ensures own { OnOk result (own.new.items ≡ own.old.items ++ kept_under selection.entry (vertex_in (graph_of game.now) v).owner (vertex_in (graph_of game.now) v).edges) }
+    ensures own { OnOk result
+        (own.new.items ≡ own.old.items
+        ++ kept_under selection.entry (vertex_in (graph_of game.now) v).owner (vertex_in (graph_of game.now) v).edges) }
     ensures row { IfOk result (λ row. row ≡ record {
       owner = owner_under selection.entry (vertex_in (graph_of game.now) v).owner;
       is_own = true;
@@ -82,8 +84,8 @@ fn push_row(
 }
 
 impl Arena {
-    /// The hopeful game: Even's vertices keep the edges whose guard isn't known false, Odd's keep those whose guard is known true.
-    /// Each guard is looked at once. `specs/Hope` defines it, after FASE 2020 and strong Kleene logic.
+    /// The hopeful game: Even's vertices keep the edges whose guard isn't known false, Odd's keep those whose guard is
+    /// known true. Each guard is looked at once. `specs/Hope` defines it, after FASE 2020 and strong Kleene logic.
     pub fn hopeful(alloc: Global, game: &GuardedGame, known: &Partial) -> Result<Arena, AllocError>
         requires { length known.now ≡ game.now.features }
         ensures { IfOk result (λ arena. arena ≡ hopeful_game (kleene known.now) (graph_of game.now)) }
@@ -104,9 +106,9 @@ impl Arena {
         Arena::selected(alloc, game, Selection::HopefulOfDual(known.values()))
     }
 
-    /// The hopeful game under what is known now, from this one, which is that under what was known before. Guards are looked
-    /// at only at the vertices that a feature names of which something else is known now; all else is copied. More may be
-    /// known than before, or less.
+    /// The hopeful game under what is known now, from this one, which is that under what was known before. Guards are
+    /// looked at only at the vertices that a feature names of which something else is known now; all else is copied.
+    /// More may be known than before, or less.
     pub fn updated(
         &self,
         alloc: Global,
@@ -145,8 +147,8 @@ impl Arena {
         )
     }
 
-    /// What is selected of a game, where only marked vertices are looked at: the others keep what they have here. What marked
-    /// vertices keep stands behind the arena's own list; once that is long, one new list is made.
+    /// What is selected of a game, where only marked vertices are looked at: the others keep what they have here. What
+    /// marked vertices keep stands behind the arena's own list; once that is long, one new list is made.
     fn reselected(
         &self,
         alloc: Global,
@@ -233,8 +235,12 @@ impl Arena {
         requires vertex { v < length game.now.vertices }
         requires features { features_under selection ≡ game.now.features }
         requires count { length self.now ≡ length (graph_of game.now) }
-        requires held { is_marked ≡ false → (vertex_at self.now v).successors ≡ kept_under selection (vertex_in (graph_of game.now) v).owner (vertex_in (graph_of game.now) v).edges }
-        ensures { OnOk result (successors.new.items ≡ successors.old.items ++ kept_under selection.entry (vertex_in (graph_of game.now) v).owner (vertex_in (graph_of game.now) v).edges) }
+        requires held { is_marked ≡ false →
+            (vertex_at self.now v).successors
+            ≡ kept_under selection (vertex_in (graph_of game.now) v).owner (vertex_in (graph_of game.now) v).edges }
+        ensures { OnOk result (successors.new.items ≡ successors.old.items
+            ++ kept_under selection.entry (vertex_in (graph_of game.now) v).owner
+            (vertex_in (graph_of game.now) v).edges) }
     {
         if is_marked {
             selection.push_kept(successors, game.owner(v), game.edges(v))?;

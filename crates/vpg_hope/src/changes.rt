@@ -25,7 +25,9 @@ fn mark_changed(marks: &mut [bool], game: &GuardedGame, feature: u16, before: Tr
     requires { length marks.old ≡ length (graph_of game.now) }
     ensures count { length marks.new ≡ length marks.old }
     ensures kept { (v : ℕ) → slice_index_or marks.old v false ≡ true → slice_index_or marks.new v false ≡ true }
-    ensures marked { before ≢ now → (v : ℕ) → Contains (features_named (vertex_in (graph_of game.now) v).edges) feature → slice_index_or marks.new v false ≡ true }
+    ensures marked { before ≢ now → (v : ℕ) →
+        Contains (features_named (vertex_in (graph_of game.now) v).edges) feature →
+        slice_index_or marks.new v false ≡ true }
 {
     if before == now {
         return;
@@ -33,14 +35,15 @@ fn mark_changed(marks: &mut [bool], game: &GuardedGame, feature: u16, before: Tr
     mark_each(marks, game.naming(feature));
 }
 
-/// Marks the vertices that name a feature of which something else is known now. At the others each guard has the value that
-/// it had.
+/// Marks the vertices that name a feature of which something else is known now. At the others each guard has the value
+/// that it had.
 fn mark_all(marks: &mut [bool], game: &GuardedGame, before: &[Tri], now: &[Tri])
     requires count { length marks.old ≡ length (graph_of game.now) }
     requires few { length before.now ≤ 512 }
     requires same { length now.now ≡ length before.now }
     ensures count { length marks.new ≡ length marks.old }
-    ensures still { (v : ℕ) → slice_index_or marks.new v false ≡ false → AreStill before.now now.now (vertex_in (graph_of game.now) v).edges }
+    ensures still { (v : ℕ) → slice_index_or marks.new v false ≡ false →
+        AreStill before.now now.now (vertex_in (graph_of game.now) v).edges }
 {
     for f in 0..before.len() {
         mark_changed(marks, game, f as u16, before[f], now[f]);
@@ -57,7 +60,9 @@ pub(crate) fn concerned(
     requires before { length before.now ≡ game.now.features }
     requires now { length now.now ≡ game.now.features }
     ensures count { IfOk result (λ marks. length marks.items ≡ length (graph_of game.now)) }
-    ensures still { IfOk result (λ marks. (v : ℕ) → slice_index_or marks.items v false ≡ false → AreStill before.now now.now (vertex_in (graph_of game.now) v).edges) }
+    ensures still { IfOk result
+        (λ marks. (v : ℕ) → slice_index_or marks.items v false ≡ false →
+        AreStill before.now now.now (vertex_in (graph_of game.now) v).edges) }
 {
     let vertices = game.vertices();
     let mut marks = vec![in alloc; false; vertices]?;

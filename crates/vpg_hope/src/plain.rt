@@ -50,9 +50,9 @@ impl PlainGame {
         Ok(PlainGame { ids, arena })
     }
 
-    /// Writes the game behind what is there, in PGSolver's format: `parity`, the greatest identifier and `;`, then a line for each
-    /// vertex in file order with its identifier, its priority, its owner (0 for Even, 1 for Odd), a blank and its successors with
-    /// commas between where it has any, and `;`. Where no memory is left, nothing is written.
+    /// Writes the game behind what is there, in PGSolver's format: `parity`, the greatest identifier and `;`, then a
+    /// line for each vertex in file order with its identifier, its priority, its owner (0 for Even, 1 for Odd), a blank
+    /// and its successors with commas between where it has any, and `;`. Where no memory is left, nothing is written.
     pub fn write(&self, alloc: Global, out: &mut Vec<u8>) -> Result<(), AllocError>
         ensures ok { OnOk result (out.new.items ≡ out.old.items ++ plain_text self.now) }
         ensures err { OnErr result (out.new.items ≡ out.old.items) }

@@ -21,7 +21,8 @@ pub(crate) enum Selection<'a> {
     Product(&'a [bool]),
 }
 
-/// Whether a vertex of this owner keeps an edge whose guard has this value: Even's unless it is no, Odd's where it is yes.
+/// Whether a vertex of this owner keeps an edge whose guard has this value: Even's unless it is no, Odd's where it is
+/// yes.
 fn keeps_in_hope(owner: Player, value: Tri) -> bool
     ensures { result ≡ keeps_in_hope owner value }
 {

@@ -11,8 +11,8 @@ use std::alloc::{AllocError, Global};
 use vpg_game::GuardedGame;
 use vpg_partial::Partial;
 
-/// A mark for each vertex that names a feature of which something else is known now. Every other vertex keeps the edges that it
-/// kept, in the hopeful game and in that of the dual. More may be known than before, or less.
+/// A mark for each vertex that names a feature of which something else is known now. Every other vertex keeps the edges
+/// that it kept, in the hopeful game and in that of the dual. More may be known than before, or less.
 pub fn concerned_vertices(
     alloc: Global,
     game: &GuardedGame,
@@ -22,8 +22,12 @@ pub fn concerned_vertices(
     requires before { length before.now ≡ game.now.features }
     requires now { length now.now ≡ game.now.features }
     ensures count { IfOk result (λ marks. length marks.items ≡ length (graph_of game.now)) }
-    ensures hopeful { IfOk result (λ marks. AreSameUnmarked marks.items (hopeful_game (kleene before.now) (graph_of game.now)) (hopeful_game (kleene now.now) (graph_of game.now))) }
-    ensures dual { IfOk result (λ marks. AreSameUnmarked marks.items (hopeful_game (kleene before.now) (dual (graph_of game.now))) (hopeful_game (kleene now.now) (dual (graph_of game.now)))) }
+    ensures hopeful { IfOk result
+        (λ marks. AreSameUnmarked marks.items (hopeful_game (kleene before.now) (graph_of game.now))
+        (hopeful_game (kleene now.now) (graph_of game.now))) }
+    ensures dual { IfOk result
+        (λ marks. AreSameUnmarked marks.items (hopeful_game (kleene before.now) (dual (graph_of game.now)))
+        (hopeful_game (kleene now.now) (dual (graph_of game.now)))) }
 {
     concerned(alloc, game, before.values(), now.values())
 }

@@ -31,7 +31,8 @@ games_arena Hopeful games = games.hopeful_arena
 games_arena Dual games = games.dual_arena
 
 -- they are what these choices of features make of the game, which has a dual
-pub record ArePageGames (game : NamedGame) (diagram : NamedDiagram) (choices : List Literal) (games : GamesView) : Type 0 where
+pub record ArePageGames (game : NamedGame) (diagram : NamedDiagram) (choices : List Literal)
+    (games : GamesView) : Type 0 where
   pub is_game : IsGame game
   pub not_at_limit : ¬ IsAtLimit game
   pub is_diagram : IsNamedDiagram diagram

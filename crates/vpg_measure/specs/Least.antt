@@ -6,11 +6,13 @@ use Rattle.vpg_measure.specs.Lifts.{IsTableOf, IsProgressTable, IsBelowTable}
 
 -- below every progress table of numbers
 abbrev pub IsBelowProgressTables : List Level → List Node → List ℕ → Type 0
-IsBelowProgressTables levels arena table = (other : List ℕ) → IsTableOf levels arena other → IsProgressTable levels arena other → IsBelowTable table other
+IsBelowProgressTables levels arena table =
+    (other : List ℕ) → IsTableOf levels arena other → IsProgressTable levels arena other → IsBelowTable table other
 
 -- at most the value of every progress table at the vertex
 abbrev pub IsValueBelow : List Level → List Node → ℕ → ℕ → Type 0
-IsValueBelow levels arena v n = (other : List ℕ) → IsTableOf levels arena other → IsProgressTable levels arena other → n ≤ slice_index other v
+IsValueBelow levels arena v n =
+    (other : List ℕ) → IsTableOf levels arena other → IsProgressTable levels arena other → n ≤ slice_index other v
 
 -- the progress table below every progress table
 pub record IsLeastTable (levels : List Level) (arena : List Node) (table : List ℕ) : Type 0 where

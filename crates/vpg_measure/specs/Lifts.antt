@@ -29,11 +29,13 @@ FitsEdges Odd P successors = All P successors
 
 -- the number fits at a vertex: it is the top, or fits one of Even's edges, or all of Odd's
 abbrev pub NumberFitsAt : List Level → List ℕ → Vertex → ℕ → Type 0
-NumberFitsAt ls table x n = (n ≡ top_of ls) ⊎ FitsEdges x.owner (λ w. NumberFitsEdge ls x.priority n (slice_index table w)) x.successors
+NumberFitsAt ls table x n =
+    (n ≡ top_of ls) ⊎ FitsEdges x.owner (λ w. NumberFitsEdge ls x.priority n (slice_index table w)) x.successors
 
 -- at every vertex the value fits
 abbrev pub IsProgressTable : List Level → List Vertex → List ℕ → Type 0
-IsProgressTable ls arena table = (v : ℕ) → v < length arena → NumberFitsAt ls table (vertex_at arena v) (slice_index table v)
+IsProgressTable ls arena table =
+    (v : ℕ) → v < length arena → NumberFitsAt ls table (vertex_at arena v) (slice_index table v)
 
 -- ---- lifts
 
@@ -77,15 +79,18 @@ after_rounds ls arena (suc k) table = round_of ls arena (after_rounds ls arena k
 abbrev pub EachRaised : List Level → List Vertex → List ℕ → ℕ → Type 0
 EachRaised ls arena table k = (j : ℕ) → j < k → after_rounds ls arena (suc j) table ≢ after_rounds ls arena j table
 
--- Settled: after fewer rounds than allowed, each of which raised something, the next raised nothing. RanOut: all the rounds raised something.
+-- Settled: after fewer rounds than allowed, each of which raised something, the next raised nothing. RanOut: all the
+-- rounds raised something.
 abbrev pub EndsAs : Outcome → List Level → List Vertex → ℕ → List ℕ → List ℕ → Type 0
 EndsAs Settled ls arena rounds old new =
-    (k : ℕ) × (k < rounds) × EachRaised ls arena old k × (new ≡ after_rounds ls arena k old) × (round_of ls arena new ≡ new)
+    (k : ℕ) × (k < rounds) × EachRaised ls arena old k × (new ≡ after_rounds ls arena k old) ×
+    (round_of ls arena new ≡ new)
 EndsAs RanOut ls arena rounds old new = EachRaised ls arena old rounds × (new ≡ after_rounds ls arena rounds old)
 
 -- one table is at most another at every vertex
 abbrev pub IsBelowTable : List ℕ → List ℕ → Type 0
-IsBelowTable table other = (length table ≡ length other) × ((v : ℕ) → v < length table → slice_index table v ≤ slice_index other v)
+IsBelowTable table other =
+    (length table ≡ length other) × ((v : ℕ) → v < length table → slice_index table v ≤ slice_index other v)
 
 -- ---- strategies
 
@@ -104,4 +109,5 @@ choice_of ls table x n =
 abbrev pub AreChoices : List Level → List Vertex → List ℕ → List (Option ℕ) → Type 0
 AreChoices ls arena table choices =
     (length choices ≡ length arena) ×
-    ((v : ℕ) → v < length arena → slice_get choices v ≡ Some (choice_of ls table (vertex_at arena v) (slice_index table v)))
+    ((v : ℕ) → v < length arena →
+    slice_get choices v ≡ Some (choice_of ls table (vertex_at arena v) (slice_index table v)))

@@ -55,4 +55,5 @@ abbrev pub Fits : Shape → ℕ → Measure → Measure → Type 0
 Fits shape p Top Top = ⊤
 Fits shape p Top (Components b) = ⊤
 Fits shape p (Components a) Top = ⊥
-Fits shape p (Components a) (Components b) = LexAtMost (above shape p b) (above shape p a) × (IsOdd p → LexBelow (above shape p b) (above shape p a))
+Fits shape p (Components a) (Components b) =
+    LexAtMost (above shape p b) (above shape p a) × (IsOdd p → LexBelow (above shape p b) (above shape p a))

@@ -20,6 +20,7 @@ order_of fields = record {
 
 pub record AreFields (fields : Inside) : Type 0 where
   pub order : IsOrder (order_of fields)
-  pub games : ArePageGames (arc_value fields.game) (arc_value fields.diagram) (map literal_of fields.decisions.items) (arc_value fields.games)
+  pub games : ArePageGames (arc_value fields.game) (arc_value fields.diagram) (map literal_of fields.decisions.items)
+      (arc_value fields.games)
   -- the note is true
   pub noted : IsTrue fields.is_noted → IsSettledOrder (order_of fields)

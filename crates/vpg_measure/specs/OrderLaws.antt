@@ -8,5 +8,7 @@ use Rattle.vpg_measure.specs.Orders.{IsOpeningTable}
 
 -- a table of zeros, one for each vertex, may stand in an order
 abbrev pub ZerosAreOpening : Type 0
-ZerosAreOpening = (game : NamedGame) (diagram : NamedDiagram) (decisions : List Decision) (which : Which) (n : ℕ) → n ≡ length game.vertices →
+ZerosAreOpening =
+    (game : NamedGame) (diagram : NamedDiagram) (decisions : List Decision) (which : Which) (n : ℕ) →
+    n ≡ length game.vertices →
     IsOpeningTable game diagram decisions which (replicate n 0)

@@ -73,7 +73,8 @@ order_arena which order = arena_for (kleene order.known) which (graph_of order.g
 -- the table is below every progress table of the game that the decisions give
 abbrev pub IsOpeningTable : NamedGame → NamedDiagram → List Decision → Which → List ℕ → Type 0
 IsOpeningTable game diagram decisions which table =
-    (known : List Tri) → IsKnownTable diagram.lines (map literal_of decisions) known → IsTableBelow (kleene known) which (graph_of game) table
+    (known : List Tri) → IsKnownTable diagram.lines (map literal_of decisions) known →
+    IsTableBelow (kleene known) which (graph_of game) table
 
 -- what every order keeps: above all, its tables are below every progress table of their games
 pub record IsOrder (order : OrderView) : Type 0 where
@@ -91,7 +92,8 @@ pub record IsOrder (order : OrderView) : Type 0 where
 pub record IsHarvest (harvest : HarvestView) : Type 0 where
   pub order : IsOrder harvest.order
   pub above : (which : Which) → IsBelowTable (order_table which harvest.order) (harvest_table which harvest)
-  pub below : (which : Which) → IsTableBelow (kleene harvest.order.known) which (graph_of harvest.order.game) (harvest_table which harvest)
+  pub below : (which : Which) →
+      IsTableBelow (kleene harvest.order.known) which (graph_of harvest.order.game) (harvest_table which harvest)
 
 -- the table may stand in a harvest of the order: it is on or above the order's, and below every progress table
 pub record IsRaised (which : Which) (order : OrderView) (table : List ℕ) : Type 0 where
@@ -100,11 +102,14 @@ pub record IsRaised (which : Which) (order : OrderView) (table : List ℕ) : Typ
 
 -- both tables of the order are progress tables
 abbrev pub IsSettledOrder : OrderView → Type 0
-IsSettledOrder order = (which : Which) → IsProgressTable (order_levels which order) (order_arena which order) (order_table which order)
+IsSettledOrder order =
+    (which : Which) → IsProgressTable (order_levels which order) (order_arena which order) (order_table which order)
 
 -- both tables of the harvest are progress tables
 abbrev pub IsSettledHarvest : HarvestView → Type 0
-IsSettledHarvest harvest = (which : Which) → IsProgressTable (order_levels which harvest.order) (order_arena which harvest.order) (harvest_table which harvest)
+IsSettledHarvest harvest =
+    (which : Which) →
+    IsProgressTable (order_levels which harvest.order) (order_arena which harvest.order) (harvest_table which harvest)
 
 -- the same order, but for what stands in its room
 pub record IsSameOrder (one other : OrderView) : Type 0 where

@@ -20,11 +20,13 @@ pub record AreGamesOver (game : NamedGame) (games : GamesView) : Type 0 where
   pub are : AreGamesOf game diagram games
 
 -- progress tables of both hopeful games
-pub record AreBothProgress {Guard : Type 0} (value : Guard → Tri) (game : GuardedGame Guard) (numbers dual_numbers : List ℕ) : Type 0 where
+pub record AreBothProgress {Guard : Type 0} (value : Guard → Tri) (game : GuardedGame Guard)
+    (numbers dual_numbers : List ℕ) : Type 0 where
   pub hopeful : IsProgressOf value Hopeful game numbers
   pub dual : IsProgressOf value Dual game dual_numbers
 
 -- no lift raises the table at a vertex without a mark
 abbrev pub IsProgressUnmarked : List Bool → List Level → Game → List ℕ → Type 0
 IsProgressUnmarked marks levels arena table =
-    (v : ℕ) → v < length arena → slice_index_or marks v false ≡ false → lift_of levels table (vertex_at arena v) ≤ slice_index table v
+    (v : ℕ) → v < length arena → slice_index_or marks v false ≡ false →
+    lift_of levels table (vertex_at arena v) ≤ slice_index table v

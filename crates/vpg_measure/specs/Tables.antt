@@ -17,7 +17,8 @@ pub record IsProg (shape : Shape) (p : ℕ) (value m : Measure) : Type 0 where
 
 -- Even needs one edge that the measure fits, or Top; Odd needs all
 abbrev pub FitsFor : Player → Shape → Game → Table → ℕ → Measure → Type 0
-FitsFor Even shape game table v m = (m ≡ Top) ⊎ ((w : ℕ) × HasEdge game v w × Fits shape (priority_of game v) m (table w))
+FitsFor Even shape game table v m =
+    (m ≡ Top) ⊎ ((w : ℕ) × HasEdge game v w × Fits shape (priority_of game v) m (table w))
 FitsFor Odd shape game table v m = (w : ℕ) → HasEdge game v w → Fits shape (priority_of game v) m (table w)
 
 abbrev pub FitsAt : Shape → Game → Table → ℕ → Measure → Type 0
@@ -67,8 +68,11 @@ pub record IsLeastProgress (shape : Shape) (game : Game) (table : Table) : Type 
 -- an edge whose prog is no greater than that of any other
 pub record IsLeastSuccessor (shape : Shape) (game : Game) (table : Table) (v w : ℕ) : Type 0 where
   pub is_edge : HasEdge game v w
-  pub least : (x : ℕ) (m n : Measure) → HasEdge game v x → IsProg shape (priority_of game v) (table w) m → IsProg shape (priority_of game v) (table x) n → AtMost m n
+  pub least : (x : ℕ) (m n : Measure) → HasEdge game v x → IsProg shape (priority_of game v) (table w) m →
+      IsProg shape (priority_of game v) (table x) n → AtMost m n
 
 -- at each vertex of Even below Top the strategy chooses a successor of least prog
 abbrev pub FollowsLeast : Shape → Game → Table → Strategy → Type 0
-FollowsLeast shape game table strategy = (v : ℕ) → v < length game → owner_of game v ≡ Even → table v ≢ Top → (w : ℕ) × (strategy v ≡ Some w) × IsLeastSuccessor shape game table v w
+FollowsLeast shape game table strategy =
+    (v : ℕ) → v < length game → owner_of game v ≡ Even → table v ≢ Top → (w : ℕ) × (strategy v ≡ Some w) ×
+    IsLeastSuccessor shape game table v w

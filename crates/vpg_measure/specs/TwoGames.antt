@@ -28,11 +28,13 @@ top_for which game = top_of (levels_for which game)
 abbrev pub arena_for : {Guard : Type 0} → (Guard → Tri) → Which → GuardedGame Guard → Game
 arena_for value which game = hopeful_game value (game_for which game)
 
-pub record IsProgressOf {Guard : Type 0} (value : Guard → Tri) (which : Which) (game : GuardedGame Guard) (numbers : List ℕ) : Type 0 where
+pub record IsProgressOf {Guard : Type 0} (value : Guard → Tri) (which : Which) (game : GuardedGame Guard)
+    (numbers : List ℕ) : Type 0 where
   pub is_table : IsTableOf (levels_for which game) (arena_for value which game) numbers
   pub settled : IsProgressTable (levels_for which game) (arena_for value which game) numbers
 
 -- a table below every progress table of its game: what an order, a harvest and the words of a board hold
-pub record IsTableBelow {Guard : Type 0} (value : Guard → Tri) (which : Which) (game : GuardedGame Guard) (numbers : List ℕ) : Type 0 where
+pub record IsTableBelow {Guard : Type 0} (value : Guard → Tri) (which : Which) (game : GuardedGame Guard)
+    (numbers : List ℕ) : Type 0 where
   pub is_table : IsTableOf (levels_for which game) (arena_for value which game) numbers
   pub below : IsBelowProgressTables (levels_for which game) (arena_for value which game) numbers

@@ -1,4 +1,5 @@
-//! Raising a table by certified bounds. Definitions: `specs/Bounds`, this project's own over the measures of Jurdzinski 2000.
+//! Raising a table by certified bounds. Definitions: `specs/Bounds`, this project's own over the measures of Jurdzinski
+//! 2000.
 ghost use Rattle.std.specs.Prelude.{◌≡◌, ◌↔◌, ℕ, ◌<◌, ◌≤◌, max, List, length, All, Any, IsTrue, MatchBool, slice_index};
 ghost use Rattle.vpg_game.specs.Levels.{top_of};
 ghost use Rattle.vpg_hope.specs.Arena.{vertex_at};
@@ -34,7 +35,9 @@ fn supports(
     requires next_rank { w < length certificate.now.ranks }
     requires bounds { All (λ n. n ≤ top_of shape.now) certificate.now.bounds }
     requires ranks { All (λ n. n ≤ top_of dual_shape.now) certificate.now.ranks }
-    ensures { IsTrue result ↔ Supports shape.now dual_shape.now certificate.now.bounds certificate.now.ranks priority (slice_index certificate.now.bounds v) (slice_index certificate.now.ranks v) w }
+    ensures { IsTrue result ↔
+        Supports shape.now dual_shape.now certificate.now.bounds certificate.now.ranks priority
+        (slice_index certificate.now.bounds v) (slice_index certificate.now.ranks v) w }
 {
     let Certificate { bounds, ranks } = certificate;
     bounds.get(v) <= prog(shape, priority, bounds.get(w))
@@ -55,7 +58,9 @@ fn all_support(
     requires count { length certificate.now.ranks ≡ length certificate.now.bounds }
     requires bounds { All (λ n. n ≤ top_of shape.now) certificate.now.bounds }
     requires ranks { All (λ n. n ≤ top_of dual_shape.now) certificate.now.ranks }
-    ensures { IsTrue result ↔ All (λ w. Supports shape.now dual_shape.now certificate.now.bounds certificate.now.ranks priority (slice_index certificate.now.bounds v) (slice_index certificate.now.ranks v) w) kept.now }
+    ensures { IsTrue result ↔
+        All (λ w. Supports shape.now dual_shape.now certificate.now.bounds certificate.now.ranks priority
+        (slice_index certificate.now.bounds v) (slice_index certificate.now.ranks v) w) kept.now }
 {
     for w in kept {
         if !supports(shape, dual_shape, certificate, priority, v, *w) {
@@ -79,7 +84,9 @@ fn some_supports(
     requires count { length certificate.now.ranks ≡ length certificate.now.bounds }
     requires bounds { All (λ n. n ≤ top_of shape.now) certificate.now.bounds }
     requires ranks { All (λ n. n ≤ top_of dual_shape.now) certificate.now.ranks }
-    ensures { IsTrue result ↔ Any (λ w. Supports shape.now dual_shape.now certificate.now.bounds certificate.now.ranks priority (slice_index certificate.now.bounds v) (slice_index certificate.now.ranks v) w) kept.now }
+    ensures { IsTrue result ↔
+        Any (λ w. Supports shape.now dual_shape.now certificate.now.bounds certificate.now.ranks priority
+        (slice_index certificate.now.bounds v) (slice_index certificate.now.ranks v) w) kept.now }
 {
     for w in kept {
         if supports(shape, dual_shape, certificate, priority, v, *w) {
@@ -100,7 +107,9 @@ fn is_supported(
     requires vertex { v < length arena.now }
     requires bounds { IsTableOf shape.now arena.now certificate.now.bounds }
     requires ranks { IsTableOf dual_shape.now arena.now certificate.now.ranks }
-    ensures supported { IsTrue result ↔ IsSupported shape.now dual_shape.now certificate.now.bounds certificate.now.ranks (vertex_at arena.now v) (slice_index certificate.now.bounds v) (slice_index certificate.now.ranks v) }
+    ensures supported { IsTrue result ↔
+        IsSupported shape.now dual_shape.now certificate.now.bounds certificate.now.ranks (vertex_at arena.now v)
+        (slice_index certificate.now.bounds v) (slice_index certificate.now.ranks v) }
     ensures closed { All (λ w. w < length arena.now) (vertex_at arena.now v).successors }
 {
     let priority = arena.priority(v);
@@ -125,8 +134,10 @@ fn are_supported(
     requires table { IsTableOf shape.now arena.now table.now }
     requires bounds { IsTableOf shape.now arena.now certificate.now.bounds }
     requires ranks { IsTableOf dual_shape.now arena.now certificate.now.ranks }
-    ensures supported { IsTrue result ↔ AreSupported shape.now dual_shape.now arena.now table.now certificate.now.bounds certificate.now.ranks }
-    ensures closed { IsTrue result → (v : ℕ) → v < length arena.now → slice_index table.now v < slice_index certificate.now.bounds v →
+    ensures supported { IsTrue result ↔
+        AreSupported shape.now dual_shape.now arena.now table.now certificate.now.bounds certificate.now.ranks }
+    ensures closed { IsTrue result → (v : ℕ) → v < length arena.now →
+        slice_index table.now v < slice_index certificate.now.bounds v →
         All (λ w. w < length arena.now) (vertex_at arena.now v).successors }
 {
     for v in 0..arena.vertices() {
@@ -144,7 +155,8 @@ fn raise_all(arena: &Arena, bounds: &Table, table: &mut Table)
     requires bounds { length bounds.now ≡ length arena.now }
     requires table { length table.old ≡ length arena.now }
     ensures length { length table.new ≡ length arena.now }
-    ensures values { (v : ℕ) → v < length arena.now → slice_index table.new v ≡ max (slice_index table.old v) (slice_index bounds.now v) }
+    ensures values { (v : ℕ) → v < length arena.now →
+        slice_index table.new v ≡ max (slice_index table.old v) (slice_index bounds.now v) }
 {
     for v in 0..arena.vertices() {
         if table.get(v) < bounds.get(v) {
@@ -153,9 +165,10 @@ fn raise_all(arena: &Arena, bounds: &Table, table: &mut Table)
     }
 }
 
-/// Raises each value of a table to its bound, where the certificate supports every bound that exceeds the table, and says whether
-/// it does: `specs/Bounds` has what that asks of each edge. Where it does not, the table stays as it was. Whatever was guessed,
-/// the table stays below each progress table that it was below. One pass over the edges; takes no memory.
+/// Raises each value of a table to its bound, where the certificate supports every bound that exceeds the table, and
+/// says whether it does: `specs/Bounds` has what that asks of each edge. Where it does not, the table stays as it was.
+/// Whatever was guessed, the table stays below each progress table that it was below. One pass over the edges; takes no
+/// memory.
 pub fn raise_to_bounds(
     shape: &Shape,
     dual_shape: &Shape,
@@ -166,9 +179,11 @@ pub fn raise_to_bounds(
     requires table { IsTableOf shape.now arena.now table.old }
     requires bounds { IsTableOf shape.now arena.now certificate.now.bounds }
     requires ranks { IsTableOf dual_shape.now arena.now certificate.now.ranks }
-    ensures supported { IsTrue result ↔ AreSupported shape.now dual_shape.now arena.now table.old certificate.now.bounds certificate.now.ranks }
+    ensures supported { IsTrue result ↔
+        AreSupported shape.now dual_shape.now arena.now table.old certificate.now.bounds certificate.now.ranks }
     ensures raised { MatchBool result
-        ((v : ℕ) → v < length arena.now → slice_index table.new v ≡ max (slice_index table.old v) (slice_index certificate.now.bounds v))
+        ((v : ℕ) → v < length arena.now →
+        slice_index table.new v ≡ max (slice_index table.old v) (slice_index certificate.now.bounds v))
         (table.new ≡ table.old) }
     ensures reached { IsTrue result → IsBelowTable certificate.now.bounds table.new }
     ensures table { IsTableOf shape.now arena.now table.new }

@@ -1,5 +1,5 @@
-//! The lift of a vertex from the values of its kept successors, one after another: for lifters that load each value on its own and
-//! have no table. Definitions: `specs/Lifts`, after Jurdzinski 2000.
+//! The lift of a vertex from the values of its kept successors, one after another: for lifters that load each value on
+//! its own and have no table. Definitions: `specs/Lifts`, after Jurdzinski 2000.
 
 ghost use Rattle.std.specs.Prelude.{◌≡◌, ℕ, ◌<◌, ◌≤◌, List, [], ◌∷◌, ◌++◌, length, map, slice_index};
 ghost use Rattle.vpg_game.specs.Levels.{top_of};
@@ -22,7 +22,8 @@ pub fn best_of_none(shape: &Shape, owner: Player) -> u64
 
 /// The better of the best so far and one more value: the least where Even moves, the greatest where Odd moves.
 pub fn better(owner: Player, best: u64, value: u64) -> u64
-    ensures { (top : ℕ) (values : List ℕ) → best ≡ best_for owner top values → result ≡ best_for owner top (values ++ value ∷ []) }
+    ensures { (top : ℕ) (values : List ℕ) → best ≡ best_for owner top values →
+        result ≡ best_for owner top (values ++ value ∷ []) }
 {
     match owner {
         Player::Even => best.min(value),
@@ -36,7 +37,8 @@ pub fn lift_to(shape: &Shape, arena: &Arena, v: u32, best: u64) -> u64
     requires best { best ≤ top_of shape.now }
     ensures within { result ≤ top_of shape.now }
     ensures lift { (table : List ℕ) → IsTableOf shape.now arena.now table →
-        best ≡ best_for (vertex_at arena.now v).owner (top_of shape.now) (map (λ w. slice_index table w) (vertex_at arena.now v).successors) →
+        best ≡ best_for (vertex_at arena.now v).owner (top_of shape.now)
+        (map (λ w. slice_index table w) (vertex_at arena.now v).successors) →
         result ≡ lift_of shape.now table (vertex_at arena.now v) }
 {
     match arena.owner(v) {

@@ -74,7 +74,8 @@ impl SideGame {
     }
 }
 
-/// What decisions on features of the diagram make known: all that questions of features alone ask for. They need no games.
+/// What decisions on features of the diagram make known: all that questions of features alone ask for. They need no
+/// games.
 ///
 /// Errors as those of `Partial::close`, in this order: `Conflict` where the decisions have one; `Memory`.
 pub fn known_under(
@@ -108,8 +109,8 @@ fn known_for(
     Ok(known_under(alloc, diagram, decisions)?)
 }
 
-/// What the decisions of a page make of its game: what is known of each feature, and for each of the two tables the shape of its
-/// measures and the edges that its game keeps.
+/// What the decisions of a page make of its game: what is known of each feature, and for each of the two tables the
+/// shape of its measures and the edges that its game keeps.
 #[derive(Drop)]
 pub struct PageGames {
     known: Partial,
@@ -129,8 +130,8 @@ impl Model for PageGames {
 impl PageGames {
     /// What decisions on features of the diagram make of the game.
     ///
-    /// Errors, in this order: `AtLimit` where a priority of the game is 65,536, so that it has no dual; `Conflict` where the
-    /// decisions have one; `Memory`.
+    /// Errors, in this order: `AtLimit` where a priority of the game is 65,536, so that it has no dual; `Conflict`
+    /// where the decisions have one; `Memory`.
     pub fn under(
         alloc: Global,
         game: &GuardedGame,
@@ -142,7 +143,8 @@ impl PageGames {
         ensures games { IfOk result (ArePageGames game.now diagram.now (map literal_of decisions.now)) }
         ensures at_limit { (result ≡ Err OrderFault.AtLimit) ↔ IsAtLimit game.now }
         ensures conflict { (f : ℕ) → result ≡ Err (OrderFault.Conflict f) →
-            NamesConflict (clauses_of diagram.now.lines) (counts_of diagram.now.lines) (map literal_of decisions.now) f }
+            NamesConflict (clauses_of diagram.now.lines) (counts_of diagram.now.lines)
+            (map literal_of decisions.now) f }
     {
         let known = known_for(alloc, game, diagram, decisions)?;
         // What every game and every diagram keeps, for the proof.
@@ -156,8 +158,8 @@ impl PageGames {
         })
     }
 
-    /// What other decisions on features of the diagram make of the same game, from what these make of it: guards are looked at
-    /// only at the vertices that a feature names of which something else is known then.
+    /// What other decisions on features of the diagram make of the same game, from what these make of it: guards are
+    /// looked at only at the vertices that a feature names of which something else is known then.
     ///
     /// Errors as those of `under`.
     pub fn updated(
@@ -173,7 +175,8 @@ impl PageGames {
         ensures games { IfOk result (ArePageGames game.now diagram.now (map literal_of decisions.now)) }
         ensures at_limit { (result ≡ Err OrderFault.AtLimit) ↔ IsAtLimit game.now }
         ensures conflict { (f : ℕ) → result ≡ Err (OrderFault.Conflict f) →
-            NamesConflict (clauses_of diagram.now.lines) (counts_of diagram.now.lines) (map literal_of decisions.now) f }
+            NamesConflict (clauses_of diagram.now.lines) (counts_of diagram.now.lines)
+            (map literal_of decisions.now) f }
     {
         let known = known_for(alloc, game, diagram, decisions)?;
         // What every game and every diagram keeps, for the proof.

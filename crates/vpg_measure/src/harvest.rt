@@ -12,8 +12,8 @@ use std::marker::Model;
 
 /// An order, and two tables on or above its own, below every progress table of its two games.
 ///
-/// No call on it takes memory: its tables stand in the order's room. It may hold a note that they are progress tables; then
-/// `check` looks at no edge.
+/// No call on it takes memory: its tables stand in the order's room. It may hold a note that they are progress tables;
+/// then `check` looks at no edge.
 #[derive(Drop)]
 pub struct Harvest {
     order: Order,
@@ -54,7 +54,8 @@ impl Harvest {
     pub fn one(order: Order, which: Which, v: u32) -> Harvest
         requires { v < length order.game.vertices }
         ensures order { IsSameOrder result.order order }
-        ensures raised { harvest_table which result ≡ raised (order_levels which order) (order_arena which order) (order_table which order) v }
+        ensures raised { harvest_table which result
+            ≡ raised (order_levels which order) (order_arena which order) (order_table which order) v }
         ensures other { harvest_table (other_table which) result ≡ order_table (other_table which) order }
     {
         let mut order = order;
@@ -69,7 +70,9 @@ impl Harvest {
     /// The order with both tables settled by one thread, in this many rounds each at most.
     pub fn alone(order: Order, rounds: u64) -> Harvest
         ensures order { IsSameOrder result.order order }
-        ensures settled { (which : Which) → harvest_table which result ≡ after_rounds (order_levels which order) (order_arena which order) rounds (order_table which order) }
+        ensures settled { (which : Which) →
+            harvest_table which result
+            ≡ after_rounds (order_levels which order) (order_arena which order) rounds (order_table which order) }
     {
         let mut order = order;
         order.fill_room();
@@ -101,9 +104,12 @@ impl Harvest {
     pub fn raise(&mut self, which: Which, v: u32) -> bool
         requires { v < length self.old.order.game.vertices }
         ensures order { IsSameOrder self.new.order self.old.order }
-        ensures raised { harvest_table which self.new ≡ raised (order_levels which self.old.order) (order_arena which self.old.order) (harvest_table which self.old) v }
+        ensures raised { harvest_table which self.new
+            ≡ raised (order_levels which self.old.order) (order_arena which self.old.order)
+            (harvest_table which self.old) v }
         ensures other { harvest_table (other_table which) self.new ≡ harvest_table (other_table which) self.old }
-        ensures rose { MatchBool result (sum (harvest_table which self.old) < sum (harvest_table which self.new)) (harvest_table which self.new ≡ harvest_table which self.old) }
+        ensures rose { MatchBool result (sum (harvest_table which self.old) < sum (harvest_table which self.new))
+            (harvest_table which self.new ≡ harvest_table which self.old) }
         ensures harvests { IsHarvest self.old × IsHarvest self.new }
     {
         self.is_noted = false;
@@ -134,8 +140,8 @@ impl Harvest {
         self.table(which).get(v)
     }
 
-    /// Whether both tables are progress tables. Without a note of it this is a pass over the kept edges, which ends at the first
-    /// vertex that a lift raises.
+    /// Whether both tables are progress tables. Without a note of it this is a pass over the kept edges, which ends at
+    /// the first vertex that a lift raises.
     pub fn check(&self) -> bool
         ensures { IsTrue result ↔ IsSettledHarvest self.now }
     {
@@ -168,7 +174,9 @@ impl Harvest {
 
     // Whether one table is a progress table.
     fn is_settled(&self, which: Which) -> bool
-        ensures { IsTrue result ↔ IsProgressTable (order_levels which self.now.order) (order_arena which self.now.order) (harvest_table which self.now) }
+        ensures { IsTrue result ↔
+            IsProgressTable (order_levels which self.now.order) (order_arena which self.now.order)
+            (harvest_table which self.now) }
     {
         is_progress(
             self.order.shape(which),

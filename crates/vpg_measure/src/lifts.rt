@@ -89,7 +89,8 @@ pub fn lift(shape: &Shape, arena: &Arena, table: &Table, v: u32) -> u64
     ensures within { result ≤ top_of shape.now }
 
     // The numbers that fit are those from the result on.
-    ensures least { (n : ℕ) → n ≤ top_of shape.now → NumberFitsAt shape.now table.now (vertex_at arena.now v) n ↔ (result ≤ n) }
+    ensures least { (n : ℕ) → n ≤ top_of shape.now → NumberFitsAt shape.now table.now (vertex_at arena.now v) n ↔
+        (result ≤ n) }
 {
     best_prog(shape, arena, table, v)
 }
@@ -140,8 +141,8 @@ fn lift_all(shape: &Shape, arena: &Arena, table: &mut Table) -> bool
     rose
 }
 
-/// Lifts every vertex once a round, in file order, each seeing earlier raises, until a round raises nothing (`Settled`) or the
-/// rounds run out (`RanOut`, also where none are allowed). No value falls.
+/// Lifts every vertex once a round, in file order, each seeing earlier raises, until a round raises nothing (`Settled`)
+/// or the rounds run out (`RanOut`, also where none are allowed). No value falls.
 pub fn settle_alone(shape: &Shape, arena: &Arena, table: &mut Table, rounds: u64) -> Outcome
     requires { IsTableOf shape.now arena.now table.old }
     ensures after { table.new ≡ after_rounds shape.now arena.now rounds table.old }
@@ -202,8 +203,8 @@ fn choice(shape: &Shape, arena: &Arena, table: &Table, v: u32) -> Option<u32>
     }
 }
 
-/// For each vertex of Even below top the first kept successor of least `prog`; `None` at every other vertex. Errors, in this
-/// order: `NotSettled` where the table is no progress table; `Memory`.
+/// For each vertex of Even below top the first kept successor of least `prog`; `None` at every other vertex. Errors, in
+/// this order: `NotSettled` where the table is no progress table; `Memory`.
 pub fn strategy(
     alloc: Global,
     shape: &Shape,

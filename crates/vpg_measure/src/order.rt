@@ -28,8 +28,8 @@ use vpg_game::GuardedGame;
 use vpg_hope::Arena;
 use vpg_partial::Decision;
 
-/// The game, the diagram, the decisions and both tables of a page, with all that lifters need: the page's games, and room for two
-/// raised tables. It may hold a note that its tables are progress tables; then `check` looks at no edge.
+/// The game, the diagram, the decisions and both tables of a page, with all that lifters need: the page's games, and
+/// room for two raised tables. It may hold a note that its tables are progress tables; then `check` looks at no edge.
 #[derive(Drop)]
 pub struct Order {
     game: Arc<GuardedGame>,
@@ -91,7 +91,8 @@ fn games_and_room(
 ) -> Result<(Arc<PageGames>, Table, Table), OrderFault>
     requires features { game.now.features ≡ feature_count diagram.now.lines }
     requires named { AreChoicesOf diagram.now.lines (map literal_of decisions.now) }
-    ensures games { IfOk result (λ made. ArePageGames game.now diagram.now (map literal_of decisions.now) (arc_value made.0)) }
+    ensures games { IfOk result
+        (λ made. ArePageGames game.now diagram.now (map literal_of decisions.now) (arc_value made.0)) }
     ensures hopeful { IfOk result (λ made. length made.1 ≡ length game.now.vertices) }
     ensures dual { IfOk result (λ made. length made.2 ≡ length game.now.vertices) }
     ensures at_limit { (result ≡ Err OrderFault.AtLimit) ↔ IsAtLimit game.now }
@@ -106,8 +107,8 @@ fn games_and_room(
 impl Order {
     /// The order of a page: each table has one value for each vertex, below every progress table of its game.
     ///
-    /// Errors, in this order: `AtLimit` where a priority of the game is 65,536, so that it has no dual; `Conflict` where the
-    /// decisions have one; `Memory`. All that was handed in comes back beside the fault.
+    /// Errors, in this order: `AtLimit` where a priority of the game is 65,536, so that it has no dual; `Conflict`
+    /// where the decisions have one; `Memory`. All that was handed in comes back beside the fault.
     pub fn of(
         alloc: Global,
         game: Arc<GuardedGame>,
@@ -132,7 +133,8 @@ impl Order {
         // The limit is told wherever a priority is at it, a conflict only where there is one.
         ensures at_limit { IfErr result (λ refused. (refused.fault ≡ OrderFault.AtLimit) ↔ IsAtLimit (arc_value game)) }
         ensures conflict { IfErr result (λ refused. (f : ℕ) → refused.fault ≡ OrderFault.Conflict f →
-            NamesConflict (clauses_of (arc_value diagram).lines) (counts_of (arc_value diagram).lines) (map literal_of decisions.items) f) }
+            NamesConflict (clauses_of (arc_value diagram).lines) (counts_of (arc_value diagram).lines)
+            (map literal_of decisions.items) f) }
 
         // What a refused call took comes back.
         ensures game_back { IfErr result (λ refused. arc_value refused.game ≡ arc_value game) }
@@ -164,8 +166,8 @@ impl Order {
         }
     }
 
-    /// The order of a page whose games are made already: they are those of these decisions. No edge is looked at. Each table has
-    /// one value for each vertex, below every progress table of its game.
+    /// The order of a page whose games are made already: they are those of these decisions. No edge is looked at. Each
+    /// table has one value for each vertex, below every progress table of its game.
     pub fn over(
         alloc: Global,
         game: Arc<GuardedGame>,
@@ -177,7 +179,8 @@ impl Order {
     ) -> Result<Order, AllocError>
         requires features { (arc_value game).features ≡ feature_count (arc_value diagram).lines }
         requires named { AreChoicesOf (arc_value diagram).lines (map literal_of decisions.items) }
-        requires games { ArePageGames (arc_value game) (arc_value diagram) (map literal_of decisions.items) (arc_value games) }
+        requires games { ArePageGames (arc_value game) (arc_value diagram) (map literal_of decisions.items)
+            (arc_value games) }
         requires hopeful { IsOpeningTable (arc_value game) (arc_value diagram) decisions.items Which.Hopeful hopeful }
         requires dual { IsOpeningTable (arc_value game) (arc_value diagram) decisions.items Which.Dual dual }
         ensures game { IfOk result (λ order. order.game ≡ arc_value game) }
@@ -227,7 +230,8 @@ impl Order {
 
     /// What the decisions make of the game.
     pub fn games(&self) -> &Arc<PageGames>
-        ensures { ArePageGames self.now.game self.now.diagram (map literal_of self.now.decisions) (arc_value result.now) }
+        ensures { ArePageGames self.now.game self.now.diagram (map literal_of self.now.decisions)
+            (arc_value result.now) }
     {
         &self.games
     }
@@ -271,8 +275,8 @@ impl Order {
         self.games.arena(which)
     }
 
-    /// Whether both tables are progress tables. Without a note of it this is a pass over the kept edges, which ends at the first
-    /// vertex that a lift raises.
+    /// Whether both tables are progress tables. Without a note of it this is a pass over the kept edges, which ends at
+    /// the first vertex that a lift raises.
     pub fn check(&self) -> bool
         ensures { IsTrue result ↔ IsSettledOrder self.now }
     {
@@ -298,7 +302,8 @@ impl Order {
 
     // Whether one table is a progress table.
     fn is_settled(&self, which: Which) -> bool
-        ensures { IsTrue result ↔ IsProgressTable (order_levels which self.now) (order_arena which self.now) (order_table which self.now) }
+        ensures { IsTrue result ↔
+            IsProgressTable (order_levels which self.now) (order_arena which self.now) (order_table which self.now) }
     {
         is_progress(self.shape(which), self.arena(which), self.table(which))
     }
@@ -328,9 +333,13 @@ impl Order {
     /// Lifts a vertex of the table in the room once, where that is greater, and says whether its value rose.
     pub(crate) fn raise_room(&mut self, which: Which, v: u32) -> bool
         requires vertex { v < length self.old.game.vertices }
-        requires table { IsTableOf (order_levels which self.old) (order_arena which self.old) (order_room which self.old) }
-        ensures raised { self.new ≡ with_room which (raised (order_levels which self.old) (order_arena which self.old) (order_room which self.old) v) self.old }
-        ensures rose { MatchBool result (sum (order_room which self.old) < sum (order_room which self.new)) (order_room which self.new ≡ order_room which self.old) }
+        requires table { IsTableOf (order_levels which self.old) (order_arena which self.old)
+            (order_room which self.old) }
+        ensures raised { self.new
+            ≡ with_room which (raised (order_levels which self.old) (order_arena which self.old)
+            (order_room which self.old) v) self.old }
+        ensures rose { MatchBool result (sum (order_room which self.old) < sum (order_room which self.new))
+            (order_room which self.new ≡ order_room which self.old) }
     {
         let shape = self.games.shape(which);
         let arena = self.games.arena(which);
@@ -343,7 +352,9 @@ impl Order {
     /// Settles the table in the room, by this many rounds at most.
     pub(crate) fn settle_room(&mut self, which: Which, rounds: u64)
         requires { IsTableOf (order_levels which self.old) (order_arena which self.old) (order_room which self.old) }
-        ensures { self.new ≡ with_room which (after_rounds (order_levels which self.old) (order_arena which self.old) rounds (order_room which self.old)) self.old }
+        ensures { self.new ≡ with_room which
+            (after_rounds (order_levels which self.old) (order_arena which self.old) rounds
+            (order_room which self.old)) self.old }
     {
         let shape = self.games.shape(which);
         let arena = self.games.arena(which);
@@ -366,7 +377,8 @@ impl Order {
 
     /// The order with the tables in the room for its own, whose memory is the room then.
     pub(crate) fn exchange_room(&mut self)
-        requires { (which : Which) → IsTableBelow (kleene self.old.known) which (graph_of self.old.game) (order_room which self.old) }
+        requires { (which : Which) →
+            IsTableBelow (kleene self.old.known) which (graph_of self.old.game) (order_room which self.old) }
         ensures { self.new ≡ record self.old {
           hopeful = self.old.hopeful_room;
           dual = self.old.dual_room;

@@ -37,7 +37,8 @@ impl Model for Shape {
 // The priorities of a game, each raised by the same number.
 fn priorities(alloc: Global, game: &GuardedGame, raise: u32) -> Result<Vec<u32>, AllocError>
     requires { raise ≤ 2 }
-    ensures priorities { IfOk result (λ priorities. priorities.items ≡ map (λ p. p + raise) (guarded_priorities (graph_of game.now))) }
+    ensures priorities { IfOk result
+        (λ priorities. priorities.items ≡ map (λ p. p + raise) (guarded_priorities (graph_of game.now))) }
     ensures limit { IfOk result (λ priorities. top_of (levels_of priorities.items) ≤ TOP_LIMIT) }
 {
     let vertices = game.vertices();

@@ -16,8 +16,8 @@ use vpg_game::GuardedGame;
 use vpg_hope::concerned_vertices;
 
 impl PageGames {
-    /// Whether both tables, which are progress tables of the games before, are progress tables of these games of the same game.
-    /// Lifts are looked at only at the vertices that name a feature of which something else is known here.
+    /// Whether both tables, which are progress tables of the games before, are progress tables of these games of the
+    /// same game. Lifts are looked at only at the vertices that name a feature of which something else is known here.
     pub fn stay_settled(
         &self,
         alloc: Global,
@@ -29,7 +29,8 @@ impl PageGames {
         requires before { AreGamesOver game.now before.now }
         requires now { AreGamesOver game.now self.now }
         requires settled { AreBothProgress (kleene before.now.known) (graph_of game.now) hopeful.now dual.now }
-        ensures { IfOk result (λ stay. IsTrue stay ↔ AreBothProgress (kleene self.now.known) (graph_of game.now) hopeful.now dual.now) }
+        ensures { IfOk result (λ stay. IsTrue stay ↔
+            AreBothProgress (kleene self.now.known) (graph_of game.now) hopeful.now dual.now) }
     {
         let marks = concerned_vertices(alloc, game, before.known(), self.known())?;
         Ok(self.stays(Which::Hopeful, hopeful, &marks) && self.stays(Which::Dual, dual, &marks))
@@ -39,7 +40,8 @@ impl PageGames {
     fn stays(&self, which: Which, table: &Table, marks: &[bool]) -> bool
         requires table { IsTableOf (games_levels which self.now) (games_arena which self.now) table.now }
         requires marks { length marks.now ≡ length (games_arena which self.now) }
-        requires held { IsProgressUnmarked marks.now (games_levels which self.now) (games_arena which self.now) table.now }
+        requires held { IsProgressUnmarked marks.now (games_levels which self.now)
+            (games_arena which self.now) table.now }
         ensures { IsTrue result ↔ IsProgressTable (games_levels which self.now) (games_arena which self.now) table.now }
     {
         let shape = self.shape(which);

@@ -36,7 +36,8 @@ stepped Start start name names b =
     if b == 59 then at Between start name names
     else (if is_ascii_digit b then at Start (longer start b) name names else at Start start name names)
 stepped Guard start name names b = if b == 93 then at Between start name names else at Guard start name names
-stepped Quoted start name names b = if b == 34 then at Between start name names else at Quoted start (name ++ b ∷ []) names
+stepped Quoted start name names b =
+    if b == 34 then at Between start name names else at Quoted start (name ++ b ∷ []) names
 
 abbrev pub step : State → ℕ → State
 step s b = stepped s.mode s.start s.name s.names b

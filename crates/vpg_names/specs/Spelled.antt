@@ -1,4 +1,5 @@
--- The names that a text of a game gives its vertices, and its start. The grammar is that of vpg_game (PGSolver's, with guards).
+-- The names that a text of a game gives its vertices, and its start. The grammar is that of vpg_game (PGSolver's, with
+-- guards).
 use Rattle.std.specs.Prelude.{ℕ, min, List, [], ◌∷◌, map, Option, Some, None}
 use Rattle.vpg_game.specs.Grammar.{Name, Entry, Heading, File, number_value}
 

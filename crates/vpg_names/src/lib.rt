@@ -1,6 +1,7 @@
 //! The names of a game's vertices, and where it starts, as its text tells them.
 //!
-//! `vpg_game` reads a game and keeps neither. `VertexNames::read` reads the same text once more, and the layers above use `name` and `start`.
+//! `vpg_game` reads a game and keeps neither. `VertexNames::read` reads the same text once more, and the layers above
+//! use `name` and `start`.
 //!
 //! `specs/Spelled` says which names a text spells. The format is that of `vpg_game`.
 #![tactic(auto)]

@@ -58,7 +58,8 @@ impl VertexNames {
         }
     }
 
-    /// The identifier where the game starts, where its text tells one. 4,294,967,296 stands for all that are greater than identifiers are.
+    /// The identifier where the game starts, where its text tells one. 4,294,967,296 stands for all that are greater
+    /// than identifiers are.
     pub fn start(&self) -> Option<u64>
         ensures { result ≡ self.now.start }
     {

@@ -20,5 +20,6 @@ through f g h p q = (q.0 ++ p.0, sym (append_assoc h q.0 p.0) ∙ (ap (λ (l : L
 pub grows : (f g : List Event) → IsPrefix g f → length g ≤ length f
 grows f g p = let e = ap length p.1 in omega (arith, e, length-append g p.0)
 
-pub counted : (game : NamedGame) (diagram : NamedDiagram) (f : List Event) (at : ℕ) (settled : Bool) (verdicts : List Verdict) → IsSheetOf game diagram f at settled verdicts → at ≡ length f
+pub counted : (game : NamedGame) (diagram : NamedDiagram) (f : List Event) (at : ℕ) (settled : Bool)
+    (verdicts : List Verdict) → IsSheetOf game diagram f at settled verdicts → at ≡ length f
 counted game diagram f at settled verdicts is = is.calls

@@ -17,16 +17,21 @@ use Rattle.vpg_office.specs.declared.fault.Fault.TheVariants.{LogFull, Doubled, 
 -- what a call tells that isn't made, of the log
 abbrev pub Stops : {L F : Type 0} → ℕ → List Event → ℕ → List Event → Fault L F → Type 0
 Stops limit front session log (LogFull f) = (f ≡ log) × (limit ≤ length log) × (length log ≤ limit)
-Stops limit front session log (Doubled f) = (f ≡ log) × (length log < limit) × (0 < calls_by session (drop (length front) log))
+Stops limit front session log (Doubled f) =
+    (f ≡ log) × (length log < limit) × (0 < calls_by session (drop (length front) log))
 Stops limit front session log (DeskRefuses fault) = ⊥
 Stops limit front session log Memory = ⊤
 
--- A call with this front lent gives nothing, and leaves this one. The desk's own refusal is logged. Else the front stays: the log is full,
--- or it has room and a further call of this session, or it is out of memory.
-abbrev pub Tells : {L F : Type 0} → Family → ℕ → (F → Option Refusal) → Call → ℕ → List Event → List Event → Fault L F → Type 0
-Tells family limit refusal call session front new (LogFull f) = (new ≡ front) × IsPrefix front f × (length f ≡ limit) × IsHistory family f
-Tells family limit refusal call session front new (Doubled f) = (new ≡ front) × (length f < limit) × Overtakes family front session f
-Tells family limit refusal call session front new (DeskRefuses fault) = (r : Refusal) × ((refusal fault ≡ Some r) × Extends family front session call (Refused r) new)
+-- A call with this front lent gives nothing, and leaves this one. The desk's own refusal is logged. Else the front
+-- stays: the log is full, or it has room and a further call of this session, or it is out of memory.
+abbrev pub Tells : {L F : Type 0} → Family → ℕ → (F → Option Refusal) → Call → ℕ → List Event → List Event → Fault L F →
+    Type 0
+Tells family limit refusal call session front new (LogFull f) =
+    (new ≡ front) × IsPrefix front f × (length f ≡ limit) × IsHistory family f
+Tells family limit refusal call session front new (Doubled f) =
+    (new ≡ front) × (length f < limit) × Overtakes family front session f
+Tells family limit refusal call session front new (DeskRefuses fault) =
+    (r : Refusal) × ((refusal fault ≡ Some r) × Extends family front session call (Refused r) new)
 Tells family limit refusal call session front new Memory = new ≡ front
 
 -- a refusal of the desk's leaves a front that begins with the token's
@@ -39,9 +44,16 @@ abbrev pub never_refused : {F : Type 0} → F → Option Refusal
 never_refused fault = None
 
 -- The same of a commit: the desk's own refusal says whether the harvest is of the office's game and diagram.
-abbrev pub CommitTells : {L : Type 0} → NamedGame → NamedDiagram → ℕ → HarvestView → ℕ → List Event → List Event → Fault L CommitFault → Type 0
-CommitTells game diagram limit harvest session front new (LogFull f) = (new ≡ front) × IsPrefix front f × (length f ≡ limit) × IsHistory (family_between game diagram) f
-CommitTells game diagram limit harvest session front new (Doubled f) = (new ≡ front) × (length f < limit) × Overtakes (family_between game diagram) front session f
+abbrev pub CommitTells : {L : Type 0} → NamedGame → NamedDiagram → ℕ → HarvestView → ℕ → List Event → List Event →
+    Fault L CommitFault → Type 0
+CommitTells game diagram limit harvest session front new (LogFull f) =
+    (new ≡ front) × IsPrefix front f × (length f ≡ limit) × IsHistory (family_between game diagram) f
+CommitTells game diagram limit harvest session front new (Doubled f) =
+    (new ≡ front) × (length f < limit) × Overtakes (family_between game diagram) front session f
 CommitTells game diagram limit harvest session front new (DeskRefuses fault) =
-    (b : Bool) × (Decides b (IsOf game diagram harvest.order) × ((r : Refusal) × ((commit_refusal fault ≡ Some r) × Extends (family_between game diagram) front session (Commit (handed_in b harvest)) (Refused r) new)))
+    (b : Bool) ×
+    (Decides b (IsOf game diagram harvest.order) ×
+    ((r : Refusal) ×
+    ((commit_refusal fault ≡ Some r) ×
+    Extends (family_between game diagram) front session (Commit (handed_in b harvest)) (Refused r) new)))
 CommitTells game diagram limit harvest session front new Memory = new ≡ front

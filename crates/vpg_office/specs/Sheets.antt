@@ -11,12 +11,17 @@ use Rattle.vpg_office.specs.Fronts.{IsHistory, family_between}
 
 -- each is what the book replies of its vertex
 abbrev pub AreSaid : Family → Book → List Said → Type 0
-AreSaid family book verdicts = (v : ℕ) (said : Said) → get_elem? verdicts v ≡ some said → IsReply family book (Verdict v) (VerdictIs said.hopeless said.sure)
+AreSaid family book verdicts =
+    (v : ℕ) (said : Said) → get_elem? verdicts v ≡ some said →
+    IsReply family book (Verdict v) (VerdictIs said.hopeless said.sure)
 
--- A sheet of a history has its number of calls, and what the book replies at its end: whether the page is settled, and the verdict of each vertex.
-pub record IsSheetOf (game : NamedGame) (diagram : NamedDiagram) (events : List Event) (at : ℕ) (settled : Bool) (verdicts : List Said) : Type 0 where
+-- A sheet of a history has its number of calls, and what the book replies at its end: whether the page is settled, and
+-- the verdict of each vertex.
+pub record IsSheetOf (game : NamedGame) (diagram : NamedDiagram) (events : List Event) (at : ℕ) (settled : Bool)
+    (verdicts : List Said) : Type 0 where
   pub history : IsHistory (family_between game diagram) events
   pub calls : at ≡ length events
-  pub is_settled : IsReply (family_between game diagram) (book_after (family_between game diagram) opened events) Settled (IsSettled settled)
+  pub is_settled : IsReply (family_between game diagram)
+      (book_after (family_between game diagram) opened events) Settled (IsSettled settled)
   pub size : length verdicts ≡ length game.vertices
   pub each : AreSaid (family_between game diagram) (book_after (family_between game diagram) opened events) verdicts

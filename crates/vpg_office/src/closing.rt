@@ -80,7 +80,8 @@ impl<L: Terms> Log<L> {
 
     /// Spends the tokens handed in, and ends the log. Answers how many further tokens are out.
     pub(crate) fn end<R: Wait>(self, rt: &R, undos: Vec<Undo<L>>, redos: Vec<Redo<L>>) -> u64
-        ensures { result + length undos.items + length redos.items ≡ (book_after (family_between L.game L.diagram) opened self).tokens }
+        ensures { result + length undos.items + length redos.items
+            ≡ (book_after (family_between L.game L.diagram) opened self).tokens }
     {
         let Log {
             replay,

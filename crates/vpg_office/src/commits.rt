@@ -40,9 +40,15 @@ fn hand_in(
     own: bool,
 ) -> Result<u32, CommitRefused>
     requires own { own ≡ true → IsOrderOf desk.old harvest.order }
-    ensures accepted { IfOk result (λ added. (session : ℕ) → IsStep desk.old session (book.Commit (handed_in true harvest)) (book.Added added) desk.new) }
+    ensures accepted { IfOk result
+        (λ added. (session : ℕ) →
+        IsStep desk.old session (book.Commit (handed_in true harvest)) (book.Added added) desk.new) }
     ensures same { OnOk result (IsOrderOf desk.old harvest.order) }
-    ensures refused { IfErr result (λ r. IfSome (commit_refusal r.fault) (λ refusal. (b : Bool) × (Decides b (IsOrderOf desk.old harvest.order) × Replies desk.old (book.Commit (handed_in b harvest)) (book.Refused refusal)))) }
+    ensures refused { IfErr result
+        (λ r. IfSome (commit_refusal r.fault)
+        (λ refusal. (b : Bool) ×
+        (Decides b (IsOrderOf desk.old harvest.order) ×
+        Replies desk.old (book.Commit (handed_in b harvest)) (book.Refused refusal)))) }
     ensures err { OnErr result (desk.new ≡ desk.old) }
     ensures back { IfErr result (λ r. r.harvest ≡ harvest) }
 {
@@ -67,9 +73,12 @@ impl<L: Terms> Log<L> {
         requires row { row.now ≡ L.shelves }
         requires seen { IsPrefix front.old self.old }
         requires own { own ≡ true → IsOf L.game L.diagram harvest.order }
-        ensures done { IfOk result (λ added. Extends (family_between L.game L.diagram) front.old session (book.Commit (handed_in true harvest)) (book.Added added) front.new) }
+        ensures done { IfOk result
+            (λ added. Extends (family_between L.game L.diagram) front.old session
+            (book.Commit (handed_in true harvest)) (book.Added added) front.new) }
         ensures same { OnOk result (IsOf L.game L.diagram harvest.order) }
-        ensures fault { IfErr result (λ b. CommitTells L.game L.diagram L.limit harvest session front.old front.new b.fault) }
+        ensures fault { IfErr result
+            (λ b. CommitTells L.game L.diagram L.limit harvest session front.old front.new b.fault) }
         ensures back { IfErr result (λ b. b.value ≡ harvest) }
     {
         let _ = harvest.order();

@@ -15,8 +15,8 @@ use vpg_watch::Follows;
 
 pub(crate) type Place = Pushed<Entry>;
 
-/// A beginning of the log of an office. Contracts see it as a history of the office's desk: its calls with their sessions and
-/// replies.
+/// A beginning of the log of an office. Contracts see it as a history of the office's desk: its calls with their
+/// sessions and replies.
 #[derive(Drop)]
 pub struct Front<L: Terms> {
     pub(crate) count: usize,
@@ -126,8 +126,8 @@ impl<L: Terms> Front<L> {
         }
     }
 
-    /// What holds of every legal history holds of it: undo and redo restore pages, each page's tables are below every progress
-    /// table, settled ones are the least, hopeless and sure mean what they say.
+    /// What holds of every legal history holds of it: undo and redo restore pages, each page's tables are below every
+    /// progress table, settled ones are the least, hopeless and sure mean what they say.
     pub fn headline(&self)
         ensures { Headline (setting_between L.game L.diagram) self.now }
     {

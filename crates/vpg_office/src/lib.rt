@@ -1,11 +1,12 @@
 //! Offices: one desk that several sessions share, each call of theirs one event under a lock.
 //!
-//! A session lends a front to each call: a beginning of the log, which contracts see as a legal history of the desk (`vpg_desk`). The
-//! front grows to end with the call. Tokens carry the place of the call that gave them. `with_office` opens an office for a caller's
-//! work; `close` and `end` end it. From the first watch (`Office::watch`) on each change of the page publishes a sheet, which watches
-//! read without the lock (`read`). Definitions: `specs/Fronts.antt` (histories and how a call extends them), `specs/Faults.antt` (what
-//! a refused call tells), `specs/Token.antt`, `specs/Sheets.antt` (what a sheet tells); what lies under the lock is in
-//! `specs/Kept.antt`, `specs/Locked.antt` and `specs/Story.antt`.
+//! A session lends a front to each call: a beginning of the log, which contracts see as a legal history of the desk
+//! (`vpg_desk`). The front grows to end with the call. Tokens carry the place of the call that gave them. `with_office`
+//! opens an office for a caller's work; `close` and `end` end it. From the first watch (`Office::watch`) on each change
+//! of the page publishes a sheet, which watches read without the lock (`read`). Definitions: `specs/Fronts.antt`
+//! (histories and how a call extends them), `specs/Faults.antt` (what a refused call tells), `specs/Token.antt`,
+//! `specs/Sheets.antt` (what a sheet tells); what lies under the lock is in `specs/Kept.antt`, `specs/Locked.antt` and
+//! `specs/Story.antt`.
 #![tactic(auto)]
 
 mod asked;

@@ -1,5 +1,5 @@
-//! What lies under the office's lock: the log with the desk that replays it, the purse of tokens, and the press. Each of the three has a rule
-//! of its own; what joins them stands in `specs/Locked.antt`.
+//! What lies under the office's lock: the log with the desk that replays it, the purse of tokens, and the press. Each
+//! of the three has a rule of its own; what joins them stands in `specs/Locked.antt`.
 ghost use Rattle.std.specs.Prelude.{◌≡◌, ◌+◌, ◌-◌, ◌<◌, ◌≤◌, ◌⊎◌, ℕ, List, [], ◌∷◌, ◌++◌, length, drop, true, false, Some, None, IfOk, IfErr, OnOk, OnErr, IfSome, option_map};
 ghost use mathlib.Core.List.{IsPrefix};
 ghost use Rattle.boxcar.specs.Table.{Shows};
@@ -59,7 +59,8 @@ impl<L: Terms> Model for Log<L> {
 
     ghost view = { λ g. g.replay.newest };
 
-    ghost invariant = { λ g. IsLog L.shelves L.game L.diagram L.limit g.replay.chronicle g.replay.newest g.replay.desk g.replay.room g.purse g.press.front g.sessions };
+    ghost invariant = { λ g.
+        IsLog L.shelves L.game L.diagram L.limit g.replay.chronicle g.replay.newest g.replay.desk g.replay.room g.purse g.press.front g.sessions };
 }
 
 /// Whether the front is a beginning of the log.
@@ -105,7 +106,8 @@ pub(crate) fn admit<L: Terms, F, R: Wait>(
     requires limit { room ≡ L.limit }
     ensures kept { IsChronicle L.shelves L.game L.diagram chronicle.new newest.now }
     ensures room { OnOk result (HasRoom chronicle.new) }
-    ensures place { IfOk result (λ p. Shows L.shelves p × IsEntryOf (lines_of chronicle.new.told.items) session asked.now p.value) }
+    ensures place { IfOk result
+        (λ p. Shows L.shelves p × IsEntryOf (lines_of chronicle.new.told.items) session asked.now p.value) }
     ensures fits { OnOk result (length newest.now < L.limit) }
     ensures none { OnOk result (calls_by session (drop (length front.now) newest.now) ≡ 0) }
     ensures err { IfErr result (Stops L.limit front.now session newest.now) }
@@ -139,14 +141,20 @@ pub(crate) fn enter<L: Terms>(
 )
     requires kept { IsChronicle L.shelves L.game L.diagram chronicle.old newest.old }
     requires room { HasRoom chronicle.old }
-    requires place { Shows L.shelves place.now × IsEntryOf (lines_of chronicle.old.told.items) session asked.now place.now.value }
+    requires place { Shows L.shelves place.now ×
+        IsEntryOf (lines_of chronicle.old.told.items) session asked.now place.now.value }
     requires fits { length newest.old < L.limit }
     requires few { length newest.old < 1048576 }
-    requires reply { let family = family_between L.game L.diagram in let b = book_after family opened newest.old in IsReply family b (call_of asked.now answer) (reply_of family b.present answer) }
+    requires reply { let family = family_between L.game L.diagram in let b =
+        book_after family opened newest.old in IsReply family b (call_of asked.now answer)
+        (reply_of family b.present answer) }
     requires hands { HandsIn (IsLawful (family_between L.game L.diagram)) (call_of asked.now answer) }
     requires named { IsNamed L.game L.diagram asked.now answer }
     ensures kept { IsChronicle L.shelves L.game L.diagram chronicle.new newest.new }
-    ensures newest { let family = family_between L.game L.diagram in newest.new ≡ newest.old ++ event session (call_of asked.now answer) (reply_of family (book_after family opened newest.old).present answer) ∷ [] }
+    ensures newest { let family =
+        family_between L.game L.diagram in newest.new ≡ newest.old
+        ++ event session (call_of asked.now answer)
+        (reply_of family (book_after family opened newest.old).present answer) ∷ [] }
     ensures front { front.new ≡ newest.new }
     ensures history { IsHistory (family_between L.game L.diagram) front.new }
 {
@@ -236,7 +244,9 @@ impl<L: Terms> Log<L> {
     /// Makes the first the longer of both, where the log has both.
     pub(crate) fn meets(&self, row: &Row, front: &mut Front<L>, other: &Front<L>) -> bool
         requires { row.now ≡ L.shelves }
-        ensures yes { result ≡ true → IsPrefix front.old front.new × IsPrefix other.now front.new × ((front.new ≡ front.old) ⊎ (front.new ≡ other.now)) × IsHistory (family_between L.game L.diagram) front.new }
+        ensures yes { result ≡ true → IsPrefix front.old front.new × IsPrefix other.now front.new ×
+            ((front.new ≡ front.old) ⊎ (front.new ≡ other.now)) ×
+            IsHistory (family_between L.game L.diagram) front.new }
         ensures no { result ≡ false → front.new ≡ front.old }
     {
         if !self.has(row, front) || !self.has(row, other) {
@@ -261,8 +271,12 @@ impl<L: Terms> Log<L> {
     ) -> Result<Undo<L>, Fault<L, DecideFault>>
         requires row { row.now ≡ L.shelves }
         requires seen { IsPrefix front.old self.old }
-        ensures done { IfOk result (λ t. Extends (family_between L.game L.diagram) front.old session (book.Decide feature value) (book.Changed t.serial) front.new × (t.history ≡ front.new)) }
-        ensures fault { IfErr result (Tells (family_between L.game L.diagram) L.limit decide_refusal (book.Decide feature value) session front.old front.new) }
+        ensures done { IfOk result
+            (λ t. Extends (family_between L.game L.diagram) front.old session (book.Decide feature value)
+            (book.Changed t.serial) front.new × (t.history ≡ front.new)) }
+        ensures fault { IfErr result
+            (Tells (family_between L.game L.diagram) L.limit decide_refusal
+            (book.Decide feature value) session front.old front.new) }
     {
         let asked = Asked::Decide { feature, value };
         let place = match admit(

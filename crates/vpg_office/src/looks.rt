@@ -38,8 +38,11 @@ impl<L: Terms> Log<L> {
     ) -> Result<bool, Fault<L, Never>>
         requires row { row.now ≡ L.shelves }
         requires seen { IsPrefix front.old self.old }
-        ensures done { IfOk result (λ r. Extends (family_between L.game L.diagram) front.old session book.Settled (book.IsSettled r) front.new) }
-        ensures fault { IfErr result (Tells (family_between L.game L.diagram) L.limit never_refused book.Settled session front.old front.new) }
+        ensures done { IfOk result
+            (λ r. Extends (family_between L.game L.diagram) front.old session book.Settled
+            (book.IsSettled r) front.new) }
+        ensures fault { IfErr result
+            (Tells (family_between L.game L.diagram) L.limit never_refused book.Settled session front.old front.new) }
     {
         let asked = Asked::Settled;
         let place = match admit(
@@ -80,8 +83,12 @@ impl<L: Terms> Log<L> {
         requires row { row.now ≡ L.shelves }
         requires seen { IsPrefix front.old self.old }
         requires vertex { vertex < length L.game.vertices }
-        ensures done { IfOk result (λ r. Extends (family_between L.game L.diagram) front.old session (book.Verdict vertex) (book.VerdictIs r.hopeless r.sure) front.new) }
-        ensures fault { IfErr result (Tells (family_between L.game L.diagram) L.limit never_refused (book.Verdict vertex) session front.old front.new) }
+        ensures done { IfOk result
+            (λ r. Extends (family_between L.game L.diagram) front.old session (book.Verdict vertex)
+            (book.VerdictIs r.hopeless r.sure) front.new) }
+        ensures fault { IfErr result
+            (Tells (family_between L.game L.diagram) L.limit never_refused
+            (book.Verdict vertex) session front.old front.new) }
     {
         let asked = Asked::Verdict { vertex };
         let place = match admit(
@@ -124,16 +131,22 @@ impl<L: Terms> Log<L> {
     ) -> Result<Page, Fault<L, Never>>
         requires row { row.now ≡ L.shelves }
         requires seen { IsPrefix front.old self.old }
-        ensures done { IfOk result (λ r. Extends (family_between L.game L.diagram) front.old session book.Page (book.PageIs r.entries) front.new) }
-        ensures entries { IfOk result (λ r. r.entries ≡ (book_after (family_between L.game L.diagram) book.opened self.old).present) }
+        ensures done { IfOk result
+            (λ r. Extends (family_between L.game L.diagram) front.old session book.Page
+            (book.PageIs r.entries) front.new) }
+        ensures entries { IfOk result
+            (λ r. r.entries ≡ (book_after (family_between L.game L.diagram) book.opened self.old).present) }
         ensures decisions { IfOk result (λ r. r.decisions ≡ decisions_of r.entries) }
         ensures hopeful { IfOk result (λ r. r.hopeful ≡ table_of Hopeful r.entries (length (graph_of L.game))) }
         ensures dual { IfOk result (λ r. r.dual ≡ table_of Dual r.entries (length (graph_of L.game))) }
         ensures below { IfOk result (λ r. PageIsBelow (family_between L.game L.diagram) r.entries) }
         ensures tells { IfOk result (λ r. PageTells (setting_between L.game L.diagram) r.entries) }
         ensures setting { OnOk result (IsSetting (setting_between L.game L.diagram)) }
-        ensures reached { OnOk result (IsReached (setting_between L.game L.diagram) (book_after (family_between L.game L.diagram) book.opened front.new)) }
-        ensures fault { IfErr result (Tells (family_between L.game L.diagram) L.limit never_refused book.Page session front.old front.new) }
+        ensures reached { OnOk result
+            (IsReached (setting_between L.game L.diagram)
+            (book_after (family_between L.game L.diagram) book.opened front.new)) }
+        ensures fault { IfErr result
+            (Tells (family_between L.game L.diagram) L.limit never_refused book.Page session front.old front.new) }
     {
         let asked = Asked::Page;
         let place = match admit(
@@ -166,7 +179,10 @@ impl<L: Terms> Log<L> {
 
     /// What the decisions of the present page make of the game: the desk holds it, so nothing of it is made anew.
     fn games(&self) -> Result<Arc<PageGames>, AllocError>
-        ensures { IfOk result (λ games. ArePageGames L.game L.diagram (choices_of (book_after (family_between L.game L.diagram) book.opened self.now).present) (arc_value games)) }
+        ensures { IfOk result (λ games.
+            ArePageGames L.game L.diagram
+            (choices_of (book_after (family_between L.game L.diagram) book.opened self.now).present)
+            (arc_value games)) }
     {
         self.replay.desk.games().clone()
     }
@@ -182,7 +198,9 @@ impl<L: Terms> Log<L> {
     ) -> Result<(Page, Arc<PageGames>), Fault<L, Never>>
         requires row { row.now ≡ L.shelves }
         requires seen { IsPrefix front.old self.old }
-        ensures done { IfOk result (λ r. Extends (family_between L.game L.diagram) front.old session book.Page (book.PageIs r.0.entries) front.new) }
+        ensures done { IfOk result
+            (λ r. Extends (family_between L.game L.diagram) front.old session book.Page
+            (book.PageIs r.0.entries) front.new) }
         ensures decisions { IfOk result (λ r. r.0.decisions ≡ decisions_of r.0.entries) }
         ensures hopeful { IfOk result (λ r. r.0.hopeful ≡ table_of Hopeful r.0.entries (length (graph_of L.game))) }
         ensures dual { IfOk result (λ r. r.0.dual ≡ table_of Dual r.0.entries (length (graph_of L.game))) }
@@ -190,8 +208,11 @@ impl<L: Terms> Log<L> {
         ensures below { IfOk result (λ r. PageIsBelow (family_between L.game L.diagram) r.0.entries) }
         ensures tells { IfOk result (λ r. PageTells (setting_between L.game L.diagram) r.0.entries) }
         ensures setting { OnOk result (IsSetting (setting_between L.game L.diagram)) }
-        ensures reached { OnOk result (IsReached (setting_between L.game L.diagram) (book_after (family_between L.game L.diagram) book.opened front.new)) }
-        ensures fault { IfErr result (Tells (family_between L.game L.diagram) L.limit never_refused book.Page session front.old front.new) }
+        ensures reached { OnOk result
+            (IsReached (setting_between L.game L.diagram)
+            (book_after (family_between L.game L.diagram) book.opened front.new)) }
+        ensures fault { IfErr result
+            (Tells (family_between L.game L.diagram) L.limit never_refused book.Page session front.old front.new) }
     {
         let Ok(games) = self.games() else {
             return Err(Fault::Memory);
@@ -213,9 +234,12 @@ impl<L: Terms> Log<L> {
     ) -> Result<Order, Fault<L, Never>>
         requires row { row.now ≡ L.shelves }
         requires seen { IsPrefix front.old self.old }
-        ensures done { IfOk result (λ r. Extends (family_between L.game L.diagram) front.old session book.Order (book.Ordered r.decisions r.hopeful r.dual) front.new) }
+        ensures done { IfOk result
+            (λ r. Extends (family_between L.game L.diagram) front.old session book.Order
+            (book.Ordered r.decisions r.hopeful r.dual) front.new) }
         ensures ours { IfOk result (λ r. IsOf L.game L.diagram r) }
-        ensures fault { IfErr result (Tells (family_between L.game L.diagram) L.limit never_refused book.Order session front.old front.new) }
+        ensures fault { IfErr result
+            (Tells (family_between L.game L.diagram) L.limit never_refused book.Order session front.old front.new) }
     {
         let asked = Asked::Order;
         let place = match admit(

@@ -48,8 +48,8 @@ impl Rowed for Row {
     }
 }
 
-/// Sessions share it by reference; `close` or `end` ends it. The types of the row and of the log are parameters, so that the check finds
-/// that threads may share it.
+/// Sessions share it by reference; `close` or `end` ends it. The types of the row and of the log are parameters, so
+/// that the check finds that threads may share it.
 pub struct Shared<W: Rowed, L: Terms, T> {
     pub(crate) row: W,
     pub(crate) log: Mutex<T>,
@@ -118,7 +118,8 @@ fn opened_desk<L: Terms, R: Wait>(
     ensures press { IfOk result (λ r. r.1.front ≡ []) }
     ensures fits { OnOk result (IsOpened (arc_value game) (arc_value diagram)) }
     ensures at_limit { IfErr result (λ fault. (fault ≡ OpenFault.AtLimit) ↔ IsAtLimit (arc_value game)) }
-    ensures conflict { IfErr result (λ fault. (f : ℕ) → fault ≡ OpenFault.Conflict f → HasConflictOf (arc_value diagram).lines [] × (f ≡ 0)) }
+    ensures conflict { IfErr result
+        (λ fault. (f : ℕ) → fault ≡ OpenFault.Conflict f → HasConflictOf (arc_value diagram).lines [] × (f ≡ 0)) }
 {
     match Desk::open(alloc, game, diagram) {
         Ok(desk) => match opening_press::<L, R>(rt, alloc, &desk) {
@@ -145,7 +146,9 @@ impl<L: Terms> Shared<Row, L, Log<L>> {
         requires room { (room ≡ L.limit) × (1 ≤ room) × (room ≤ 1048576) }
         ensures fits { OnOk result (IsOpened L.game L.diagram) }
         ensures at_limit { IfErr result (λ refused. (refused.fault ≡ OpenFault.AtLimit) ↔ IsAtLimit (arc_value game)) }
-        ensures conflict { IfErr result (λ refused. (f : ℕ) → refused.fault ≡ OpenFault.Conflict f → HasConflictOf (arc_value diagram).lines [] × (f ≡ 0)) }
+        ensures conflict { IfErr result
+            (λ refused. (f : ℕ) → refused.fault ≡ OpenFault.Conflict f → HasConflictOf (arc_value diagram).lines [] ×
+            (f ≡ 0)) }
         ensures game_back { IfErr result (λ refused. arc_value refused.game ≡ arc_value game) }
         ensures diagram_back { IfErr result (λ refused. arc_value refused.diagram ≡ arc_value diagram) }
         ensures site_back { IfErr result (λ refused. refused.site ≡ site) }
@@ -199,9 +202,9 @@ impl<L: Terms> Shared<Row, L, Log<L>> {
         }
     }
 
-    /// A watch of the sheets that the office publishes: one as it opens, one of the log so far for the first watch, and from then on one
-    /// with each accepted decide, retract, undo, redo and commit, but for those that find no memory. Its first read gives the sheet
-    /// that is shown now or a later one.
+    /// A watch of the sheets that the office publishes: one as it opens, one of the log so far for the first watch, and
+    /// from then on one with each accepted decide, retract, undo, redo and commit, but for those that find no memory.
+    /// Its first read gives the sheet that is shown now or a later one.
     ///
     /// Refused: `Memory`, where there was no watch yet and its sheet finds none; `NoPlace`, where there are 64 watches.
     pub fn watch<R: Wait>(&self, rt: &R, alloc: Global) -> Result<Watch<Front<L>>, NoWatch>
@@ -247,7 +250,8 @@ impl<L: Terms> Shared<Row, L, Log<L>> {
         unreachable!()
     }
 
-    /// The log, locked where it has the front, and a token's front with its last call that gave a token of the serial at the end.
+    /// The log, locked where it has the front, and a token's front with its last call that gave a token of the serial
+    /// at the end.
     pub(crate) fn log_holding<R: Wait>(
         &self,
         rt: &R,
@@ -286,13 +290,15 @@ impl<L: Terms> Shared<Row, L, Log<L>> {
         unreachable!()
     }
 
-    /// Ends the office, where no token of it is out; else it comes back, with their exact number. The front grows to the whole log,
-    /// by which the number is told.
+    /// Ends the office, where no token of it is out; else it comes back, with their exact number. The front grows to
+    /// the whole log, by which the number is told.
     pub fn close<R: Wait>(self, rt: &R, front: &mut Front<L>) -> Result<(), TokensOut<L>>
         ensures begins { IsPrefix front.old front.new }
         ensures history { IsHistory (family_between L.game L.diagram) front.new }
         ensures closed { OnOk result ((book_after (family_between L.game L.diagram) opened front.new).tokens ≡ 0) }
-        ensures out { IfErr result (λ out. (out.tokens ≡ (book_after (family_between L.game L.diagram) opened front.new).tokens) × (0 < out.tokens)) }
+        ensures out { IfErr result
+            (λ out. (out.tokens ≡ (book_after (family_between L.game L.diagram) opened front.new).tokens) ×
+            (0 < out.tokens)) }
     {
         let Shared { row, log, of: _ } = self;
         let log = log.into_inner();
@@ -317,8 +323,8 @@ impl<L: Terms> Shared<Row, L, Log<L>> {
         unreachable!()
     }
 
-    /// Spends the tokens handed in, and ends the office, whatever the log's room. It is never refused, and answers how many further
-    /// tokens are out. The front grows to the whole log, by which the number is told.
+    /// Spends the tokens handed in, and ends the office, whatever the log's room. It is never refused, and answers how
+    /// many further tokens are out. The front grows to the whole log, by which the number is told.
     pub fn end<R: Wait>(
         self,
         rt: &R,
@@ -328,7 +334,8 @@ impl<L: Terms> Shared<Row, L, Log<L>> {
     ) -> u64
         ensures begins { IsPrefix front.old front.new }
         ensures history { IsHistory (family_between L.game L.diagram) front.new }
-        ensures further { result + length undos.items + length redos.items ≡ (book_after (family_between L.game L.diagram) opened front.new).tokens }
+        ensures further { result + length undos.items + length redos.items
+            ≡ (book_after (family_between L.game L.diagram) opened front.new).tokens }
     {
         let Shared { row, log, of: _ } = self;
         let log = log.into_inner();

@@ -106,8 +106,8 @@ impl<L: Terms> Log<L> {
         )
     }
 
-    /// Publishes the sheet of the log, where the call just made changed the page and there was a watch. One that finds no memory is
-    /// left out.
+    /// Publishes the sheet of the log, where the call just made changed the page and there was a watch. One that finds
+    /// no memory is left out.
     pub(crate) fn publish<R: Wait>(&mut self, rt: &R, alloc: Global, changed: bool)
         ensures { self.new ≡ self.old }
     {
@@ -138,13 +138,16 @@ impl<L: Terms> Log<L> {
     }
 }
 
-/// Reads the sheet that is shown, as `Watch::read`: without the office's lock and without waiting. The sheet is of a front of the
-/// office: its `at` is the front's number of calls, and it tells what the desk replies there, of the page and of each vertex. The front
-/// begins with the one that this watch read before, and at its first read with that of the sheet that was shown as it was given.
+/// Reads the sheet that is shown, as `Watch::read`: without the office's lock and without waiting. The sheet is of a
+/// front of the office: its `at` is the front's number of calls, and it tells what the desk replies there, of the page
+/// and of each vertex. The front begins with the one that this watch read before, and at its first read with that of
+/// the sheet that was shown as it was given.
 ///
 /// The one refusal is `NoSheet`: the office is closed or has ended.
 pub fn read<L: Terms>(watch: &mut Watch<Front<L>>) -> Result<Arc<Sheet<Front<L>>>, WatchFault>
-    ensures sheet { IfOk result (λ sheet. IsSheetOf L.game L.diagram (arc_value sheet).front (arc_value sheet).at (arc_value sheet).settled (arc_value sheet).verdicts) }
+    ensures sheet { IfOk result
+        (λ sheet. IsSheetOf L.game L.diagram (arc_value sheet).front (arc_value sheet).at (arc_value sheet).settled
+        (arc_value sheet).verdicts) }
     ensures begins { IfOk result (λ sheet. IsPrefix watch.old (arc_value sheet).front) }
     ensures seen { IfOk result (λ sheet. watch.new ≡ (arc_value sheet).front) }
     // Also where there is no sheet, whatever begins with what is seen then begins with what was seen.

@@ -5,8 +5,8 @@ use crate::terms::Terms;
 use std::marker::Model;
 use std::sync::ledger::{Book, Share};
 
-/// What counts the tokens that are out: each has a share of one part and amount 1, and the other parts are here. Contracts see their
-/// number.
+/// What counts the tokens that are out: each has a share of one part and amount 1, and the other parts are here.
+/// Contracts see their number.
 #[derive(Drop)]
 pub struct Purse<L: Terms> {
     book: Book<L>,

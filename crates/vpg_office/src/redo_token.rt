@@ -6,8 +6,8 @@ use crate::terms::Terms;
 use std::marker::Model;
 use std::sync::ledger::Share;
 
-/// Stands for a change that was undone. It can be neither copied nor let go: `Session::redo` or `Session::forget` spends
-/// it, or `Office::end`. Contracts see the change's serial, and the history up to the call that gave the token.
+/// Stands for a change that was undone. It can be neither copied nor let go: `Session::redo` or `Session::forget`
+/// spends it, or `Office::end`. Contracts see the change's serial, and the history up to the call that gave the token.
 pub struct Redo<L: Terms> {
     pub(crate) token: vpg_desk::Redo,
     pub(crate) place: Front<L>,
@@ -28,7 +28,8 @@ impl<L: Terms> Model for Redo<L> {
 
     ghost view = { λ t. record { serial = t.token; history = t.place } };
 
-    ghost invariant = { λ t. (t.share.amount ≡ 1) × (t.share.parts ≡ 1) × EndsWith (λ reply. IsTrue (gives_redo t.token reply)) t.place };
+    ghost invariant = { λ t. (t.share.amount ≡ 1) × (t.share.parts ≡ 1) ×
+        EndsWith (λ reply. IsTrue (gives_redo t.token reply)) t.place };
 }
 
 impl<L: Terms> Redo<L> {

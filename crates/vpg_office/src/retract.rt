@@ -43,8 +43,12 @@ impl<L: Terms> Log<L> {
     ) -> Result<Undo<L>, Fault<L, RetractFault>>
         requires row { row.now ≡ L.shelves }
         requires seen { IsPrefix front.old self.old }
-        ensures done { IfOk result (λ t. Extends (family_between L.game L.diagram) front.old session (book.Retract feature) (book.Changed t.serial) front.new × (t.history ≡ front.new)) }
-        ensures fault { IfErr result (Tells (family_between L.game L.diagram) L.limit retract_refusal (book.Retract feature) session front.old front.new) }
+        ensures done { IfOk result
+            (λ t. Extends (family_between L.game L.diagram) front.old session (book.Retract feature)
+            (book.Changed t.serial) front.new × (t.history ≡ front.new)) }
+        ensures fault { IfErr result
+            (Tells (family_between L.game L.diagram) L.limit retract_refusal
+            (book.Retract feature) session front.old front.new) }
     {
         let asked = Asked::Retract { feature };
         let place = match admit(

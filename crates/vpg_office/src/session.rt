@@ -78,8 +78,12 @@ impl<L: Terms> Session<L> {
         feature: u16,
         value: bool,
     ) -> Result<Undo<L>, Fault<L, DecideFault>>
-        ensures done { IfOk result (λ t. Extends (family_between L.game L.diagram) front.old self.old (book.Decide feature value) (book.Changed t.serial) front.new × (t.history ≡ front.new)) }
-        ensures fault { IfErr result (Tells (family_between L.game L.diagram) L.limit decide_refusal (book.Decide feature value) self.old front.old front.new) }
+        ensures done { IfOk result
+            (λ t. Extends (family_between L.game L.diagram) front.old self.old (book.Decide feature value)
+            (book.Changed t.serial) front.new × (t.history ≡ front.new)) }
+        ensures fault { IfErr result
+            (Tells (family_between L.game L.diagram) L.limit decide_refusal
+            (book.Decide feature value) self.old front.old front.new) }
         ensures same { self.new ≡ self.old }
     {
         let mut log = office.log_with(rt, front);
@@ -98,8 +102,12 @@ impl<L: Terms> Session<L> {
         front: &mut Front<L>,
         feature: u16,
     ) -> Result<Undo<L>, Fault<L, RetractFault>>
-        ensures done { IfOk result (λ t. Extends (family_between L.game L.diagram) front.old self.old (book.Retract feature) (book.Changed t.serial) front.new × (t.history ≡ front.new)) }
-        ensures fault { IfErr result (Tells (family_between L.game L.diagram) L.limit retract_refusal (book.Retract feature) self.old front.old front.new) }
+        ensures done { IfOk result
+            (λ t. Extends (family_between L.game L.diagram) front.old self.old (book.Retract feature)
+            (book.Changed t.serial) front.new × (t.history ≡ front.new)) }
+        ensures fault { IfErr result
+            (Tells (family_between L.game L.diagram) L.limit retract_refusal
+            (book.Retract feature) self.old front.old front.new) }
         ensures same { self.new ≡ self.old }
     {
         let mut log = office.log_with(rt, front);
@@ -109,7 +117,8 @@ impl<L: Terms> Session<L> {
         answer
     }
 
-    /// Takes the token's change back, as `Desk::undo`: the present page is the one just before the call that gave the token.
+    /// Takes the token's change back, as `Desk::undo`: the present page is the one just before the call that gave the
+    /// token.
     pub fn undo<R: Wait>(
         &mut self,
         rt: &R,
@@ -118,10 +127,14 @@ impl<L: Terms> Session<L> {
         front: &mut Front<L>,
         token: Undo<L>,
     ) -> Result<Redo<L>, Returned<L, UndoFault, Undo<L>>>
-        ensures done { IfOk result (λ t. Extends (family_between L.game L.diagram) front.old self.old (book.Undo token.serial) (book.Undone t.serial) front.new × (t.history ≡ front.new)) }
+        ensures done { IfOk result
+            (λ t. Extends (family_between L.game L.diagram) front.old self.old (book.Undo token.serial)
+            (book.Undone t.serial) front.new × (t.history ≡ front.new)) }
         ensures goes_back { OnOk result (GoesBackTo (family_between L.game L.diagram) front.new token.history) }
         ensures begins { OnOk result (IsPrefix token.history front.new) }
-        ensures fault { IfErr result (λ b. Tells (family_between L.game L.diagram) L.limit undo_refusal (book.Undo token.serial) self.old front.old front.new b.fault) }
+        ensures fault { IfErr result
+            (λ b. Tells (family_between L.game L.diagram) L.limit undo_refusal
+            (book.Undo token.serial) self.old front.old front.new b.fault) }
         ensures refused { IfErr result (λ b. Begins token.history front.new b.fault) }
         ensures back { IfErr result (λ b. b.value ≡ token) }
         ensures same { self.new ≡ self.old }
@@ -133,7 +146,8 @@ impl<L: Terms> Session<L> {
         answer
     }
 
-    /// Makes the token's change again, as `Desk::redo`: the present page is the one just before the call that gave the token.
+    /// Makes the token's change again, as `Desk::redo`: the present page is the one just before the call that gave the
+    /// token.
     pub fn redo<R: Wait>(
         &mut self,
         rt: &R,
@@ -142,10 +156,14 @@ impl<L: Terms> Session<L> {
         front: &mut Front<L>,
         token: Redo<L>,
     ) -> Result<Undo<L>, Returned<L, RedoFault, Redo<L>>>
-        ensures done { IfOk result (λ t. Extends (family_between L.game L.diagram) front.old self.old (book.Redo token.serial) (book.Redone t.serial) front.new × (t.history ≡ front.new)) }
+        ensures done { IfOk result
+            (λ t. Extends (family_between L.game L.diagram) front.old self.old (book.Redo token.serial)
+            (book.Redone t.serial) front.new × (t.history ≡ front.new)) }
         ensures goes_back { OnOk result (GoesBackTo (family_between L.game L.diagram) front.new token.history) }
         ensures begins { OnOk result (IsPrefix token.history front.new) }
-        ensures fault { IfErr result (λ b. Tells (family_between L.game L.diagram) L.limit redo_refusal (book.Redo token.serial) self.old front.old front.new b.fault) }
+        ensures fault { IfErr result
+            (λ b. Tells (family_between L.game L.diagram) L.limit redo_refusal
+            (book.Redo token.serial) self.old front.old front.new b.fault) }
         ensures refused { IfErr result (λ b. Begins token.history front.new b.fault) }
         ensures back { IfErr result (λ b. b.value ≡ token) }
         ensures same { self.new ≡ self.old }
@@ -165,9 +183,13 @@ impl<L: Terms> Session<L> {
         front: &mut Front<L>,
         token: Undo<L>,
     ) -> Result<(), Returned<L, Never, Undo<L>>>
-        ensures done { OnOk result (Extends (family_between L.game L.diagram) front.old self.old (book.Keep token.serial) book.Spent front.new) }
+        ensures done { OnOk result
+            (Extends (family_between L.game L.diagram) front.old self.old
+            (book.Keep token.serial) book.Spent front.new) }
         ensures begins { OnOk result (IsPrefix token.history front.new) }
-        ensures fault { IfErr result (λ b. Tells (family_between L.game L.diagram) L.limit never_refused (book.Keep token.serial) self.old front.old front.new b.fault) }
+        ensures fault { IfErr result
+            (λ b. Tells (family_between L.game L.diagram) L.limit never_refused
+            (book.Keep token.serial) self.old front.old front.new b.fault) }
         ensures back { IfErr result (λ b. b.value ≡ token) }
         ensures same { self.new ≡ self.old }
     {
@@ -185,9 +207,13 @@ impl<L: Terms> Session<L> {
         front: &mut Front<L>,
         token: Redo<L>,
     ) -> Result<(), Returned<L, Never, Redo<L>>>
-        ensures done { OnOk result (Extends (family_between L.game L.diagram) front.old self.old (book.Forget token.serial) book.Spent front.new) }
+        ensures done { OnOk result
+            (Extends (family_between L.game L.diagram) front.old self.old
+            (book.Forget token.serial) book.Spent front.new) }
         ensures begins { OnOk result (IsPrefix token.history front.new) }
-        ensures fault { IfErr result (λ b. Tells (family_between L.game L.diagram) L.limit never_refused (book.Forget token.serial) self.old front.old front.new b.fault) }
+        ensures fault { IfErr result
+            (λ b. Tells (family_between L.game L.diagram) L.limit never_refused
+            (book.Forget token.serial) self.old front.old front.new b.fault) }
         ensures back { IfErr result (λ b. b.value ≡ token) }
         ensures same { self.new ≡ self.old }
     {
@@ -204,8 +230,11 @@ impl<L: Terms> Session<L> {
         office: &Office<L>,
         front: &mut Front<L>,
     ) -> Result<bool, Fault<L, Never>>
-        ensures done { IfOk result (λ r. Extends (family_between L.game L.diagram) front.old self.old book.Settled (book.IsSettled r) front.new) }
-        ensures fault { IfErr result (Tells (family_between L.game L.diagram) L.limit never_refused book.Settled self.old front.old front.new) }
+        ensures done { IfOk result
+            (λ r. Extends (family_between L.game L.diagram) front.old self.old book.Settled
+            (book.IsSettled r) front.new) }
+        ensures fault { IfErr result
+            (Tells (family_between L.game L.diagram) L.limit never_refused book.Settled self.old front.old front.new) }
         ensures same { self.new ≡ self.old }
     {
         let mut log = office.log_with(rt, front);
@@ -223,8 +252,12 @@ impl<L: Terms> Session<L> {
         vertex: u32,
     ) -> Result<Verdict, Fault<L, Never>>
         requires { vertex < length L.game.vertices }
-        ensures done { IfOk result (λ r. Extends (family_between L.game L.diagram) front.old self.old (book.Verdict vertex) (book.VerdictIs r.hopeless r.sure) front.new) }
-        ensures fault { IfErr result (Tells (family_between L.game L.diagram) L.limit never_refused (book.Verdict vertex) self.old front.old front.new) }
+        ensures done { IfOk result
+            (λ r. Extends (family_between L.game L.diagram) front.old self.old (book.Verdict vertex)
+            (book.VerdictIs r.hopeless r.sure) front.new) }
+        ensures fault { IfErr result
+            (Tells (family_between L.game L.diagram) L.limit never_refused
+            (book.Verdict vertex) self.old front.old front.new) }
         ensures same { self.new ≡ self.old }
     {
         let mut log = office.log_with(rt, front);
@@ -241,15 +274,20 @@ impl<L: Terms> Session<L> {
         office: &Office<L>,
         front: &mut Front<L>,
     ) -> Result<Page, Fault<L, Never>>
-        ensures done { IfOk result (λ r. Extends (family_between L.game L.diagram) front.old self.old book.Page (book.PageIs r.entries) front.new) }
+        ensures done { IfOk result
+            (λ r. Extends (family_between L.game L.diagram) front.old self.old book.Page
+            (book.PageIs r.entries) front.new) }
         ensures decisions { IfOk result (λ r. r.decisions ≡ decisions_of r.entries) }
         ensures hopeful { IfOk result (λ r. r.hopeful ≡ table_of Hopeful r.entries (length (graph_of L.game))) }
         ensures dual { IfOk result (λ r. r.dual ≡ table_of Dual r.entries (length (graph_of L.game))) }
         ensures below { IfOk result (λ r. PageIsBelow (family_between L.game L.diagram) r.entries) }
         ensures tells { IfOk result (λ r. PageTells (setting_between L.game L.diagram) r.entries) }
         ensures setting { OnOk result (IsSetting (setting_between L.game L.diagram)) }
-        ensures reached { OnOk result (IsReached (setting_between L.game L.diagram) (book_after (family_between L.game L.diagram) book.opened front.new)) }
-        ensures fault { IfErr result (Tells (family_between L.game L.diagram) L.limit never_refused book.Page self.old front.old front.new) }
+        ensures reached { OnOk result
+            (IsReached (setting_between L.game L.diagram)
+            (book_after (family_between L.game L.diagram) book.opened front.new)) }
+        ensures fault { IfErr result
+            (Tells (family_between L.game L.diagram) L.limit never_refused book.Page self.old front.old front.new) }
         ensures same { self.new ≡ self.old }
     {
         let mut log = office.log_with(rt, front);
@@ -258,8 +296,8 @@ impl<L: Terms> Session<L> {
         answer
     }
 
-    /// The present page, as `Desk::page`, with what its decisions make of the game, as `Desk::games`: one call, so the two are of one
-    /// page. The games are shared with the desk, and not made anew.
+    /// The present page, as `Desk::page`, with what its decisions make of the game, as `Desk::games`: one call, so the
+    /// two are of one page. The games are shared with the desk, and not made anew.
     pub fn page_with_games<R: Wait>(
         &mut self,
         rt: &R,
@@ -267,7 +305,9 @@ impl<L: Terms> Session<L> {
         office: &Office<L>,
         front: &mut Front<L>,
     ) -> Result<(Page, Arc<PageGames>), Fault<L, Never>>
-        ensures done { IfOk result (λ r. Extends (family_between L.game L.diagram) front.old self.old book.Page (book.PageIs r.0.entries) front.new) }
+        ensures done { IfOk result
+            (λ r. Extends (family_between L.game L.diagram) front.old self.old book.Page
+            (book.PageIs r.0.entries) front.new) }
         ensures decisions { IfOk result (λ r. r.0.decisions ≡ decisions_of r.0.entries) }
         ensures hopeful { IfOk result (λ r. r.0.hopeful ≡ table_of Hopeful r.0.entries (length (graph_of L.game))) }
         ensures dual { IfOk result (λ r. r.0.dual ≡ table_of Dual r.0.entries (length (graph_of L.game))) }
@@ -275,8 +315,11 @@ impl<L: Terms> Session<L> {
         ensures below { IfOk result (λ r. PageIsBelow (family_between L.game L.diagram) r.0.entries) }
         ensures tells { IfOk result (λ r. PageTells (setting_between L.game L.diagram) r.0.entries) }
         ensures setting { OnOk result (IsSetting (setting_between L.game L.diagram)) }
-        ensures reached { OnOk result (IsReached (setting_between L.game L.diagram) (book_after (family_between L.game L.diagram) book.opened front.new)) }
-        ensures fault { IfErr result (Tells (family_between L.game L.diagram) L.limit never_refused book.Page self.old front.old front.new) }
+        ensures reached { OnOk result
+            (IsReached (setting_between L.game L.diagram)
+            (book_after (family_between L.game L.diagram) book.opened front.new)) }
+        ensures fault { IfErr result
+            (Tells (family_between L.game L.diagram) L.limit never_refused book.Page self.old front.old front.new) }
         ensures same { self.new ≡ self.old }
     {
         let mut log = office.log_with(rt, front);
@@ -293,9 +336,12 @@ impl<L: Terms> Session<L> {
         office: &Office<L>,
         front: &mut Front<L>,
     ) -> Result<Order, Fault<L, Never>>
-        ensures done { IfOk result (λ r. Extends (family_between L.game L.diagram) front.old self.old book.Order (book.Ordered r.decisions r.hopeful r.dual) front.new) }
+        ensures done { IfOk result
+            (λ r. Extends (family_between L.game L.diagram) front.old self.old book.Order
+            (book.Ordered r.decisions r.hopeful r.dual) front.new) }
         ensures ours { IfOk result (λ r. IsOf L.game L.diagram r) }
-        ensures fault { IfErr result (Tells (family_between L.game L.diagram) L.limit never_refused book.Order self.old front.old front.new) }
+        ensures fault { IfErr result
+            (Tells (family_between L.game L.diagram) L.limit never_refused book.Order self.old front.old front.new) }
         ensures same { self.new ≡ self.old }
     {
         let mut log = office.log_with(rt, front);
@@ -313,9 +359,12 @@ impl<L: Terms> Session<L> {
         front: &mut Front<L>,
         harvest: Harvest,
     ) -> Result<u32, Returned<L, CommitFault, Harvest>>
-        ensures done { IfOk result (λ added. Extends (family_between L.game L.diagram) front.old self.old (book.Commit (handed_in true harvest)) (book.Added added) front.new) }
+        ensures done { IfOk result
+            (λ added. Extends (family_between L.game L.diagram) front.old self.old
+            (book.Commit (handed_in true harvest)) (book.Added added) front.new) }
         ensures ours { OnOk result (IsOf L.game L.diagram harvest.order) }
-        ensures fault { IfErr result (λ b. CommitTells L.game L.diagram L.limit harvest self.old front.old front.new b.fault) }
+        ensures fault { IfErr result
+            (λ b. CommitTells L.game L.diagram L.limit harvest self.old front.old front.new b.fault) }
         ensures back { IfErr result (λ b. b.value ≡ harvest) }
         ensures same { self.new ≡ self.old }
     {
@@ -326,7 +375,8 @@ impl<L: Terms> Session<L> {
         answer
     }
 
-    /// As `commit`, of a harvest whose order has the office's game and diagram, as those of `order` have: the two are not compared.
+    /// As `commit`, of a harvest whose order has the office's game and diagram, as those of `order` have: the two are
+    /// not compared.
     pub fn commit_own<R: Wait>(
         &mut self,
         rt: &R,
@@ -336,8 +386,11 @@ impl<L: Terms> Session<L> {
         harvest: Harvest,
     ) -> Result<u32, Returned<L, CommitFault, Harvest>>
         requires ours { IsOf L.game L.diagram harvest.order }
-        ensures done { IfOk result (λ added. Extends (family_between L.game L.diagram) front.old self.old (book.Commit (handed_in true harvest)) (book.Added added) front.new) }
-        ensures fault { IfErr result (λ b. CommitTells L.game L.diagram L.limit harvest self.old front.old front.new b.fault) }
+        ensures done { IfOk result
+            (λ added. Extends (family_between L.game L.diagram) front.old self.old
+            (book.Commit (handed_in true harvest)) (book.Added added) front.new) }
+        ensures fault { IfErr result
+            (λ b. CommitTells L.game L.diagram L.limit harvest self.old front.old front.new b.fault) }
         ensures back { IfErr result (λ b. b.value ≡ harvest) }
         ensures same { self.new ≡ self.old }
     {

@@ -9,8 +9,8 @@ use std::sync::ledger::Blank;
 /// One more than the most calls of a log, so than the most tokens that are out.
 pub const PARTS: u64 = 1_048_577;
 
-/// An empty row of calls and a blank ledger, which no office has yet. Who opens an office picks its type parameter from them. Contracts see
-/// the row's name, and the ledger's name and parts.
+/// An empty row of calls and a blank ledger, which no office has yet. Who opens an office picks its type parameter from
+/// them. Contracts see the row's name, and the ledger's name and parts.
 #[derive(Drop)]
 pub struct Site {
     pub(crate) row: Row,

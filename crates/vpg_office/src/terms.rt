@@ -2,8 +2,8 @@
 use std::marker::Brand;
 use std::sync::ledger::Ledger;
 
-/// Which row and which ledger an office has, of which game and diagram it is, and how many calls its log takes. Each call of a
-/// program that opens an office picks it.
+/// Which row and which ledger an office has, of which game and diagram it is, and how many calls its log takes. Each
+/// call of a program that opens an office picks it.
 pub trait Terms: Ledger {
     ghost use Rattle.std.specs.Prelude.{ℕ};
     ghost use Rattle.boxcar.specs.Table.{Shelves};

@@ -71,10 +71,14 @@ impl<L: Terms> Log<L> {
         requires row { row.now ≡ L.shelves }
         requires seen { IsPrefix front.old self.old }
         requires held { IsLastGiven self.old token.serial token.history }
-        ensures done { IfOk result (λ t. Extends (family_between L.game L.diagram) front.old session (book.Undo token.serial) (book.Undone t.serial) front.new × (t.history ≡ front.new)) }
+        ensures done { IfOk result
+            (λ t. Extends (family_between L.game L.diagram) front.old session (book.Undo token.serial)
+            (book.Undone t.serial) front.new × (t.history ≡ front.new)) }
         ensures goes_back { OnOk result (GoesBackTo (family_between L.game L.diagram) front.new token.history) }
         ensures begins { OnOk result (IsPrefix token.history front.new) }
-        ensures fault { IfErr result (λ b. Tells (family_between L.game L.diagram) L.limit undo_refusal (book.Undo token.serial) session front.old front.new b.fault) }
+        ensures fault { IfErr result
+            (λ b. Tells (family_between L.game L.diagram) L.limit undo_refusal
+            (book.Undo token.serial) session front.old front.new b.fault) }
         ensures refused { IfErr result (λ b. Begins token.history front.new b.fault) }
         ensures back { IfErr result (λ b. b.value ≡ token) }
     {
@@ -171,10 +175,14 @@ impl<L: Terms> Log<L> {
         requires row { row.now ≡ L.shelves }
         requires seen { IsPrefix front.old self.old }
         requires held { IsLastGiven self.old token.serial token.history }
-        ensures done { IfOk result (λ t. Extends (family_between L.game L.diagram) front.old session (book.Redo token.serial) (book.Redone t.serial) front.new × (t.history ≡ front.new)) }
+        ensures done { IfOk result
+            (λ t. Extends (family_between L.game L.diagram) front.old session (book.Redo token.serial)
+            (book.Redone t.serial) front.new × (t.history ≡ front.new)) }
         ensures goes_back { OnOk result (GoesBackTo (family_between L.game L.diagram) front.new token.history) }
         ensures begins { OnOk result (IsPrefix token.history front.new) }
-        ensures fault { IfErr result (λ b. Tells (family_between L.game L.diagram) L.limit redo_refusal (book.Redo token.serial) session front.old front.new b.fault) }
+        ensures fault { IfErr result
+            (λ b. Tells (family_between L.game L.diagram) L.limit redo_refusal
+            (book.Redo token.serial) session front.old front.new b.fault) }
         ensures refused { IfErr result (λ b. Begins token.history front.new b.fault) }
         ensures back { IfErr result (λ b. b.value ≡ token) }
     {
@@ -271,9 +279,13 @@ impl<L: Terms> Log<L> {
         requires row { row.now ≡ L.shelves }
         requires seen { IsPrefix front.old self.old }
         requires held { IsPrefix token.history self.old }
-        ensures done { OnOk result (Extends (family_between L.game L.diagram) front.old session (book.Keep token.serial) book.Spent front.new) }
+        ensures done { OnOk result
+            (Extends (family_between L.game L.diagram) front.old session
+            (book.Keep token.serial) book.Spent front.new) }
         ensures begins { OnOk result (IsPrefix token.history front.new) }
-        ensures fault { IfErr result (λ b. Tells (family_between L.game L.diagram) L.limit never_refused (book.Keep token.serial) session front.old front.new b.fault) }
+        ensures fault { IfErr result
+            (λ b. Tells (family_between L.game L.diagram) L.limit never_refused
+            (book.Keep token.serial) session front.old front.new b.fault) }
         ensures back { IfErr result (λ b. b.value ≡ token) }
     {
         let asked = Asked::Keep {
@@ -329,9 +341,13 @@ impl<L: Terms> Log<L> {
         requires row { row.now ≡ L.shelves }
         requires seen { IsPrefix front.old self.old }
         requires held { IsPrefix token.history self.old }
-        ensures done { OnOk result (Extends (family_between L.game L.diagram) front.old session (book.Forget token.serial) book.Spent front.new) }
+        ensures done { OnOk result
+            (Extends (family_between L.game L.diagram) front.old session
+            (book.Forget token.serial) book.Spent front.new) }
         ensures begins { OnOk result (IsPrefix token.history front.new) }
-        ensures fault { IfErr result (λ b. Tells (family_between L.game L.diagram) L.limit never_refused (book.Forget token.serial) session front.old front.new b.fault) }
+        ensures fault { IfErr result
+            (λ b. Tells (family_between L.game L.diagram) L.limit never_refused
+            (book.Forget token.serial) session front.old front.new b.fault) }
         ensures back { IfErr result (λ b. b.value ≡ token) }
     {
         let asked = Asked::Forget {

@@ -6,8 +6,9 @@ use crate::terms::Terms;
 use std::marker::Model;
 use std::sync::ledger::Share;
 
-/// Stands for a change, which an undo takes back. It can be neither copied nor let go: `Session::undo` or `Session::keep` spends
-/// it, or `Office::end`. Contracts see the change's serial, and the history up to the call that gave the token.
+/// Stands for a change, which an undo takes back. It can be neither copied nor let go: `Session::undo` or
+/// `Session::keep` spends it, or `Office::end`. Contracts see the change's serial, and the history up to the call that
+/// gave the token.
 pub struct Undo<L: Terms> {
     pub(crate) token: vpg_desk::Undo,
     pub(crate) place: Front<L>,
@@ -28,7 +29,8 @@ impl<L: Terms> Model for Undo<L> {
 
     ghost view = { λ t. record { serial = t.token; history = t.place } };
 
-    ghost invariant = { λ t. (t.share.amount ≡ 1) × (t.share.parts ≡ 1) × EndsWith (λ reply. IsTrue (gives_undo t.token reply)) t.place };
+    ghost invariant = { λ t. (t.share.amount ≡ 1) × (t.share.parts ≡ 1) ×
+        EndsWith (λ reply. IsTrue (gives_undo t.token reply)) t.place };
 }
 
 impl<L: Terms> Undo<L> {

@@ -45,7 +45,8 @@ pub struct NotBegun<W> {
     pub work: W,
 }
 
-/// Opens an office whose log takes `room` calls, and hands it to the work. Refused as `Office::open`; what was handed in comes back.
+/// Opens an office whose log takes `room` calls, and hands it to the work. Refused as `Office::open`; what was handed
+/// in comes back.
 pub fn with_office<R: Wait, W: Work<R>>(
     rt: &R,
     alloc: Global,
@@ -57,7 +58,9 @@ pub fn with_office<R: Wait, W: Work<R>>(
     requires features { (arc_value game).features ≡ feature_count (arc_value diagram).lines }
     requires room { (1 ≤ room) × (room ≤ 1048576) }
     ensures at_limit { IfErr result (λ refused. (refused.fault ≡ OpenFault.AtLimit) ↔ IsAtLimit (arc_value game)) }
-    ensures conflict { IfErr result (λ refused. (f : ℕ) → refused.fault ≡ OpenFault.Conflict f → HasConflictOf (arc_value diagram).lines [] × (f ≡ 0)) }
+    ensures conflict { IfErr result
+        (λ refused. (f : ℕ) → refused.fault ≡ OpenFault.Conflict f → HasConflictOf (arc_value diagram).lines [] ×
+        (f ≡ 0)) }
     ensures game_back { IfErr result (λ refused. arc_value refused.game ≡ arc_value game) }
     ensures diagram_back { IfErr result (λ refused. arc_value refused.diagram ≡ arc_value diagram) }
     ensures work_back { IfErr result (λ refused. refused.work ≡ work) }
@@ -92,7 +95,9 @@ fn with_site<L: Terms + Send + Sync, R: Wait, W: Work<R>>(
     requires of { (arc_value game ≡ L.game) × (arc_value diagram ≡ L.diagram) }
     requires room { (room ≡ L.limit) × (1 ≤ room) × (room ≤ 1048576) }
     ensures at_limit { IfErr result (λ refused. (refused.fault ≡ OpenFault.AtLimit) ↔ IsAtLimit (arc_value game)) }
-    ensures conflict { IfErr result (λ refused. (f : ℕ) → refused.fault ≡ OpenFault.Conflict f → HasConflictOf (arc_value diagram).lines [] × (f ≡ 0)) }
+    ensures conflict { IfErr result
+        (λ refused. (f : ℕ) → refused.fault ≡ OpenFault.Conflict f → HasConflictOf (arc_value diagram).lines [] ×
+        (f ≡ 0)) }
     ensures game_back { IfErr result (λ refused. arc_value refused.game ≡ arc_value game) }
     ensures diagram_back { IfErr result (λ refused. arc_value refused.diagram ≡ arc_value diagram) }
     ensures work_back { IfErr result (λ refused. refused.work ≡ work) }

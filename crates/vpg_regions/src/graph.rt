@@ -174,7 +174,8 @@ fn occurring(alloc: Global, priorities: &[u32]) -> Result<PerVertex<bool>, Alloc
     Ok(occurs)
 }
 
-// For each priority one of the same parity, where priorities of one parity with none of the other between them are the same.
+// For each priority one of the same parity, where priorities of one parity with none of the other between them are the
+// same.
 fn merged(alloc: Global, occurs: &PerVertex<bool>) -> Result<PerVertex<u32>, AllocError> {
     let mut merged = PerVertex::of(alloc, occurs.count(), 0)?;
     let mut last = 0u32;

@@ -158,7 +158,8 @@ impl OddCycles {
     }
 }
 
-/// Gives Odd those vertices of the present game where it wins by its own moves alone, and those from where it can force play there.
+/// Gives Odd those vertices of the present game where it wins by its own moves alone, and those from where it can force
+/// play there.
 pub fn win_odd_cycles(
     alloc: Global,
     solution: &mut Solution<'_>,

@@ -4,7 +4,8 @@ use crate::solution::Solution;
 use std::alloc::{AllocError, Global};
 use vpg_game::Player;
 
-// A game on the stack: its vertices, and those that were found to be won by the player against whom its greatest priority is.
+// A game on the stack: its vertices, and those that were found to be won by the player against whom its greatest
+// priority is.
 #[derive(Drop)]
 enum Frame {
     Open {
@@ -135,8 +136,8 @@ fn forget(solution: &mut Solution<'_>, stack: &[Frame]) {
     }
 }
 
-/// Gives each vertex of the present game, which is of some of these, its winner, or those that are known when the budget is spent;
-/// says whether all are.
+/// Gives each vertex of the present game, which is of some of these, its winner, or those that are known when the
+/// budget is spent; says whether all are.
 pub fn solve_by_recursion(
     alloc: Global,
     solution: &mut Solution<'_>,

@@ -1,5 +1,5 @@
-//! Who wins where, and how: by Zielonka's recursion and by the weights of paths, in turns. Each is slow on other games than the other.
-//! Where the recursion's first turn does not end, strongly connected components are solved one by one.
+//! Who wins where, and how: by Zielonka's recursion and by the weights of paths, in turns. Each is slow on other games
+//! than the other. Where the recursion's first turn does not end, strongly connected components are solved one by one.
 use crate::budget::Budget;
 use crate::components::{Components, Moves};
 use crate::graph::Graph;
@@ -65,8 +65,8 @@ fn weigh(
     Ok(solved)
 }
 
-// Solves the present game, which is of some of these vertices, by turns, each longer than the one before it, until one ends or the
-// budget is spent; says whether all is solved.
+// Solves the present game, which is of some of these vertices, by turns, each longer than the one before it, until one
+// ends or the budget is spent; says whether all is solved.
 fn take_turns(
     alloc: Global,
     solution: &mut Solution<'_>,
@@ -105,7 +105,8 @@ fn solve_component(
     Ok(solved)
 }
 
-// Solves the present game component by component, until one is not solved. What was solved apart is easier than what was not.
+// Solves the present game component by component, until one is not solved. What was solved apart is easier than what
+// was not.
 fn solve_apart(
     alloc: Global,
     solution: &mut Solution<'_>,
@@ -163,7 +164,8 @@ pub fn solve_regions(
     Ok(Regions { winner, choice })
 }
 
-/// Who wins at some vertices, where all others are taken to be lost where they stand at the top, and won by Even elsewhere.
+/// Who wins at some vertices, where all others are taken to be lost where they stand at the top, and won by Even
+/// elsewhere.
 pub fn solve_part(
     alloc: Global,
     graph: &Graph,

@@ -299,8 +299,8 @@ impl<'a> Solution<'a> {
         Ok(())
     }
 
-    /// Gives both players what they can force out of the present game, which is of these vertices, to where they win. No move from
-    /// there may lead to a vertex that nobody was given.
+    /// Gives both players what they can force out of the present game, which is of these vertices, to where they win.
+    /// No move from there may lead to a vertex that nobody was given.
     pub fn win_exits(
         &mut self,
         alloc: Global,

@@ -1,8 +1,9 @@
 //! Who wins where, by the weights of paths: strategy improvement (Luttenberger 2008, Schewe 2008).
 //!
-//! Even may stop at each vertex of its own. A vertex of an even priority weighs more than all vertices of lesser priorities together,
-//! and one of an odd priority as much less than nothing. Odd goes the path to a stop that weighs least, and Even changes its choices
-//! while such paths weigh more then. Where no stop can be reached in the end, Even wins.
+//! Even may stop at each vertex of its own. A vertex of an even priority weighs more than all vertices of lesser
+//! priorities together, and one of an odd priority as much less than nothing. Odd goes the path to a stop that weighs
+//! least, and Even changes its choices while such paths weigh more then. Where no stop can be reached in the end, Even
+//! wins.
 use crate::budget::Budget;
 use crate::graph::Graph;
 use crate::odd_cycles::win_odd_cycles;
@@ -27,8 +28,8 @@ struct PathWeights {
     queue: VecDeque<u32>,
 }
 
-// The weight of each priority: plus or minus the product, over the lesser priorities, of one more than their numbers of vertices.
-// With tops of 2^62 at most it stays below 2^124.
+// The weight of each priority: plus or minus the product, over the lesser priorities, of one more than their numbers of
+// vertices. With tops of 2^62 at most it stays below 2^124.
 fn weights_of(
     alloc: Global,
     graph: &Graph,
@@ -202,8 +203,8 @@ impl PathWeights {
     }
 }
 
-/// Gives each vertex of the present game, which is of some of these, its winner, or those that are known when the budget is spent;
-/// says whether all are.
+/// Gives each vertex of the present game, which is of some of these, its winner, or those that are known when the
+/// budget is spent; says whether all are.
 pub fn solve_by_weights(
     alloc: Global,
     solution: &mut Solution<'_>,

@@ -21,8 +21,8 @@ pub const FIRST_SWEEPS: u64 = 1;
 /// How many edges and vertices a guess at both tables may look at, in all its parts together.
 pub const BUDGET: u64 = 1 << 27;
 
-/// From so many sweeps on, the sweeps behind a guess end where the tables exceed those that the line began with, in sum, by the
-/// line's number: nobody waits for a million sweeps.
+/// From so many sweeps on, the sweeps behind a guess end where the tables exceed those that the line began with, in
+/// sum, by the line's number: nobody waits for a million sweeps.
 pub const MANY_SWEEPS: u64 = 1_000_000;
 
 /// How many sweeps there are behind a guess before that is asked.
@@ -42,7 +42,9 @@ fn as_it_stands(order: Order) -> Harvest
 /// The order after this many rounds of one lifter at most. It takes no memory.
 fn by_rounds(order: Order, rounds: u64) -> Harvest
     ensures swept { IsSweptOrder order rounds result }
-    ensures tables { (which : Which) → harvest_table which result ≡ after_rounds (order_levels which order) (order_arena which order) rounds (order_table which order) }
+    ensures tables { (which : Which) →
+        harvest_table which result
+        ≡ after_rounds (order_levels which order) (order_arena which order) rounds (order_table which order) }
 {
     let _game = order.game();
     let harvest = Harvest::alone(order, rounds);
@@ -93,7 +95,8 @@ fn sweep<G: Gate + Sync, T: Threads + Wait + Sync>(
     swept_once(rt, alloc, order, lifters, gate, predecessors)
 }
 
-/// Sweeps an order until a sweep settles it, and so many times at most. The order that they left comes back where none settled it.
+/// Sweeps an order until a sweep settles it, and so many times at most. The order that they left comes back where none
+/// settled it.
 pub fn sweep_often<G: Gate + Sync, T: Threads + Wait + Sync>(
     rt: &T,
     alloc: Global,
@@ -163,7 +166,8 @@ fn sum_of(table: &Table) -> Option<u128>
     Some(total)
 }
 
-/// The sum that tables have to reach before a line's sweeps may end early. None where there are few of them: they are all made.
+/// The sum that tables have to reach before a line's sweeps may end early. None where there are few of them: they are
+/// all made.
 fn goal_of(order: &Order, sweeps: u64) -> Option<u128>
     ensures { IfSome result (λ goal. sum order.now.hopeful + sum order.now.dual + sweeps ≤ goal) }
 {
@@ -191,7 +195,8 @@ fn is_reached(harvest: &Harvest, goal: u128) -> bool
 /// Whether a harvest is settled, or reached the goal behind enough sweeps.
 fn is_enough(harvest: &Harvest, done: u64, goal: u128) -> bool
     ensures settled { IsSettledHarvest harvest.now → IsTrue result }
-    ensures enough { IsTrue result → (¬ IsSettledHarvest harvest.now) → goal ≤ sum harvest.now.hopeful + sum harvest.now.dual }
+    ensures enough { IsTrue result → (¬ IsSettledHarvest harvest.now) →
+        goal ≤ sum harvest.now.hopeful + sum harvest.now.dual }
 {
     if harvest.check() {
         return true;
@@ -199,7 +204,8 @@ fn is_enough(harvest: &Harvest, done: u64, goal: u128) -> bool
     LAST_SWEEPS <= done && is_reached(harvest, goal)
 }
 
-/// The order after this many sweeps at most: they end where one settles it, or where its tables reach the goal behind some sweeps.
+/// The order after this many sweeps at most: they end where one settles it, or where its tables reach the goal behind
+/// some sweeps.
 fn by_sweeps_to<G: Gate + Sync, T: Threads + Wait + Sync>(
     rt: &T,
     alloc: Global,
@@ -295,8 +301,9 @@ fn by_guesses<G: Gate + Sync, T: Threads + Wait + Sync>(
 /// lifter's then raises what a round raises. It never fails: where a board, a hint or a guess finds no memory, the
 /// sweeps go on without. The lifters call the gate.
 ///
-/// A guess has one budget for both tables; when it is spent, what is known until then is certified and raised. Sweeps follow, up
-/// to the number. From `MANY_SWEEPS` on they end, settled or not, where the tables exceed the order's in sum by the number.
+/// A guess has one budget for both tables; when it is spent, what is known until then is certified and raised. Sweeps
+/// follow, up to the number. From `MANY_SWEEPS` on they end, settled or not, where the tables exceed the order's in sum
+/// by the number.
 pub fn swept<G: Gate + Sync, T: Threads + Wait + Sync>(
     rt: &T,
     alloc: Global,

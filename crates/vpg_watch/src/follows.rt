@@ -2,8 +2,8 @@
 ghost use Rattle.std.specs.Prelude.{◌≡◌, ◌≤◌, ℕ, Bool, List};
 ghost use Rattle.vpg_measure.specs.declared.verdict.Verdict.{Verdict};
 
-/// A front: the first so many calls of some row of calls. A row only grows at its end, so of two fronts of one row one begins with
-/// the other.
+/// A front: the first so many calls of some row of calls. A row only grows at its end, so of two fronts of one row one
+/// begins with the other.
 ///
 /// An impl gives four definitions and one function, and proves five laws of them.
 pub trait Follows: Drop {
@@ -16,8 +16,8 @@ pub trait Follows: Drop {
     /// How many calls it has.
     ghost calls: { Self → ℕ };
 
-    /// `belongs front at settled verdicts`: what a sheet of the front has to tell. It says which number of calls, whether the page to
-    /// which they lead is settled, and which verdicts that page has.
+    /// `belongs front at settled verdicts`: what a sheet of the front has to tell. It says which number of calls,
+    /// whether the page to which they lead is settled, and which verdicts that page has.
     ghost belongs: { Self → ℕ → Bool → List Verdict → Type 0 };
 
     /// How many calls it has.
@@ -37,5 +37,6 @@ pub trait Follows: Drop {
     ghost grows: { (f g : Self) → begins f g → calls g ≤ calls f };
 
     /// What a sheet tells of the number of calls is so.
-    ghost counted: { (f : Self) (at : ℕ) (settled : Bool) (verdicts : List Verdict) → belongs f at settled verdicts → at ≡ calls f };
+    ghost counted: { (f : Self) (at : ℕ) (settled : Bool) (verdicts : List Verdict) → belongs f at settled verdicts →
+        at ≡ calls f };
 }

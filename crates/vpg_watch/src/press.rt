@@ -19,8 +19,8 @@ use std::sync::{Arc, Wait};
 /// How many watches there may be at once.
 const PLACES: usize = 64;
 
-/// What publishes sheets, one after another: the newest one is shown to all watches. It is a linear value: the compiler refuses a
-/// program that lets it go, and `close` alone ends it.
+/// What publishes sheets, one after another: the newest one is shown to all watches. It is a linear value: the compiler
+/// refuses a program that lets it go, and `close` alone ends it.
 ///
 /// Contracts see it as the sheet that it last accepted, by `open` or `publish`.
 pub struct Press<F: Follows>
@@ -46,22 +46,30 @@ where
     ghost invariant = { λ p. known p.writer.desk.place ≡ (arc_value p.writer.desk.shown.value.sheet).front };
 }
 
-// Shows the sheet that was handed in last, if one was, and notes which one is shown. For want of memory nothing changes.
+// Shows the sheet that was handed in last, if one was, and notes which one is shown. For want of memory nothing
+// changes.
 fn show_last<F: Follows, R: Wait>(
     before: ShelfWriter<F>,
     rt: &R,
 ) -> (ShelfWriter<F>, Result<(), AllocError>)
-    requires belongs { Belongs F.belongs (fold (λ _ o. arc_value o) (arc_value before.desk.shown.value.sheet) (drop before.behind before.log.items)) }
-    requires begins { F.begins (fold (λ _ o. arc_value o) (arc_value before.desk.shown.value.sheet) (drop before.behind before.log.items)).front (arc_value before.desk.shown.value.sheet).front }
+    requires belongs { Belongs F.belongs
+        (fold (λ _ o. arc_value o) (arc_value before.desk.shown.value.sheet) (drop before.behind before.log.items)) }
+    requires begins { F.begins
+        (fold (λ _ o. arc_value o) (arc_value before.desk.shown.value.sheet)
+        (drop before.behind before.log.items)).front (arc_value before.desk.shown.value.sheet).front }
     ensures { MatchResult result.1
-        (λ _. (arc_value result.0.desk.shown.value.sheet ≡ fold (λ _ o. arc_value o) (arc_value before.desk.shown.value.sheet) (drop before.behind before.log.items)) × (view result.0.desk.place ≡ (arc_value result.0.desk.shown.value.sheet).front))
-        (λ _. (result.0.desk.shown.value ≡ before.desk.shown.value) × (view result.0.desk.place ≡ view before.desk.place)) }
+        (λ _. (arc_value result.0.desk.shown.value.sheet
+        ≡ fold (λ _ o. arc_value o) (arc_value before.desk.shown.value.sheet) (drop before.behind before.log.items)) ×
+        (view result.0.desk.place ≡ (arc_value result.0.desk.shown.value.sheet).front))
+        (λ _. (result.0.desk.shown.value ≡ before.desk.shown.value) ×
+        (view result.0.desk.place ≡ view before.desk.place)) }
 {
     before.publish_as::<Sees<F>, R>(rt)
 }
 
 impl<F: Follows> Press<F> {
-    /// A press that shows this sheet, which has to belong to its front. The one refusal is want of memory; then the sheet comes back.
+    /// A press that shows this sheet, which has to belong to its front. The one refusal is want of memory; then the
+    /// sheet comes back.
     pub fn open<R: Wait>(
         rt: &R,
         alloc: Global,
@@ -89,9 +97,9 @@ impl<F: Follows> Press<F> {
         }
     }
 
-    /// Shows a sheet, which has to belong to its front, and whose front has to begin with that of the sheet last accepted. It waits for
-    /// reads that have begun on the sheet shown before that one. The one refusal is want of memory: then the sheet comes back, and
-    /// watches read what they read before.
+    /// Shows a sheet, which has to belong to its front, and whose front has to begin with that of the sheet last
+    /// accepted. It waits for reads that have begun on the sheet shown before that one. The one refusal is want of
+    /// memory: then the sheet comes back, and watches read what they read before.
     pub fn publish<R: Wait>(&mut self, rt: &R, sheet: Arc<Sheet<F>>) -> Result<(), Arc<Sheet<F>>>
         requires belongs { Belongs F.belongs (arc_value sheet) }
         requires begins { F.begins (arc_value sheet).front self.old.front }
@@ -111,8 +119,8 @@ impl<F: Follows> Press<F> {
         }
     }
 
-    /// A watch, whose first read gives the sheet last accepted or a later one. There may be 64 watches at once; the place of one that
-    /// is let go is free again.
+    /// A watch, whose first read gives the sheet last accepted or a later one. There may be 64 watches at once; the
+    /// place of one that is let go is free again.
     pub fn watch(&mut self) -> Result<Watch<F>, NoPlace>
         ensures same { self.new ≡ self.old }
         ensures seen { IfOk result (λ watch. watch ≡ self.old.front) }

@@ -5,8 +5,8 @@ use crate::follows::Follows;
 use std::marker::Model;
 use vpg_measure::Verdict;
 
-/// A verdict for each vertex, in file order. Contracts see it as a list; it is a `Vec` inside, one verdict in two bytes: packing them
-/// into bits was measured, and takes longer for 65,536 vertices.
+/// A verdict for each vertex, in file order. Contracts see it as a list; it is a `Vec` inside, one verdict in two
+/// bytes: packing them into bits was measured, and takes longer for 65,536 vertices.
 #[derive(Drop)]
 pub struct Verdicts {
     verdicts: Vec<Verdict>,
@@ -48,8 +48,8 @@ impl Verdicts {
 /// What is told of the page to which a front leads.
 #[derive(Drop)]
 pub struct Sheet<F> {
-    /// The number of calls of the front: the length of the row when the sheet was made. Of two sheets that one watch reads, the later
-    /// one has no smaller number.
+    /// The number of calls of the front: the length of the row when the sheet was made. Of two sheets that one watch
+    /// reads, the later one has no smaller number.
     pub at: u32,
     /// Whether both tables of the page are settled.
     pub settled: bool,

@@ -15,8 +15,8 @@ use std::sync::Arc;
 
 /// What reads sheets, without a lock and without waiting. It may go to another thread, and may outlive the press.
 ///
-/// Contracts see it as a front with which all its further reads begin: the front of the sheet that it read last or, before its first
-/// read, of the sheet that the press had last accepted when it made the watch.
+/// Contracts see it as a front with which all its further reads begin: the front of the sheet that it read last or,
+/// before its first read, of the sheet that the press had last accepted when it made the watch.
 #[derive(Drop)]
 pub struct Watch<F: Follows> {
     pub(crate) reader: ShelfReader<F>,
@@ -35,7 +35,9 @@ fn read_shown<F: Follows>(
     reader: ShelfReader<F>,
     _nothing: (),
 ) -> (ShelfReader<F>, Result<Arc<Sheet<F>>, AllocError>)
-    ensures sheet { IfOk result.1 (λ sheet. IsSeen F.begins F.belongs (view reader.place) (arc_value sheet) (arc_value sheet) (view result.0.place)) }
+    ensures sheet { IfOk result.1
+        (λ sheet. IsSeen F.begins F.belongs (view reader.place) (arc_value sheet) (arc_value sheet)
+        (view result.0.place)) }
     ensures kept { F.begins (view result.0.place) (view reader.place) }
 {
     match reader.enter_as::<Sees<F>>() {
@@ -48,8 +50,9 @@ fn read_shown<F: Follows>(
 }
 
 impl<F: Follows> Watch<F> {
-    /// The sheet that is shown. It belongs to its front, which begins with the front that this watch read before (at its first read:
-    /// with that of the sheet that the press had last accepted when it made the watch), so `at` never falls.
+    /// The sheet that is shown. It belongs to its front, which begins with the front that this watch read before (at
+    /// its first read: with that of the sheet that the press had last accepted when it made the watch), so `at` never
+    /// falls.
     ///
     /// The one refusal is `NoSheet`. It takes no memory.
     pub fn read(&mut self) -> Result<Arc<Sheet<F>>, WatchFault>
