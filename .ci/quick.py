@@ -1,13 +1,13 @@
 #!/usr/bin/env python3
 """What can be told of the repository in seconds, before the gate: each wrong body fits its text, each link leads
-somewhere, each name that a document cites stands in the code, docs/DEFINITIONS.md is that of specs/, each file is laid
-out.
+somewhere, each name that a document cites stands in the code, docs/DEFINITIONS.md is that of specs/, no file has more
+over-long lines than its ceiling allows, each file is laid out.
 
     python3 .ci/quick.py        names each fault, one a line, and exits with 1 where there is one
 
-A wrong body is a file NAME.edit in crates/CRATE/must-fail (tried by the gate) or crates/CRATE/wrong-bodies (tried by bench/wrong_bodies.py): a line
-'file: PATH', and then pairs of lines 'old: TEXT' and 'new: TEXT', applied in turn; each old text stands in that file exactly once. A first line that
-begins with '# ' is a comment.
+A wrong body is a file NAME.edit in crates/CRATE/must-fail (tried by the gate) or crates/CRATE/wrong-bodies (tried by
+bench/wrong_bodies.py): a line 'file: PATH', and then pairs of lines 'old: TEXT' and 'new: TEXT', applied in turn; each
+old text stands in that file exactly once. A first line that begins with '# ' is a comment.
 """
 import glob
 import os
@@ -60,7 +60,7 @@ def fault_of(edit, crate):
 
 def of_edits():
     for crate in sorted(glob.glob(f"{ROOT}/crates/*")):
-        names = [name for folder in FOLDERS if os.path.isdir(f"{crate}/{folder}") for name in os.listdir(f"{crate}/{folder}")]
+        names = [os.path.basename(it) for folder in FOLDERS for it in glob.glob(f"{crate}/{folder}/*")]
         for folder in FOLDERS:
             for path in sorted(glob.glob(f"{crate}/{folder}/*")):
                 name = os.path.basename(path)
@@ -79,12 +79,13 @@ def of_links():
     for path in sorted({it for words in READ for it in glob.glob(f"{ROOT}/{words}", recursive=True)}):
         for link in re.findall(r"\]\(([^)\s]+)\)", text_of(path)):
             target = link.partition("#")[0]
-            if target and not re.match(r"[a-z]+:", target) and not os.path.exists(f"{os.path.dirname(path)}/{target}"):
+            is_file = target and not re.match(r"[a-z]+:", target)
+            if is_file and not os.path.exists(f"{os.path.dirname(path)}/{target}"):
                 yield f"{os.path.relpath(path, ROOT)}: the link {link} leads nowhere"
 
 
 def of_names():
-    """Looks up the names of code that documents cite: a word of two letters or more in backticks, with `_` or a second capital in it, or in a path by `::`."""
+    """Looks up the names that documents cite: in backticks, with `_` or a second capital, or in a path by `::`."""
     known = set()
     for path in [*glob.glob(f"{ROOT}/crates/*/*/**/*", recursive=True), *glob.glob(f"{ROOT}/bench/*")]:
         if path.endswith((".rt", ".antt", ".py")):
@@ -98,10 +99,12 @@ def of_names():
                         yield f"{short}:{number}: no code has the name {word}"
 
 
-def of_definitions():
-    ran = subprocess.run([sys.executable, f"{ROOT}/bench/definitions.py", "--check"], stdout=subprocess.PIPE, text=True)
-    if ran.returncode:
-        yield from ran.stdout.strip().split("\n")
+def of_scripts():
+    """What the scripts find that count and write by themselves."""
+    for words in (["bench/definitions.py", "--check"], [".ci/ceilings.py"]):
+        ran = subprocess.run([sys.executable, *words], stdout=subprocess.PIPE, text=True, cwd=ROOT)
+        if ran.returncode:
+            yield from ran.stdout.strip().split("\n")
 
 
 def of_layout():
@@ -111,14 +114,16 @@ def of_layout():
         return
     rattle = f"{os.path.dirname(os.path.realpath(rt))}/rattle"
     for crate in sorted(glob.glob(f"{ROOT}/crates/*")):
-        files = [it for part in ("src", "specs", "proofs") for it in sorted(glob.glob(f"{crate}/{part}/**/*", recursive=True)) if it.endswith((".rt", ".antt"))]
-        ran = subprocess.run([rattle, "fmt", "--check", *files], stdout=subprocess.PIPE, stderr=subprocess.STDOUT, text=True) if files else None
+        found = [it for part in ("src", "specs", "proofs") for it in glob.glob(f"{crate}/{part}/**/*", recursive=True)]
+        files = sorted(it for it in found if it.endswith((".rt", ".antt")))
+        words = [rattle, "fmt", "--check", *files]
+        ran = subprocess.run(words, stdout=subprocess.PIPE, stderr=subprocess.STDOUT, text=True) if files else None
         if ran and ran.returncode:
             yield f"{os.path.relpath(crate, ROOT)}: run rt fmt there: {ran.stdout.strip()[:300]}"
 
 
 def main():
-    faults = [*of_edits(), *of_links(), *of_names(), *of_definitions(), *of_layout()]
+    faults = [*of_edits(), *of_links(), *of_names(), *of_scripts(), *of_layout()]
     for it in faults:
         print(f"quick: {it}")
     print(f"quick: {len(faults)} faults" if faults else "quick: ok")
