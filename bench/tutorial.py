@@ -1,0 +1,120 @@
+#!/usr/bin/env python3
+"""Does what docs/TUTORIAL.md says, and compares the answers with those that stand in it.
+
+    python3 bench/tutorial.py PROGRAM       with this vpgdesk, as crates/vpgdesk/out/vpgdesk
+    python3 bench/tutorial.py --oracle      with bench/oracle.py, which knows `vpgdesk run` alone; the rest is left out
+    python3 bench/tutorial.py --list        names the steps, and runs nothing
+
+A step is a file or a command. A file is an indented block after a paragraph that ends in "a file `NAME`:". A command is
+an indented line that begins with `$`; the lines below it are its answer, in which `..` stands for any lines. All is
+done in a new folder beside a link to `examples`. Answers that differ are printed, and the script ends with 1 then.
+"""
+import os
+import re
+import subprocess
+import sys
+import tempfile
+
+ROOT = os.path.dirname(os.path.dirname(os.path.abspath(__file__)))
+TEXT = f"{ROOT}/docs/TUTORIAL.md"
+FILE = re.compile(r"\ba\s+file\s+`(\w+)`[^.]*:$")
+ORACLE = """#!/bin/sh
+[ "$1" = run ] || exit 9
+exec "{python}" "{root}/bench/oracle.py" "$2" "$3" "$4"
+"""
+
+
+def blocks(text):
+    """The paragraphs and the indented blocks of a document, as pairs: whether it is indented, and its lines."""
+    found = []
+    for line in text.split("\n"):
+        indented = line.startswith("    ")
+        starts = line.startswith("    $ ") and found and found[-1][1] and not found[-1][1][-1]
+        if indented and found and found[-1][0] and not starts:
+            found[-1][1].append(line[4:])
+        elif indented:
+            found.append((True, [line[4:]]))
+        elif line.strip() and found and not found[-1][0] and found[-1][1]:
+            found[-1][1].append(line)
+        elif line.strip():
+            found.append((False, [line]))
+        elif found and found[-1][0]:
+            found[-1][1].append("")
+        else:
+            found.append((False, []))
+    return [(indented, lines) for indented, lines in found if any(lines)]
+
+
+def steps(text):
+    """What the tutorial says is to be done: ("file", name, text) and ("run", command, answer's lines), in turn."""
+    before = ""
+    for indented, lines in blocks(text):
+        while lines and not lines[-1]:
+            lines.pop()
+        if not indented:
+            before = " ".join(lines).strip()
+        elif lines[0].startswith("$ "):
+            command, answer = lines[0][2:], []
+            for line in lines[1:]:
+                if line.startswith("$ "):
+                    yield "run", command, answer
+                    command, answer = line[2:], []
+                else:
+                    answer.append(line)
+            yield "run", command, answer
+        elif FILE.search(before):
+            yield "file", FILE.search(before)[1], "\n".join(lines) + "\n"
+
+
+def is_answer(expected, found):
+    """Whether the lines are those expected, where `..` stands for any number of lines."""
+    pattern = "".join(r"(?:.*\n)*" if line == ".." else re.escape(line) + r"\n" for line in expected)
+    return re.fullmatch(pattern, "".join(line + "\n" for line in found)) is not None
+
+
+def follow(program):
+    """Does each step, and yields what goes wrong."""
+    with tempfile.TemporaryDirectory() as top:
+        work, tools = f"{top}/pump", f"{top}/tools"
+        os.mkdir(work)
+        os.mkdir(tools)
+        os.symlink(f"{ROOT}/examples", f"{top}/examples")
+        if program:
+            os.symlink(os.path.abspath(program), f"{tools}/vpgdesk")
+        else:
+            with open(f"{tools}/vpgdesk", "w", encoding="utf-8") as it:
+                it.write(ORACLE.format(python=sys.executable, root=ROOT))
+            os.chmod(f"{tools}/vpgdesk", 0o755)
+        for kind, head, rest in steps(open(TEXT, encoding="utf-8").read()):
+            if kind == "file":
+                with open(f"{work}/{head}", "w", encoding="utf-8") as it:
+                    it.write(rest)
+                continue
+            asked = {**os.environ, "PATH": f"{tools}:{os.environ['PATH']}"}
+            ran = subprocess.run(
+                ["sh", "-c", head], cwd=work, env=asked, stdout=subprocess.PIPE, stderr=subprocess.STDOUT, text=True
+            )
+            if not program and ran.returncode == 9:
+                print(f"left out: {head}")
+                continue
+            if not is_answer(rest, ran.stdout.rstrip("\n").split("\n")):
+                yield "\n".join([f"$ {head}", "expected:", *rest, "answered:", ran.stdout])
+
+
+def main(words):
+    if len(words) != 1:
+        print(__doc__)
+        return 2
+    if words == ["--list"]:
+        for kind, head, rest in steps(open(TEXT, encoding="utf-8").read()):
+            print(f"{kind} {head} ({len(rest) if kind == 'run' else rest.count(chr(10))} lines)")
+        return 0
+    faults = list(follow(None if words == ["--oracle"] else words[0]))
+    for it in faults:
+        print(it)
+    print(f"tutorial: {len(faults)} answers differ" if faults else "tutorial: ok")
+    return 1 if faults else 0
+
+
+if __name__ == "__main__":
+    sys.exit(main(sys.argv[1:]))
