@@ -1,6 +1,6 @@
 -- Bounds to which a table may be raised, and the ranks that certify them. This project's own, over the progress
--- measures of Jurdzinski 2000: a bound is handed back along edges by prog, and the ranks fit along the same edges in
--- the dual game, so that Odd wins each play that stays on them for ever.
+-- measures of Jurdzinski 2000. A bound is handed back along edges by prog. The ranks fit along the same edges in the
+-- dual game, so that Odd wins each play that stays on them for ever.
 use Rattle.std.specs.Prelude.{ℕ, suc, ◌<◌, ◌≤◌, List, length, slice_index}
 use Rattle.vpg_game.specs.declared.levels.Level.{Level}
 use Rattle.vpg_game.specs.Levels.{top_of, prog_of}

@@ -44,8 +44,8 @@ unasked = record { calls = []; held = nothing_held }
 abbrev pub asking : Scene → Machine Asked
 asking scene old request text new = (calls : List Event) × (Serves scene old.held (length old.calls) request calls text new.held × (new.calls ≡ old.calls ++ calls))
 
--- What is written for lines without a fault are the answers to the calls of a legal history, into which lawful harvests alone were
--- handed, which are exactly the calls of these lines in their order, and which leaves the book.
+-- What is written for lines without a fault are the answers to the calls of a legal history, into which lawful harvests
+-- alone were handed. These are exactly the calls of these lines in their order, and they leave the book.
 abbrev pub AnswersAreHistories : Type 0
 AnswersAreHistories = (scene : Scene) (lifters : ℕ) (lines : List (List ℕ)) (text : List ℕ) (new : Between) → Answered (answering scene lifters) begun lines text new →
     (history : List Event) × (IsHistoryOf (setting_in scene) new.book history × Answered (asking scene) unasked lines text (record { calls = history; held = new.held }))
