@@ -26,9 +26,10 @@ Definition = collections.namedtuple("Definition", "name sentence line")  # a con
 OPENING = """\
 # Definitions
 
-Each definition that a public contract or a law names, with the sentence over it and its file under `crates/`.
-Definitions that only private contracts name are left out. `bench/definitions.py` writes this page from `specs/`; change
-a sentence there.
+Each definition that a public contract or a law names, with the sentence over it and its file under `crates/`. What
+these are made of stands in the same files, or in those that they import. Files that serve private contracts and models
+alone are named at each crate's head: the promise can be read without them. `bench/definitions.py` writes this page from
+`specs/`; change a sentence there.
 
 Sources: *FASE 2020*: ter Beek, van Loo, de Vink and Willemse, Family-Based SPL Model Checking Using Parity Games with
 Variability. *Jurdzinski 2000*: Small Progress Measures for Solving Parity Games. *Schobbens 2007*: Schobbens, Heymans,
@@ -149,6 +150,15 @@ def contracts_of(text, is_public, words):
         at += 1
 
 
+def origin(specs, target):
+    """Where the definition of this crate, file and name stands, imports followed, or None."""
+    crate, file, name = target
+    while (crate, file) in specs and name not in specs[crate, file][1] and name in specs[crate, file][2]:
+        crate, file, name = specs[crate, file][2][name]
+    found = specs.get((crate, file), ("", {}))[1].get(name)
+    return (crate, file, found.name) if found else None
+
+
 def collect():
     """The files of definitions, with opening, definitions and imports of each; and the public names of each."""
     specs, named = {}, collections.defaultdict(set)
@@ -169,17 +179,36 @@ def collect():
             for word in set(re.findall(rf"{WORD}(?:\.{WORD})?", "\n".join(contracts))):
                 first, _, rest = word.partition(".")
                 target = names.get(first) or (first in files and (*files[first], rest))
-                if not target:
-                    continue
-                source, file, name = target
-                while (source, file) in specs and name not in specs[source, file][1] and name in specs[source, file][2]:
-                    source, file, name = specs[source, file][2][name]
-                if (source, file) in specs and name in specs[source, file][1]:
-                    named[source, file].add(specs[source, file][1][name].name)
+                place = origin(specs, target) if target else None
+                if place:
+                    named[place[:2]].add(place[2])
     cited = set(re.findall(r"`([A-Z][^\s`]+)`", "".join(text_of(f"{ROOT}/{it}") for it in CITING)))
     for place, (_, found, _) in specs.items():
         named[place].update(cited & set(found))
     return specs, named
+
+
+def private_files(specs, named):
+    """The files that no public definition leads into, however many steps it takes."""
+    bodies = {}
+    for crate, file in specs:
+        lines = text_of(f"{ROOT}/crates/{crate}/specs/{file}.antt").split("\n")
+        found = sorted({it.line: it for it in specs[crate, file][1].values()}.values(), key=lambda it: it.line)
+        for at, it in enumerate(found):
+            end = found[at + 1].line - 1 if at + 1 < len(found) else len(lines)
+            code = [line for line in lines[it.line - 1 : end] if not line.lstrip().startswith("--")]
+            bodies[crate, file, it.name] = set(re.findall(WORD, "\n".join(code)))
+    waiting = [(*place, name) for place, names in named.items() for name in names]
+    reached = set(waiting)
+    while waiting:
+        crate, file, name = waiting.pop()
+        for word in bodies.get((crate, file, name), ()):
+            place = origin(specs, (crate, file, word))
+            if place and place not in reached:
+                reached.add(place)
+                waiting.append(place)
+    used = {place[:2] for place in reached}
+    return [place for place, (_, found, _) in specs.items() if found and place not in used]
 
 
 def wrapped(text, indent):
@@ -189,6 +218,7 @@ def wrapped(text, indent):
 def page():
     """The text of the document, and the faults of the definitions."""
     specs, named = collect()
+    private = private_files(specs, named)
     lines, faults, last = [OPENING], [], None
     for (crate, file), (opening, found, _) in specs.items():
         chosen = [it for name, it in found.items() if name == it.name and name in named[crate, file]]
@@ -196,6 +226,8 @@ def page():
             continue
         if crate != last:
             lines.append(f"## `{crate}`\n")
+            inner = ", ".join(f"`specs/{other}`" for owner, other in private if owner == crate)
+            lines.extend([wrapped(f"For private contracts and models alone: {inner}.", ""), ""] if inner else [])
             last = crate
         lines.append(wrapped(f"`specs/{file}`: {opening}", "") + "\n")
         for it in chosen:

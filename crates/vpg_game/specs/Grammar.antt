@@ -36,6 +36,7 @@ pub record Name : Type 0 where
   pub before : List ℕ
   pub bytes : List ℕ
 
+-- an entry as it stands in a text, with all blanks
 pub record Entry : Type 0 where
   pub id : Number
   pub priority : Number

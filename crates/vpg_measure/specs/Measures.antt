@@ -4,6 +4,7 @@ use Rattle.std.specs.List.{AllZip}
 use Rattle.vpg_game.specs.Players.{IsOdd}
 use Rattle.vpg_game.specs.declared.levels.Level.{Level}
 
+-- what a measure counts by: a place for each odd priority that occurs, with its count
 abbrev pub Shape : Type 0
 Shape = List Level
 
