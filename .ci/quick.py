@@ -90,6 +90,8 @@ def of_names():
     for path in [*glob.glob(f"{ROOT}/crates/*/*/**/*", recursive=True), *glob.glob(f"{ROOT}/bench/*")]:
         if path.endswith((".rt", ".antt", ".py")):
             known.update(re.findall(r"\w+", text_of(path)), re.findall(r"\w+", os.path.relpath(path, ROOT)))
+        elif path.endswith(".edit"):
+            known.add(os.path.basename(path)[: -len(".edit")])
     for short in CITING:
         for number, line in enumerate(text_of(f"{ROOT}/{short}").split("\n"), 1):
             for code in re.findall(r"`([^`]+)`", "" if line.startswith("    ") else line):
