@@ -1,4 +1,4 @@
--- Guarded games, and the game that entries spell.
+-- Guarded games, and the game that entries spell. Texts: PGSolver's format; all else is this project's own.
 use Rattle.std.specs.Prelude.{◌≡◌, ℕ, ◌+◌, ◌<◌, ◌≤◌, ◌^◌, List, [], ◌∷◌, length, map, take, ◌==◌, if◌then◌else◌, Some, slice_get, slice_index_or, Contains}
 use Rattle.std.specs.List.{position_or_len}
 use Rattle.vpg_game.specs.declared.player.Player.{Player}

@@ -1,4 +1,5 @@
--- The texts of guarded games. Each text function takes what follows in the text.
+-- The texts of guarded games. Each text function takes what follows in the text. PGSolver's format in this project's
+-- profile; brackets are this project's own.
 use Rattle.std.specs.Prelude.{◌≡◌, ℕ, ◌<◌, ◌≤◌, ◌^◌, List, [], ◌∷◌, ◌++◌, length, true, not, ◌==◌, nat_eq, if◌then◌else◌, codes, Option, Some, None}
 use Rattle.std.specs.List.{list_all}
 use Rattle.std.specs.Char.{is_ascii_digit}

@@ -1,4 +1,5 @@
--- Guarded games and the dual.
+-- Guarded games and the dual. The games of FASE 2020, with formulas for sets of configurations; the dual is
+-- folklore.
 use Rattle.std.specs.Prelude.{ℕ, suc, ◌<◌, List, length, map, All}
 use Rattle.vpg_game.specs.declared.player.Player.{Player}
 use Rattle.vpg_game.specs.Players.{opponent}

@@ -1,4 +1,5 @@
 -- The levels of a game: its odd priorities that occur, greatest first. Each gives a measure one component.
+-- Jurdzinski 2000.
 use Rattle.std.specs.Prelude.{ℕ, zero, suc, ◌≡◌, ◌+◌, ◌*◌, ◌/◌, ◌%◌, ◌^◌, ◌<◌, ◌≤◌, ◌==◌, nat_lt, nat_le, Bool, ◌&&◌, if◌then◌else◌, max, List, [], ◌∷◌, length, map, slice_index, count_by}
 use Rattle.vpg_game.specs.declared.levels.Level.{Level}
 

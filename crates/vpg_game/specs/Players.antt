@@ -1,4 +1,4 @@
--- The two players and the parity with which each wins.
+-- The two players and the parity with which each wins. FASE 2020, read as max-parity.
 use Rattle.std.specs.Prelude.{◌≡◌, ℕ, ◌%◌}
 use Rattle.vpg_game.specs.declared.player.Player.{Player}
 use Rattle.vpg_game.specs.declared.player.Player.TheVariants.{Even, Odd}

@@ -1,4 +1,4 @@
--- The one writing of a guarded game.
+-- The one writing of a guarded game. PGSolver's format; brackets are this project's own.
 use Rattle.std.specs.Prelude.{ℕ, max, List, [], ◌∷◌, ◌++◌, codes, decimal, slice_index_or}
 use Rattle.vpg_game.specs.declared.player.Player.{Player}
 use Rattle.vpg_game.specs.declared.player.Player.TheVariants.{Even, Odd}

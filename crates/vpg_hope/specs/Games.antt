@@ -1,4 +1,5 @@
--- Plain parity games: a list of vertices, named by their places.
+-- Plain parity games: a list of vertices, named by their places. Jurdzinski 2000, but that a vertex may have no
+-- successor.
 use Rattle.std.specs.Prelude.{ℕ, ◌<◌, List, [], length, map, slice_index_or, Contains, All}
 use Rattle.vpg_game.specs.declared.player.Player.{Player}
 use Rattle.vpg_game.specs.declared.player.Player.TheVariants.{Even}

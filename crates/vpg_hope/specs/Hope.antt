@@ -1,4 +1,5 @@
--- The game of a product, and the hopeful game.
+-- The game of a product, and the hopeful game. The game of a product is that of FASE 2020; the hopeful game is this
+-- project's own.
 use Rattle.vpg_game.specs.Guarded.{GuardedGame, AllGuards}
 use Rattle.std.specs.Prelude.{◌≡◌, Bool, true, false, map, filter, if◌then◌else◌}
 use Rattle.vpg_game.specs.declared.player.Player.{Player}

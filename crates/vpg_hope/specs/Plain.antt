@@ -1,4 +1,5 @@
--- Plain games with the identifiers of their vertices, and their text.
+-- Plain games with the identifiers of their vertices, and their text. Texts: PGSolver's format; all else is this
+-- project's own.
 use Rattle.std.specs.Prelude.{ℕ, List, [], ◌∷◌, map, Bool}
 use Rattle.vpg_guards.specs.Formula.{Formula, always, truth}
 use Rattle.vpg_game.specs.Guarded.{GuardedEdge}

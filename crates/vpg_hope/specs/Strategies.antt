@@ -1,4 +1,5 @@
--- Positional strategies, the plays that they allow, and winning.
+-- Positional strategies, the plays that they allow, and winning. The standard of parity games; that who cannot move
+-- loses is this project's own.
 use Rattle.std.specs.Prelude.{◌≡◌, ◌≢◌, ℕ, suc, ◌≤◌, max, Option, Some, List, [], ◌∷◌, map, All, AllPairs, Contains}
 use Rattle.vpg_game.specs.declared.player.Player.{Player}
 use Rattle.vpg_game.specs.Players.{WinsAt}

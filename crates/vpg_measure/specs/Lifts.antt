@@ -1,4 +1,5 @@
--- What fits at a vertex, lifts, rounds and strategies.
+-- What fits at a vertex, lifts, rounds and strategies. Jurdzinski 2000; rounds, and that the first successor is
+-- chosen, are this project's own.
 use Rattle.std.specs.Prelude.{ℕ, zero, suc, ◌≡◌, ◌≢◌, ◌<◌, ◌≤◌, ◌==◌, nat_lt, ◌&&◌, Bool, true, false, if◌then◌else◌, min, max, List, [], ◌∷◌, length, map, ◌⊎◌, Option, None, Some, slice_get, slice_index, slice_set, All, Any}
 use Rattle.std.specs.List.{find}
 use Rattle.vpg_game.specs.declared.levels.Level.{Level}

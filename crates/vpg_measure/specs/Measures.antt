@@ -1,4 +1,4 @@
--- Progress measures as tuples, greatest priority first.
+-- Progress measures as tuples, greatest priority first. Jurdzinski 2000, mirrored for max-parity.
 use Rattle.std.specs.Prelude.{⊤, ◌≡◌, ℕ, ◌<◌, ◌≤◌, ◌⊎◌, if◌then◌else◌, List, [], ◌∷◌, map, All, AllPairs, Contains, count_by, nat_le, ◌==◌}
 use Rattle.std.specs.List.{AllZip}
 use Rattle.vpg_game.specs.Players.{IsOdd}

@@ -1,4 +1,4 @@
--- The number of a measure: mixed radix, the greatest priority most significant.
+-- The number of a measure: mixed radix, the greatest priority most significant. This project's own.
 use Rattle.std.specs.Prelude.{ℕ, ◌+◌, ◌*◌, ◌/◌, ◌%◌, nat_lt, if◌then◌else◌, List, [], ◌∷◌}
 use Rattle.vpg_game.specs.declared.levels.Level.{Level}
 use Rattle.vpg_game.specs.Levels.{top_of}

@@ -1,4 +1,4 @@
--- Tables of measures: what fits at a vertex, lifts, progress tables and the least one.
+-- Tables of measures: what fits at a vertex, lifts, progress tables and the least one. Jurdzinski 2000.
 use Rattle.std.specs.Prelude.{◌≡◌, ◌≢◌, ℕ, ◌<◌, ◌⊎◌, length, Some}
 use Rattle.vpg_game.specs.declared.player.Player.{Player}
 use Rattle.vpg_game.specs.declared.player.Player.TheVariants.{Even, Odd}

@@ -1,4 +1,5 @@
--- Explanations: choices that suffice, of which none can be left out. This project's own.
+-- Explanations: choices that suffice, of which none can be left out. This project's own. The list is the one that
+-- QuickXplain (Junker 2004) gives where older decisions are preferred.
 use Rattle.std.specs.Prelude.{ℕ, ◌<◌, ◌+◌, Bool, List, [], ◌∷◌, ◌++◌, map, take, Contains, IsTrue}
 use Rattle.vpg_diagram.specs.declared.clause.Literal.{Literal}
 use Rattle.vpg_partial.specs.TableLaws.{AreAmong}
