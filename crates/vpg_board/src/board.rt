@@ -93,7 +93,7 @@ fn copy_tables(
 }
 
 impl Board {
-    /// A board of the order, and its opening seat, which has seen the order's tables. For want of memory the order
+    /// A board of the order, and its opening seat, which has seen the order's tables. Out of memory the order
     /// comes back.
     pub fn open(alloc: Global, order: Order) -> Result<(Board, Seat), Order>
         ensures order { IfOk result (λ opened. opened.0.order ≡ order) }

@@ -198,7 +198,7 @@ fn work_with_hints<J: Vertices + Send + Sync, G: Gate + Sync, R: Threads + Wait 
 /// Lifts each vertex of both tables of the order at least once, by 1 to 64 lifters at once: the calling thread is
 /// lifter 1, the others get threads of their own. Where the machine has no thread for one, the calling thread does its
 /// work. After a raise the lifter hints at the vertices that keep an edge to the raised one, for itself and for one
-/// other, and behind each claim it lifts at most 16 hinted vertices. For want of memory the order comes back; where
+/// other, and behind each claim it lifts at most 16 hinted vertices. Out of memory the order comes back; where
 /// only hints found none, they are left out.
 ///
 /// One lifter shares its tables with nobody: it raises them in the order's room, without a board, and always brings a

@@ -14,7 +14,7 @@ use Rattle.vpg_client.specs.declared.fault.ClientFault.{ClientFault}
 use Rattle.vpg_client.specs.declared.fault.ClientFault.TheVariants.{LogFull, Refused, Stray, Memory}
 
 -- The log is full, exactly where it has as many calls as it takes, and nothing changes. The desk's own refusal is
--- logged. Want of memory changes nothing. A stray leaves the desk's game and diagram.
+-- logged. Out of memory, nothing changes. A stray leaves the desk's game and diagram.
 abbrev pub Tells : {F : Type 0} → ℕ → (F → Option Refusal) → ClientState → ℕ → Call → ClientState → ClientFault F →
     Type 0
 Tells room refusal old label call new LogFull = (old.calls ≡ room) × (new ≡ old)

@@ -131,7 +131,7 @@ impl Desk {
 
     /// Raises the present tables to the harvest's, by one lift for each value above the present one, and gives the
     /// number of these lifts: at most 131,072. Refused, in this order: the order's game or diagram isn't the desk's; a
-    /// decision of the order doesn't stand; want of memory. A refusal changes nothing, and the harvest comes back.
+    /// decision of the order doesn't stand; out of memory. A refusal changes nothing, and the harvest comes back.
     pub fn commit(&mut self, alloc: Global, harvest: Harvest) -> Result<u32, CommitRefused>
         ensures accepted { IfOk result
             (λ added. (session : ℕ) →

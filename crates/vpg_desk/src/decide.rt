@@ -98,7 +98,7 @@ impl Desk {
     /// Decides a feature in or out, as the next change, and gives the change's token. A feature that is known but not
     /// decided may be decided the same way. Refused, in this order: the diagram has no such feature; it is decided
     /// already; the decision contradicts the diagram and the present decisions; the desk has made its most changes;
-    /// want of memory. It takes memory to tell whether there is a contradiction, so want of it may come in the place of
+    /// out of memory. It takes memory to tell whether there is a contradiction, so want of it may come in the place of
     /// the last two. A refusal changes nothing.
     pub fn decide(
         &mut self,

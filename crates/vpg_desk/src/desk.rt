@@ -71,7 +71,7 @@ impl Model for Desk {
 
 impl Desk {
     /// A desk without decisions; both tables are zero. Refused, in this order: a priority is 65,536, so that there is
-    /// no dual; the diagram alone has a conflict, which names its root; want of memory. What was handed in comes back.
+    /// no dual; the diagram alone has a conflict, which names its root; out of memory. What was handed in comes back.
     pub fn open(
         alloc: Global,
         game: Arc<GuardedGame>,

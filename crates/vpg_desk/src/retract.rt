@@ -56,7 +56,7 @@ impl Desk {
     /// Takes the decision on a feature back, as the next change, and gives the change's token. Of the later entries it
     /// drops the lifts that assumed the decision; the others stay, with the old values that the entries now before them
     /// give. Refused, in this order: the diagram has no such feature; it isn't decided; the desk has made its most
-    /// changes; want of memory. A refusal changes nothing.
+    /// changes; out of memory. A refusal changes nothing.
     pub fn retract(
         &mut self,
         alloc: Global,

@@ -16,7 +16,7 @@ impl Desk {
 
     /// Takes the token's change back, and gives a token to redo it: the present page is the one in which the change was
     /// made. Refused, in this order: the past has no page of this change any more; a newer change has to be undone
-    /// first; want of memory. A refusal changes nothing, and the token comes back.
+    /// first; out of memory. A refusal changes nothing, and the token comes back.
     pub fn undo(&mut self, alloc: Global, token: Undo) -> Result<Redo, UndoRefused>
         requires { 0 < self.old.book.tokens }
         ensures accepted { IfOk result
@@ -38,7 +38,7 @@ impl Desk {
 
     /// Makes the token's change again, and gives a token to undo it: the present page is the one in which the change
     /// was undone. Refused, in this order: the future has no page of this change any more; an earlier change has to be
-    /// redone first; want of memory. A refusal changes nothing, and the token comes back.
+    /// redone first; out of memory. A refusal changes nothing, and the token comes back.
     pub fn redo(&mut self, alloc: Global, token: Redo) -> Result<Undo, RedoRefused>
         requires { 0 < self.old.book.tokens }
         ensures accepted { IfOk result

@@ -21,7 +21,7 @@ use std::sync::Wait;
 use vpg_desk::{CommitFault, CommitRefused, Desk};
 use vpg_measure::Harvest;
 
-/// Why the desk refuses to commit, where it isn't want of memory.
+/// Why the desk refuses to commit, where it isn't out of memory.
 fn commit_cause(fault: CommitFault) -> Option<Cause>
     ensures { option_map refusal_of result ≡ commit_refusal fault }
 {

@@ -164,7 +164,7 @@ pub(crate) fn enter<L: Terms>(
     *front = newest.copy();
 }
 
-/// Why the desk refuses to decide, where it isn't want of memory.
+/// Why the desk refuses to decide, where it isn't out of memory.
 fn decide_cause(fault: DecideFault) -> Option<Cause>
     ensures { option_map refusal_of result ≡ decide_refusal fault }
 {

@@ -18,7 +18,7 @@ use std::alloc::Global;
 use std::sync::Wait;
 use vpg_desk::RetractFault;
 
-/// Why the desk refuses to retract, where it isn't want of memory.
+/// Why the desk refuses to retract, where it isn't out of memory.
 fn retract_cause(fault: RetractFault) -> Option<Cause>
     ensures { option_map refusal_of result ≡ retract_refusal fault }
 {

@@ -20,7 +20,7 @@ use std::alloc::Global;
 use std::sync::Wait;
 use vpg_desk::{RedoFault, RedoRefused, UndoFault, UndoRefused};
 
-/// Why the desk refuses to undo, where it isn't want of memory.
+/// Why the desk refuses to undo, where it isn't out of memory.
 fn undo_cause(fault: UndoFault) -> Option<Cause>
     ensures { option_map refusal_of result ≡ undo_refusal fault }
 {
@@ -31,7 +31,7 @@ fn undo_cause(fault: UndoFault) -> Option<Cause>
     }
 }
 
-/// Why the desk refuses to redo, where it isn't want of memory.
+/// Why the desk refuses to redo, where it isn't out of memory.
 fn redo_cause(fault: RedoFault) -> Option<Cause>
     ensures { option_map refusal_of result ≡ redo_refusal fault }
 {

@@ -112,7 +112,7 @@ impl Partial {
             IsKnownTable lines choices self.now →
             IfOk result (λ found. IfSome found (λ features. IsOnlyRemaining lines choices features.items)) }
 
-        // Want of memory is answered only where there is a product to be made.
+        // Out of memory is answered only where there is a product to be made.
         ensures last { OnErr result (AreAllKnown (length self.now) self.now) }
     {
         if !self.is_full() {

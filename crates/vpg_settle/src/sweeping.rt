@@ -259,7 +259,7 @@ fn by_hints<G: Gate + Sync, T: Threads + Wait + Sync>(
     }
 }
 
-/// The order raised by guesses. On want of memory it comes back. Here alone a raise is known to be one of guesses.
+/// The order raised by guesses. Out of memory it comes back. Here alone a raise is known to be one of guesses.
 fn guess(alloc: Global, order: Order) -> Result<Harvest, Order>
     ensures order { IfOk result (λ harvest. IsSameOrder harvest.order order) }
     ensures harvest { IfOk result IsHarvest }
@@ -269,7 +269,7 @@ fn guess(alloc: Global, order: Order) -> Result<Harvest, Order>
     harvest_by_bounds(alloc, order, BUDGET)
 }
 
-/// The order raised by guesses, and swept from there where they don't settle it. On want of memory it is swept alone.
+/// The order raised by guesses, and swept from there where they don't settle it. Out of memory it is swept alone.
 fn by_guesses<G: Gate + Sync, T: Threads + Wait + Sync>(
     rt: &T,
     alloc: Global,

@@ -46,7 +46,7 @@ where
     ghost invariant = { λ p. known p.writer.desk.place ≡ (arc_value p.writer.desk.shown.value.sheet).front };
 }
 
-// Shows the sheet that was handed in last, if one was, and notes which one is shown. For want of memory nothing
+// Shows the sheet that was handed in last, if one was, and notes which one is shown. Out of memory nothing
 // changes.
 fn show_last<F: Follows, R: Wait>(
     before: ShelfWriter<F>,
@@ -68,7 +68,7 @@ fn show_last<F: Follows, R: Wait>(
 }
 
 impl<F: Follows> Press<F> {
-    /// A press that shows this sheet, which has to belong to its front. The one refusal is want of memory; then the
+    /// A press that shows this sheet, which has to belong to its front. The one refusal is out of memory; then the
     /// sheet comes back.
     pub fn open<R: Wait>(
         rt: &R,
