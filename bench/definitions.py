@@ -5,7 +5,7 @@
     python3 bench/definitions.py --check    names each fault, one a line, and exits with 1 where there is one
 
 A definition is public where a clause of a public function, of a trait or of a law names it, or a model's value; in a
-program, where a clause of what its modules share does. What PROOFS, OFFICE and GLOSSARY name is public, too. The
+program, where a clause of what its modules share does. So is what PROOFS, OFFICE and GLOSSARY name beside. The
 sentence is the comment right above it in crates/CRATE/specs; the comment over a `mutual` group is its first member's.
 Faults: the document is not what this script writes, or a definition has no sentence.
 """
@@ -183,6 +183,7 @@ def collect():
                 if place:
                     named[place[:2]].add(place[2])
     cited = set(re.findall(r"`([A-Z][^\s`]+)`", "".join(text_of(f"{ROOT}/{it}") for it in CITING)))
+    cited.difference_update(*named.values())
     for place, (_, found, _) in specs.items():
         named[place].update(cited & set(found))
     return specs, named

@@ -69,7 +69,6 @@ TellsChoice scene feature value decisions text =
 
 -- ---- any
 
--- what the text says of a vertex, of a feature or of one more decision
 abbrev pub Tells : Scene → Query → List Decision → (hopeful dual text : List ℕ) → Type 0
 Tells scene (queries.WhyVertex vertex) decisions hopeful dual text = TellsVertex scene vertex decisions hopeful dual text
 Tells scene (queries.WhyFeature feature) decisions hopeful dual text = TellsFeature scene feature decisions text

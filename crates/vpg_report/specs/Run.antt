@@ -17,7 +17,7 @@ pub record Between : Type 0 where
   pub calls : ℕ
   pub held : Held
 
--- what an engine holds before the first line
+-- before the first line
 abbrev pub begun : Between
 begun = record { book = opened; calls = 0; held = nothing_held }
 
@@ -27,8 +27,7 @@ calling scene old request text new =
     (calls : List Event) × (Serves scene old.held old.calls request calls text new.held × IsLegalFrom (family_of (setting_in scene)) old.book calls
     × (new.book ≡ book_after (family_of (setting_in scene)) old.book calls) × (new.calls ≡ old.calls + length calls))
 
--- A request makes calls with the book's replies, and is answered with this text. What is committed or kept was made
--- by at most the line's number of sweeps, each by this many lifters.
+-- The same, and what is committed or kept was made by at most the line's number of sweeps, each by this many lifters.
 abbrev pub answering : Scene → ℕ → Machine Between
 answering scene lifters old request text new = (so : calling scene old request text new) × AreMadeBy (setting_in scene) lifters request.command so.0 new.held
 

@@ -26,14 +26,12 @@ AreChecked scene held = AllByRecursion (λ h. IfSome h (Checks (family_of (setti
 abbrev pub settling : Scene → Machine Between
 settling scene old request text new = calling scene old request text new × TellsSettle request.command text × AreChecked scene new.held
 
--- In such a run the text, the book, the number of calls and what is held are one function of the scene and the
--- lines, whichever lawful harvests the lines made.
+-- Then the text, the book, the number of calls and what is held are one function of the scene and the lines, whichever lawful harvests the lines made.
 abbrev pub SettledAnswersAreOne : Type 0
 SettledAnswersAreOne = (scene : Scene) (lines : List (List ℕ)) (text other : List ℕ) (new newer : Between) →
     Answered (settling scene) begun lines text new → Answered (settling scene) begun lines other newer → (text ≡ other) × (new ≡ newer)
 
--- So are what such a run writes and its result, where it goes through a known script. It was opened then, so no
--- cause of a refusal matters.
+-- So are what a run writes and its result, where it goes through a known script (it was opened then, so no cause of a refusal matters).
 abbrev pub SettledRunsAreOne : Type 0
 SettledRunsAreOne = (scene : Scene) (script before after later : List ℕ) (left rest : Option (List ℕ)) (result other : Result (Unit {0}) RunFault) →
     IsThrough result → Outcome (settling scene) (λ _. ⊤) begun (Some script) left (Some before) (Some after) result →

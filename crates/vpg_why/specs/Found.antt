@@ -68,7 +68,7 @@ IsFound game diagram aim choices (founds.Product example) = IsFoundProduct game 
 IsFound game diagram aim choices founds.Nothing = NoneMeets game diagram aim choices
 IsFound game diagram aim choices founds.Unsettled = ⊤
 
--- no limit was met in the search
+-- no limit was met
 abbrev pub IsFoundExact : Found → Type 0
 IsFoundExact (founds.Product example) = IsTrue example.first
 IsFoundExact founds.Nothing = ⊤

@@ -28,7 +28,7 @@ IsRemedy game diagram which vertex decisions (remedies.Retract found) = IsRepair
 IsRemedy game diagram which vertex decisions remedies.Nothing = Suffice game diagram (asks.Verdict which vertex) []
 IsRemedy game diagram which vertex decisions remedies.Unsettled = ⊤
 
--- no limit was met in the search for what to give up
+-- no limit was met
 abbrev pub IsRemedyExact : Remedy → Type 0
 IsRemedyExact (remedies.Retract found) = IsTrue found.exact
 IsRemedyExact remedies.Nothing = ⊤

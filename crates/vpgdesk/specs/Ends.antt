@@ -4,7 +4,7 @@ use Rattle.vpgdesk.specs.declared.ending.End.{End}
 use Rattle.vpgdesk.specs.declared.ending.End.TheVariants as ends
 use Rattle.vpg_family.specs.declared.fault.Fault.{Fault}
 
--- 0 where all was done, 1 where it fails, 2 where the words are wrong
+-- 1 where it fails, 2 where the words are wrong
 abbrev pub status_of : Result End Fault → ℕ
 status_of (Ok ends.Done) = 0
 status_of (Ok ends.WrongWords) = 2
