@@ -1,11 +1,11 @@
 #!/usr/bin/env python3
-"""Breaks lines of over 120 columns of a crate's clauses, definitions and comments, where that changes no token.
+"""Breaks lines of over 120 columns of clauses, definitions, comments and documents, where that changes no token.
 
-    python3 bench/break_lines.py CRATE..      names each line that is left, and why a file was left as it was
+    python3 bench/break_lines.py CRATE.. FILE.md..      names each line that is left, and why a file was left as it was
 
 A line is broken at the least nesting: after `=`, an arrow or a product, else before an operator, else before a
 parenthesis. rt fmt lays the file out, and what it reads of the file before and after has to be the same, token for
-token; else the file is put back. Not broken: imports, which rt fmt lays out; record literals and tuples, which get one
+token; else the file is put back. In documents prose and lists are wrapped. Not broken: imports, which rt fmt lays out; record literals and tuples, which get one
 more separator where they are broken; and lines that a wrong body names.
 """
 import glob
@@ -24,6 +24,7 @@ AFTER = {"→", "×", "⊎", "↔", "=", ";"}
 BEFORE = {"++", "∷", "≡", "≢", "&&", "||", "else"}
 OPEN, CLOSE = ("(", "{", "[", "⟨"), (")", "}", "]", "⟩")
 IMPORT = re.compile(r" *(pub |ghost )*use ")
+ITEM = re.compile(r"( *)([-*] |\d+\. )?")
 ALL_MARKS, SAFE_MARKS = "--|///|//!|//", "--|//!|//"
 
 
@@ -163,8 +164,34 @@ def break_file(path, kept):
     yield f"{os.path.relpath(path, ROOT)}: left as it was, since its tokens would change"
 
 
-def main(crates):
-    for crate in crates:
+def wrap_document(path):
+    """Wraps each paragraph and each item of a list that has an over-long line, from that line on."""
+    is_prose = lambda line: line.strip() and not line.startswith(("|", "#", "    ", "```", "!["))
+    lines, found, at = text_of(path).split("\n"), [], 0
+    while at < len(lines):
+        end = at + 1
+        while is_prose(lines[at]) and end < len(lines) and is_prose(lines[end]) and not ITEM.match(lines[end])[2]:
+            end += 1
+        block = lines[at:end]
+        long = [number for number, line in enumerate(block) if len(line) > MOST]
+        if is_prose(lines[at]) and long:
+            head = ITEM.match(block[0])
+            hang = " " * len(head[0])
+            begin = hang if long[0] else head[0]
+            words = " ".join(line.strip() for line in [block[long[0]][len(begin) :], *block[long[0] + 1 :]])
+            words = re.sub("`[^`]+`", lambda it: it[0].replace(" ", "\0"), words)
+            options = {"break_long_words": False, "break_on_hyphens": False}
+            wrapped = textwrap.wrap(words, MOST, initial_indent=begin, subsequent_indent=hang, **options)
+            block = block[: long[0]] + [line.replace("\0", " ") for line in wrapped]
+        found.extend(block)
+        at = end
+    write(path, "\n".join(found))
+
+
+def main(words):
+    for path in (it for it in words if it.endswith(".md")):
+        wrap_document(path)
+    for crate in (it for it in words if not it.endswith(".md")):
         folder = f"{ROOT}/crates/{crate}"
         edits = glob.glob(f"{folder}/must-fail/*.edit") + glob.glob(f"{folder}/wrong-bodies/*.edit")
         kept = [line[5:] for edit in edits for line in text_of(edit).split("\n") if line.startswith("old: ")]
