@@ -5,8 +5,8 @@
 
 A line is broken at the least nesting: after `=`, an arrow or a product, else before an operator, else before a
 parenthesis. rt fmt lays the file out, and what it reads of the file before and after has to be the same, token for
-token; else the file is put back. In documents prose and lists are wrapped. Not broken: imports, which rt fmt lays out; record literals and tuples, which get one
-more separator where they are broken; and lines that a wrong body names.
+token; else the file is put back. In documents prose and lists are wrapped. Not broken: imports, which rt fmt lays out;
+record literals and tuples, which get one more separator where they are broken; and lines that a wrong body names.
 """
 import glob
 import json
