@@ -1,2 +1,4 @@
+pub mod Offering
 pub mod One
+pub mod OneOffers
 pub mod Telling

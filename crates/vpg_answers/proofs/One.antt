@@ -1,6 +1,6 @@
 -- Two answers are one text.
 use Rattle.std.proofs.Common.{◌≡◌, ℕ, Bool, true, false, List, [], ◌++◌, refl, sym, ap, ap₂, ◌∙◌, subst, inl, inr, append-nil, append_assoc}
-use Rattle.std.specs.Prelude.{◌⊎◌, codes, map, slice_index}
+use Rattle.std.specs.Prelude.{◌⊎◌, codes, length, map, slice_index}
 use Rattle.vpg_diagram.specs.FeatureDiagram.{IsDiagram}
 use Rattle.vpg_measure.specs.TwoGames.{top_for}
 use Rattle.vpg_measure.specs.declared.which.Which.{Which}
@@ -12,16 +12,20 @@ use Rattle.vpg_texts.specs.Scene.{Scene}
 use Rattle.vpg_texts.specs.Text.{blank_number, choices_text}
 use Rattle.vpg_why.specs.Explained.{choices}
 use Rattle.vpg_why.specs.Suffices.{choice}
+use Rattle.vpg_why.specs.declared.question.Aim.TheVariants as aims
+use Rattle.vpg_why.specs.declared.question.Limits.{Limits}
 use Rattle.vpg_why.specs.declared.question.Question.{Question}
 use Rattle.vpg_why.specs.declared.question.Question.TheVariants as asks
 use Rattle.vpg_why.proofs.Listing.{among_named}
 use Rattle.vpg_why.proofs.Monotone.{more_choices_suffice}
+use Rattle.vpg_why.proofs.FirstOnes.{first_products_are_one}
 use Rattle.vpg_why.proofs.Next.{explanations_are_one}
 use Rattle.vpg_answers.specs.declared.query.Query.{Query}
 use Rattle.vpg_answers.specs.declared.query.Query.TheVariants as queries
-use Rattle.vpg_answers.specs.Texts.{verdict_word, verdict_line, other_line, known_line, conflict_line}
-use Rattle.vpg_answers.specs.Answers.{MakeSo, IsReason, identifier_of, TellsVerdict, TellsVertex, TellsKnownBy, TellsFeature, TellsChoice, Tells, HasDoubt}
+use Rattle.vpg_answers.specs.Texts.{verdict_word, verdict_line, other_line, known_line, conflict_line, names_in, product_line}
+use Rattle.vpg_answers.specs.Answers.{MakeSo, IsReason, identifier_of, TellsVerdict, TellsVertex, TellsKnownBy, TellsFeature, TellsChoice, TellsExample, Tells, HasDoubt}
 use Rattle.vpg_answers.specs.Laws.{AnswersAreOne}
+use Rattle.vpg_answers.proofs.OneOffers.{offers_one}
 
 -- ---- doubts
 
@@ -37,11 +41,11 @@ no_doubt names which identifier listed true before behind whole is none = refl
 no_doubt names which identifier listed false before behind whole is none =
     let head : List ℕ = verdict_word which ++ blank_number identifier in
     let chosen : List ℕ = choices_text names (map literal_of listed) in
-    absurd (none (before ++ (head ++ chosen), behind, is ∙ regroup before head chosen (codes " or fewer") (codes "\n") behind))
+    absurd (none (inl (before ++ (head ++ chosen), behind, is ∙ regroup before head chosen (codes " or fewer") (codes "\n") behind)))
 
 -- ---- one page
 
-module _ (scene : Scene) (decisions : List Decision) (is : IsDiagram scene.lines) (named : AreChoicesOf scene.lines (choices decisions)) where
+module _ (scene : Scene) (limits others : Limits) (decisions : List Decision) (is : IsDiagram scene.lines) (named : AreChoicesOf scene.lines (choices decisions)) where
   reason_one : (question : Question) (one other : List Decision) → IsReason scene question decisions one true → IsReason scene question decisions other true → one ≡ other
   reason_one question one other a b = explanations_are_one scene.game scene.lines question decisions one other is named a b
 
@@ -73,9 +77,9 @@ module _ (scene : Scene) (decisions : List Decision) (is : IsDiagram scene.lines
       text_is = text_is ∙ ap (line listed) sure;
     }
 
-    told : (before text behind whole : List ℕ) → whole ≡ before ++ text ++ behind → ¬ (HasDoubt whole) → TellsVerdict scene which vertex decisions table text → IsTold text
-    told before text behind whole parts none (inr low) = inr low
-    told before text behind whole parts none (inl (high, so)) =
+    told : (before text behind whole : List ℕ) → whole ≡ before ++ text ++ behind → ¬ (HasDoubt whole) → (limits : Limits) → TellsVerdict scene limits which vertex decisions table text → IsTold text
+    told before text behind whole parts none limits (inr low) = inr low
+    told before text behind whole parts none limits (inl (high, so)) =
         inl (
           high,
           exactly text so.0 so.1
@@ -89,14 +93,14 @@ module _ (scene : Scene) (decisions : List Decision) (is : IsDiagram scene.lines
     verdict_one one other (inr (low, a)) (inl (high, b)) = absurd (low high)
     verdict_one one other (inr (low, a)) (inr (also, b)) = a ∙ sym b
 
-  vertex_one : (vertex : ℕ) (hopeful dual one other : List ℕ) → TellsVertex scene vertex decisions hopeful dual one → TellsVertex scene vertex decisions hopeful dual other →
+  vertex_one : (vertex : ℕ) (hopeful dual one other : List ℕ) → TellsVertex scene limits vertex decisions hopeful dual one → TellsVertex scene others vertex decisions hopeful dual other →
       ¬ (HasDoubt one) → ¬ (HasDoubt other) → one ≡ other
   vertex_one vertex hopeful dual one other a b sure also =
       a.4
       ∙ ap₂ (λ (first second : List ℕ). first ++ second)
-      (verdict_one Hopeful vertex hopeful a.0 b.0 (told Hopeful vertex hopeful [] a.0 a.1 one a.4 sure a.2) (told Hopeful vertex hopeful [] b.0 b.1 other b.4 also b.2))
-      (verdict_one Dual vertex dual a.1 b.1 (told Dual vertex dual a.0 a.1 [] one (a.4 ∙ sym (append-nil (a.0 ++ a.1))) sure a.3)
-      (told Dual vertex dual b.0 b.1 [] other (b.4 ∙ sym (append-nil (b.0 ++ b.1))) also b.3))
+      (verdict_one Hopeful vertex hopeful a.0 b.0 (told Hopeful vertex hopeful [] a.0 a.1 one a.4 sure limits a.2) (told Hopeful vertex hopeful [] b.0 b.1 other b.4 also others b.2))
+      (verdict_one Dual vertex dual a.1 b.1 (told Dual vertex dual a.0 a.1 [] one (a.4 ∙ sym (append-nil (a.0 ++ a.1))) sure limits a.3)
+      (told Dual vertex dual b.0 b.1 [] other (b.4 ∙ sym (append-nil (b.0 ++ b.1))) also others b.3))
       ∙ sym b.4
 
   known_one : (feature : ℕ) (value : Bool) (one other : List ℕ) → TellsKnownBy scene feature value decisions one → TellsKnownBy scene feature value decisions other → one ≡ other
@@ -121,11 +125,32 @@ module _ (scene : Scene) (decisions : List Decision) (is : IsDiagram scene.lines
   choice_one feature value one other (inr a) (inl b) = absurd (a.0 (all_make (asks.Conflict feature value) b.0 true b.1))
   choice_one feature value one other (inr a) (inr b) = a.1 ∙ sym b.1
 
-  tells_one : (query : Query) (hopeful dual one other : List ℕ) → Tells scene query decisions hopeful dual one → Tells scene query decisions hopeful dual other → ¬ (HasDoubt one) → ¬ (HasDoubt other) → one ≡ other
+  module _ (which : Which) (vertex : ℕ) where
+    is_first : (text : List ℕ) (set : List Bool) (first : Bool) → text ≡ product_line scene.names set first → ¬ (HasDoubt text) → first ≡ true
+    is_first text set true is sure = refl
+    is_first text set false is sure = absurd (sure (inr (inl (names_in scene.names set (length scene.names) ++ codes "\n", is ∙ append_assoc (codes "some product") (names_in scene.names set (length scene.names)) (codes "\n")))))
+
+    example_one : (one other : List ℕ) → TellsExample scene limits which vertex decisions one → TellsExample scene others which vertex decisions other → ¬ (HasDoubt one) → ¬ (HasDoubt other) → one ≡ other
+    example_one one other (inl a) (inl b) sure also =
+        let first : a.1 ≡ true = is_first one a.0 a.1 a.5 sure in
+        let second : b.1 ≡ true = is_first other b.0 b.1 b.5 also in
+        a.5
+        ∙ ap₂ (λ (set : List Bool) (is : Bool). product_line scene.names set is)
+        (first_products_are_one scene.game scene.lines (aims.Won which vertex) (choices decisions) a.0 b.0 a.2 a.3 (a.4 first) b.2 b.3 (b.4 second)) (first ∙ sym second) ∙ sym b.5
+    example_one one other (inl a) (inr (inl b)) sure also = absurd (b.0 a.0 a.2 a.3)
+    example_one one other (inl a) (inr (inr b)) sure also = absurd (also (inr (inr (inl b.1))))
+    example_one one other (inr (inl a)) (inl b) sure also = absurd (a.0 b.0 b.2 b.3)
+    example_one one other (inr (inl a)) (inr (inl b)) sure also = a.1 ∙ sym b.1
+    example_one one other (inr (inl a)) (inr (inr b)) sure also = absurd (also (inr (inr (inl b.1))))
+    example_one one other (inr (inr a)) b sure also = absurd (sure (inr (inr (inl a.1))))
+
+  tells_one : (query : Query) (hopeful dual one other : List ℕ) → Tells scene limits query decisions hopeful dual one → Tells scene others query decisions hopeful dual other → ¬ (HasDoubt one) → ¬ (HasDoubt other) → one ≡ other
   tells_one (queries.WhyVertex vertex) hopeful dual one other a b sure also = vertex_one vertex hopeful dual one other a b sure also
   tells_one (queries.WhyFeature feature) hopeful dual one other a b sure also = feature_one feature one other a b
   tells_one (queries.WhyChoice feature value) hopeful dual one other a b sure also = choice_one feature value one other a b
+  tells_one (queries.Example which vertex) hopeful dual one other a b sure also = example_one which vertex one other a b sure also
+  tells_one (queries.Offer vertex) hopeful dual one other a b sure also = offers_one scene limits others vertex decisions one other a b sure also
 
 pub answers_are_one : AnswersAreOne
-answers_are_one scene query decisions hopeful dual one other a b sure also =
-    tells_one scene decisions a.diagram a.named query hopeful dual one other a.tells b.tells sure also
+answers_are_one scene limits others query decisions hopeful dual one other a b sure also =
+    tells_one scene limits others decisions a.diagram a.named query hopeful dual one other a.tells b.tells sure also

@@ -1,24 +1,36 @@
 -- What is told of an order's page.
 use Rattle.std.proofs.Common.{◌≡◌, ℕ, ◌<◌, Bool, true, false, List, ◌++◌, length, refl, sym, ap, ap₂, ◌∙◌, subst, inl, inr, append_assoc}
 use Rattle.std.specs.Prelude.{◌↔◌, All, IfSome, IsSome, IsTrue, Option, Some, None, is_some, slice_index}
+use Rattle.vpg_guards.specs.declared.tri.Tri.{Tri}
 use Rattle.vpg_game.specs.Game.{graph_of, vertex_ids}
 use Rattle.vpg_measure.specs.Orders.{OrderView, IsOrder, order_table}
 use Rattle.vpg_measure.specs.TwoGames.{top_for}
 use Rattle.vpg_measure.specs.declared.which.Which.{Which}
 use Rattle.vpg_measure.specs.declared.which.Which.TheVariants.{Hopeful, Dual}
-use Rattle.vpg_partial.specs.TableLaws.{AreAmong}
+use Rattle.vpg_partial.specs.TableLaws.{AreAmong, IsKnownTable}
 use Rattle.vpg_partial.specs.declared.decision.Decision.{Decision}
 use Rattle.vpg_texts.specs.Scene.{Scene, scene_of}
 use Rattle.vpg_texts.proofs.Shown.{named_below}
 use Rattle.vpg_why.specs.Explained.{choices, Explains}
+use Rattle.vpg_why.specs.Found.{IsFoundProduct, IsFound, IsFoundExact}
+use Rattle.vpg_why.specs.Products.{NoneMeets}
 use Rattle.vpg_why.specs.Suffices.{Suffice, choice}
 use Rattle.vpg_why.specs.declared.explaining.Explanation.{Explanation}
+use Rattle.vpg_why.specs.declared.question.Aim.{Aim}
+use Rattle.vpg_why.specs.declared.question.Aim.TheVariants as aims
+use Rattle.vpg_why.specs.declared.searching.Example.{Example}
+use Rattle.vpg_why.specs.declared.searching.Found.{Found}
+use Rattle.vpg_why.specs.declared.searching.Found.TheVariants as founds
+use Rattle.vpg_why.specs.declared.question.Limits.{Limits}
 use Rattle.vpg_why.specs.declared.question.Question.{Question}
 use Rattle.vpg_why.specs.declared.question.Question.TheVariants as asks
 use Rattle.vpg_why.proofs.Listing.{among_named}
 use Rattle.vpg_answers.specs.declared.query.Query.{Query}
-use Rattle.vpg_answers.specs.Texts.{verdict_line, other_line, known_line, not_known_line, conflict_line, no_conflict_line}
-use Rattle.vpg_answers.specs.Answers.{identifier_of, TellsVerdict, TellsVertex, TellsKnownBy, IsNotKnown, TellsFeature, TellsChoice, Tells, IsAnswer, Appends}
+use Rattle.vpg_answers.specs.Texts.{verdict_line, other_line, known_line, not_known_line, conflict_line, no_conflict_line, product_line, none_line, unsettled_line, offers_text}
+use Rattle.vpg_answers.specs.Answers.{identifier_of, TellsVerdict, TellsVertex, TellsKnownBy, IsNotKnown, TellsFeature, TellsChoice, TellsExample, TellsOffers, Tells, IsAnswer, Appends}
+use Rattle.vpg_answers.specs.Offers.{AreOffers}
+use Rattle.vpg_answers.specs.declared.offers.Offered.{Offered}
+use Rattle.vpg_answers.specs.Room.{RoundsSettle, SearchEnds}
 
 module _ (order : OrderView) (is : IsOrder order) where
   abbrev scene : Scene
@@ -32,33 +44,60 @@ module _ (order : OrderView) (is : IsOrder order) where
   listed_below names names_is listed among =
       named_below order.diagram.lines (length names) listed (among_named order.diagram.lines (choices listed) (choices order.decisions) among is.named) (ap length names_is ∙ is.diagram.each_named)
 
-  pub answers : (query : Query) (before after : List ℕ) → Appends (Tells scene query order.decisions order.hopeful order.dual) before after → Appends (IsAnswer scene query order.decisions order.hopeful order.dual) before after
-  answers query before after (text, (tells, appended)) = (text, (record { diagram = is.diagram.diagram; named = is.named; tells = tells }, appended))
+  pub answers : (limits : Limits) (query : Query) (before after : List ℕ) → Appends (Tells scene limits query order.decisions order.hopeful order.dual) before after →
+      Appends (IsAnswer scene limits query order.decisions order.hopeful order.dual) before after
+  answers limits query before after (text, (tells, appended)) = (text, (record { diagram = is.diagram.diagram; named = is.named; tells = tells }, appended))
 
 module _ (order : OrderView) (names : List (List ℕ)) (names_is : names ≡ order.diagram.names) where
   abbrev page : Scene
   page = scene_of order.game order.diagram
 
   module _ (which : Which) (vertex identifier : ℕ) (identifier_is : identifier ≡ slice_index (vertex_ids order.game.vertices) vertex) (before after : List ℕ) where
-    pub told_verdict : (listed : List Decision) (exact : Bool) → slice_index (order_table which order) vertex ≡ top_for which (graph_of order.game) →
+    pub told_verdict : (limits : Limits) (listed : List Decision) (exact : Bool) → (RoundsSettle page limits.rounds which → IsTrue exact) →
+        slice_index (order_table which order) vertex ≡ top_for which (graph_of order.game) →
         Explains (Suffice order.game order.diagram (asks.Verdict which vertex)) order.decisions listed exact → after ≡ before ++ verdict_line names which identifier listed exact →
-        Appends (TellsVerdict page which vertex order.decisions (order_table which order)) before after
-    told_verdict listed exact high explains appended = (
+        Appends (TellsVerdict page limits which vertex order.decisions (order_table which order)) before after
+    told_verdict limits listed exact settled high explains appended = (
       verdict_line order.diagram.names which (identifier_of page vertex) listed exact,
       (
-        inl (high, (listed, exact, explains, refl)),
+        inl (high, (listed, exact, explains, refl, settled)),
         appended ∙ ap₂ (λ (ns : List (List ℕ)) (n : ℕ). before ++ verdict_line ns which n listed exact) names_is identifier_is,
       ),
     )
 
-    pub told_other : ¬ (slice_index (order_table which order) vertex ≡ top_for which (graph_of order.game)) → after ≡ before ++ other_line which identifier →
-        Appends (TellsVerdict page which vertex order.decisions (order_table which order)) before after
-    told_other low appended = (other_line which (identifier_of page vertex), (inr (low, refl), appended ∙ ap (λ (n : ℕ). before ++ other_line which n) identifier_is))
+    pub told_other : (limits : Limits) → ¬ (slice_index (order_table which order) vertex ≡ top_for which (graph_of order.game)) → after ≡ before ++ other_line which identifier →
+        Appends (TellsVerdict page limits which vertex order.decisions (order_table which order)) before after
+    told_other limits low appended = (other_line which (identifier_of page vertex), (inr (low, refl), appended ∙ ap (λ (n : ℕ). before ++ other_line which n) identifier_is))
 
-  pub told_vertex : (vertex : ℕ) (before between after : List ℕ) → Appends (TellsVerdict page Hopeful vertex order.decisions order.hopeful) before between →
-      Appends (TellsVerdict page Dual vertex order.decisions order.dual) between after → Appends (TellsVertex page vertex order.decisions order.hopeful order.dual) before after
-  told_vertex vertex before between after (first, (a, one)) (second, (b, two)) =
+  pub told_vertex : (limits : Limits) (vertex : ℕ) (before between after : List ℕ) → Appends (TellsVerdict page limits Hopeful vertex order.decisions order.hopeful) before between →
+      Appends (TellsVerdict page limits Dual vertex order.decisions order.dual) between after → Appends (TellsVertex page limits vertex order.decisions order.hopeful order.dual) before after
+  told_vertex limits vertex before between after (first, (a, one)) (second, (b, two)) =
       (first ++ second, ((first, second, a, b, refl), two ∙ ap (λ (bytes : List ℕ). bytes ++ second) one ∙ append_assoc before first second))
+
+  module _ (limits : Limits) (which : Which) (vertex : ℕ) (before after : List ℕ) where
+    pub told_product : (set : List Bool) (first : Bool) → IsFoundProduct order.game order.diagram (aims.Won which vertex) (choices order.decisions) set first → (SearchEnds page limits which → IsTrue first) →
+        after ≡ before ++ product_line names set first → Appends (TellsExample page limits which vertex order.decisions) before after
+    told_product set first found settled appended = (
+      product_line order.diagram.names set first,
+      (
+        inl (set, first, found.remaining, found.meets, found.is_first, refl, settled),
+        appended ∙ ap (λ (ns : List (List ℕ)). before ++ product_line ns set first) names_is,
+      ),
+    )
+
+    pub told_nothing : NoneMeets order.game order.diagram (aims.Won which vertex) (choices order.decisions) → after ≡ before ++ none_line →
+        Appends (TellsExample page limits which vertex order.decisions) before after
+    told_nothing none appended = (none_line, (inr (inl (none, refl)), appended))
+
+    pub told_unsettled : (SearchEnds page limits which → ⊥) → after ≡ before ++ unsettled_line → Appends (TellsExample page limits which vertex order.decisions) before after
+    told_unsettled short appended = (unsettled_line, (inr (inr (short, refl)), appended))
+
+  pub told_offers : (limits : Limits) (vertex : ℕ) (before after : List ℕ) (known : List Tri) (listed : List Offered) → IsKnownTable order.diagram.lines (choices order.decisions) known →
+      AreOffers page limits vertex order.decisions known (length known) listed → after ≡ before ++ offers_text names listed → Appends (TellsOffers page limits vertex order.decisions) before after
+  told_offers limits vertex before after known listed table are appended = (
+    offers_text order.diagram.names listed,
+    ((known, listed, table, are, refl), appended ∙ ap (λ (ns : List (List ℕ)). before ++ offers_text ns listed) names_is),
+  )
 
   -- what is told where none of the decisions can be left out
   sharp : (question : Question) (listed : List Decision) (exact : Bool) → IsTrue exact → Explains (Suffice order.game order.diagram question) order.decisions listed exact →
@@ -122,3 +161,24 @@ found_explains order question found e listed is same explains =
 
 pub found_exact : (found : Option Explanation) (e : Explanation) → found ≡ Some e → IfSome found (λ x. IsTrue x.exact) → IsTrue e.exact
 found_exact found e is exact = subst (λ (o : Option Explanation). IfSome o (λ x. IsTrue x.exact)) is exact
+
+-- a reason of a verdict is exact where the limits leave room
+pub found_settled : (found : Option Explanation) (e : Explanation) (Settles : Type 0) → found ≡ Some e → IfSome found (λ x. Settles → IsTrue x.exact) → Settles → IsTrue e.exact
+found_settled found e Settles is settled = subst (λ (o : Option Explanation). IfSome o (λ x. Settles → IsTrue x.exact)) is settled
+
+-- what a search found, with the product as the code lends it
+pub found_product : (order : OrderView) (aim : Aim) (found : Found) (e : Example) (set : List Bool) → found ≡ founds.Product e → set ≡ e.features.items →
+    IsFound order.game order.diagram aim (choices order.decisions) found → IsFoundProduct order.game order.diagram aim (choices order.decisions) set e.first
+found_product order aim found e set is same so =
+    subst (λ (s : List Bool). IsFoundProduct order.game order.diagram aim (choices order.decisions) s e.first) (sym same)
+    (subst (λ (f : Found). IsFound order.game order.diagram aim (choices order.decisions) f) is so)
+
+pub found_nothing : (order : OrderView) (aim : Aim) (found : Found) → found ≡ founds.Nothing → IsFound order.game order.diagram aim (choices order.decisions) found →
+    NoneMeets order.game order.diagram aim (choices order.decisions)
+found_nothing order aim found is so = subst (λ (f : Found). IsFound order.game order.diagram aim (choices order.decisions) f) is so
+
+pub first_settled : (found : Found) (e : Example) (Settles : Type 0) → found ≡ founds.Product e → (Settles → IsFoundExact found) → Settles → IsTrue e.first
+first_settled found e Settles is settled = subst (λ (f : Found). Settles → IsFoundExact f) is settled
+
+pub search_short : (found : Found) (Settles : Type 0) → found ≡ founds.Unsettled → (Settles → IsFoundExact found) → Settles → ⊥
+search_short found Settles is settled = subst (λ (f : Found). Settles → IsFoundExact f) is settled

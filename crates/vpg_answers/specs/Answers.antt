@@ -1,26 +1,35 @@
 -- What answers say of a page. This project's own.
-use Rattle.std.specs.Prelude.{◌≡◌, ℕ, ◌<◌, ◌⊎◌, Bool, true, false, List, ◌++◌, codes, slice_index}
+use Rattle.std.specs.Prelude.{◌≡◌, ℕ, ◌<◌, ◌⊎◌, Bool, true, false, List, ◌++◌, codes, length, slice_index, IsTrue}
+use Rattle.vpg_guards.specs.declared.tri.Tri.{Tri}
 use Rattle.vpg_diagram.specs.FeatureDiagram.{IsDiagram}
 use Rattle.vpg_diagram.specs.declared.clause.Literal.{Literal}
 use Rattle.vpg_measure.specs.TwoGames.{top_for}
 use Rattle.vpg_measure.specs.declared.which.Which.{Which}
 use Rattle.vpg_measure.specs.declared.which.Which.TheVariants.{Hopeful, Dual}
-use Rattle.vpg_partial.specs.TableLaws.{AreChoicesOf}
+use Rattle.vpg_partial.specs.KnownLaws.{IsRemaining}
+use Rattle.vpg_partial.specs.TableLaws.{AreChoicesOf, IsKnownTable}
 use Rattle.vpg_partial.specs.declared.decision.Decision.{Decision}
 use Rattle.vpg_texts.specs.Scene.{Scene}
 use Rattle.vpg_why.specs.Explained.{choices, Explains}
+use Rattle.vpg_why.specs.Products.{MeetsIn, NoneMeetsIn, IsFirstIn}
 use Rattle.vpg_why.specs.Suffices.{SufficeIn, choice}
+use Rattle.vpg_why.specs.declared.question.Aim.TheVariants as aims
+use Rattle.vpg_why.specs.declared.question.Limits.{Limits}
 use Rattle.vpg_why.specs.declared.question.Question.{Question}
 use Rattle.vpg_why.specs.declared.question.Question.TheVariants as asks
+use Rattle.vpg_answers.specs.declared.offers.Offered.{Offered}
 use Rattle.vpg_answers.specs.declared.query.Query.{Query}
 use Rattle.vpg_answers.specs.declared.query.Query.TheVariants as queries
-use Rattle.vpg_answers.specs.Texts.{verdict_line, other_line, known_line, not_known_line, conflict_line, no_conflict_line}
+use Rattle.vpg_answers.specs.Texts.{verdict_line, other_line, known_line, not_known_line, conflict_line, no_conflict_line, product_line, none_line, unsettled_line, offers_text}
+use Rattle.vpg_answers.specs.Offers.{AreOffers}
+use Rattle.vpg_answers.specs.Room.{RoundsSettle, SearchEnds}
 
 -- the choices alone make it so, in the scene's game and diagram
 abbrev pub MakeSo : Scene → Question → List Literal → Type 0
 MakeSo scene question = SufficeIn scene.game scene.lines question
 
--- Some of the page's decisions that alone make it so, in its order; where `exact`, none of them can be left out, and there is one such list.
+-- Some of the page's decisions that alone make it so, in its order; where `exact`, none of them can be left out, and
+-- there is one such list.
 abbrev pub IsReason : Scene → Question → List Decision → (listed : List Decision) → (exact : Bool) → Type 0
 IsReason scene question decisions listed exact = Explains (MakeSo scene question) decisions listed exact
 
@@ -29,24 +38,29 @@ IsReason scene question decisions listed exact = Explains (MakeSo scene question
 abbrev pub identifier_of : Scene → ℕ → ℕ
 identifier_of scene vertex = slice_index scene.identifiers vertex
 
--- The page's table has the top at the vertex, and these decisions make it so; or it hasn't.
-abbrev pub TellsVerdict : Scene → Which → (vertex : ℕ) → List Decision → (table text : List ℕ) → Type 0
-TellsVerdict scene which vertex decisions table text =
+-- The page's table has the top at the vertex, and these decisions make it so, exactly where the limits leave room; or
+-- it hasn't.
+abbrev pub TellsVerdict : Scene → Limits → Which → (vertex : ℕ) → List Decision → (table text : List ℕ) → Type 0
+TellsVerdict scene limits which vertex decisions table text =
     ((slice_index table vertex ≡ top_for which scene.game)
-    × ((listed : List Decision) × (exact : Bool) × IsReason scene (asks.Verdict which vertex) decisions listed exact × (text ≡ verdict_line scene.names which (identifier_of scene vertex) listed exact)))
+    × ((listed : List Decision) × (exact : Bool) × IsReason scene (asks.Verdict which vertex) decisions listed exact ×
+    (text ≡ verdict_line scene.names which (identifier_of scene vertex) listed exact)
+    × (RoundsSettle scene limits.rounds which → IsTrue exact)))
     ⊎ (¬ (slice_index table vertex ≡ top_for which scene.game) × (text ≡ other_line which (identifier_of scene vertex)))
 
 -- both verdicts of a vertex
-abbrev pub TellsVertex : Scene → (vertex : ℕ) → List Decision → (hopeful dual text : List ℕ) → Type 0
-TellsVertex scene vertex decisions hopeful dual text =
-    (first : List ℕ) × (second : List ℕ) × TellsVerdict scene Hopeful vertex decisions hopeful first × TellsVerdict scene Dual vertex decisions dual second × (text ≡ first ++ second)
+abbrev pub TellsVertex : Scene → Limits → (vertex : ℕ) → List Decision → (hopeful dual text : List ℕ) → Type 0
+TellsVertex scene limits vertex decisions hopeful dual text =
+    (first : List ℕ) × (second : List ℕ) × TellsVerdict scene limits Hopeful vertex decisions hopeful first ×
+    TellsVerdict scene limits Dual vertex decisions dual second × (text ≡ first ++ second)
 
 -- ---- a feature
 
 -- it is known so, by these decisions
 abbrev pub TellsKnownBy : Scene → (feature : ℕ) → (value : Bool) → List Decision → (text : List ℕ) → Type 0
 TellsKnownBy scene feature value decisions text =
-    (listed : List Decision) × IsReason scene (asks.Known feature value) decisions listed true × (text ≡ known_line scene.names value feature listed)
+    (listed : List Decision) × IsReason scene (asks.Known feature value) decisions listed true ×
+    (text ≡ known_line scene.names value feature listed)
 
 -- the decisions don't make it known so
 abbrev pub IsNotKnown : Scene → (feature : ℕ) → (value : Bool) → List Decision → Type 0
@@ -64,21 +78,52 @@ TellsFeature scene feature decisions text =
 -- these decisions contradict it, or none do
 abbrev pub TellsChoice : Scene → (feature : ℕ) → (value : Bool) → List Decision → (text : List ℕ) → Type 0
 TellsChoice scene feature value decisions text =
-    ((listed : List Decision) × IsReason scene (asks.Conflict feature value) decisions listed true × (text ≡ conflict_line scene.names (choice feature value) listed))
+    ((listed : List Decision) × IsReason scene (asks.Conflict feature value) decisions listed true ×
+    (text ≡ conflict_line scene.names (choice feature value) listed))
     ⊎ (¬ (MakeSo scene (asks.Conflict feature value) (choices decisions)) × (text ≡ no_conflict_line))
+
+-- ---- a product
+
+-- A product that is left and in which the verdict's loser wins from the vertex, the first one where the limits leave
+-- room; or there is none; or the limits leave no room.
+abbrev pub TellsExample : Scene → Limits → Which → (vertex : ℕ) → List Decision → (text : List ℕ) → Type 0
+TellsExample scene limits which vertex decisions text =
+    ((set : List Bool) × (first : Bool) × IsRemaining scene.lines (choices decisions) set ×
+    MeetsIn scene.game (aims.Won which vertex) set
+    × (IsTrue first → IsFirstIn scene.game scene.lines (aims.Won which vertex) (choices decisions) set) ×
+    (text ≡ product_line scene.names set first)
+    × (SearchEnds scene limits which → IsTrue first))
+    ⊎ (NoneMeetsIn scene.game scene.lines (aims.Won which vertex) (choices decisions) × (text ≡ none_line))
+    ⊎ (¬ (SearchEnds scene limits which) × (text ≡ unsettled_line))
+
+-- ---- offers
+
+-- for each feature that isn't known, what it would make of the vertex to decide it in, and out
+abbrev pub TellsOffers : Scene → Limits → (vertex : ℕ) → List Decision → (text : List ℕ) → Type 0
+TellsOffers scene limits vertex decisions text =
+    (known : List Tri) × (listed : List Offered) × IsKnownTable scene.lines (choices decisions) known ×
+    AreOffers scene limits vertex decisions known (length known) listed
+    × (text ≡ offers_text scene.names listed)
 
 -- ---- any
 
-abbrev pub Tells : Scene → Query → List Decision → (hopeful dual text : List ℕ) → Type 0
-Tells scene (queries.WhyVertex vertex) decisions hopeful dual text = TellsVertex scene vertex decisions hopeful dual text
-Tells scene (queries.WhyFeature feature) decisions hopeful dual text = TellsFeature scene feature decisions text
-Tells scene (queries.WhyChoice feature value) decisions hopeful dual text = TellsChoice scene feature value decisions text
+abbrev pub Tells : Scene → Limits → Query → List Decision → (hopeful dual text : List ℕ) → Type 0
+Tells scene limits (queries.WhyVertex vertex) decisions hopeful dual text =
+    TellsVertex scene limits vertex decisions hopeful dual text
+Tells scene limits (queries.WhyFeature feature) decisions hopeful dual text = TellsFeature scene feature decisions text
+Tells scene limits (queries.WhyChoice feature value) decisions hopeful dual text =
+    TellsChoice scene feature value decisions text
+Tells scene limits (queries.Example which vertex) decisions hopeful dual text =
+    TellsExample scene limits which vertex decisions text
+Tells scene limits (queries.Offer vertex) decisions hopeful dual text = TellsOffers scene limits vertex decisions text
 
--- The text answers what is asked, of the page with these decisions and tables: decisions of a diagram's features.
-pub record IsAnswer (scene : Scene) (query : Query) (decisions : List Decision) (hopeful dual text : List ℕ) : Type 0 where
+-- The text answers what is asked within these limits, of the page with these decisions and tables: decisions of a
+-- diagram's features.
+pub record IsAnswer (scene : Scene) (limits : Limits) (query : Query) (decisions : List Decision)
+    (hopeful dual text : List ℕ) : Type 0 where
   pub diagram : IsDiagram scene.lines
   pub named : AreChoicesOf scene.lines (choices decisions)
-  pub tells : Tells scene query decisions hopeful dual text
+  pub tells : Tells scene limits query decisions hopeful dual text
 
 -- a text of which it holds was appended
 abbrev pub Appends : (List ℕ → Type 0) → (before after : List ℕ) → Type 0
@@ -89,7 +134,14 @@ abbrev pub IsWithin : (vertices features : ℕ) → Query → Type 0
 IsWithin vertices features (queries.WhyVertex vertex) = vertex < vertices
 IsWithin vertices features (queries.WhyFeature feature) = feature < features
 IsWithin vertices features (queries.WhyChoice feature value) = feature < features
+IsWithin vertices features (queries.Example which vertex) = vertex < vertices
+IsWithin vertices features (queries.Offer vertex) = vertex < vertices
 
--- Somewhere in the text a line says that fewer decisions may do: a limit was met.
+-- A limit was met: somewhere in the text a line says that fewer decisions may do; or it tells of some product, or of
+-- none but that it is unsettled; or it is unsettled what some decision would make.
 abbrev pub HasDoubt : List ℕ → Type 0
-HasDoubt text = (before : List ℕ) × (behind : List ℕ) × (text ≡ before ++ codes " or fewer\n" ++ behind)
+HasDoubt text =
+    ((before : List ℕ) × (behind : List ℕ) × (text ≡ before ++ codes " or fewer\n" ++ behind))
+    ⊎ ((behind : List ℕ) × (text ≡ codes "some product" ++ behind))
+    ⊎ (text ≡ unsettled_line)
+    ⊎ ((before : List ℕ) × (behind : List ℕ) × (text ≡ codes "offer" ++ before ++ codes " unsettled" ++ behind))

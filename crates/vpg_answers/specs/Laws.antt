@@ -2,10 +2,14 @@
 use Rattle.std.specs.Prelude.{◌≡◌, ℕ, List}
 use Rattle.vpg_partial.specs.declared.decision.Decision.{Decision}
 use Rattle.vpg_texts.specs.Scene.{Scene}
+use Rattle.vpg_why.specs.declared.question.Limits.{Limits}
 use Rattle.vpg_answers.specs.declared.query.Query.{Query}
 use Rattle.vpg_answers.specs.Answers.{IsAnswer, HasDoubt}
 
--- Two answers to one question about one page are the same text, where no limit was met.
+-- Two answers to one question about one page are the same text, where no limit was met: whatever the limits were.
 abbrev pub AnswersAreOne : Type 0
-AnswersAreOne = (scene : Scene) (query : Query) (decisions : List Decision) (hopeful dual one other : List ℕ) →
-    IsAnswer scene query decisions hopeful dual one → IsAnswer scene query decisions hopeful dual other → ¬ (HasDoubt one) → ¬ (HasDoubt other) → one ≡ other
+AnswersAreOne =
+    (scene : Scene) (limits others : Limits) (query : Query) (decisions : List Decision)
+    (hopeful dual one other : List ℕ) →
+    IsAnswer scene limits query decisions hopeful dual one → IsAnswer scene others query decisions hopeful dual other →
+    ¬ (HasDoubt one) → ¬ (HasDoubt other) → one ≡ other

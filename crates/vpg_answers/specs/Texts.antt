@@ -1,11 +1,16 @@
 -- The texts of answers about a page. This project's own.
-use Rattle.std.specs.Prelude.{ℕ, Bool, true, if◌then◌else◌, List, [], ◌∷◌, ◌++◌, codes, map}
+use Rattle.std.specs.Prelude.{ℕ, zero, suc, Bool, true, false, if◌then◌else◌, List, [], ◌∷◌, ◌++◌, length, codes, map, flat_map, slice_index_or}
 use Rattle.vpg_diagram.specs.declared.clause.Literal.{Literal}
 use Rattle.vpg_measure.specs.declared.which.Which.{Which}
 use Rattle.vpg_measure.specs.declared.which.Which.TheVariants.{Hopeful, Dual}
 use Rattle.vpg_partial.specs.Known.{literal_of}
 use Rattle.vpg_partial.specs.declared.decision.Decision.{Decision}
-use Rattle.vpg_texts.specs.Text.{blank_number, blank_name, choice_text, choices_text}
+use Rattle.vpg_texts.specs.Text.{blank_number, blank_name, choice_text, choices_text, name_if}
+use Rattle.vpg_why.specs.declared.offering.Offer.{Offer}
+use Rattle.vpg_why.specs.declared.offering.Offer.TheVariants as offers
+use Rattle.vpg_why.specs.declared.question.Shown.{Shown}
+use Rattle.vpg_why.specs.declared.question.Shown.TheVariants as shown
+use Rattle.vpg_answers.specs.declared.offers.Offered.{Offered}
 
 -- where it was not shown that none of the decisions can be left out
 abbrev pub doubt_text : Bool → List ℕ
@@ -28,7 +33,8 @@ other_word Dual = codes "unsure"
 
 -- a vertex with the verdict, and the decisions that make it so
 abbrev pub verdict_line : List (List ℕ) → Which → (identifier : ℕ) → List Decision → Bool → List ℕ
-verdict_line names which identifier listed exact = verdict_word which ++ blank_number identifier ++ reason_text names listed exact
+verdict_line names which identifier listed exact =
+    verdict_word which ++ blank_number identifier ++ reason_text names listed exact
 
 -- one without it
 abbrev pub other_line : Which → (identifier : ℕ) → List ℕ
@@ -46,6 +52,27 @@ known_line names value feature listed = known_word value ++ blank_name names fea
 abbrev pub not_known_line : List ℕ
 not_known_line = codes "refused NotKnown\n"
 
+-- ---- a product
+
+-- the names of those of the first n features that it has
+abbrev pub names_in : List (List ℕ) → List Bool → ℕ → List ℕ
+names_in names set zero = []
+names_in names set (suc n) = names_in names set n ++ name_if (slice_index_or set n false) names n
+
+-- where it was not shown to be the first
+abbrev pub product_word : Bool → List ℕ
+product_word first = if first then codes "product" else codes "some product"
+
+abbrev pub product_line : List (List ℕ) → List Bool → Bool → List ℕ
+product_line names set first = product_word first ++ names_in names set (length names) ++ 10 ∷ []
+
+abbrev pub none_line : List ℕ
+none_line = codes "none\n"
+
+-- where a limit was met
+abbrev pub unsettled_line : List ℕ
+unsettled_line = codes "unsettled\n"
+
 -- ---- one more decision
 
 abbrev pub conflict_line : List (List ℕ) → Literal → List Decision → List ℕ
@@ -53,3 +80,23 @@ conflict_line names choice listed = codes "conflict" ++ choice_text names choice
 
 abbrev pub no_conflict_line : List ℕ
 no_conflict_line = codes "refused NoConflict\n"
+
+-- ---- offers
+
+-- a verdict as it was shown, or that a limit was met
+abbrev pub shown_word : Which → Shown → List ℕ
+shown_word which shown.Yes = 32 ∷ verdict_word which
+shown_word which shown.No = 32 ∷ other_word which
+shown_word which shown.Unsettled = codes " unsettled"
+
+abbrev pub offer_words : Offer → List ℕ
+offer_words offers.Conflict = codes " conflict"
+offer_words (offers.Verdict hopeless sure) = shown_word Hopeful hopeless ++ shown_word Dual sure
+
+-- one more decision, and what it would make of the vertex
+abbrev pub offer_line : List (List ℕ) → Offered → List ℕ
+offer_line names offered = codes "offer" ++ choice_text names offered.choice ++ offer_words offered.offer ++ 10 ∷ []
+
+abbrev pub offers_text : List (List ℕ) → List Offered → List ℕ
+offers_text names listed =
+    flat_map (offer_line names) listed ++ codes "offers" ++ blank_number (length listed) ++ 10 ∷ []

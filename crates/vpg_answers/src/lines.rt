@@ -1,8 +1,8 @@
 //! The lines of answers.
-ghost use Rattle.std.specs.Prelude.{◌≡◌, ◌<◌, ◌++◌, All, OnOk, length, map};
+ghost use Rattle.std.specs.Prelude.{◌≡◌, ◌<◌, ◌++◌, All, OnOk, false, length, map, slice_index_or};
 ghost use Rattle.vpg_partial.specs.Known.{literal_of};
 ghost use Rattle.vpg_texts.specs.Text.{choice_text, choices_text, name_of};
-ghost use Rattle.vpg_answers.specs.Texts.{conflict_line, doubt_text, known_line, known_word, no_conflict_line, not_known_line, other_line, other_word, reason_text, verdict_line, verdict_word};
+ghost use Rattle.vpg_answers.specs.Texts.{conflict_line, doubt_text, known_line, known_word, names_in, no_conflict_line, none_line, not_known_line, other_line, other_word, product_line, product_word, reason_text, unsettled_line, verdict_line, verdict_word};
 
 use std::alloc::AllocError;
 use vpg_diagram::Literal;
@@ -19,7 +19,7 @@ fn name_at(names: &Names, feature: u16) -> &[u8]
 }
 
 /// A feature that is in, or out.
-fn choice(names: &Names, l: Literal, out: &mut Vec<u8>) -> Result<(), AllocError>
+pub(crate) fn choice(names: &Names, l: Literal, out: &mut Vec<u8>) -> Result<(), AllocError>
     requires { l.feature < length names.now }
     ensures { OnOk result (out.new.items ≡ out.old.items ++ choice_text names.now l) }
 {
@@ -74,7 +74,8 @@ fn reason(
     Ok(())
 }
 
-fn verdict_word(which: Which, out: &mut Vec<u8>) -> Result<(), AllocError>
+/// The word of a verdict.
+pub(crate) fn verdict_word(which: Which, out: &mut Vec<u8>) -> Result<(), AllocError>
     ensures { OnOk result (out.new.items ≡ out.old.items ++ verdict_word which) }
 {
     match which {
@@ -84,7 +85,8 @@ fn verdict_word(which: Which, out: &mut Vec<u8>) -> Result<(), AllocError>
     Ok(())
 }
 
-fn other_word(which: Which, out: &mut Vec<u8>) -> Result<(), AllocError>
+/// What a table says of a vertex without it.
+pub(crate) fn other_word(which: Which, out: &mut Vec<u8>) -> Result<(), AllocError>
     ensures { OnOk result (out.new.items ≡ out.old.items ++ other_word which) }
 {
     match which {
@@ -177,4 +179,64 @@ pub(crate) fn no_conflict(out: &mut Vec<u8>) -> Result<(), AllocError>
     ensures { OnOk result (out.new.items ≡ out.old.items ++ no_conflict_line) }
 {
     out.extend_from_slice(b"refused NoConflict\n")
+}
+
+fn has(product: &[bool], feature: u16) -> bool
+    ensures { result ≡ slice_index_or product.now feature false }
+{
+    match product.get(feature as usize) {
+        Some(value) => *value,
+        None => false,
+    }
+}
+
+/// The names of the features that a product has.
+fn names_in(names: &Names, product: &[bool], out: &mut Vec<u8>) -> Result<(), AllocError>
+    ensures { OnOk result (out.new.items ≡ out.old.items ++ names_in names.now product.now (length names.now)) }
+{
+    let count = names.len() as u16;
+    for f in 0..count {
+        if has(product, f) {
+            blank_name(names, f, out)?;
+        }
+    }
+    Ok(())
+}
+
+fn product_word(first: bool, out: &mut Vec<u8>) -> Result<(), AllocError>
+    ensures { OnOk result (out.new.items ≡ out.old.items ++ product_word first) }
+{
+    if first {
+        out.extend_from_slice(b"product")
+    } else {
+        out.extend_from_slice(b"some product")
+    }
+}
+
+/// A product, and whether it was shown to be the first.
+pub(crate) fn product(
+    names: &Names,
+    product: &[bool],
+    first: bool,
+    out: &mut Vec<u8>,
+) -> Result<(), AllocError>
+    ensures { OnOk result (out.new.items ≡ out.old.items ++ product_line names.now product.now first) }
+{
+    product_word(first, out)?;
+    names_in(names, product, out)?;
+    out.extend_from_slice(b"\n")
+}
+
+/// That there is none.
+pub(crate) fn none(out: &mut Vec<u8>) -> Result<(), AllocError>
+    ensures { OnOk result (out.new.items ≡ out.old.items ++ none_line) }
+{
+    out.extend_from_slice(b"none\n")
+}
+
+/// That a limit was met.
+pub(crate) fn unsettled(out: &mut Vec<u8>) -> Result<(), AllocError>
+    ensures { OnOk result (out.new.items ≡ out.old.items ++ unsettled_line) }
+{
+    out.extend_from_slice(b"unsettled\n")
 }

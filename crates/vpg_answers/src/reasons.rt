@@ -13,7 +13,7 @@ use vpg_guards::Names;
 use vpg_measure::{Order, Which};
 use vpg_why::{Limits, why, why_conflict, why_known};
 
-fn names(order: &Order) -> &Names
+pub(crate) fn names(order: &Order) -> &Names
     ensures names { result.now ≡ order.now.diagram.names }
     ensures order { IsOrder order.now }
 {
@@ -37,7 +37,9 @@ fn verdict(
     out: &mut Vec<u8>,
 ) -> Result<(), AllocError>
     requires { vertex < length order.now.game.vertices }
-    ensures { OnOk result (Appends (TellsVerdict (scene_of order.now.game order.now.diagram) which vertex order.now.decisions (order_table which order.now)) out.old.items out.new.items) }
+    ensures { OnOk result (Appends
+        (TellsVerdict (scene_of order.now.game order.now.diagram) limits which vertex order.now.decisions
+        (order_table which order.now)) out.old.items out.new.items) }
 {
     let names = names(order);
     let identifier = identifier(order, vertex);
@@ -56,7 +58,9 @@ pub(crate) fn vertex(
     out: &mut Vec<u8>,
 ) -> Result<(), AllocError>
     requires { vertex < length order.now.game.vertices }
-    ensures { OnOk result (Appends (TellsVertex (scene_of order.now.game order.now.diagram) vertex order.now.decisions order.now.hopeful order.now.dual) out.old.items out.new.items) }
+    ensures { OnOk result (Appends
+        (TellsVertex (scene_of order.now.game order.now.diagram) limits vertex order.now.decisions order.now.hopeful order.now.dual)
+        out.old.items out.new.items) }
 {
     verdict(alloc, order, Which::Hopeful, vertex, limits, out)?;
     verdict(alloc, order, Which::Dual, vertex, limits, out)
@@ -70,7 +74,9 @@ pub(crate) fn feature(
     out: &mut Vec<u8>,
 ) -> Result<(), AllocError>
     requires { feature < feature_count order.now.diagram.lines }
-    ensures { OnOk result (Appends (TellsFeature (scene_of order.now.game order.now.diagram) feature order.now.decisions) out.old.items out.new.items) }
+    ensures { OnOk result (Appends
+        (TellsFeature (scene_of order.now.game order.now.diagram) feature order.now.decisions)
+        out.old.items out.new.items) }
 {
     let names = names(order);
     if let Some(found) = why_known(alloc, order, feature, true)? {
@@ -91,7 +97,9 @@ pub(crate) fn choice(
     out: &mut Vec<u8>,
 ) -> Result<(), AllocError>
     requires { feature < feature_count order.now.diagram.lines }
-    ensures { OnOk result (Appends (TellsChoice (scene_of order.now.game order.now.diagram) feature value order.now.decisions) out.old.items out.new.items) }
+    ensures { OnOk result (Appends
+        (TellsChoice (scene_of order.now.game order.now.diagram) feature value order.now.decisions)
+        out.old.items out.new.items) }
 {
     let names = names(order);
     let more = Literal { feature, value };

@@ -17,7 +17,9 @@ use Rattle.vpg_script.specs.Script as script
 use Rattle.vpg_script.specs.Script.{Request}
 use Rattle.vpg_report.specs.Held.{Held, with_harvest}
 use Rattle.vpg_texts.specs.Scene.{Scene}
-use Rattle.vpg_report.specs.Answers.{Own, NoFeature, NoVertex, own_text, full_line, refused_line, refusal_text, numbered, settled_text, room, call_or, vertex_of, first_call, IsSwept, IsLifted, most_sweeps, sweeps_of, Follows, Continues, Begins, Serves}
+use Rattle.vpg_report.specs.Answers.{Own, NoFeature, NoVertex, own_text, full_line, refused_line, refusal_text, numbered, settled_text, room, call_or, vertex_of, query_of, answer_limits, order_or, first_call, IsSwept, IsLifted, most_sweeps, sweeps_of, Follows, Continues, Begins, Serves}
+use Rattle.vpg_answers.specs.Answers.{IsAnswer}
+use Rattle.vpg_answers.specs.declared.query.Query.{Query}
 use Rattle.vpg_report.specs.Run.{calling, answering}
 use Rattle.vpg_report.specs.Made.{IsMadeBy, AreMadeBy}
 use Rattle.vpg_report.specs.Setting.{setting_in}
@@ -274,6 +276,14 @@ module _ (limit : ℕ) (limit_is : limit ≡ room) (label : ℕ) where
       IsLogged limit old.client label Page (PageIs page) new.client → Continues (scene_at old) old.held (old.client.calls + 1) label command (PageIs page) [] text new.held →
       after ≡ before ++ text → AnswersTo old (record { label = label; command = command }) before after new
   page_told old new command page text before after first logged so appended = asked old new command Page (PageIs page) text before after first logged so appended
+
+  -- ---- what is asked of a page
+
+  pub ask_told : (old new : EngineState) (inquiry : script.Inquiry) (query : Query) (decisions : List Decision) (hopeful dual text before after : List ℕ) → query_of (scene_at old) inquiry ≡ Ok query →
+      IsLogged limit old.client label Order (Ordered decisions hopeful dual) new.client → new.held ≡ old.held → IsAnswer (scene_at old) answer_limits query decisions hopeful dual text →
+      after ≡ before ++ text → AnswersTo old (record { label = label; command = script.Ask inquiry }) before after new
+  ask_told old new inquiry query decisions hopeful dual text before after is logged held answered appended =
+      asked old new (script.Ask inquiry) Order (Ordered decisions hopeful dual) text before after (ap order_or is) logged ((query, (is, answered)), refl, held) appended
 
 -- ---- a name
 

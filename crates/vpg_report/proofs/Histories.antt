@@ -1,5 +1,5 @@
 -- The calls of answered lines make a history.
-use Rattle.std.proofs.Common.{◌≡◌, ℕ, zero, suc, ◌+◌, ◌-◌, Bool, List, [], ◌∷◌, ◌++◌, length, Option, Some, None, Ok, Err, refl, sym, ap, ◌∙◌, inl, inr, arith, append_assoc, append-nil, length-append, subst}
+use Rattle.std.proofs.Common.{◌≡◌, ℕ, zero, suc, ◌+◌, ◌-◌, Bool, List, [], ◌∷◌, ◌++◌, length, Option, Some, None, Result, Ok, Err, refl, sym, ap, ◌∙◌, inl, inr, arith, append_assoc, append-nil, length-append, subst}
 use Rattle.std.specs.Prelude.{IfSome, slice_set}
 use Rattle.std.specs.List.{AllByRecursion}
 use Rattle.vpg_guards.specs.Names.{index_of}
@@ -13,7 +13,8 @@ use Rattle.vpg_script.specs.Script.{Said, Request, said}
 use Rattle.vpg_script.specs.Output.{Speaks, Answered}
 use Rattle.vpg_report.specs.Held.{Held, undo_meant, redo_meant, harvest_kept, after_change, after_undo, after_redo, after_keep, after_forget, with_harvest, without_harvest}
 use Rattle.vpg_texts.specs.Scene.{Scene}
-use Rattle.vpg_report.specs.Answers.{Own, NoFeature, NoToken, NoHarvest, NoVertex, vertex_of, call_or, first_call, full_line, Rest, Ends, Follows, Makes, Asks, TellsSettled, AsksSettled, TellsAdded, Sweeps, Keeps, Lifts, TellsChanged, TellsUndone, TellsRedone, TellsSpent, ShowsPage, TellsEntries, TellsProducts, TellsPlan, CountsPage, TellsPage, Continues, Begins, Serves}
+use Rattle.vpg_report.specs.Answers.{Own, NoFeature, NoToken, NoHarvest, NoVertex, vertex_of, query_of, call_or, order_or, first_call, full_line, Rest, Ends, Follows, Makes, Asks, TellsSettled, AsksSettled, TellsAdded, Sweeps, Keeps, Lifts, TellsChanged, TellsUndone, TellsRedone, TellsSpent, ShowsPage, TellsEntries, TellsProducts, TellsPlan, CountsPage, TellsPage, TellsAnswer, Continues, Begins, Serves}
+use Rattle.vpg_answers.specs.declared.query.Query.{Query}
 use Rattle.vpg_report.specs.Run.{Between, begun, calling, answering, Asked, asking, AnswersAreHistories}
 use Rattle.vpg_report.specs.Setting.{setting_in}
 
@@ -111,6 +112,10 @@ module _ (L : Harvest → Type 0) where
     tells_page Tells (PageIs page) calls text new so = ends text held all calls text new (so.1, refl, so.2)
     tells_page Tells _ calls text new so = absurd so
 
+    tells_answer : (scene : Scene) (inquiry : script.Inquiry) (reply : Reply) → IsFine (TellsAnswer scene held inquiry reply)
+    tells_answer scene inquiry (Ordered d h u) calls text new so = ends text held all calls text new (so.1, refl, so.2)
+    tells_answer scene inquiry _ calls text new so = absurd so
+
     asks_settled : (scene : Scene) (made label : ℕ) (reply : Reply) → IsFine (AsksSettled scene held made label reply)
     asks_settled scene made label (Added n) calls text new so = asks scene held all made label Settled (TellsSettled held n) tt (tells_settled n) calls text new so
     asks_settled scene made label _ calls text new so = absurd so
@@ -152,6 +157,7 @@ module _ (scene : Scene) (held : Held) where
     continues made label script.Products reply calls text new so = tells_page L held all (TellsProducts scene) reply calls text new so
     continues made label script.Plan reply calls text new so = tells_page L held all (TellsPlan scene) reply calls text new so
     continues made label script.Count reply calls text new so = tells_page L held all (CountsPage scene) reply calls text new so
+    continues made label (script.Ask inquiry) reply calls text new so = tells_answer L held all scene inquiry reply calls text new so
 
     begins : (made label : ℕ) (command : script.Command) (call : Call) → HandsIn L call → IsFine L (Begins scene held made label command (Ok call))
     begins made label command call hands = asks L scene held all made label call (Continues scene held (made + 1) label command) hands (continues (made + 1) label command)
@@ -160,6 +166,10 @@ module _ (scene : Scene) (held : Held) where
         IsFine L (Begins scene held made label command (call_or own call found))
     begins_or made label command own call None hands calls text new so = ends L _ held all calls text new so
     begins_or made label command own call (Some x) hands calls text new so = begins made label command (call x) (hands x refl) calls text new so
+
+    begins_order : (made label : ℕ) (inquiry : script.Inquiry) (found : Result Query Own) → IsFine L (Begins scene held made label (script.Ask inquiry) (order_or found))
+    begins_order made label inquiry (Err own) calls text new so = ends L _ held all calls text new so
+    begins_order made label inquiry (Ok query) calls text new so = begins made label (script.Ask inquiry) Order tt calls text new so
 
     serves : (made label : ℕ) (command : script.Command) → IsFine L (Begins scene held made label command (first_call scene held command))
     serves made label (script.Select name) = begins_or made label (script.Select name) NoFeature (λ f. Decide f Bool.true) (index_of scene.names name) (λ _ _. tt)
@@ -178,6 +188,7 @@ module _ (scene : Scene) (held : Held) where
     serves made label script.Products = begins made label script.Products Page tt
     serves made label script.Plan = begins made label script.Plan Page tt
     serves made label script.Count = begins made label script.Count Page tt
+    serves made label (script.Ask inquiry) = begins_order made label inquiry (query_of scene inquiry)
 
 -- ---- lines
 

@@ -5,6 +5,7 @@ pub mod Paged
 pub mod Serials
 pub mod KeptHarvests
 pub mod Places
+pub mod Inquired
 pub mod Exchanging
 pub mod LiftedOnce
 pub mod Committing

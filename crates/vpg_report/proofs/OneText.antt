@@ -1,5 +1,5 @@
 -- Settled answers are one text.
-use Rattle.std.proofs.Common.{◌≡◌, ℕ, ◌+◌, ◌<◌, ◌≤◌, Bool, true, false, List, [], ◌∷◌, ◌++◌, length, get_or, Option, Some, None, Ok, Err, refl, sym, ap, ap₂, ◌∙◌, subst, inl, inr, arith}
+use Rattle.std.proofs.Common.{◌≡◌, ℕ, ◌+◌, ◌<◌, ◌≤◌, Bool, true, false, List, [], ◌∷◌, ◌++◌, length, get_or, Option, Some, None, Result, Ok, Err, refl, sym, ap, ap₂, ◌∙◌, subst, inl, inr, arith}
 use Rattle.std.specs.Prelude.{IfSome, map, not, if◌then◌else◌, ⊤}
 use Rattle.std.specs.Bool.{one_answer}
 use Rattle.std.proofs.lemmas.List.{same_lists}
@@ -23,7 +23,10 @@ use Rattle.vpg_texts.specs.Plan.{PlansUnder}
 use Rattle.vpg_texts.specs.Text.{plan_text}
 use Rattle.vpg_report.specs.Held.{Held, undo_meant, redo_meant, harvest_kept, after_change, after_undo, after_redo, after_keep, after_forget, with_harvest, without_harvest}
 use Rattle.vpg_texts.specs.Scene.{Scene, UnderKnown, TellsUnder, IsShown, shown_lines, IsCounted, counted_lines, TellsKnown, table_in}
-use Rattle.vpg_report.specs.Answers.{Own, NoFeature, NoToken, NoHarvest, NoVertex, Checks, IsOf, IsLifted, IsPlanAnswer, vertex_of, call_or, first_call, full_line, settled_text, Rest, Ends, Follows, Makes, Asks, TellsSettled, AsksSettled, TellsAdded, Sweeps, Keeps, Lifts, TellsChanged, TellsUndone, TellsRedone, TellsSpent, ShowsPage, TellsEntries, TellsProducts, TellsPlan, CountsPage, TellsPage, Continues, Begins}
+use Rattle.vpg_report.specs.Answers.{Own, NoFeature, NoToken, NoHarvest, NoVertex, Checks, IsOf, IsLifted, IsPlanAnswer, vertex_of, query_of, answer_limits, call_or, order_or, first_call, full_line, settled_text, Rest, Ends, Follows, Makes, Asks, TellsSettled, AsksSettled, TellsAdded, Sweeps, Keeps, Lifts, TellsChanged, TellsUndone, TellsRedone, TellsSpent, ShowsPage, TellsEntries, TellsProducts, TellsPlan, CountsPage, TellsPage, TellsAnswer, Continues, Begins}
+use Rattle.vpg_answers.specs.Answers.{IsAnswer, HasDoubt}
+use Rattle.vpg_answers.specs.declared.query.Query.{Query}
+use Rattle.vpg_answers.proofs.One.{answers_are_one}
 use Rattle.vpg_report.specs.Run.{Between, begun}
 use Rattle.vpg_report.specs.Settling.{settling, TellsSettle, AreChecked, SettledAnswersAreOne}
 use Rattle.vpg_texts.proofs.Planned.{known_is_one}
@@ -105,6 +108,9 @@ not_full n e = let same : 114 ≡ 115 = ap first_byte e in absurd (omega (arith,
 
 not_unsettled : (m n : ℕ) → settled_text false m ≡ settled_text true n → ⊥
 not_unsettled m n e = let same : 117 ≡ 115 = ap first_byte e in absurd (omega (arith, same))
+
+ok_one : {X E : Type 0} {x y : X} → Ok {E = E} x ≡ Ok y → x ≡ y
+ok_one e = cc e
 
 -- ---- calls from one book
 
@@ -295,6 +301,12 @@ module _ (scene : Scene) (held : Held) (Told : List ℕ → Type 0) where
         asks book made label (Commit a.1) (TellsAdded held) (λ reply told. tells_added (next all book label (Commit a.1) reply) held reply) calls more text other new newer a.4
         (subst (λ (h : Harvest). Asks scene held made label (Commit h) (TellsAdded held) more other newer) same b.4) fit fits
 
+    answered : (inquiry : script.Inquiry) → ((text : List ℕ) → Told text → ¬ (HasDoubt text)) → IsOne book (TellsAnswer scene held inquiry (Ordered decisions hopeful dual))
+    answered inquiry sure calls more text other new newer a b fit fits =
+        let same : b.0.0 ≡ a.0.0 = ok_one (sym b.0.1.0 ∙ a.0.1.0) in
+        let of_one : IsAnswer scene answer_limits a.0.0 decisions hopeful dual other = subst (λ (q : Query). IsAnswer scene answer_limits q decisions hopeful dual other) same b.0.1.1 in
+        (a.1 ∙ sym b.1, answers_are_one scene answer_limits answer_limits a.0.0 decisions hopeful dual text other a.0.1.1 of_one (sure text fit.told) (sure other fits.told), a.2 ∙ sym b.2)
+
   -- ---- a line
 
   module _ (book : Book) (made label : ℕ) where
@@ -310,6 +322,11 @@ module _ (scene : Scene) (held : Held) (Told : List ℕ → Type 0) where
     lifts table identifier (Ordered d h u) told = lifted book d h u (ordered book d h u told) (made + 1) label table identifier
     lifts table identifier _ told = λ calls more text other new newer a. absurd a
 
+    tells_answer : (inquiry : script.Inquiry) → ((text : List ℕ) → Told text → ¬ (HasDoubt text)) → (reply : Reply) → IsReply all book Order reply →
+        IsOne (next all book label Order reply) (TellsAnswer scene held inquiry reply)
+    tells_answer inquiry sure (Ordered d h u) told = answered (next all book label Order (Ordered d h u)) d h u inquiry sure
+    tells_answer inquiry sure _ told = λ calls more text other new newer a. absurd a
+
     begins : (command : script.Command) (call : Call) → ((reply : Reply) → IsReply all book call reply → IsOne (next all book label call reply) (Continues scene held (made + 1) label command reply)) →
         IsOne book (Begins scene held made label command (Ok call))
     begins command call = asks book made label call (Continues scene held (made + 1) label command)
@@ -320,9 +337,14 @@ module _ (scene : Scene) (held : Held) (Told : List ℕ → Type 0) where
     begins_or command own call None one = ends book _ held
     begins_or command own call (Some x) one = begins command (call x) (one x)
 
-    -- where a settle is told to be one that was answered `settled`
+    begins_order : (inquiry : script.Inquiry) → ((text : List ℕ) → Told text → ¬ (HasDoubt text)) → (found : Result Query Own) → IsOne book (Begins scene held made label (script.Ask inquiry) (order_or found))
+    begins_order inquiry sure (Err own) = ends book _ held
+    begins_order inquiry sure (Ok query) = begins (script.Ask inquiry) Order (tells_answer inquiry sure)
+
+    -- where a settle is told to be one that was answered `settled`, and an answer about the page to be one without a doubt
     abbrev SettleIsTold : script.Command → Type 0
     SettleIsTold (script.Settle n) = (text : List ℕ) → Told text → (m : ℕ) × (text ≡ settled_text true m)
+    SettleIsTold (script.Ask inquiry) = (text : List ℕ) → Told text → ¬ (HasDoubt text)
     SettleIsTold _ = ⊤
 
     serves : (command : script.Command) → SettleIsTold command → IsOne book (Begins scene held made label command (first_call scene held command))
@@ -342,11 +364,13 @@ module _ (scene : Scene) (held : Held) (Told : List ℕ → Type 0) where
     serves script.Products is = begins script.Products Page (λ reply told. tells_page _ (TellsProducts scene) (λ page one other. products_one scene (decisions_of page) one other) reply)
     serves script.Plan is = begins script.Plan Page (λ reply told. tells_page _ (TellsPlan scene) (λ page one other. planned_one scene (decisions_of page) _ _ one other) reply)
     serves script.Count is = begins script.Count Page (λ reply told. tells_page _ (CountsPage scene) (λ page one other. counted_one scene (decisions_of page) _ _ one other) reply)
+    serves (script.Ask inquiry) is = begins_order inquiry is (query_of scene inquiry)
 
 -- ---- lines
 
 settle_is_told : (scene : Scene) (held : Held) (book : Book) (made label : ℕ) (command : script.Command) → SettleIsTold scene held (TellsSettle command) book made label command
 settle_is_told scene held book made label (script.Settle n) = λ text told. told
+settle_is_told scene held book made label (script.Ask inquiry) = λ text told. told
 settle_is_told scene held book made label (script.Select name) = tt
 settle_is_told scene held book made label (script.Exclude name) = tt
 settle_is_told scene held book made label (script.Retract name) = tt

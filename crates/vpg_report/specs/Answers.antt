@@ -20,6 +20,10 @@ use Rattle.vpg_texts.specs.Plan.{IsPlanned, IsPlanFault}
 use Rattle.vpg_texts.specs.declared.showing.plans.PlanFault.TheVariants.{NotFull, NotSettled}
 use Rattle.vpg_texts.specs.Text.{blank_number, blank_name, trail_text}
 use Rattle.vpg_texts.specs.Scene.{Scene, table_in, IsShown, IsCounted, TellsKnown}
+use Rattle.vpg_answers.specs.Answers.{IsAnswer}
+use Rattle.vpg_answers.specs.declared.query.Query.{Query}
+use Rattle.vpg_answers.specs.declared.query.Query.TheVariants as queries
+use Rattle.vpg_why.specs.declared.question.Limits.{Limits}
 use Rattle.vpg_report.specs.Setting.{setting_in}
 
 -- ---- the texts of replies
@@ -56,7 +60,8 @@ settled_text settled n = numbered (if settled then codes "settled" else codes "u
 
 -- ---- what commands ask
 
--- What is refused without a call: a name that the diagram lacks, a token or a harvest that isn't held, an identifier without an entry.
+-- What is refused without a call: a name that the diagram lacks, a token or a harvest that isn't held, an identifier
+-- without an entry.
 pub data Own : Type 0 where
   NoFeature : Own
   NoToken : Own
@@ -77,6 +82,29 @@ abbrev pub call_or : {X : Type 0} → Own → (X → Call) → Option X → Resu
 call_or own call None = Err own
 call_or own call (Some x) = Ok (call x)
 
+abbrev pub query_or : Own → (ℕ → Query) → Option ℕ → Result Query Own
+query_or own query None = Err own
+query_or own query (Some place) = Ok (query place)
+
+-- what is asked of the page, by places in the game and the diagram; or what is named there that they lack
+abbrev pub query_of : Scene → script.Inquiry → Result Query Own
+query_of scene (script.WhyVertex identifier) = query_or NoVertex queries.WhyVertex (vertex_of scene identifier)
+query_of scene (script.WhyFeature name) = query_or NoFeature queries.WhyFeature (index_of scene.names name)
+query_of scene (script.WhyChoice value name) =
+    query_or NoFeature (λ f. queries.WhyChoice f value) (index_of scene.names name)
+query_of scene (script.Example which identifier) =
+    query_or NoVertex (queries.Example which) (vertex_of scene identifier)
+query_of scene (script.Offer identifier) = query_or NoVertex queries.Offer (vertex_of scene identifier)
+
+-- how far it is followed
+abbrev pub answer_limits : Limits
+answer_limits = record { budget = 134217728; rounds = 1000; trials = 10000 }
+
+-- what is asked of the page is answered of an order
+abbrev pub order_or : Result Query Own → Result Call Own
+order_or (Err own) = Err own
+order_or (Ok query) = Ok Order
+
 -- the first call of a command, or why there is none
 abbrev pub first_call : Scene → Held → script.Command → Result Call Own
 first_call scene held (script.Select name) = call_or NoFeature (λ f. Decide f true) (index_of scene.names name)
@@ -95,6 +123,7 @@ first_call scene held script.Trail = Ok Page
 first_call scene held script.Products = Ok Page
 first_call scene held script.Plan = Ok Page
 first_call scene held script.Count = Ok Page
+first_call scene held (script.Ask inquiry) = order_or (query_of scene inquiry)
 
 -- ---- harvests that lines make
 
@@ -110,19 +139,26 @@ pub record IsOf (family : Family) (decisions : List Decision) (hopeful dual : Li
 
 -- both its tables are progress tables
 abbrev pub Checks : Family → Harvest → Type 0
-Checks family made = family.IsProgress (map literal_of made.decisions) Hopeful made.hopeful × family.IsProgress (map literal_of made.decisions) Dual made.dual
+Checks family made =
+    family.IsProgress (map literal_of made.decisions) Hopeful made.hopeful ×
+    family.IsProgress (map literal_of made.decisions) Dual made.dual
 
--- Which harvest sweeps make is free, but one that doesn't check exceeds the order's tables, in sum, by as many as there were sweeps.
-pub record IsSwept (family : Family) (sweeps : ℕ) (decisions : List Decision) (hopeful dual : List ℕ) (made : Harvest) : Type 0 where
+-- Which harvest sweeps make is free, but one that doesn't check exceeds the order's tables, in sum, by as many as there
+-- were sweeps.
+pub record IsSwept (family : Family) (sweeps : ℕ) (decisions : List Decision) (hopeful dual : List ℕ)
+    (made : Harvest) : Type 0 where
   pub of_order : IsOf family decisions hopeful dual made
   pub moved : ¬ (Checks family made) → sum hopeful + sum dual + sweeps ≤ sum made.hopeful + sum made.dual
 
 -- the order's tables with one vertex of one table lifted once, where that is greater
-pub record IsLifted (setting : Setting) (table : Which) (v : ℕ) (decisions : List Decision) (hopeful dual : List ℕ) (made : Harvest) : Type 0 where
+pub record IsLifted (setting : Setting) (table : Which) (v : ℕ) (decisions : List Decision) (hopeful dual : List ℕ)
+    (made : Harvest) : Type 0 where
   pub of_order : IsOf (family_of setting) decisions hopeful dual made
   pub known : List Tri
   pub known_is : IsKnownTable setting.lines (map literal_of decisions) known
-  pub lifted : harvested made table ≡ raised (levels_for table setting.game) (arena_for (kleene known) table setting.game) (table_in hopeful dual table) v
+  pub lifted : harvested made table
+      ≡ raised (levels_for table setting.game) (arena_for (kleene known) table setting.game)
+      (table_in hopeful dual table) v
   pub other_stays : harvested made (other_table table) ≡ table_in hopeful dual (other_table table)
 
 abbrev pub most_sweeps : ℕ
@@ -154,12 +190,15 @@ Follows scene held P reply calls text new = P reply calls text new
 -- one call more under the label, and what follows its reply
 abbrev pub Makes : Scene → Held → ℕ → Call → (Reply → Rest) → Rest
 Makes scene held label call P [] text new = ⊥
-Makes scene held label call P (e ∷ calls) text new = (e.session ≡ label) × (e.call ≡ call) × Follows scene held P e.reply calls text new
+Makes scene held label call P (e ∷ calls) text new =
+    (e.session ≡ label) × (e.call ≡ call) × Follows scene held P e.reply calls text new
 
--- So many calls were made before. While there are fewer than the room the call is made; a full log takes none: that answers the line, and leaves what is held as it was.
+-- So many calls were made before. While there are fewer than the room the call is made; a full log takes none: that
+-- answers the line, and leaves what is held as it was.
 abbrev pub Asks : Scene → Held → (made : ℕ) → ℕ → Call → (Reply → Rest) → Rest
 Asks scene held made label call P calls text new =
-    ((made < room) × Makes scene held label call P calls text new) ⊎ ((room ≤ made) × Ends full_line held calls text new)
+    ((made < room) × Makes scene held label call P calls text new) ⊎
+    ((room ≤ made) × Ends full_line held calls text new)
 
 -- ---- after a line's replies
 
@@ -169,7 +208,8 @@ TellsSettled held n _ calls text new = ⊥
 
 -- after the commit of a settle
 abbrev pub AsksSettled : Scene → Held → (made : ℕ) → ℕ → Reply → Rest
-AsksSettled scene held made label (Added n) calls text new = Asks scene held made label Settled (TellsSettled held n) calls text new
+AsksSettled scene held made label (Added n) calls text new =
+    Asks scene held made label Settled (TellsSettled held n) calls text new
 AsksSettled scene held made label _ calls text new = ⊥
 
 -- after another commit
@@ -194,7 +234,8 @@ Keeps scene held _ calls text new = ⊥
 -- a vertex of an order is lifted, and what was made is committed
 abbrev pub Lifts : Scene → Held → (made : ℕ) → ℕ → Which → ℕ → Reply → Rest
 Lifts scene held made label table identifier (Ordered decisions hopeful dual) calls text new =
-    (v : ℕ) × (harvest : Harvest) × (vertex_of scene identifier ≡ Some v) × IsLifted (setting_in scene) table v decisions hopeful dual harvest
+    (v : ℕ) × (harvest : Harvest) × (vertex_of scene identifier ≡ Some v) ×
+    IsLifted (setting_in scene) table v decisions hopeful dual harvest
     × Asks scene held made label (Commit harvest) (TellsAdded held) calls text new
 Lifts scene held made label table identifier _ calls text new = ⊥
 
@@ -218,7 +259,9 @@ TellsSpent answer held _ calls text new = ⊥
 -- ---- texts of a page
 
 abbrev pub ShowsPage : Scene → List Entry → List ℕ → Type 0
-ShowsPage scene page text = IsShown scene (decisions_of page) (table_of Hopeful page (length scene.game)) (table_of Dual page (length scene.game)) text
+ShowsPage scene page text =
+    IsShown scene (decisions_of page) (table_of Hopeful page (length scene.game))
+    (table_of Dual page (length scene.game)) text
 
 abbrev pub TellsEntries : Scene → List Entry → List ℕ → Type 0
 TellsEntries scene page text = text ≡ trail_text scene.names scene.identifiers page
@@ -234,15 +277,27 @@ IsPlanAnswer scene decisions hopeful dual text =
     ⊎ (IsPlanFault scene decisions hopeful dual NotSettled × (text ≡ refused_line (codes "NotSettled")))
 
 abbrev pub TellsPlan : Scene → List Entry → List ℕ → Type 0
-TellsPlan scene page text = IsPlanAnswer scene (decisions_of page) (table_of Hopeful page (length scene.game)) (table_of Dual page (length scene.game)) text
+TellsPlan scene page text =
+    IsPlanAnswer scene (decisions_of page) (table_of Hopeful page (length scene.game))
+    (table_of Dual page (length scene.game)) text
 
 abbrev pub CountsPage : Scene → List Entry → List ℕ → Type 0
-CountsPage scene page text = IsCounted scene (decisions_of page) (table_of Hopeful page (length scene.game)) (table_of Dual page (length scene.game)) text
+CountsPage scene page text =
+    IsCounted scene (decisions_of page) (table_of Hopeful page (length scene.game))
+    (table_of Dual page (length scene.game)) text
 
 -- one of these is told of the page
 abbrev pub TellsPage : (List Entry → List ℕ → Type 0) → Held → Reply → Rest
 TellsPage Tells held (PageIs page) calls text new = Tells page text × (calls ≡ []) × (new ≡ held)
 TellsPage Tells held _ calls text new = ⊥
+
+-- what is asked is answered of an order
+abbrev pub TellsAnswer : Scene → Held → script.Inquiry → Reply → Rest
+TellsAnswer scene held inquiry (Ordered decisions hopeful dual) calls text new =
+    ((query : Query) ×
+    ((query_of scene inquiry ≡ Ok query) × IsAnswer scene answer_limits query decisions hopeful dual text)) ×
+    (calls ≡ []) × (new ≡ held)
+TellsAnswer scene held inquiry _ calls text new = ⊥
 
 -- after the reply to a command's first call; so many calls were made then
 abbrev pub Continues : Scene → Held → (made : ℕ) → ℕ → script.Command → Reply → Rest
@@ -251,22 +306,35 @@ Continues scene held made label (script.Exclude name) reply calls text new = Tel
 Continues scene held made label (script.Retract name) reply calls text new = TellsChanged held reply calls text new
 Continues scene held made label (script.Undo s) reply calls text new = TellsUndone held reply calls text new
 Continues scene held made label (script.Redo s) reply calls text new = TellsRedone held reply calls text new
-Continues scene held made label (script.Keep s) reply calls text new = TellsSpent (numbered (codes "kept") s) (after_keep held s) reply calls text new
-Continues scene held made label (script.Forget s) reply calls text new = TellsSpent (numbered (codes "forgotten") s) (after_forget held s) reply calls text new
-Continues scene held made label (script.Lift table identifier) reply calls text new = Lifts scene held made label table identifier reply calls text new
+Continues scene held made label (script.Keep s) reply calls text new =
+    TellsSpent (numbered (codes "kept") s) (after_keep held s) reply calls text new
+Continues scene held made label (script.Forget s) reply calls text new =
+    TellsSpent (numbered (codes "forgotten") s) (after_forget held s) reply calls text new
+Continues scene held made label (script.Lift table identifier) reply calls text new =
+    Lifts scene held made label table identifier reply calls text new
 Continues scene held made label script.Harvest reply calls text new = Keeps scene held reply calls text new
-Continues scene held made label (script.Commit k) reply calls text new = TellsAdded (without_harvest held k) reply calls text new
-Continues scene held made label (script.Settle n) reply calls text new = Sweeps scene held made label (sweeps_of n) reply calls text new
+Continues scene held made label (script.Commit k) reply calls text new =
+    TellsAdded (without_harvest held k) reply calls text new
+Continues scene held made label (script.Settle n) reply calls text new =
+    Sweeps scene held made label (sweeps_of n) reply calls text new
 Continues scene held made label script.Show reply calls text new = TellsPage (ShowsPage scene) held reply calls text new
-Continues scene held made label script.Trail reply calls text new = TellsPage (TellsEntries scene) held reply calls text new
-Continues scene held made label script.Products reply calls text new = TellsPage (TellsProducts scene) held reply calls text new
+Continues scene held made label script.Trail reply calls text new =
+    TellsPage (TellsEntries scene) held reply calls text new
+Continues scene held made label script.Products reply calls text new =
+    TellsPage (TellsProducts scene) held reply calls text new
 Continues scene held made label script.Plan reply calls text new = TellsPage (TellsPlan scene) held reply calls text new
-Continues scene held made label script.Count reply calls text new = TellsPage (CountsPage scene) held reply calls text new
+Continues scene held made label script.Count reply calls text new =
+    TellsPage (CountsPage scene) held reply calls text new
+Continues scene held made label (script.Ask inquiry) reply calls text new =
+    TellsAnswer scene held inquiry reply calls text new
 
 abbrev pub Begins : Scene → Held → (made : ℕ) → ℕ → script.Command → Result Call Own → Rest
 Begins scene held made label command (Err own) calls text new = Ends (refused_line (own_text own)) held calls text new
-Begins scene held made label command (Ok call) calls text new = Asks scene held made label call (Continues scene held (made + 1) label command) calls text new
+Begins scene held made label command (Ok call) calls text new =
+    Asks scene held made label call (Continues scene held (made + 1) label command) calls text new
 
--- While this is held, and so many calls were made before, a request makes these calls with these replies, gives this answer, and leaves so much held.
+-- While this is held, and so many calls were made before, a request makes these calls with these replies, gives this
+-- answer, and leaves so much held.
 abbrev pub Serves : Scene → Held → (made : ℕ) → Request → Rest
-Serves scene held made request calls text new = Begins scene held made request.label request.command (first_call scene held request.command) calls text new
+Serves scene held made request calls text new =
+    Begins scene held made request.label request.command (first_call scene held request.command) calls text new

@@ -1,5 +1,5 @@
 -- What the engine does with a request.
-use Rattle.std.specs.Prelude.{◌≡◌, ℕ, List, [], ◌++◌, ⊤, ◌==◌, Bool, true, false, position, Option, Some, None}
+use Rattle.std.specs.Prelude.{◌≡◌, ℕ, List, [], ◌++◌, ⊤, ◌==◌, Bool, true, false, position, Option, Some, None, Result, Ok, Err}
 use Rattle.vpg_diagram.specs.DiagramText.{NamedDiagram}
 use Rattle.vpg_game.specs.Game.{NamedGame, IsAtLimit}
 use Rattle.vpg_partial.specs.KnownLaws.{HasConflictOf}
@@ -9,7 +9,10 @@ use Rattle.vpg_client.specs.declared.fault.ClientFault.TheVariants.{LogFull, Ref
 use Rattle.vpg_desk.specs.Book.{Refusal}
 use Rattle.vpg_desk.specs.declared.fault.OpenFault.{OpenFault}
 use Rattle.vpg_desk.specs.declared.fault.OpenFault.TheVariants.{AtLimit, Conflict, Memory}
-use Rattle.vpg_report.specs.Answers.{full_line, refused_line, refusal_text}
+use Rattle.vpg_report.specs.Answers.{Own, NoFeature, NoVertex, full_line, refused_line, refusal_text}
+use Rattle.vpg_answers.specs.declared.query.Query.{Query}
+use Rattle.vpg_report.specs.declared.asking.Missing.{Missing}
+use Rattle.vpg_report.specs.declared.asking.Missing.TheVariants.{Vertex, Feature}
 use Rattle.vpg_report.specs.Held.{Held, nothing_held}
 use Rattle.vpg_report.specs.Run.{Between, calling}
 use Rattle.vpg_report.specs.Made.{AreMadeBy}
@@ -42,7 +45,8 @@ pub record AnswersTo (old : EngineState) (request : Request) (before after : Lis
   pub diagram : new.client.desk.diagram ≡ old.client.desk.diagram
 
 -- The same, where what is committed or kept was made by sweeps of this many lifters.
-pub record SweepsTo (old : EngineState) (lifters : ℕ) (request : Request) (before after : List ℕ) (new : EngineState) : Type 0 where
+pub record SweepsTo (old : EngineState) (lifters : ℕ) (request : Request) (before after : List ℕ)
+    (new : EngineState) : Type 0 where
   pub answers : AnswersTo old request before after new
   pub made : AreMadeBy (setting_in (scene_at old)) lifters request.command answers.answer.0 new.held
 
@@ -50,6 +54,16 @@ pub record SweepsTo (old : EngineState) (lifters : ℕ) (request : Request) (bef
 abbrev pub deciding : Bool → List ℕ → script.Command
 deciding true name = script.Select name
 deciding false name = script.Exclude name
+
+-- what an inquiry names that game or diagram lack
+abbrev pub own_of : Missing → Own
+own_of Vertex = NoVertex
+own_of Feature = NoFeature
+
+-- what is asked by places, or what is missing
+abbrev pub IsQuery : Result Query Own → Result Query Missing → Type 0
+IsQuery asked (Ok query) = asked ≡ Ok query
+IsQuery asked (Err missing) = asked ≡ Err (own_of missing)
 
 -- the place of the first serial that is the one meant
 abbrev pub IsPlaceOf : Option ℕ → List ℕ → Option ℕ → Type 0
@@ -61,7 +75,8 @@ abbrev pub TellsRefusal : List (List ℕ) → Option Refusal → List ℕ → Li
 TellsRefusal names None before after = ⊥
 TellsRefusal names (Some refusal) before after = after ≡ before ++ refused_line (refusal_text names refusal)
 
--- The answer to a call that the client doesn't make: that the log is full, or the desk's refusal; a stray and out of memory have none.
+-- The answer to a call that the client doesn't make: that the log is full, or the desk's refusal; a stray and out of
+-- memory have none.
 abbrev pub TellsFault : {F : Type 0} → List (List ℕ) → (F → Option Refusal) → ClientFault F → List ℕ → List ℕ → Type 0
 TellsFault names refusal LogFull before after = after ≡ before ++ full_line
 TellsFault names refusal (Refused fault) before after = TellsRefusal names (refusal fault) before after

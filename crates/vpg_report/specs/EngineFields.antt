@@ -21,7 +21,8 @@ abbrev pub harvests_of : List (Option HarvestView) → List (Option Harvest)
 harvests_of harvests = map (λ h. option_map (handed_in true) h) harvests
 
 abbrev pub engine_in : ClientState → List Token → List Token → List (Option HarvestView) → EngineState
-engine_in client undos redos harvests = record { client = client; held = record { undos = serials undos; redos = serials redos; harvests = harvests_of harvests } }
+engine_in client undos redos harvests =
+    record { client = client; held = record { undos = serials undos; redos = serials redos; harvests = harvests_of harvests } }
 
 -- a kept harvest: its order has this game and this diagram, and decides features of the diagram
 pub record IsOwnHarvest (of_game : NamedGame) (of_diagram : NamedDiagram) (harvest : HarvestView) : Type 0 where
@@ -34,7 +35,8 @@ abbrev pub AreOwnHarvests : NamedGame → NamedDiagram → List (Option HarvestV
 AreOwnHarvests game diagram harvests = AllByRecursion (λ h. IfSome h (IsOwnHarvest game diagram)) harvests
 
 -- what every engine keeps
-pub record IsEngine (limit : ℕ) (of_game : NamedGame) (of_diagram : NamedDiagram) (desk : DeskState) (kept : List (Option HarvestView)) : Type 0 where
+pub record IsEngine (limit : ℕ) (of_game : NamedGame) (of_diagram : NamedDiagram) (desk : DeskState)
+    (kept : List (Option HarvestView)) : Type 0 where
   pub room_is : limit ≡ room
   -- its game and its diagram are those of the office's desk, and have as many features
   pub game : of_game ≡ desk.game

@@ -13,8 +13,10 @@ use Rattle.vpg_settle.specs.Sweeping.{Settles}
 use Rattle.vpg_report.specs.Answers.{most_sweeps, sweeps_of}
 use Rattle.vpg_report.specs.Held.{Held}
 
--- So many sweeps at most, each by this many lifters, and certified guesses made the harvest of the order that was answered. No sweep raises nothing.
-pub record IsMadeBy (setting : Setting) (lifters most : ℕ) (decisions : List Decision) (hopeful dual : List ℕ) (made : Harvest) : Type 0 where
+-- So many sweeps at most, each by this many lifters, and certified guesses made the harvest of the order that was
+-- answered. No sweep raises nothing.
+pub record IsMadeBy (setting : Setting) (lifters most : ℕ) (decisions : List Decision) (hopeful dual : List ℕ)
+    (made : Harvest) : Type 0 where
   pub order : OrderView
   pub harvest : HarvestView
   pub sweeps : ℕ
@@ -29,17 +31,21 @@ pub record IsMadeBy (setting : Setting) (lifters most : ℕ) (decisions : List D
 
 -- what was committed, of the order that was answered
 abbrev pub IsCommittedBy : Setting → ℕ → ℕ → Reply → Call → Type 0
-IsCommittedBy setting lifters most (Ordered decisions hopeful dual) (Commit made) = IsMadeBy setting lifters most decisions hopeful dual made
+IsCommittedBy setting lifters most (Ordered decisions hopeful dual) (Commit made) =
+    IsMadeBy setting lifters most decisions hopeful dual made
 IsCommittedBy setting lifters most _ _ = ⊤
 
 -- what was kept last, of the order that was answered
 abbrev pub IsKeptBy : Setting → ℕ → ℕ → Reply → Held → Type 0
 IsKeptBy setting lifters most (Ordered decisions hopeful dual) held =
-    (before : List (Option Harvest)) × (made : Harvest) × ((held.harvests ≡ before ++ Some made ∷ []) × IsMadeBy setting lifters most decisions hopeful dual made)
+    (before : List (Option Harvest)) × (made : Harvest) ×
+    ((held.harvests ≡ before ++ Some made ∷ []) × IsMadeBy setting lifters most decisions hopeful dual made)
 IsKeptBy setting lifters most _ held = ⊤
 
--- Of a command's calls, and what is held after them: what a settle committed, and what a harvest kept, was made so. (Of the others there is nothing to say.)
+-- Of a command's calls, and what is held after them: what a settle committed, and what a harvest kept, was made so. (Of
+-- the others there is nothing to say.)
 abbrev pub AreMadeBy : Setting → ℕ → script.Command → List Event → Held → Type 0
-AreMadeBy setting lifters (script.Settle n) (order ∷ commit ∷ calls) held = IsCommittedBy setting lifters (sweeps_of n) order.reply commit.call
+AreMadeBy setting lifters (script.Settle n) (order ∷ commit ∷ calls) held =
+    IsCommittedBy setting lifters (sweeps_of n) order.reply commit.call
 AreMadeBy setting lifters script.Harvest (order ∷ calls) held = IsKeptBy setting lifters most_sweeps order.reply held
 AreMadeBy setting lifters _ calls held = ⊤

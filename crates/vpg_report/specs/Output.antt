@@ -16,12 +16,21 @@ ended (Err ends.Write) = Err stops.Write
 ended (Err ends.Memory) = Err stops.Memory
 ended (Err ends.Stray) = Err stops.Stray
 
--- what a run's result says of what was read and written: what its script's does; a refused opening comes before any line
-abbrev pub Outcome : {S : Type 0} → Machine S → (OpenFault → Type 0) → S → Option (List ℕ) → Option (List ℕ) → Option (List ℕ) → Option (List ℕ) → Result (Unit {0}) RunFault → Type 0
-Outcome {S} serves Refuses old input left before after (Ok done) = ScriptOutcome serves old input left before after (Ok done)
-Outcome {S} serves Refuses old input left before after (Err (stops.Line n fault)) = ScriptOutcome serves old input left before after (Err (ends.Line n fault))
-Outcome {S} serves Refuses old input left before after (Err stops.Read) = ScriptOutcome serves old input left before after (Err ends.Read)
-Outcome {S} serves Refuses old input left before after (Err stops.Write) = ScriptOutcome serves old input left before after (Err ends.Write)
-Outcome {S} serves Refuses old input left before after (Err stops.Memory) = ScriptOutcome serves old input left before after (Err ends.Memory)
-Outcome {S} serves Refuses old input left before after (Err stops.Stray) = ScriptOutcome serves old input left before after (Err ends.Stray)
-Outcome {S} serves Refuses old input left before after (Err (stops.Open fault)) = Refuses fault × (left ≡ input) × (after ≡ before)
+-- what a run's result says of what was read and written: what its script's does; a refused opening comes before any
+-- line
+abbrev pub Outcome : {S : Type 0} → Machine S → (OpenFault → Type 0) → S → Option (List ℕ) → Option (List ℕ) →
+    Option (List ℕ) → Option (List ℕ) → Result (Unit {0}) RunFault → Type 0
+Outcome {S} serves Refuses old input left before after (Ok done) =
+    ScriptOutcome serves old input left before after (Ok done)
+Outcome {S} serves Refuses old input left before after (Err (stops.Line n fault)) =
+    ScriptOutcome serves old input left before after (Err (ends.Line n fault))
+Outcome {S} serves Refuses old input left before after (Err stops.Read) =
+    ScriptOutcome serves old input left before after (Err ends.Read)
+Outcome {S} serves Refuses old input left before after (Err stops.Write) =
+    ScriptOutcome serves old input left before after (Err ends.Write)
+Outcome {S} serves Refuses old input left before after (Err stops.Memory) =
+    ScriptOutcome serves old input left before after (Err ends.Memory)
+Outcome {S} serves Refuses old input left before after (Err stops.Stray) =
+    ScriptOutcome serves old input left before after (Err ends.Stray)
+Outcome {S} serves Refuses old input left before after (Err (stops.Open fault)) =
+    Refuses fault × (left ≡ input) × (after ≡ before)

@@ -3,7 +3,8 @@ use Rattle.std.specs.Prelude.{Result, Ok, Err, ⊤}
 use Rattle.vpg_report.specs.declared.runs.RunFault.{RunFault}
 use Rattle.vpg_report.specs.declared.runs.RunFault.TheVariants as stops
 
--- This holds of a run that opened an office: of each but one that ends in Open, or in Memory, which may have come before.
+-- This holds of a run that opened an office: of each but one that ends in Open, or in Memory, which may have come
+-- before.
 abbrev pub Opens : Result (Unit {0}) RunFault → Type 0 → Type 0
 Opens (Err (stops.Open fault)) P = ⊤
 Opens (Err stops.Memory) P = ⊤

@@ -21,15 +21,19 @@ pub record Between : Type 0 where
 abbrev pub begun : Between
 begun = record { book = opened; calls = 0; held = nothing_held }
 
--- A request makes calls, each with the reply that the book gives at that point, is answered with this text, and leaves the book after them.
+-- A request makes calls, each with the reply that the book gives at that point, is answered with this text, and leaves
+-- the book after them.
 abbrev pub calling : Scene → Machine Between
 calling scene old request text new =
-    (calls : List Event) × (Serves scene old.held old.calls request calls text new.held × IsLegalFrom (family_of (setting_in scene)) old.book calls
+    (calls : List Event) ×
+    (Serves scene old.held old.calls request calls text new.held ×
+    IsLegalFrom (family_of (setting_in scene)) old.book calls
     × (new.book ≡ book_after (family_of (setting_in scene)) old.book calls) × (new.calls ≡ old.calls + length calls))
 
 -- The same, and what is committed or kept was made by at most the line's number of sweeps, each by this many lifters.
 abbrev pub answering : Scene → ℕ → Machine Between
-answering scene lifters old request text new = (so : calling scene old request text new) × AreMadeBy (setting_in scene) lifters request.command so.0 new.held
+answering scene lifters old request text new =
+    (so : calling scene old request text new) × AreMadeBy (setting_in scene) lifters request.command so.0 new.held
 
 -- the calls so far, and what the engine holds
 pub record Asked : Type 0 where
@@ -41,10 +45,16 @@ unasked = record { calls = []; held = nothing_held }
 
 -- Each request adds its calls to those before; a full log takes no more.
 abbrev pub asking : Scene → Machine Asked
-asking scene old request text new = (calls : List Event) × (Serves scene old.held (length old.calls) request calls text new.held × (new.calls ≡ old.calls ++ calls))
+asking scene old request text new =
+    (calls : List Event) ×
+    (Serves scene old.held (length old.calls) request calls text new.held × (new.calls ≡ old.calls ++ calls))
 
 -- What is written for lines without a fault are the answers to the calls of a legal history, into which lawful harvests
 -- alone were handed. These are exactly the calls of these lines in their order, and they leave the book.
 abbrev pub AnswersAreHistories : Type 0
-AnswersAreHistories = (scene : Scene) (lifters : ℕ) (lines : List (List ℕ)) (text : List ℕ) (new : Between) → Answered (answering scene lifters) begun lines text new →
-    (history : List Event) × (IsHistoryOf (setting_in scene) new.book history × Answered (asking scene) unasked lines text (record { calls = history; held = new.held }))
+AnswersAreHistories =
+    (scene : Scene) (lifters : ℕ) (lines : List (List ℕ)) (text : List ℕ) (new : Between) →
+    Answered (answering scene lifters) begun lines text new →
+    (history : List Event) ×
+    (IsHistoryOf (setting_in scene) new.book history ×
+    Answered (asking scene) unasked lines text (record { calls = history; held = new.held }))

@@ -1,6 +1,8 @@
--- Runs in which each settle is answered `settled`, and each harvest that a line keeps passes `check`.
+-- Runs in which each settle is answered `settled`, no answer about the page has a doubt, and each harvest that a line
+-- keeps passes `check`.
 use Rattle.std.specs.Prelude.{◌≡◌, ℕ, List, IfSome, Option, Some, Result, true, ⊤}
 use Rattle.std.specs.List.{AllByRecursion}
+use Rattle.vpg_answers.specs.Answers.{HasDoubt}
 use Rattle.vpg_desk.specs.Desk.{family_of}
 use Rattle.vpg_report.specs.Answers.{Checks, settled_text}
 use Rattle.vpg_report.specs.Held.{Held}
@@ -13,26 +15,35 @@ use Rattle.vpg_texts.specs.Scene.{Scene}
 use Rattle.vpg_report.specs.declared.runs.RunFault.{RunFault}
 use Rattle.vpg_report.specs.Setting.{setting_in}
 
--- a settle is answered `settled`
+-- a settle is answered `settled`, and what is asked of the page without a doubt: no limit was met
 abbrev pub TellsSettle : script.Command → List ℕ → Type 0
 TellsSettle (script.Settle sweeps) text = (n : ℕ) × (text ≡ settled_text true n)
+TellsSettle (script.Ask inquiry) text = ¬ (HasDoubt text)
 TellsSettle _ text = ⊤
 
 -- each harvest that is held passes `check`
 abbrev pub AreChecked : Scene → Held → Type 0
 AreChecked scene held = AllByRecursion (λ h. IfSome h (Checks (family_of (setting_in scene)))) held.harvests
 
--- It answers, and so far each settle was answered `settled`, and each harvest that a line keeps passes `check`.
+-- It answers, and so far each settle was answered `settled`, no answer about the page had a doubt, and each harvest
+-- that a line keeps passes `check`.
 abbrev pub settling : Scene → Machine Between
-settling scene old request text new = calling scene old request text new × TellsSettle request.command text × AreChecked scene new.held
+settling scene old request text new =
+    calling scene old request text new × TellsSettle request.command text × AreChecked scene new.held
 
--- Then the text, the book, the number of calls and what is held are one function of the scene and the lines, whichever lawful harvests the lines made.
+-- Then the text, the book, the number of calls and what is held are one function of the scene and the lines, whichever
+-- lawful harvests the lines made.
 abbrev pub SettledAnswersAreOne : Type 0
 SettledAnswersAreOne = (scene : Scene) (lines : List (List ℕ)) (text other : List ℕ) (new newer : Between) →
-    Answered (settling scene) begun lines text new → Answered (settling scene) begun lines other newer → (text ≡ other) × (new ≡ newer)
+    Answered (settling scene) begun lines text new → Answered (settling scene) begun lines other newer →
+    (text ≡ other) × (new ≡ newer)
 
--- So are what a run writes and its result, where it goes through a known script (it was opened then, so no cause of a refusal matters).
+-- So are what a run writes and its result, where it goes through a known script (it was opened then, so no cause of a
+-- refusal matters).
 abbrev pub SettledRunsAreOne : Type 0
-SettledRunsAreOne = (scene : Scene) (script before after later : List ℕ) (left rest : Option (List ℕ)) (result other : Result (Unit {0}) RunFault) →
+SettledRunsAreOne =
+    (scene : Scene) (script before after later : List ℕ) (left rest : Option (List ℕ))
+    (result other : Result (Unit {0}) RunFault) →
     IsThrough result → Outcome (settling scene) (λ _. ⊤) begun (Some script) left (Some before) (Some after) result →
-    IsThrough other → Outcome (settling scene) (λ _. ⊤) begun (Some script) rest (Some before) (Some later) other → (after ≡ later) × (result ≡ other)
+    IsThrough other → Outcome (settling scene) (λ _. ⊤) begun (Some script) rest (Some before) (Some later) other →
+    (after ≡ later) × (result ≡ other)

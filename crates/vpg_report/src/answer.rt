@@ -2,10 +2,11 @@
 ghost use Rattle.std.specs.Prelude.{◌≡◌, ◌++◌, ◌∷◌, ◌<◌, ℕ, List, length, codes, OnOk};
 ghost use Rattle.vpg_desk.specs.Commit.{commit_refusal};
 ghost use Rattle.vpg_desk.specs.Faults.{decide_refusal, retract_refusal, undo_refusal, redo_refusal};
-ghost use Rattle.vpg_report.specs.Answers.{full_line, numbered, refused_line, settled_text};
-ghost use Rattle.vpg_report.specs.Engine.{TellsFault, TellsRefusal};
+ghost use Rattle.vpg_report.specs.Answers.{full_line, numbered, own_text, refused_line, settled_text};
+ghost use Rattle.vpg_report.specs.Engine.{TellsFault, TellsRefusal, own_of};
 ghost use Rattle.vpg_texts.specs.Text.{blank_number, blank_name};
 
+use crate::asking::Missing;
 use vpg_client::ClientFault;
 use vpg_desk::{CommitFault, DecideFault, RedoFault, RetractFault, UndoFault};
 use vpg_guards::Names;
@@ -41,6 +42,16 @@ pub(crate) fn refused(why: &[u8], out: &mut Vec<u8>) -> Result<(), ServeFault>
     out.extend_from_slice(why)?;
     out.extend_from_slice(b"\n")?;
     Ok(())
+}
+
+/// The refusal of what is named that isn't there.
+pub(crate) fn missing(what: Missing, out: &mut Vec<u8>) -> Result<(), ServeFault>
+    ensures { OnOk result (out.new.items ≡ out.old.items ++ refused_line (own_text (own_of what))) }
+{
+    match what {
+        Missing::Vertex => refused(b"NoVertex", out),
+        Missing::Feature => refused(b"UnknownFeature", out),
+    }
 }
 
 /// A refusal that names a serial.

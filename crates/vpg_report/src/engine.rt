@@ -1,4 +1,5 @@
-//! The engine: an office that this run alone serves, with the tokens and harvests that a script's lines leave, which carries out what they request.
+//! The engine: an office that this run alone serves, with the tokens and harvests that a script's lines leave, which
+//! carries out what they request.
 ghost use Rattle.std.specs.Arc.{arc_value};
 ghost use Rattle.std.specs.Prelude.{◌≡◌, ◌++◌, ℕ, ◌≤◌, List, Bool, true, Some, None, OnOk, OnErr, IfOk, IfErr};
 ghost use Rattle.vpg_diagram.specs.FeatureDiagram.{feature_count};
@@ -6,18 +7,19 @@ ghost use Rattle.vpg_guards.specs.Names.{index_of};
 ghost use Rattle.vpg_desk.specs.State.{IsOpened};
 ghost use Rattle.vpg_report.specs.Engine.{AnswersTo, SweepsTo, IsOpenFault, deciding, between_of, engine_of, scene_at};
 ghost use Rattle.vpg_report.specs.Run.{answering};
-ghost use Rattle.vpg_script.specs.Script.{Retract, Undo as Undoes, Redo as Redoes, Keep, Forget, Lift, Harvest as Harvests, Commit, Settle, Show, Trail, Products, Plan, Count};
-ghost use Rattle.vpg_script.specs.View.{request_shown};
+ghost use Rattle.vpg_script.specs.Script.{Retract, Undo as Undoes, Redo as Redoes, Keep, Forget, Lift, Harvest as Harvests, Commit, Settle, Show, Trail, Products, Plan, Count, Ask};
+ghost use Rattle.vpg_script.specs.View.{inquiry_shown, request_shown};
 
-use crate::answer;
 use crate::held::{
     hold_redo, hold_redone, hold_strayed, hold_undo, hold_undone, put_back_unspent, redo_place,
     return_harvest, take_harvest, undo_place,
 };
+use crate::{answer, asking};
 use std::alloc::{AllocError, Global};
 use std::marker::Model;
 use std::sync::{Arc, Wait};
 use std::thread::Threads;
+use vpg_answers::Limits;
 use vpg_board::OpenGate;
 use vpg_client::{Client, Returned};
 use vpg_desk::OpenFault;
@@ -26,7 +28,7 @@ use vpg_game::GuardedGame;
 use vpg_guards::Names;
 use vpg_measure::{Harvest, Which};
 use vpg_office::{NotOpened, Redo, Site, Terms, Undo};
-use vpg_script::{Command, Request, ServeFault, Server};
+use vpg_script::{Command, Inquiry, Request, ServeFault, Server};
 use vpg_settle::swept;
 use vpg_texts::{PlanFault, count_over, plan_over, products_over, show_over, trail};
 
@@ -36,8 +38,16 @@ pub(crate) const ROOM: u32 = 1_048_576;
 /// The sweeps of a `harvest`, and of a `settle` without a number.
 const SWEEPS: u64 = 1_000_000;
 
-/// The client of an office, with its game and its diagram, the tokens that are held, and the harvests that were kept. Harvest K stands
-/// at place K - 1 until it is committed. An engine can't be let go: `end` spends its tokens.
+/// How far a question about the page is followed: 2^27 edges and vertices looked at for the bounds of a trial's table,
+/// 1,000 rounds of lifts where these do not settle it, and 10,000 trials of a search.
+const LIMITS: Limits = Limits {
+    budget: 134_217_728,
+    rounds: 1_000,
+    trials: 10_000,
+};
+
+/// The client of an office, with its game and its diagram, the tokens that are held, and the harvests that were kept.
+/// Harvest K stands at place K - 1 until it is committed. An engine can't be let go: `end` spends its tokens.
 pub(crate) struct Engine<L: Terms> {
     game: Arc<GuardedGame>,
     diagram: Arc<Diagram>,
@@ -93,7 +103,8 @@ impl<L: Terms> Engine<L> {
         value: bool,
         out: &mut Vec<u8>,
     ) -> Result<(), ServeFault>
-        ensures { OnOk result (AnswersTo self.old (record { label = session; command = deciding value name.now }) out.old.items out.new.items self.new) }
+        ensures { OnOk result (AnswersTo self.old
+            (record { label = session; command = deciding value name.now }) out.old.items out.new.items self.new) }
     {
         let Some(feature) = self.names().get(name) else {
             return answer::refused(b"UnknownFeature", out);
@@ -117,7 +128,8 @@ impl<L: Terms> Engine<L> {
         name: &[u8],
         out: &mut Vec<u8>,
     ) -> Result<(), ServeFault>
-        ensures { OnOk result (AnswersTo self.old (record { label = session; command = Retract name.now }) out.old.items out.new.items self.new) }
+        ensures { OnOk result (AnswersTo self.old
+            (record { label = session; command = Retract name.now }) out.old.items out.new.items self.new) }
     {
         let Some(feature) = self.names().get(name) else {
             return answer::refused(b"UnknownFeature", out);
@@ -141,7 +153,8 @@ impl<L: Terms> Engine<L> {
         serial: Option<u64>,
         out: &mut Vec<u8>,
     ) -> Result<(), ServeFault>
-        ensures { OnOk result (AnswersTo self.old (record { label = session; command = Undoes serial }) out.old.items out.new.items self.new) }
+        ensures { OnOk result (AnswersTo self.old
+            (record { label = session; command = Undoes serial }) out.old.items out.new.items self.new) }
     {
         let Some(place) = undo_place(&self.undos, serial) else {
             return answer::refused(b"NoToken", out);
@@ -166,7 +179,8 @@ impl<L: Terms> Engine<L> {
         serial: Option<u64>,
         out: &mut Vec<u8>,
     ) -> Result<(), ServeFault>
-        ensures { OnOk result (AnswersTo self.old (record { label = session; command = Redoes serial }) out.old.items out.new.items self.new) }
+        ensures { OnOk result (AnswersTo self.old
+            (record { label = session; command = Redoes serial }) out.old.items out.new.items self.new) }
     {
         let Some(place) = redo_place(&self.redos, serial) else {
             return answer::refused(b"NoToken", out);
@@ -190,7 +204,8 @@ impl<L: Terms> Engine<L> {
         serial: u64,
         out: &mut Vec<u8>,
     ) -> Result<(), ServeFault>
-        ensures { OnOk result (AnswersTo self.old (record { label = session; command = Keep serial }) out.old.items out.new.items self.new) }
+        ensures { OnOk result (AnswersTo self.old
+            (record { label = session; command = Keep serial }) out.old.items out.new.items self.new) }
     {
         let Some(place) = undo_place(&self.undos, Some(serial)) else {
             return answer::refused(b"NoToken", out);
@@ -213,7 +228,8 @@ impl<L: Terms> Engine<L> {
         serial: u64,
         out: &mut Vec<u8>,
     ) -> Result<(), ServeFault>
-        ensures { OnOk result (AnswersTo self.old (record { label = session; command = Forget serial }) out.old.items out.new.items self.new) }
+        ensures { OnOk result (AnswersTo self.old
+            (record { label = session; command = Forget serial }) out.old.items out.new.items self.new) }
     {
         let Some(place) = redo_place(&self.redos, Some(serial)) else {
             return answer::refused(b"NoToken", out);
@@ -238,7 +254,8 @@ impl<L: Terms> Engine<L> {
         identifier: u32,
         out: &mut Vec<u8>,
     ) -> Result<(), ServeFault>
-        ensures { OnOk result (AnswersTo self.old (record { label = session; command = Lift table identifier }) out.old.items out.new.items self.new) }
+        ensures { OnOk result (AnswersTo self.old
+            (record { label = session; command = Lift table identifier }) out.old.items out.new.items self.new) }
     {
         let Some(v) = self.game.find(identifier) else {
             return answer::refused(b"NoVertex", out);
@@ -265,7 +282,8 @@ impl<L: Terms> Engine<L> {
         out: &mut Vec<u8>,
     ) -> Result<(), ServeFault>
         requires lifters { (1 ≤ lifters) × (lifters ≤ 64) }
-        ensures { OnOk result (SweepsTo self.old lifters (record { label = session; command = Harvests }) out.old.items out.new.items self.new) }
+        ensures { OnOk result (SweepsTo self.old lifters
+            (record { label = session; command = Harvests }) out.old.items out.new.items self.new) }
     {
         self.harvests.reserve(1)?;
         let order = match self.client.order(rt, alloc, session) {
@@ -286,7 +304,8 @@ impl<L: Terms> Engine<L> {
         number: u64,
         out: &mut Vec<u8>,
     ) -> Result<(), ServeFault>
-        ensures { OnOk result (AnswersTo self.old (record { label = session; command = Commit number }) out.old.items out.new.items self.new) }
+        ensures { OnOk result (AnswersTo self.old
+            (record { label = session; command = Commit number }) out.old.items out.new.items self.new) }
     {
         let Some(harvest) = take_harvest(&mut self.harvests, number) else {
             return answer::refused(b"NoHarvest", out);
@@ -311,7 +330,8 @@ impl<L: Terms> Engine<L> {
         out: &mut Vec<u8>,
     ) -> Result<(), ServeFault>
         requires lifters { (1 ≤ lifters) × (lifters ≤ 64) }
-        ensures { OnOk result (SweepsTo self.old lifters (record { label = session; command = Settle sweeps }) out.old.items out.new.items self.new) }
+        ensures { OnOk result (SweepsTo self.old lifters
+            (record { label = session; command = Settle sweeps }) out.old.items out.new.items self.new) }
     {
         let order = match self.client.order(rt, alloc, session) {
             Ok(order) => order,
@@ -345,7 +365,8 @@ impl<L: Terms> Engine<L> {
         session: u32,
         out: &mut Vec<u8>,
     ) -> Result<(), ServeFault>
-        ensures { OnOk result (AnswersTo self.old (record { label = session; command = Show }) out.old.items out.new.items self.new) }
+        ensures { OnOk result (AnswersTo self.old
+            (record { label = session; command = Show }) out.old.items out.new.items self.new) }
     {
         let (page, games) = match self.client.page_with_games(rt, alloc, session) {
             Ok(both) => both,
@@ -363,7 +384,8 @@ impl<L: Terms> Engine<L> {
         session: u32,
         out: &mut Vec<u8>,
     ) -> Result<(), ServeFault>
-        ensures { OnOk result (AnswersTo self.old (record { label = session; command = Trail }) out.old.items out.new.items self.new) }
+        ensures { OnOk result (AnswersTo self.old
+            (record { label = session; command = Trail }) out.old.items out.new.items self.new) }
     {
         let page = match self.client.page(rt, alloc, session) {
             Ok(page) => page,
@@ -381,7 +403,8 @@ impl<L: Terms> Engine<L> {
         session: u32,
         out: &mut Vec<u8>,
     ) -> Result<(), ServeFault>
-        ensures { OnOk result (AnswersTo self.old (record { label = session; command = Products }) out.old.items out.new.items self.new) }
+        ensures { OnOk result (AnswersTo self.old
+            (record { label = session; command = Products }) out.old.items out.new.items self.new) }
     {
         let (_page, games) = match self.client.page_with_games(rt, alloc, session) {
             Ok(both) => both,
@@ -399,7 +422,8 @@ impl<L: Terms> Engine<L> {
         session: u32,
         out: &mut Vec<u8>,
     ) -> Result<(), ServeFault>
-        ensures { OnOk result (AnswersTo self.old (record { label = session; command = Plan }) out.old.items out.new.items self.new) }
+        ensures { OnOk result (AnswersTo self.old
+            (record { label = session; command = Plan }) out.old.items out.new.items self.new) }
     {
         let (page, games) = match self.client.page_with_games(rt, alloc, session) {
             Ok(both) => both,
@@ -421,13 +445,38 @@ impl<L: Terms> Engine<L> {
         session: u32,
         out: &mut Vec<u8>,
     ) -> Result<(), ServeFault>
-        ensures { OnOk result (AnswersTo self.old (record { label = session; command = Count }) out.old.items out.new.items self.new) }
+        ensures { OnOk result (AnswersTo self.old
+            (record { label = session; command = Count }) out.old.items out.new.items self.new) }
     {
         let (page, games) = match self.client.page_with_games(rt, alloc, session) {
             Ok(both) => both,
             Err(fault) => return answer::unanswered(fault, out),
         };
         count_over(alloc, &games, &page, &self.game, &self.diagram, out)?;
+        Ok(())
+    }
+
+    /// Answers what is asked of the present page.
+    fn ask<R: Wait>(
+        &mut self,
+        rt: &R,
+        alloc: Global,
+        session: u32,
+        inquiry: Inquiry<'_>,
+        out: &mut Vec<u8>,
+    ) -> Result<(), ServeFault>
+        ensures { OnOk result (AnswersTo self.old
+            (record { label = session; command = Ask (inquiry_shown inquiry.entry) }) out.old.items out.new.items self.new) }
+    {
+        let query = match asking::query_of(&self.game, &self.diagram, inquiry) {
+            Ok(query) => query,
+            Err(what) => return answer::missing(what, out),
+        };
+        let order = match self.client.order(rt, alloc, session) {
+            Ok(order) => order,
+            Err(fault) => return answer::unanswered(fault, out),
+        };
+        vpg_answers::answer(alloc, order, query, LIMITS, out)?;
         Ok(())
     }
 
@@ -519,6 +568,7 @@ impl<L: Terms> Server for Engine<L> {
             Command::Products => self.products(rt, alloc, session, out),
             Command::Plan => self.plan(rt, alloc, session, out),
             Command::Count => self.count(rt, alloc, session, out),
+            Command::Ask(inquiry) => self.ask(rt, alloc, session, inquiry, out),
         }
     }
 }

@@ -129,7 +129,8 @@ pub(crate) fn hold_undone<L: Terms>(
     requires place { place ≤ vec_len undos.old }
     requires room { vec_len undos.old < vec_capacity undos.old }
     requires redo_room { vec_len redos.old < vec_capacity redos.old }
-    ensures { (undo : Held) → token ≡ Token.Undo undo → (undos.new.items ≡ insert undos.old.items place undo) × (redos.new.items ≡ redos.old.items) }
+    ensures { (undo : Held) → token ≡ Token.Undo undo → (undos.new.items ≡ insert undos.old.items place undo) ×
+        (redos.new.items ≡ redos.old.items) }
 {
     match token {
         Token::Undo(undo) => put_back(undos, place, undo),
@@ -147,7 +148,8 @@ pub(crate) fn hold_redone<L: Terms>(
     requires place { place ≤ vec_len redos.old }
     requires room { vec_len redos.old < vec_capacity redos.old }
     requires undo_room { vec_len undos.old < vec_capacity undos.old }
-    ensures { (redo : Held) → token ≡ Token.Redo redo → (redos.new.items ≡ insert redos.old.items place redo) × (undos.new.items ≡ undos.old.items) }
+    ensures { (redo : Held) → token ≡ Token.Redo redo → (redos.new.items ≡ insert redos.old.items place redo) ×
+        (undos.new.items ≡ undos.old.items) }
 {
     match token {
         Token::Redo(redo) => put_back(redos, place, redo),

@@ -57,12 +57,12 @@ fn ended(answered: Result<(), ScriptFault>) -> Result<(), RunFault>
     }
 }
 
-/// Opens an office on the game and the diagram, reads a script, and answers its lines in order, each before the next is read. A label
-/// is a session of the office. 1 to 64 lifters sweep at once, in threads of their own.
+/// Opens an office on the game and the diagram, reads a script, and answers its lines in order, each before the next is
+/// read. A label is a session of the office. 1 to 64 lifters sweep at once, in threads of their own.
 ///
-/// `Open` comes before any line is read; `Line`, `Read` and `Write` as the run meets them, `Memory` only where a growth was refused, and
-/// `Stray` where the office has a call that no line made. What earlier lines wrote stays written. At the script's end, and after each
-/// fault, all tokens are spent and the office is ended.
+/// `Open` comes before any line is read; `Line`, `Read` and `Write` as the run meets them, `Memory` only where a growth
+/// was refused, and `Stray` where the office has a call that no line made. What earlier lines wrote stays written. At
+/// the script's end, and after each fault, all tokens are spent and the office is ended.
 pub fn run<T: Threads + Wait + Sync, R: Source, W: Sink>(
     rt: &T,
     alloc: Global,
@@ -76,11 +76,15 @@ pub fn run<T: Threads + Wait + Sync, R: Source, W: Sink>(
     requires lifters { (1 ≤ lifters) × (lifters ≤ 64) }
     requires features { (arc_value game).features ≡ feature_count (arc_value diagram).lines }
 
-    // What is written are the answers to the lines read, each by calls on the office's desk with the replies that it gives, while its log
-    // has room for them. What a line commits or keeps was made by at most its number of sweeps, each by this many lifters.
-    ensures output { Outcome (answering (scene_of (arc_value game) (arc_value diagram)) lifters) (IsOpenRefusal (arc_value game) (arc_value diagram)) begun (R.remaining reader.old) (R.remaining reader.new) (W.contents writer.old) (W.contents writer.new) result }
+    // What is written are the answers to the lines read, each by calls on the office's desk with the replies that it
+    // gives, while its log has room for them. What a line commits or keeps was made by at most its number of sweeps,
+    // each by this many lifters.
+    ensures output { Outcome (answering (scene_of (arc_value game) (arc_value diagram)) lifters)
+        (IsOpenRefusal (arc_value game) (arc_value diagram)) begun (R.remaining reader.old) (R.remaining reader.new)
+        (W.contents writer.old) (W.contents writer.new) result }
 
-    // Unless it ends in Open, or in Memory, an office was opened: game and diagram are a setting, of which the laws of `vpg_desk` speak.
+    // Unless it ends in Open, or in Memory, an office was opened: game and diagram are a setting, of which the laws of
+    // `vpg_desk` speak.
     ensures opened { Opens result (IsOpened (arc_value game) (arc_value diagram)) }
 
     // Read and Write come only where the device failed, or the reads were used up.
@@ -114,7 +118,9 @@ fn run_there<L: Terms, T: Threads + Wait + Sync, R: Source, W: Sink>(
     requires site { (site.row ≡ L.shelves) × (site.name ≡ L.name) × (site.parts ≡ L.parts) }
     requires of { (arc_value game ≡ L.game) × (arc_value diagram ≡ L.diagram) }
     requires room { L.limit ≡ 1048576 }
-    ensures output { Outcome (answering (scene_of (arc_value game) (arc_value diagram)) lifters) (IsOpenRefusal (arc_value game) (arc_value diagram)) begun (R.remaining reader.old) (R.remaining reader.new) (W.contents writer.old) (W.contents writer.new) result }
+    ensures output { Outcome (answering (scene_of (arc_value game) (arc_value diagram)) lifters)
+        (IsOpenRefusal (arc_value game) (arc_value diagram)) begun (R.remaining reader.old) (R.remaining reader.new)
+        (W.contents writer.old) (W.contents writer.new) result }
     ensures opened { Opens result (IsOpened (arc_value game) (arc_value diagram)) }
     ensures read { IsErrOf result RunFault.Read → (R.has_failed reader.new ≡ true) ⊎ (R.calls reader.new ≡ 16777216) }
     ensures write { IsErrOf result RunFault.Write → W.has_failed writer.new ≡ true }

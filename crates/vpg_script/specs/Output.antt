@@ -26,7 +26,8 @@ Speaks serves s (Err fault) text new = ⊥
 abbrev pub Answered : {S : Type 0} → Machine S → S → List (List ℕ) → List ℕ → S → Type 0
 Answered serves s [] text new = (text ≡ []) × (new ≡ s)
 Answered {S} serves s (line ∷ lines) text new =
-    (mid : S) × (one : List ℕ) × (more : List ℕ) × (Speaks serves s (said line) one mid) × (text ≡ one ++ more) × (Answered serves mid lines more new)
+    (mid : S) × (one : List ℕ) × (more : List ℕ) × (Speaks serves s (said line) one mid) × (text ≡ one ++ more) ×
+    (Answered serves mid lines more new)
 
 abbrev pub NextLine : List ℕ → List ℕ → List ℕ → Type 0
 NextLine text line rest = IsEnded text line rest ⊎ IsLast text line rest
@@ -43,7 +44,8 @@ ReadKnown (Some text) lines None = ⊥
 ReadKnown (Some text) lines (Some rest) = ReadLines text lines rest
 
 -- lines were read, and their answers were written
-pub record Wrote {S : Type 0} (serves : Machine S) (old new : S) (input rest : Option (List ℕ)) (before after : Option (List ℕ)) (lines : List (List ℕ)) : Type 0 where
+pub record Wrote {S : Type 0} (serves : Machine S) (old new : S) (input rest : Option (List ℕ))
+    (before after : Option (List ℕ)) (lines : List (List ℕ)) : Type 0 where
   pub text : List ℕ
   pub read : ReadKnown input lines rest
   pub answered : Answered serves old lines text new
@@ -60,7 +62,9 @@ IsEmptyKnown None = ⊤
 IsEmptyKnown (Some rest) = rest ≡ []
 
 abbrev pub BeginsFaulty : LineFault → List ℕ → Type 0
-BeginsFaulty fault rest = ((line more : List ℕ) × (NextLine rest line more × (said line ≡ Err fault))) ⊎ ((fault ≡ faults.TooLong) × BeginsTooLong rest)
+BeginsFaulty fault rest =
+    ((line more : List ℕ) × (NextLine rest line more × (said line ≡ Err fault))) ⊎
+    ((fault ≡ faults.TooLong) × BeginsTooLong rest)
 
 abbrev pub FaultyKnown : LineFault → Option (List ℕ) → Type 0
 FaultyKnown fault None = ⊤
@@ -77,16 +81,20 @@ IsLine next.End = ⊥
 IsLine next.TooLong = ⊥
 
 -- what a script's result says of what was read and written
-abbrev pub ScriptOutcome : {S : Type 0} → Machine S → S → Option (List ℕ) → Option (List ℕ) → Option (List ℕ) → Option (List ℕ) → Result (Unit {0}) ScriptFault → Type 0
+abbrev pub ScriptOutcome : {S : Type 0} → Machine S → S → Option (List ℕ) → Option (List ℕ) → Option (List ℕ) →
+    Option (List ℕ) → Result (Unit {0}) ScriptFault → Type 0
 -- all lines were answered
 ScriptOutcome {S} serves old input left before after (Ok done) =
-    (lines : List (List ℕ)) × (new : S) × (rest : Option (List ℕ)) × (Wrote serves old new input rest before after lines × IsEmptyKnown rest)
+    (lines : List (List ℕ)) × (new : S) × (rest : Option (List ℕ)) ×
+    (Wrote serves old new input rest before after lines × IsEmptyKnown rest)
 -- the lines before it were, and line n has the fault
 ScriptOutcome {S} serves old input left before after (Err (stops.Line n fault)) =
-    (lines : List (List ℕ)) × (new : S) × (rest : Option (List ℕ)) × (Wrote serves old new input rest before after lines × FaultyKnown fault rest × (n ≡ length lines + 1))
+    (lines : List (List ℕ)) × (new : S) × (rest : Option (List ℕ)) ×
+    (Wrote serves old new input rest before after lines × FaultyKnown fault rest × (n ≡ length lines + 1))
 -- all lines with their ends that were read were answered; what was read behind them is a line without its end
 ScriptOutcome {S} serves old input left before after (Err stops.Read) =
-    (lines : List (List ℕ)) × (new : S) × (held : List ℕ) × (Wrote serves old new input (prepend_known held left) before after lines × IsUnended held)
+    (lines : List (List ℕ)) × (new : S) × (held : List ℕ) ×
+    (Wrote serves old new input (prepend_known held left) before after lines × IsUnended held)
 -- some first lines were answered; where a write failed, a front of the answer to the line after them was written
 ScriptOutcome {S} serves old input left before after (Err stops.Memory) =
     (lines : List (List ℕ)) × (new : S) × (rest : Option (List ℕ)) × Wrote serves old new input rest before after lines
@@ -94,8 +102,11 @@ ScriptOutcome {S} serves old input left before after (Err stops.Stray) =
     (lines : List (List ℕ)) × (new : S) × (rest : Option (List ℕ)) × Wrote serves old new input rest before after lines
 ScriptOutcome {S} serves old input left before after (Err stops.Write) =
     (lines : List (List ℕ)) × (new : S) × (rest : Option (List ℕ)) × (mid : Option (List ℕ)) × (text : List ℕ)
-    × (Wrote serves old new input rest before mid lines × (last : S) × (line : List ℕ) × (NextKnown rest line × Speaks serves new (said line) text last × AppendsSome mid after text))
+    × (Wrote serves old new input rest before mid lines × (last : S) × (line : List ℕ) ×
+    (NextKnown rest line × Speaks serves new (said line) text last × AppendsSome mid after text))
 
 -- Lines that were read one by one, and the lines of the rest, are the lines of the text.
 abbrev pub ReadIsWhole : Type 0
-ReadIsWhole = (text : List ℕ) (before : List (List ℕ)) (rest : List ℕ) → ReadLines text before rest → lines text ≡ before ++ lines rest
+ReadIsWhole =
+    (text : List ℕ) (before : List (List ℕ)) (rest : List ℕ) → ReadLines text before rest →
+    lines text ≡ before ++ lines rest

@@ -46,6 +46,14 @@ most_sweeps = 1000000000
 abbrev pub longest_line : ℕ
 longest_line = 4096
 
+-- what is asked of the page
+pub data Inquiry : Type 0 where
+  WhyVertex : (identifier : ℕ) → Inquiry
+  WhyFeature : (name : List ℕ) → Inquiry
+  WhyChoice : (value : Bool) → (name : List ℕ) → Inquiry
+  Example : (which : Which) → (identifier : ℕ) → Inquiry
+  Offer : (identifier : ℕ) → Inquiry
+
 pub data Command : Type 0 where
   Select : (name : List ℕ) → Command
   Exclude : (name : List ℕ) → Command
@@ -63,6 +71,7 @@ pub data Command : Type 0 where
   Products : Command
   Plan : Command
   Count : Command
+  Ask : (inquiry : Inquiry) → Command
 
 -- the command that a word names
 abbrev pub verb_of : List ℕ → Option Verb
@@ -83,6 +92,10 @@ verb_of w =
     else if bytes_eq w (codes "products") then Some verbs.Products
     else if bytes_eq w (codes "plan") then Some verbs.Plan
     else if bytes_eq w (codes "count") then Some verbs.Count
+    else if bytes_eq w (codes "why") then Some verbs.Why
+    else if bytes_eq w (codes "example") then Some verbs.Example
+    else if bytes_eq w (codes "counterexample") then Some verbs.Counterexample
+    else if bytes_eq w (codes "offer") then Some verbs.Offer
     else None
 
 -- a command without arguments
@@ -101,6 +114,29 @@ bare_command _ = None
 abbrev pub if_name : (List ℕ → Command) → List ℕ → Option Command
 if_name command w = if is_feature_name w then Some (command w) else None
 
+-- the name behind a sign
+abbrev pub signed : ℕ → List ℕ → Option (List ℕ)
+signed sign [] = None
+signed sign (b ∷ name) = if (b == sign) && is_feature_name name then Some name else None
+
+-- of a decision in, of one out, or of a vertex
+abbrev pub why_else : Option (List ℕ) → Option (List ℕ) → Option ℕ → Option Inquiry
+why_else (Some name) out n = Some (WhyChoice true name)
+why_else None (Some name) n = Some (WhyChoice false name)
+why_else None None n = option_map WhyVertex n
+
+-- of a feature's name; of a decision, `+` (43) or `-` (45) and a name; or of a vertex's identifier
+abbrev pub why_of : List ℕ → Option Inquiry
+why_of w = if is_feature_name w then Some (WhyFeature w)
+    else why_else (signed 43 w) (signed 45 w) (number_of largest_identifier w)
+
+-- of a vertex, by its identifier
+abbrev pub example_of : Which → List ℕ → Option Inquiry
+example_of which w = option_map (Example which) (number_of largest_identifier w)
+
+abbrev pub offer_of : List ℕ → Option Inquiry
+offer_of w = option_map Offer (number_of largest_identifier w)
+
 -- with one
 abbrev pub command_with : Verb → List ℕ → Option Command
 command_with verbs.Select w = if_name Select w
@@ -112,6 +148,10 @@ command_with verbs.Keep w = option_map Keep (number_of largest_serial w)
 command_with verbs.Forget w = option_map Forget (number_of largest_serial w)
 command_with verbs.Commit w = option_map Commit (number_of largest_serial w)
 command_with verbs.Settle w = option_map (λ n. Settle (Some n)) (number_of most_sweeps w)
+command_with verbs.Why w = option_map Ask (why_of w)
+command_with verbs.Example w = option_map Ask (example_of Hopeful w)
+command_with verbs.Counterexample w = option_map Ask (example_of Dual w)
+command_with verbs.Offer w = option_map Ask (offer_of w)
 command_with _ w = None
 
 -- the table that a word names

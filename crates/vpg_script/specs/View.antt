@@ -4,9 +4,18 @@ use Rattle.std.specs.Borrow.{Bor}
 use Rattle.vpg_script.specs.Script as script
 use Rattle.vpg_script.specs.declared.command.Command.{Command}
 use Rattle.vpg_script.specs.declared.command.Command.TheVariants as commands
+use Rattle.vpg_script.specs.declared.command.Inquiry.{Inquiry}
+use Rattle.vpg_script.specs.declared.command.Inquiry.TheVariants as inquiries
 use Rattle.vpg_script.specs.declared.command.Request.{Request}
 use Rattle.vpg_script.specs.declared.command.ReadFault.{ReadFault}
 use Rattle.vpg_script.specs.declared.command.ReadFault.TheVariants as faults
+
+abbrev pub inquiry_shown : Inquiry → script.Inquiry
+inquiry_shown (inquiries.WhyVertex v) = script.WhyVertex v
+inquiry_shown (inquiries.WhyFeature f) = script.WhyFeature f.now
+inquiry_shown (inquiries.WhyChoice value f) = script.WhyChoice value f.now
+inquiry_shown (inquiries.Example which v) = script.Example which v
+inquiry_shown (inquiries.Offer v) = script.Offer v
 
 abbrev pub command_shown : Command → script.Command
 command_shown (commands.Select f) = script.Select f.now
@@ -25,6 +34,7 @@ command_shown commands.Trail = script.Trail
 command_shown commands.Products = script.Products
 command_shown commands.Plan = script.Plan
 command_shown commands.Count = script.Count
+command_shown (commands.Ask inquiry) = script.Ask (inquiry_shown inquiry)
 
 abbrev pub texts : List (Bor (List ℕ)) → List (List ℕ)
 texts words = map (λ w. w.now) words

@@ -4,8 +4,8 @@ ghost use Rattle.std.specs.List.{list_all};
 ghost use Rattle.std.specs.Char.{is_ascii_digit, digit_value};
 ghost use Rattle.std.specs.Str.Parse.{digits_value};
 ghost use Rattle.std.specs.Prelude.{bytes_eq};
-ghost use Rattle.vpg_script.specs.Script.{is_blank, is_nonempty, words, is_feature_name, number_of, verb_of, bare_command, command_with, table_named, command_with_two, command_of, label_of, is_comment};
-ghost use Rattle.vpg_script.specs.View.{command_shown, texts};
+ghost use Rattle.vpg_script.specs.Script.{is_blank, is_nonempty, words, is_feature_name, number_of, verb_of, bare_command, signed, why_of, example_of, offer_of, command_with, table_named, command_with_two, command_of, label_of, is_comment};
+ghost use Rattle.vpg_script.specs.View.{command_shown, inquiry_shown, texts};
 
 use std::alloc::{AllocError, Global};
 use thiserror::Error;
@@ -42,6 +42,26 @@ pub enum Verb {
     Products,
     Plan,
     Count,
+    Why,
+    Example,
+    Counterexample,
+    Offer,
+}
+
+/// What is asked of the page. Names stand in the line that was read.
+#[derive(Clone, Copy)]
+pub enum Inquiry<'t> {
+    /// Why a vertex has its verdicts, by its identifier.
+    WhyVertex(u32),
+    /// Why a feature is known.
+    WhyFeature(&'t [u8]),
+    /// Why one more decision contradicts the page: whether the feature is to be in, and its name.
+    WhyChoice(bool, &'t [u8]),
+    /// A product in which Even wins from a vertex, for the first table, or Odd, for the second; by the vertex's
+    /// identifier.
+    Example(Which, u32),
+    /// What each further decision would make of a vertex, by its identifier.
+    Offer(u32),
 }
 
 /// A command. Names stand in the line that was read.
@@ -64,6 +84,7 @@ pub enum Command<'t> {
     Products,
     Plan,
     Count,
+    Ask(Inquiry<'t>),
 }
 
 /// What is wrong with a line.
@@ -201,6 +222,14 @@ fn verb_named(word: &[u8]) -> Option<Verb>
         Some(Verb::Plan)
     } else if same(word, b"count") {
         Some(Verb::Count)
+    } else if same(word, b"why") {
+        Some(Verb::Why)
+    } else if same(word, b"example") {
+        Some(Verb::Example)
+    } else if same(word, b"counterexample") {
+        Some(Verb::Counterexample)
+    } else if same(word, b"offer") {
+        Some(Verb::Offer)
     } else {
         None
     }
@@ -226,8 +255,55 @@ fn bare_command<'t>(verb: Verb) -> Option<Command<'t>>
         | Verb::Keep
         | Verb::Forget
         | Verb::Lift
-        | Verb::Commit => None,
+        | Verb::Commit
+        | Verb::Why
+        | Verb::Example
+        | Verb::Counterexample
+        | Verb::Offer => None,
     }
+}
+
+/// The name behind a sign.
+fn signed(sign: u8, word: &[u8]) -> Option<&[u8]>
+    ensures { option_map (λ name. name.now) result ≡ signed sign word.now }
+{
+    match word {
+        [first, name @ ..] if *first == sign && is_name(name) => Some(name),
+        _ => None,
+    }
+}
+
+/// What is asked why: a vertex, a feature, or a decision.
+fn why_of(word: &[u8]) -> Option<Inquiry>
+    ensures { option_map inquiry_shown result ≡ why_of word.now }
+{
+    if is_name(word) {
+        return Some(Inquiry::WhyFeature(word));
+    }
+    if let Some(name) = signed(b'+', word) {
+        return Some(Inquiry::WhyChoice(true, name));
+    }
+    if let Some(name) = signed(b'-', word) {
+        return Some(Inquiry::WhyChoice(false, name));
+    }
+    let identifier = number(word, LARGEST_IDENTIFIER)?;
+    Some(Inquiry::WhyVertex(identifier as u32))
+}
+
+/// A product that is asked for.
+fn example_of<'t>(which: Which, word: &[u8]) -> Option<Inquiry<'t>>
+    ensures { option_map inquiry_shown result ≡ example_of which word.now }
+{
+    let identifier = number(word, LARGEST_IDENTIFIER)?;
+    Some(Inquiry::Example(which, identifier as u32))
+}
+
+/// What each further decision would make of a vertex.
+fn offer_of<'t>(word: &[u8]) -> Option<Inquiry<'t>>
+    ensures { option_map inquiry_shown result ≡ offer_of word.now }
+{
+    let identifier = number(word, LARGEST_IDENTIFIER)?;
+    Some(Inquiry::Offer(identifier as u32))
 }
 
 /// A command with one argument.
@@ -244,6 +320,10 @@ fn command_with(verb: Verb, word: &[u8]) -> Option<Command>
         Verb::Forget => Some(Command::Forget(number(word, LARGEST_SERIAL)?)),
         Verb::Commit => Some(Command::Commit(number(word, LARGEST_SERIAL)?)),
         Verb::Settle => Some(Command::Settle(Some(number(word, MOST_SWEEPS)?))),
+        Verb::Why => Some(Command::Ask(why_of(word)?)),
+        Verb::Example => Some(Command::Ask(example_of(Which::Hopeful, word)?)),
+        Verb::Counterexample => Some(Command::Ask(example_of(Which::Dual, word)?)),
+        Verb::Offer => Some(Command::Ask(offer_of(word)?)),
         _ => None,
     }
 }

@@ -69,11 +69,15 @@ fn cut(alloc: Global, held: &mut Vec<u8>, n: usize) -> Result<Vec<u8>, AllocErro
 fn more<R: Source>(held: &mut Vec<u8>, reader: &mut R) -> Result<bool, NextFault>
     requires { R.calls reader.old < 16777216 }
     ensures counted { R.calls reader.new ≡ R.calls reader.old + 1 }
-    ensures ok { OnOk result (Keeps (prepend_known held.old.items (R.remaining reader.old)) (prepend_known held.new.items (R.remaining reader.new))) }
+    ensures ok { OnOk result
+        (Keeps (prepend_known held.old.items (R.remaining reader.old))
+        (prepend_known held.new.items (R.remaining reader.new))) }
     ensures few { OnOk result (vec_len held.new ≤ vec_len held.old + 8192) }
     ensures end { IfOk result (λ came. came ≡ false → IsAtEnd (R.remaining reader.new)) }
     ensures same { IfOk result (λ came. came ≡ false → held.new.items ≡ held.old.items) }
-    ensures read { IsErrOf result NextFault.Read → Keeps (prepend_known held.old.items (R.remaining reader.old)) (prepend_known held.new.items (R.remaining reader.new)) }
+    ensures read { IsErrOf result NextFault.Read →
+        Keeps (prepend_known held.old.items (R.remaining reader.old))
+        (prepend_known held.new.items (R.remaining reader.new)) }
     ensures read_same { IsErrOf result NextFault.Read → held.new.items ≡ held.old.items }
     ensures failed { IsErrOf result NextFault.Read → R.has_failed reader.new ≡ true }
     ensures readable { UnlessUnread result (R.has_failed reader.new ≡ R.has_failed reader.old) }
@@ -113,12 +117,17 @@ pub fn next_line<R: Source>(
     requires calls { R.calls reader.old ≡ reads.old }
     ensures calls { R.calls reader.new ≡ reads.new }
     ensures unended { IsErrOf result NextFault.Read → IsUnended held.new.items }
-    ensures next { IfOk result (λ n. ComesKnown n (prepend_known held.old.items (R.remaining reader.old)) (prepend_known held.new.items (R.remaining reader.new))) }
-    ensures read { IsErrOf result NextFault.Read → Keeps (prepend_known held.old.items (R.remaining reader.old)) (prepend_known held.new.items (R.remaining reader.new)) }
+    ensures next { IfOk result
+        (λ n. ComesKnown n (prepend_known held.old.items (R.remaining reader.old))
+        (prepend_known held.new.items (R.remaining reader.new))) }
+    ensures read { IsErrOf result NextFault.Read →
+        Keeps (prepend_known held.old.items (R.remaining reader.old))
+        (prepend_known held.new.items (R.remaining reader.new)) }
     ensures readable { UnlessUnread result (R.has_failed reader.new ≡ R.has_failed reader.old) }
     ensures cause { IsErrOf result NextFault.Read → (R.has_failed reader.new ≡ true) ⊎ (reads.new ≡ 16777216) }
     ensures reads { reads.new ≤ 16777216 }
-    ensures fewer { IfOk result (λ n. IsLine n → lines_left reads.new (vec_len held.new) < lines_left reads.old (vec_len held.old)) }
+    ensures fewer { IfOk result
+        (λ n. IsLine n → lines_left reads.new (vec_len held.new) < lines_left reads.old (vec_len held.old)) }
 {
     'fill: loop {
         let n = line_len(held);

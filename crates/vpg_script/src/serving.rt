@@ -63,7 +63,10 @@ pub trait Server {
     ) -> Result<(), ServeFault>
         requires sync { IsSync T.row }
         requires lifters { (1 ≤ lifters) × (lifters ≤ 64) }
-        ensures answer { OnOk result ((text : List ℕ) × (answering (scene self.old) lifters (state self.old) (request_shown request.now) text (state self.new) × (out.new.items ≡ out.old.items ++ text))) }
+        ensures answer { OnOk result
+            ((text : List ℕ) ×
+            (answering (scene self.old) lifters (state self.old) (request_shown request.now) text (state self.new) ×
+            (out.new.items ≡ out.old.items ++ text))) }
         ensures scene { OnOk result (scene self.new ≡ scene self.old) };
 }
 
@@ -105,12 +108,18 @@ fn answer_line<T: Threads + Wait + Sync, V: Server, W: Sink>(
     writer: &mut W,
 ) -> Result<(), LineStop>
     requires lifters { (1 ≤ lifters) × (lifters ≤ 64) }
-    ensures ok { OnOk result ((text : List ℕ) × (Speaks (V.answering (V.scene server.old) lifters) (V.state server.old) (said line.now) text (V.state server.new) × Appends (W.contents writer.old) (W.contents writer.new) text)) }
+    ensures ok { OnOk result
+        ((text : List ℕ) ×
+        (Speaks (V.answering (V.scene server.old) lifters) (V.state server.old) (said line.now) text
+        (V.state server.new) × Appends (W.contents writer.old) (W.contents writer.new) text)) }
     ensures scene { OnOk result (V.scene server.new ≡ V.scene server.old) }
-    ensures fault { (f : Fault) → IsErrOf result (LineStop.Fault f) → (said line.now ≡ Err f) × (server.new ≡ server.old) × (writer.new ≡ writer.old) }
+    ensures fault { (f : Fault) → IsErrOf result (LineStop.Fault f) → (said line.now ≡ Err f) ×
+        (server.new ≡ server.old) × (writer.new ≡ writer.old) }
     ensures memory { IsErrOf result LineStop.Memory → writer.new ≡ writer.old }
     ensures stray { IsErrOf result LineStop.Stray → writer.new ≡ writer.old }
-    ensures write { IsErrOf result LineStop.Write → (text : List ℕ) × (Speaks (V.answering (V.scene server.old) lifters) (V.state server.old) (said line.now) text (V.state server.new) × AppendsSome (W.contents writer.old) (W.contents writer.new) text) }
+    ensures write { IsErrOf result LineStop.Write → (text : List ℕ) ×
+        (Speaks (V.answering (V.scene server.old) lifters) (V.state server.old) (said line.now) text
+        (V.state server.new) × AppendsSome (W.contents writer.old) (W.contents writer.new) text) }
     ensures write_failed { IsErrOf result LineStop.Write → W.has_failed writer.new ≡ true }
     ensures writable { UnlessUnwritten result (W.has_failed writer.new ≡ W.has_failed writer.old) }
 {
@@ -134,8 +143,8 @@ fn answer_line<T: Threads + Wait + Sync, V: Server, W: Sink>(
 
 /// Reads a script, and answers its lines in order, each before the next is read.
 ///
-/// `Line`, `Read` and `Write` come as the script meets them, `Memory` only where a growth was refused, and `Stray` where the server
-/// answers so.
+/// `Line`, `Read` and `Write` come as the script meets them, `Memory` only where a growth was refused, and `Stray`
+/// where the server answers so.
 pub fn answer_script<T: Threads + Wait + Sync, V: Server, R: Source, W: Sink>(
     rt: &T,
     alloc: Global,
@@ -147,9 +156,11 @@ pub fn answer_script<T: Threads + Wait + Sync, V: Server, R: Source, W: Sink>(
     requires unread { R.calls reader.old ≡ 0 }
     requires lifters { (1 ≤ lifters) × (lifters ≤ 64) }
     // What is written is the output for the lines that were read.
-    ensures output { ScriptOutcome (V.answering (V.scene server.old) lifters) (V.state server.old) (R.remaining reader.old) (R.remaining reader.new) (W.contents writer.old) (W.contents writer.new) result }
+    ensures output { ScriptOutcome (V.answering (V.scene server.old) lifters) (V.state server.old)
+        (R.remaining reader.old) (R.remaining reader.new) (W.contents writer.old) (W.contents writer.new) result }
     // Read and Write are answered only where the device failed, or the reads were used up.
-    ensures read { IsErrOf result ScriptFault.Read → (R.has_failed reader.new ≡ true) ⊎ (R.calls reader.new ≡ 16777216) }
+    ensures read { IsErrOf result ScriptFault.Read → (R.has_failed reader.new ≡ true) ⊎
+        (R.calls reader.new ≡ 16777216) }
     ensures write { IsErrOf result ScriptFault.Write → W.has_failed writer.new ≡ true }
     // A device that failed is told.
     ensures readable { UnlessReaderFails result (R.has_failed reader.new ≡ R.has_failed reader.old) }

@@ -19,9 +19,11 @@ use Rattle.vpg_texts.specs.Scene.{Scene, UnderKnown, AreProgressTables}
 
 -- at each vertex of Even that isn't hopeless the first kept successor of least `prog`, under what is known
 abbrev pub AreChosen : List Tri → GuardedGame Formula → List ℕ → List (Option ℕ) → Type 0
-AreChosen known game hopeful chosen = AreChoices (levels_for Hopeful game) (arena_for (kleene known) Hopeful game) hopeful chosen
+AreChosen known game hopeful chosen =
+    AreChoices (levels_for Hopeful game) (arena_for (kleene known) Hopeful game) hopeful chosen
 
--- Under what is known, each feature is known, both tables are progress tables, and the text has the choices of the first.
+-- Under what is known, each feature is known, both tables are progress tables, and the text has the choices of the
+-- first.
 pub record PlansUnder (scene : Scene) (known : List Tri) (hopeful dual text : List ℕ) : Type 0 where
   pub full : AreAllKnown (length known) known
   pub settled : AreProgressTables known scene.game hopeful dual
@@ -31,19 +33,25 @@ pub record PlansUnder (scene : Scene) (known : List Tri) (hopeful dual text : Li
 
 -- The text is the plan of these decisions and tables.
 abbrev pub IsPlanned : Scene → List Decision → (hopeful dual text : List ℕ) → Type 0
-IsPlanned scene decisions hopeful dual text = UnderKnown scene decisions (λ known. PlansUnder scene known hopeful dual text)
+IsPlanned scene decisions hopeful dual text =
+    UnderKnown scene decisions (λ known. PlansUnder scene known hopeful dual text)
 
--- why there is none: some feature isn't known, or each is and some table is no progress table; out of memory tells nothing
+-- why there is none: some feature isn't known, or each is and some table is no progress table; out of memory tells
+-- nothing
 abbrev pub IsPlanFault : Scene → List Decision → (hopeful dual : List ℕ) → PlanFault → Type 0
-IsPlanFault scene decisions hopeful dual NotFull = UnderKnown scene decisions (λ known. ¬ (AreAllKnown (length known) known))
+IsPlanFault scene decisions hopeful dual NotFull =
+    UnderKnown scene decisions (λ known. ¬ (AreAllKnown (length known) known))
 IsPlanFault scene decisions hopeful dual NotSettled =
-    UnderKnown scene decisions (λ known. AreAllKnown (length known) known × ¬ (AreProgressTables known scene.game hopeful dual))
+    UnderKnown scene decisions
+    (λ known. AreAllKnown (length known) known × ¬ (AreProgressTables known scene.game hopeful dual))
 IsPlanFault scene decisions hopeful dual Memory = ⊤
 
--- In the one product that agrees with the decisions Even wins, by the choices of a plan, from each vertex that isn't hopeless.
+-- In the one product that agrees with the decisions Even wins, by the choices of a plan, from each vertex that isn't
+-- hopeless.
 pub record PlanWins (scene : Scene) (decisions : List Decision) (hopeful : List ℕ) : Type 0 where
   pub product : List Bool
   pub only : IsOnlyRemaining scene.lines (map literal_of decisions) product
-  pub wins : (chosen : List (Option ℕ)) → UnderKnown scene decisions (λ known. AreChosen known scene.game hopeful chosen) →
+  pub wins : (chosen : List (Option ℕ)) →
+      UnderKnown scene decisions (λ known. AreChosen known scene.game hopeful chosen) →
       (v : ℕ) → v < length scene.game → slice_index hopeful v < top_for Hopeful scene.game →
       Wins (product_game (truth product) scene.game) Player.Even (strategy_of chosen) v

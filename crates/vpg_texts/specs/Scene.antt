@@ -35,7 +35,8 @@ scene_of game diagram =
 
 -- it is so of what the decisions make known
 abbrev pub UnderKnown : Scene → List Decision → (List Tri → Type 0) → Type 0
-UnderKnown scene decisions P = (known : List Tri) × (IsKnownTable scene.lines (map literal_of decisions) known × P known)
+UnderKnown scene decisions P =
+    (known : List Tri) × (IsKnownTable scene.lines (map literal_of decisions) known × P known)
 
 -- the one of two tables
 abbrev pub table_in : List ℕ → List ℕ → Which → List ℕ
@@ -44,14 +45,18 @@ table_in hopeful dual Dual = dual
 
 -- no lift raises either of two tables of these games
 abbrev pub AreSettledTables : GamesView → (hopeful dual : List ℕ) → Type 0
-AreSettledTables games hopeful dual = (which : Which) → IsProgressTable (games_levels which games) (games_arena which games) (table_in hopeful dual which)
+AreSettledTables games hopeful dual =
+    (which : Which) → IsProgressTable (games_levels which games) (games_arena which games) (table_in hopeful dual which)
 
 -- under what is known, both are progress tables of their games
 abbrev pub AreProgressTables : List Tri → GuardedGame Formula → (hopeful dual : List ℕ) → Type 0
-AreProgressTables known game hopeful dual = (table : Which) → IsProgressOf (kleene known) table game (table_in hopeful dual table)
+AreProgressTables known game hopeful dual =
+    (table : Which) → IsProgressOf (kleene known) table game (table_in hopeful dual table)
 
--- Under what is known, the text is made of whether each feature is known, and of whether both tables are progress tables.
-pub record TellsUnder (scene : Scene) (known : List Tri) (hopeful dual : List ℕ) (text_of : (full settled : Bool) → List ℕ) (text : List ℕ) : Type 0 where
+-- Under what is known, the text is made of whether each feature is known, and of whether both tables are progress
+-- tables.
+pub record TellsUnder (scene : Scene) (known : List Tri) (hopeful dual : List ℕ)
+    (text_of : (full settled : Bool) → List ℕ) (text : List ℕ) : Type 0 where
   pub full : Bool
   pub settled : Bool
   pub full_is : Decides full (AreAllKnown (length known) known)
@@ -61,16 +66,19 @@ pub record TellsUnder (scene : Scene) (known : List Tri) (hopeful dual : List �
 -- the lines of these decisions and tables
 abbrev pub shown_lines : Scene → List Decision → (hopeful dual : List ℕ) → (full settled : Bool) → List ℕ
 shown_lines scene decisions hopeful dual full settled =
-    show_text scene.names scene.identifiers (top_for Hopeful scene.game) (top_for Dual scene.game) (map literal_of decisions) full settled hopeful dual
+    show_text scene.names scene.identifiers (top_for Hopeful scene.game) (top_for Dual scene.game)
+    (map literal_of decisions) full settled hopeful dual
 
 -- The text shows these decisions, under what they make known, and these tables.
 abbrev pub IsShown : Scene → List Decision → (hopeful dual text : List ℕ) → Type 0
 IsShown scene decisions hopeful dual text =
-    UnderKnown scene decisions (λ known. TellsUnder scene known hopeful dual (shown_lines scene decisions hopeful dual) text)
+    UnderKnown scene decisions
+    (λ known. TellsUnder scene known hopeful dual (shown_lines scene decisions hopeful dual) text)
 
 -- how many vertices have which verdict by these tables
 abbrev pub counted_lines : Scene → (hopeful dual : List ℕ) → (full settled : Bool) → List ℕ
-counted_lines scene hopeful dual full settled = count_text (top_for Hopeful scene.game) (top_for Dual scene.game) full settled hopeful dual
+counted_lines scene hopeful dual full settled =
+    count_text (top_for Hopeful scene.game) (top_for Dual scene.game) full settled hopeful dual
 
 -- The text counts the verdicts by these tables, under what the decisions make known.
 abbrev pub IsCounted : Scene → List Decision → (hopeful dual text : List ℕ) → Type 0

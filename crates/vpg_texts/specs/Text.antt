@@ -41,7 +41,8 @@ sure_text sure = if sure then codes " sure\n" else codes " unsure\n"
 -- a vertex's identifier, its two measures and its verdict
 abbrev pub vertex_line : ℕ → ℕ → ℕ → ℕ → ℕ → List ℕ
 vertex_line hopeful_top dual_top identifier hopeful dual =
-    decimal identifier ++ blank_number hopeful ++ blank_number dual ++ hopeless_text (hopeful == hopeful_top) ++ sure_text (dual == dual_top)
+    decimal identifier ++ blank_number hopeful ++ blank_number dual ++ hopeless_text (hopeful == hopeful_top)
+    ++ sure_text (dual == dual_top)
 
 -- those of the vertices below n
 abbrev pub vertex_lines : ℕ → ℕ → List ℕ → List ℕ → List ℕ → ℕ → List ℕ
@@ -65,7 +66,8 @@ count_line word n = word ++ blank_number n ++ 10 ∷ []
 
 -- how many vertices have the top in a table, and how many have not
 abbrev pub count_lines : List ℕ → List ℕ → ℕ → List ℕ → List ℕ
-count_lines at_top below top table = count_line at_top (count_by (λ n. n == top) table) ++ count_line below (count_by (λ n. not (n == top)) table)
+count_lines at_top below top table =
+    count_line at_top (count_by (λ n. n == top) table) ++ count_line below (count_by (λ n. not (n == top)) table)
 
 -- whether the page is settled, and whether each feature is known
 abbrev pub state_lines : Bool → Bool → List ℕ
@@ -88,14 +90,16 @@ table_text Dual = codes "dual"
 
 -- a decision with its serial; a lift of a vertex in a table, with the old and the new value and what it assumed
 abbrev pub entry_line : List (List ℕ) → List ℕ → Entry → List ℕ
-entry_line names identifiers (Decided d) = deciding_text d.value ++ blank_name names d.feature ++ blank_number d.serial ++ 10 ∷ []
+entry_line names identifiers (Decided d) =
+    deciding_text d.value ++ blank_name names d.feature ++ blank_number d.serial ++ 10 ∷ []
 entry_line names identifiers (Lifted l) =
     table_text l.table ++ blank_number (slice_index identifiers l.vertex) ++ blank_number l.old ++ blank_number l.new
     ++ choices_text names l.under ++ 10 ∷ []
 
 -- a line for each entry, and their number
 abbrev pub trail_text : List (List ℕ) → List ℕ → List Entry → List ℕ
-trail_text names identifiers entries = flat_map (entry_line names identifiers) entries ++ codes "entries" ++ blank_number (length entries) ++ 10 ∷ []
+trail_text names identifiers entries =
+    flat_map (entry_line names identifiers) entries ++ codes "entries" ++ blank_number (length entries) ++ 10 ∷ []
 
 -- ---- products
 
@@ -111,7 +115,8 @@ name_if b names f = if b then blank_name names f else []
 -- those of the first n features of which this is known
 abbrev pub names_known : List (List ℕ) → List Tri → Tri → ℕ → List ℕ
 names_known names known value zero = []
-names_known names known value (suc n) = names_known names known value n ++ name_if (is_value (slice_index_or known n Unknown) value) names n
+names_known names known value (suc n) =
+    names_known names known value n ++ name_if (is_value (slice_index_or known n Unknown) value) names n
 
 abbrev pub products_line : List ℕ → List (List ℕ) → List Tri → Tri → List ℕ
 products_line word names known value = word ++ names_known names known value (length names) ++ 10 ∷ []
@@ -128,13 +133,16 @@ products_text names known =
 -- a vertex's identifier and that of its chosen successor
 abbrev pub plan_line : List ℕ → ℕ → Option ℕ → List ℕ
 plan_line identifiers v None = []
-plan_line identifiers v (Some w) = codes "plan" ++ blank_number (slice_index identifiers v) ++ blank_number (slice_index identifiers w) ++ 10 ∷ []
+plan_line identifiers v (Some w) =
+    codes "plan" ++ blank_number (slice_index identifiers v) ++ blank_number (slice_index identifiers w) ++ 10 ∷ []
 
 -- those of the vertices below n
 abbrev pub plan_lines : List ℕ → List (Option ℕ) → ℕ → List ℕ
 plan_lines identifiers chosen zero = []
-plan_lines identifiers chosen (suc n) = plan_lines identifiers chosen n ++ plan_line identifiers n (slice_index_or chosen n None)
+plan_lines identifiers chosen (suc n) =
+    plan_lines identifiers chosen n ++ plan_line identifiers n (slice_index_or chosen n None)
 
 abbrev pub plan_text : List ℕ → List (Option ℕ) → List ℕ
 plan_text identifiers chosen =
-    plan_lines identifiers chosen (length identifiers) ++ codes "plans" ++ blank_number (count_by is_some chosen) ++ 10 ∷ []
+    plan_lines identifiers chosen (length identifiers) ++ codes "plans" ++ blank_number (count_by is_some chosen)
+    ++ 10 ∷ []

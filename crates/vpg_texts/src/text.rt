@@ -126,7 +126,8 @@ fn sure(sure: bool, out: &mut Vec<u8>) -> Result<(), AllocError>
 }
 
 fn measures(games: &PageGames, id: u32, h: u64, d: u64, out: &mut Vec<u8>) -> Result<(), AllocError>
-    ensures { OnOk result (out.new.items ≡ out.old.items ++ vertex_line (top_of games.now.hopeful_levels) (top_of games.now.dual_levels) id h d) }
+    ensures { OnOk result (out.new.items ≡ out.old.items
+        ++ vertex_line (top_of games.now.hopeful_levels) (top_of games.now.dual_levels) id h d) }
 {
     number(id as u64, out)?;
     blank_number(h, out)?;
@@ -154,7 +155,9 @@ fn vertex(
     requires game { v < length game.now.vertices }
     requires hopeful { v < length hopeful.now }
     requires dual { v < length dual.now }
-    ensures { OnOk result (out.new.items ≡ out.old.items ++ vertex_line (top_of games.now.hopeful_levels) (top_of games.now.dual_levels) (slice_index (vertex_ids game.now.vertices) v) (slice_index hopeful.now v) (slice_index dual.now v)) }
+    ensures { OnOk result (out.new.items ≡ out.old.items
+        ++ vertex_line (top_of games.now.hopeful_levels) (top_of games.now.dual_levels)
+        (slice_index (vertex_ids game.now.vertices) v) (slice_index hopeful.now v) (slice_index dual.now v)) }
 {
     measures(games, identifier(game, v), hopeful.get(v), dual.get(v), out)
 }
@@ -169,7 +172,9 @@ fn vertices(
 ) -> Result<(), AllocError>
     requires hopeful { length hopeful.now ≡ length game.now.vertices }
     requires dual { length dual.now ≡ length game.now.vertices }
-    ensures { OnOk result (out.new.items ≡ out.old.items ++ vertex_lines (top_of games.now.hopeful_levels) (top_of games.now.dual_levels) (vertex_ids game.now.vertices) hopeful.now dual.now (length game.now.vertices)) }
+    ensures { OnOk result (out.new.items ≡ out.old.items
+        ++ vertex_lines (top_of games.now.hopeful_levels) (top_of games.now.dual_levels)
+        (vertex_ids game.now.vertices) hopeful.now dual.now (length game.now.vertices)) }
 {
     let count = game.vertices() as u32;
     for v in 0..count {
@@ -193,7 +198,9 @@ pub(crate) fn page(
     requires decisions { All (λ d. d.feature < length names.now) ds.now }
     requires hopeful { length hopeful.now ≡ length game.now.vertices }
     requires dual { length dual.now ≡ length game.now.vertices }
-    ensures { OnOk result (out.new.items ≡ out.old.items ++ show_text names.now (vertex_ids game.now.vertices) (top_of games.now.hopeful_levels) (top_of games.now.dual_levels) (map literal_of ds.now) full settled hopeful.now dual.now) }
+    ensures { OnOk result (out.new.items ≡ out.old.items
+        ++ show_text names.now (vertex_ids game.now.vertices) (top_of games.now.hopeful_levels)
+        (top_of games.now.dual_levels) (map literal_of ds.now) full settled hopeful.now dual.now) }
 {
     out.extend_from_slice(b"decisions")?;
     decided(names, ds, out)?;
@@ -261,7 +268,9 @@ pub(crate) fn count(
     dual: &Table,
     out: &mut Vec<u8>,
 ) -> Result<(), AllocError>
-    ensures { OnOk result (out.new.items ≡ out.old.items ++ count_text (top_of games.now.hopeful_levels) (top_of games.now.dual_levels) full settled hopeful.now dual.now) }
+    ensures { OnOk result (out.new.items ≡ out.old.items
+        ++ count_text (top_of games.now.hopeful_levels)
+        (top_of games.now.dual_levels) full settled hopeful.now dual.now) }
 {
     let hopeful_top = games.shape(Which::Hopeful).top();
     let dual_top = games.shape(Which::Dual).top();
@@ -282,7 +291,8 @@ fn table(which: Which, out: &mut Vec<u8>) -> Result<(), AllocError>
 
 fn decision(names: &Names, d: Decision, out: &mut Vec<u8>) -> Result<(), AllocError>
     requires { d.feature < length names.now }
-    ensures { OnOk result (out.new.items ≡ out.old.items ++ deciding_text d.value ++ blank_name names.now d.feature ++ blank_number d.serial ++ 10 ∷ []) }
+    ensures { OnOk result (out.new.items ≡ out.old.items ++ deciding_text d.value ++ blank_name names.now d.feature
+        ++ blank_number d.serial ++ 10 ∷ []) }
 {
     if d.value {
         out.extend_from_slice(b"select")?;
@@ -298,7 +308,8 @@ fn decision(names: &Names, d: Decision, out: &mut Vec<u8>) -> Result<(), AllocEr
 /// The line of an entry.
 fn entry(names: &Names, game: &GuardedGame, e: &Entry, out: &mut Vec<u8>) -> Result<(), AllocError>
     requires { EntryIsWithin (length names.now) (length game.now.vertices) (entry_of e.now) }
-    ensures { OnOk result (out.new.items ≡ out.old.items ++ entry_line names.now (vertex_ids game.now.vertices) (entry_of e.now)) }
+    ensures { OnOk result (out.new.items ≡ out.old.items
+        ++ entry_line names.now (vertex_ids game.now.vertices) (entry_of e.now)) }
 {
     match e {
         Entry::Decide(d) => decision(names, *d, out),
@@ -328,7 +339,8 @@ pub(crate) fn trail(
     out: &mut Vec<u8>,
 ) -> Result<(), AllocError>
     requires { All (EntryIsWithin (length names.now) (length game.now.vertices)) (map entry_of entries.now) }
-    ensures { OnOk result (out.new.items ≡ out.old.items ++ trail_text names.now (vertex_ids game.now.vertices) (map entry_of entries.now)) }
+    ensures { OnOk result (out.new.items ≡ out.old.items
+        ++ trail_text names.now (vertex_ids game.now.vertices) (map entry_of entries.now)) }
 {
     for e in entries {
         entry(names, game, e, out)?;

@@ -33,6 +33,11 @@ harvest's number, N a number):
   products, plan         known features; Even's moves, where all is known
   count                  how many vertices have which verdict; whether the page
                          is settled, and full
+  why V, why F           decisions that make V's verdicts so, or F known
+  why +F, why -F         decisions that contradict one more
+  example V              the first product left in which Even wins at V
+  counterexample V       the same of Odd
+  offer V                what each further decision would make of V
   # ..                   a comment
   N: COMMAND             session N (1 to 64) gives the command
 

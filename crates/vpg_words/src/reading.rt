@@ -206,7 +206,8 @@ fn accepted<'a>(alloc: Global, matches: &ArgMatches<'a>) -> Result<Task<'a>, Err
     }
 }
 
-/// What the words ask for, the first of them being the program's name; else what is told of them, help and the version among it.
+/// What the words ask for, the first of them being the program's name; else what is told of them, help and the version
+/// among it.
 pub fn read<'a>(alloc: Global, words: &'a [String]) -> Result<Task<'a>, Error> {
     let matches = command(alloc)?.try_get_matches_from(words)?;
     accepted(alloc, &matches)

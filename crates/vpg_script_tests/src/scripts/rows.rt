@@ -414,6 +414,59 @@ static COUNTS: [Row; 2] = [
     },
 ];
 
+static WHYS: [Row; 3] = [
+    Row {
+        diagram: DIAGRAM,
+        game: GAME,
+        script: "why 0 / why r / why f / why +r / why -r / why -f / exclude g / exclude f / why 0 / settle / why 0 / why 1 / why f / why +f / 2: why -f / why 7 / why h / why +h / retract f / select f / settle / why 0 / why 1 / why g",
+        answers: "possible 0 / unsure 0 / in r / refused NotKnown / refused NoConflict / conflict -r / refused NoConflict / done 1 / done 2 / possible 0 / unsure 0 / settled 2 / hopeless 0 -f / unsure 0 / possible 1 / sure 1 -g / out f -f / conflict +f -f / refused NoConflict / refused NoVertex / refused UnknownFeature / refused UnknownFeature / done 3 / done 4 / settled 3 / possible 0 / sure 0 +f / possible 1 / sure 1 -g / out g -g",
+    },
+    // Two decisions are needed together, and of two that suffice the older one is named.
+    Row {
+        diagram: "root r / optional r a / optional r b / optional r c / optional r d / requires a d / requires b d / excludes c d",
+        game: "0 0 0 1[!a | !b]; 1 0 0 1;",
+        script: "select c / why d / why a / why +a / why +d / retract c / select b / select a / why d / why +c / why -d / settle / why 0 / retract b / select b / why d / settle / why 0",
+        answers: "done 1 / out d +c / out a +c / conflict +a +c / conflict +d +c / done 2 / done 3 / done 4 / in d +b / conflict +c +b / conflict -d +b / settled 2 / hopeless 0 +b +a / unsure 0 / done 5 / done 6 / in d +a / settled 2 / hopeless 0 +a +b / unsure 0",
+    },
+    Row {
+        diagram: "root r / optional r a / optional r b / optional r c",
+        game: "0 0 0 1[!a & !b]; 1 0 0 1;",
+        script: "select c / select b / select a / settle / why 0 / why 1",
+        answers: "done 1 / done 2 / done 3 / settled 2 / hopeless 0 +b / unsure 0 / possible 1 / sure 1",
+    },
+];
+
+static EXAMPLES: [Row; 2] = [
+    Row {
+        diagram: DIAGRAM,
+        game: GAME,
+        script: "example 0 / counterexample 0 / example 1 / counterexample 1 / exclude f / example 0 / 2: counterexample 0 / select g / counterexample 1 / example 7 / counterexample 7",
+        answers: "product r f g / product r g / product r f g / product r g / done 1 / none / product r g / done 2 / product r g / refused NoVertex / refused NoVertex",
+    },
+    Row {
+        diagram: "root r / optional r a / optional r b / excludes a b",
+        game: "0 0 0 1[a & b],0[!a]; 1 0 0 1; 2 0 0 1[a],1[!a]; 3 0 1 1[a],1[!a],3[a & b];",
+        script: "settle / example 0 / counterexample 0 / example 2 / counterexample 2 / select a / settle / why 0 / example 0 / why 2 / counterexample 2",
+        answers: "settled 2 / product r b / product r a / product r a / none / done 1 / settled 2 / hopeless 0 +a / unsure 0 / none / possible 2 / sure 2 +a / none",
+    },
+];
+
+static OFFERS: [Row; 2] = [
+    Row {
+        diagram: DIAGRAM,
+        game: GAME,
+        script: "offer 0 / offer 1 / select f / settle / 2: offer 0 / offer 1 / select g / offer 0 / offer 7",
+        answers: "offer +f possible sure / offer -f hopeless unsure / offer +g possible unsure / offer -g possible unsure / offers 4 / offer +f possible sure / offer -f possible unsure / offer +g possible unsure / offer -g possible sure / offers 4 / done 1 / settled 3 / offer +g possible sure / offer -g possible sure / offers 2 / offer +g possible sure / offer -g possible sure / offers 2 / done 2 / offers 0 / refused NoVertex",
+    },
+    // Each product has c, though it isn't known; to exclude it contradicts.
+    Row {
+        diagram: "root r / optional r c / alternative r: a b / requires a c / requires b c",
+        game: "0 0 0 1[c],2[a]; 1 1 1 1[b],0[!b]; 2 0 1;",
+        script: "offer 0 / offer 2 / exclude a / settle / offer 1",
+        answers: "offer +c possible unsure / offer -c conflict / offer +a possible sure / offer -a hopeless unsure / offer +b hopeless unsure / offer -b possible sure / offers 6 / offer +c possible sure / offer -c conflict / offer +a possible sure / offer -a possible sure / offer +b possible sure / offer -b possible sure / offers 6 / done 1 / settled 4 / offers 0",
+    },
+];
+
 #[test]
 fn settling_and_showing(rt: HostRuntime) -> Result<(), Fail> {
     assert_eq!(rt; first_wrong(&rt, rt.alloc(), &SETTLING), None);
@@ -447,6 +500,24 @@ fn plans_on_full_settled_pages(rt: HostRuntime) -> Result<(), Fail> {
 #[test]
 fn verdicts_counted(rt: HostRuntime) -> Result<(), Fail> {
     assert_eq!(rt; first_wrong(&rt, rt.alloc(), &COUNTS), None);
+    Ok(())
+}
+
+#[test]
+fn reasons_told(rt: HostRuntime) -> Result<(), Fail> {
+    assert_eq!(rt; first_wrong(&rt, rt.alloc(), &WHYS), None);
+    Ok(())
+}
+
+#[test]
+fn products_found(rt: HostRuntime) -> Result<(), Fail> {
+    assert_eq!(rt; first_wrong(&rt, rt.alloc(), &EXAMPLES), None);
+    Ok(())
+}
+
+#[test]
+fn decisions_offered(rt: HostRuntime) -> Result<(), Fail> {
+    assert_eq!(rt; first_wrong(&rt, rt.alloc(), &OFFERS), None);
     Ok(())
 }
 

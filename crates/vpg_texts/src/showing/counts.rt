@@ -32,7 +32,10 @@ pub fn count_over(
     requires dual { length page.now.dual ≡ length game.now.vertices }
     requires hopeful_within { All (λ n. n ≤ top_for Which.Hopeful (graph_of game.now)) page.now.hopeful }
     requires dual_within { All (λ n. n ≤ top_for Which.Dual (graph_of game.now)) page.now.dual }
-    ensures counted { OnOk result ((text : List ℕ) × (IsCounted (scene_of game.now diagram.now) page.now.decisions page.now.hopeful page.now.dual text × (out.new.items ≡ out.old.items ++ text))) }
+    ensures counted { OnOk result
+        ((text : List ℕ) ×
+        (IsCounted (scene_of game.now diagram.now) page.now.decisions page.now.hopeful page.now.dual text ×
+        (out.new.items ≡ out.old.items ++ text))) }
     ensures unchanged { OnErr result (out.new.items ≡ out.old.items) }
 {
     let full = games.known().is_full();
@@ -42,9 +45,9 @@ pub fn count_over(
     out.extend_from_slice(&text)
 }
 
-/// Appends how many vertices of a page are hopeless and how many possible, how many are sure and how many unsure, whether both tables
-/// are progress tables, and whether each feature is known. The page's decisions have no conflict, and its tables have one number up to
-/// the top for each vertex.
+/// Appends how many vertices of a page are hopeless and how many possible, how many are sure and how many unsure,
+/// whether both tables are progress tables, and whether each feature is known. The page's decisions have no conflict,
+/// and its tables have one number up to the top for each vertex.
 pub fn count(
     alloc: Global,
     page: &Page,
@@ -59,7 +62,10 @@ pub fn count(
     requires dual { length page.now.dual ≡ length game.now.vertices }
     requires hopeful_within { All (λ n. n ≤ top_for Which.Hopeful (graph_of game.now)) page.now.hopeful }
     requires dual_within { All (λ n. n ≤ top_for Which.Dual (graph_of game.now)) page.now.dual }
-    ensures counted { OnOk result ((text : List ℕ) × (IsCounted (scene_of game.now diagram.now) page.now.decisions page.now.hopeful page.now.dual text × (out.new.items ≡ out.old.items ++ text))) }
+    ensures counted { OnOk result
+        ((text : List ℕ) ×
+        (IsCounted (scene_of game.now diagram.now) page.now.decisions page.now.hopeful page.now.dual text ×
+        (out.new.items ≡ out.old.items ++ text))) }
     ensures unchanged { OnErr result (out.new.items ≡ out.old.items) }
 {
     let games = games_of(alloc, game, diagram, page.decisions.as_slice())?;

@@ -11,8 +11,8 @@ use vpg_diagram::Diagram;
 use vpg_game::GuardedGame;
 use vpg_trail::Page;
 
-/// Appends a line for each entry of a page, a decision with its serial or a lift with what it assumed, and their number. The
-/// entries name features of the diagram and vertices of the game.
+/// Appends a line for each entry of a page, a decision with its serial or a lift with what it assumed, and their
+/// number. The entries name features of the diagram and vertices of the game.
 pub fn trail(
     alloc: Global,
     page: &Page,
@@ -20,8 +20,11 @@ pub fn trail(
     diagram: &Diagram,
     out: &mut Vec<u8>,
 ) -> Result<(), AllocError>
-    requires entries { All (EntryIsWithin (feature_count diagram.now.lines) (length game.now.vertices)) page.now.entries }
-    ensures trail { OnOk result (out.new.items ≡ out.old.items ++ trail_text diagram.now.names (vertex_ids game.now.vertices) page.now.entries) }
+    requires entries { All (EntryIsWithin (feature_count diagram.now.lines)
+        (length game.now.vertices)) page.now.entries }
+    ensures trail { OnOk result
+        (out.new.items ≡ out.old.items
+        ++ trail_text diagram.now.names (vertex_ids game.now.vertices) page.now.entries) }
     ensures unchanged { OnErr result (out.new.items ≡ out.old.items) }
 {
     let mut text = Vec::new(alloc);

@@ -15,8 +15,8 @@ use vpg_game::GuardedGame;
 use vpg_measure::PageGames;
 use vpg_trail::Page;
 
-/// Appends the features that are known in, those known out, and those not known, from games that are made already, over the
-/// features of the diagram. No edge is looked at.
+/// Appends the features that are known in, those known out, and those not known, from games that are made already, over
+/// the features of the diagram. No edge is looked at.
 pub fn products_over(
     alloc: Global,
     games: &PageGames,
@@ -43,7 +43,10 @@ pub fn products(
     requires features { game.now.features ≡ feature_count diagram.now.lines }
     requires named { AreChoicesOf diagram.now.lines (map literal_of page.now.decisions) }
     requires consistent { ¬ (HasConflictOf diagram.now.lines (map literal_of page.now.decisions)) }
-    ensures products { OnOk result ((text : List ℕ) × (TellsKnown (scene_of game.now diagram.now) page.now.decisions text × (out.new.items ≡ out.old.items ++ text))) }
+    ensures products { OnOk result
+        ((text : List ℕ) ×
+        (TellsKnown (scene_of game.now diagram.now) page.now.decisions text ×
+        (out.new.items ≡ out.old.items ++ text))) }
     ensures unchanged { OnErr result (out.new.items ≡ out.old.items) }
 {
     let games = games_of(alloc, game, diagram, page.decisions.as_slice())?;

@@ -56,7 +56,9 @@ fn shown(
     requires dual { length dual.now ≡ length game.now.vertices }
     requires hopeful_within { All (λ n. n ≤ top_for Which.Hopeful (graph_of game.now)) hopeful.now }
     requires dual_within { All (λ n. n ≤ top_for Which.Dual (graph_of game.now)) dual.now }
-    ensures { IfOk result (λ text. TellsUnder (scene_of game.now diagram.now) games.now.known hopeful.now dual.now (shown_lines (scene_of game.now diagram.now) decisions.now hopeful.now dual.now) text.items) }
+    ensures { IfOk result (λ text.
+        TellsUnder (scene_of game.now diagram.now) games.now.known hopeful.now dual.now
+        (shown_lines (scene_of game.now diagram.now) decisions.now hopeful.now dual.now) text.items) }
 {
     let full = games.known().is_full();
     let settled = is_settled(games, hopeful, dual);
@@ -90,7 +92,10 @@ pub fn show_over(
     requires dual { length page.now.dual ≡ length game.now.vertices }
     requires hopeful_within { All (λ n. n ≤ top_for Which.Hopeful (graph_of game.now)) page.now.hopeful }
     requires dual_within { All (λ n. n ≤ top_for Which.Dual (graph_of game.now)) page.now.dual }
-    ensures shown { OnOk result ((text : List ℕ) × (IsShown (scene_of game.now diagram.now) page.now.decisions page.now.hopeful page.now.dual text × (out.new.items ≡ out.old.items ++ text))) }
+    ensures shown { OnOk result
+        ((text : List ℕ) ×
+        (IsShown (scene_of game.now diagram.now) page.now.decisions page.now.hopeful page.now.dual text ×
+        (out.new.items ≡ out.old.items ++ text))) }
     ensures unchanged { OnErr result (out.new.items ≡ out.old.items) }
 {
     let text = shown(
@@ -105,9 +110,9 @@ pub fn show_over(
     out.extend_from_slice(&text)
 }
 
-/// Appends the text of a page: its decisions in their order, whether each feature is known, whether both tables are progress
-/// tables, and each vertex with its two measures and its verdict. The page's decisions have no conflict, and its tables
-/// have one number up to the top for each vertex.
+/// Appends the text of a page: its decisions in their order, whether each feature is known, whether both tables are
+/// progress tables, and each vertex with its two measures and its verdict. The page's decisions have no conflict, and
+/// its tables have one number up to the top for each vertex.
 pub fn show(
     alloc: Global,
     page: &Page,
@@ -122,7 +127,10 @@ pub fn show(
     requires dual { length page.now.dual ≡ length game.now.vertices }
     requires hopeful_within { All (λ n. n ≤ top_for Which.Hopeful (graph_of game.now)) page.now.hopeful }
     requires dual_within { All (λ n. n ≤ top_for Which.Dual (graph_of game.now)) page.now.dual }
-    ensures shown { OnOk result ((text : List ℕ) × (IsShown (scene_of game.now diagram.now) page.now.decisions page.now.hopeful page.now.dual text × (out.new.items ≡ out.old.items ++ text))) }
+    ensures shown { OnOk result
+        ((text : List ℕ) ×
+        (IsShown (scene_of game.now diagram.now) page.now.decisions page.now.hopeful page.now.dual text ×
+        (out.new.items ≡ out.old.items ++ text))) }
     ensures unchanged { OnErr result (out.new.items ≡ out.old.items) }
 {
     let games = games_of(alloc, game, diagram, page.decisions.as_slice())?;

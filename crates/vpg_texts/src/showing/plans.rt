@@ -54,7 +54,9 @@ fn choices(
     requires hopeful { IsTableOf games.now.hopeful_levels games.now.hopeful_arena hopeful.now }
     requires dual { IsTableOf games.now.dual_levels games.now.dual_arena dual.now }
     ensures settled { IfOk result (λ found. IfSome found (λ _. AreSettledTables games.now hopeful.now dual.now)) }
-    ensures chosen { IfOk result (λ found. IfSome found (λ chosen. AreChoices games.now.hopeful_levels games.now.hopeful_arena hopeful.now chosen.items)) }
+    ensures chosen { IfOk result
+        (λ found. IfSome found (λ chosen.
+        AreChoices games.now.hopeful_levels games.now.hopeful_arena hopeful.now chosen.items)) }
     ensures unsettled { IfOk result (λ found. IfNone found (¬ (AreSettledTables games.now hopeful.now dual.now))) }
 {
     let shape = games.shape(Which::Hopeful);
@@ -88,8 +90,12 @@ pub fn plan_over(
     requires dual { length page.now.dual ≡ length game.now.vertices }
     requires hopeful_within { All (λ n. n ≤ top_for Which.Hopeful (graph_of game.now)) page.now.hopeful }
     requires dual_within { All (λ n. n ≤ top_for Which.Dual (graph_of game.now)) page.now.dual }
-    ensures planned { OnOk result ((text : List ℕ) × (IsPlanned (scene_of game.now diagram.now) page.now.decisions page.now.hopeful page.now.dual text × (out.new.items ≡ out.old.items ++ text))) }
-    ensures refused { IfErr result (IsPlanFault (scene_of game.now diagram.now) page.now.decisions page.now.hopeful page.now.dual) }
+    ensures planned { OnOk result
+        ((text : List ℕ) ×
+        (IsPlanned (scene_of game.now diagram.now) page.now.decisions page.now.hopeful page.now.dual text ×
+        (out.new.items ≡ out.old.items ++ text))) }
+    ensures refused { IfErr result
+        (IsPlanFault (scene_of game.now diagram.now) page.now.decisions page.now.hopeful page.now.dual) }
 
     // Even wins by the choices, in the one product that remains.
     ensures wins { OnOk result (PlanWins (scene_of game.now diagram.now) page.now.decisions page.now.hopeful) }
@@ -107,10 +113,12 @@ pub fn plan_over(
     Ok(())
 }
 
-/// Appends a plan: for each vertex of Even that isn't hopeless, in file order, the first kept successor of least `prog`, and how many
-/// there are. The page's decisions have no conflict, and its tables have one number up to the top for each vertex.
+/// Appends a plan: for each vertex of Even that isn't hopeless, in file order, the first kept successor of least
+/// `prog`, and how many there are. The page's decisions have no conflict, and its tables have one number up to the top
+/// for each vertex.
 ///
-/// Errors, in this order: `NotFull` where some feature isn't known, `NotSettled` where some table is no progress table, `Memory`.
+/// Errors, in this order: `NotFull` where some feature isn't known, `NotSettled` where some table is no progress table,
+/// `Memory`.
 pub fn plan(
     alloc: Global,
     page: &Page,
@@ -125,8 +133,12 @@ pub fn plan(
     requires dual { length page.now.dual ≡ length game.now.vertices }
     requires hopeful_within { All (λ n. n ≤ top_for Which.Hopeful (graph_of game.now)) page.now.hopeful }
     requires dual_within { All (λ n. n ≤ top_for Which.Dual (graph_of game.now)) page.now.dual }
-    ensures planned { OnOk result ((text : List ℕ) × (IsPlanned (scene_of game.now diagram.now) page.now.decisions page.now.hopeful page.now.dual text × (out.new.items ≡ out.old.items ++ text))) }
-    ensures refused { IfErr result (IsPlanFault (scene_of game.now diagram.now) page.now.decisions page.now.hopeful page.now.dual) }
+    ensures planned { OnOk result
+        ((text : List ℕ) ×
+        (IsPlanned (scene_of game.now diagram.now) page.now.decisions page.now.hopeful page.now.dual text ×
+        (out.new.items ≡ out.old.items ++ text))) }
+    ensures refused { IfErr result
+        (IsPlanFault (scene_of game.now diagram.now) page.now.decisions page.now.hopeful page.now.dual) }
 
     // Even wins by the choices, in the one product that remains.
     ensures wins { OnOk result (PlanWins (scene_of game.now diagram.now) page.now.decisions page.now.hopeful) }

@@ -13,5 +13,14 @@ returns-in-WhyFeature c =
     let before = c.args.out.now.items in
     let after = c.feature.new.out.items in
     on_ok c.feature.result _ _
-    (λ told. subst (λ (q : Query). Appends (IsAnswer (scene_of order.game order.diagram) q order.decisions order.hopeful order.dual) before after) (sym c.in-WhyFeature.is)
-    (answers order c.game-order.ensures.order (queries.WhyFeature c.in-WhyFeature.feature) before after told)) c.feature.ensures
+    (λ told. subst (λ (q : Query). Appends (IsAnswer (scene_of order.game order.diagram) c.args.limits q order.decisions order.hopeful order.dual) before after) (sym c.in-WhyFeature.is)
+    (answers order c.game-order.ensures.order c.args.limits (queries.WhyFeature c.in-WhyFeature.feature) before after told)) c.feature.ensures
+
+pub returns-in-WhyVertex : goal.returns-in-WhyVertex
+returns-in-WhyVertex c =
+    let order = c.args.order.now in
+    let before = c.args.out.now.items in
+    let after = c.vertex.new.out.items in
+    on_ok c.vertex.result _ _
+    (λ told. subst (λ (q : Query). Appends (IsAnswer (scene_of order.game order.diagram) c.args.limits q order.decisions order.hopeful order.dual) before after) (sym c.in-WhyVertex.is)
+    (answers order c.game-order.ensures.order c.args.limits (queries.WhyVertex c.in-WhyVertex.vertex) before after told)) c.vertex.ensures

@@ -1,7 +1,7 @@
 use Rattle.std.proofs.Common.{sym, ap}
 use Rattle.vpg_script.specs.Script as script
 use Rattle.vpg_script.specs.Script.{Request}
-use Rattle.vpg_script.specs.View.{command_shown, request_shown}
+use Rattle.vpg_script.specs.View.{command_shown, inquiry_shown, request_shown}
 use Rattle.vpg_report.proofs.Asked.{served, served_by}
 use Rattle.vpg_report.proofs.engine.EngineServer.serve.Goals as goal
 
@@ -88,6 +88,12 @@ returns-in-Count-clause-answer g c =
     let asks : script.Command → Request = λ command. record { label = c.args.request.now.label; command = command } in
     served c.count.result c.args.self.now c.count.new.self c.args.lifters (asks script.Count) (request_shown c.args.request.now) c.args.out.now.items c.count.new.out.items
     (ap (λ command. asks (command_shown command)) (sym c.in-Count.is)) (λ calls held. tt) c.count.ensures
+
+pub returns-in-Ask-clause-answer : goal.returns-in-Ask-clause-answer
+returns-in-Ask-clause-answer g c =
+    let asks : script.Command → Request = λ command. record { label = c.args.request.now.label; command = command } in
+    served c.ask.result c.args.self.now c.ask.new.self c.args.lifters (asks (script.Ask (inquiry_shown c.in-Ask.inquiry))) (request_shown c.args.request.now) c.args.out.now.items c.ask.new.out.items
+    (ap (λ command. asks (command_shown command)) (sym c.in-Ask.is)) (λ calls held. tt) c.ask.ensures
 
 pub returns-in-Harvest-clause-answer : goal.returns-in-Harvest-clause-answer
 returns-in-Harvest-clause-answer g c =

@@ -1,0 +1,57 @@
+-- What each further decision would make of a vertex. This project's own.
+use Rattle.std.specs.Prelude.{◌≡◌, ◌≢◌, ℕ, zero, suc, Bool, true, false, List, [], ◌∷◌, ◌++◌, length, map, slice_index_or}
+use Rattle.std.specs.List.{AllByRecursion}
+use Rattle.vpg_guards.specs.declared.tri.Tri.{Tri}
+use Rattle.vpg_guards.specs.declared.tri.Tri.TheVariants.{Unknown}
+use Rattle.vpg_diagram.specs.declared.clause.Literal.{Literal}
+use Rattle.vpg_measure.specs.declared.which.Which.{Which}
+use Rattle.vpg_measure.specs.declared.which.Which.TheVariants.{Hopeful, Dual}
+use Rattle.vpg_partial.specs.KnownLaws.{HasConflictOf}
+use Rattle.vpg_partial.specs.declared.decision.Decision.{Decision}
+use Rattle.vpg_texts.specs.Scene.{Scene}
+use Rattle.vpg_texts.specs.Text.{is_value}
+use Rattle.vpg_why.specs.Explained.{choices}
+use Rattle.vpg_why.specs.Suffices.{SufficeIn, choice}
+use Rattle.vpg_why.specs.declared.offering.Offer.{Offer}
+use Rattle.vpg_why.specs.declared.offering.Offer.TheVariants as offers
+use Rattle.vpg_why.specs.declared.question.Limits.{Limits}
+use Rattle.vpg_why.specs.declared.question.Question.TheVariants as asks
+use Rattle.vpg_why.specs.declared.question.Shown.{Shown}
+use Rattle.vpg_why.specs.declared.question.Shown.TheVariants as shown
+use Rattle.vpg_answers.specs.declared.offers.Offered.{Offered}
+use Rattle.vpg_answers.specs.Room.{RoundsSettle}
+
+-- Whether these choices alone make the verdict so, as it was shown; and it was shown, where the limits leave room.
+pub record IsVerdictShown (scene : Scene) (limits : Limits) (vertex : ℕ) (choices : List Literal) (which : Which)
+    (answer : Shown) : Type 0 where
+  pub yes : answer ≡ shown.Yes → SufficeIn scene.game scene.lines (asks.Verdict which vertex) choices
+  pub no : answer ≡ shown.No → SufficeIn scene.game scene.lines (asks.Verdict which vertex) choices → ⊥
+  pub settled : RoundsSettle scene limits.rounds which → answer ≢ shown.Unsettled
+
+-- the choices contradict one another, or make these verdicts
+abbrev pub IsOfferOf : Scene → Limits → (vertex : ℕ) → List Literal → Offer → Type 0
+IsOfferOf scene limits vertex choices offers.Conflict = HasConflictOf scene.lines choices
+IsOfferOf scene limits vertex choices (offers.Verdict hopeless sure) =
+    ¬ (HasConflictOf scene.lines choices) × IsVerdictShown scene limits vertex choices Hopeful hopeless ×
+    IsVerdictShown scene limits vertex choices Dual sure
+
+-- what the page's decisions would make of the vertex together with this choice
+abbrev pub IsOffered : Scene → Limits → (vertex : ℕ) → List Decision → Offered → Type 0
+IsOffered scene limits vertex decisions offered =
+    IsOfferOf scene limits vertex (choices decisions ++ offered.choice ∷ []) offered.offer
+
+-- both choices of a feature that is open
+abbrev pub both_if : Bool → (feature : ℕ) → List Literal
+both_if true feature = choice feature true ∷ choice feature false ∷ []
+both_if false feature = []
+
+-- those of each of the first n features that isn't known
+abbrev pub open_choices : List Tri → ℕ → List Literal
+open_choices known zero = []
+open_choices known (suc n) = open_choices known n ++ both_if (is_value (slice_index_or known n Unknown) Unknown) n
+
+-- The choices of the first n features that are open, in and then out, and what each would make of the vertex.
+pub record AreOffers (scene : Scene) (limits : Limits) (vertex : ℕ) (decisions : List Decision) (known : List Tri)
+    (n : ℕ) (listed : List Offered) : Type 0 where
+  pub each : map (λ o. o.choice) listed ≡ open_choices known n
+  pub offered : AllByRecursion (IsOffered scene limits vertex decisions) listed

@@ -1,0 +1,52 @@
+-- What lines ask of the page, and how it is answered.
+use Rattle.std.proofs.Common.{◌≡◌, ◌∙◌, ℕ, ◌<◌, List, ◌++◌, length, Option, Some, None, Result, Ok, Err, refl, sym, ap, subst}
+use Rattle.std.specs.Prelude.{IfSome, slice_get}
+use Rattle.std.proofs.lemmas.List.{length-map}
+use Rattle.std.proofs.lemmas.Option.{slice_get_within}
+use Rattle.vpg_diagram.specs.DiagramText.{NamedDiagram}
+use Rattle.vpg_diagram.specs.FeatureDiagram.{feature_count}
+use Rattle.vpg_game.specs.Game.{NamedGame, NamedVertex, vertex_ids}
+use Rattle.vpg_measure.specs.Orders.{OrderView, IsOrder}
+use Rattle.vpg_desk.specs.Book.{Order, Ordered}
+use Rattle.vpg_desk.specs.Commit.{IsOrderOf}
+use Rattle.vpg_client.specs.Client.{IsLogged}
+use Rattle.vpg_answers.specs.Answers.{IsAnswer, IsWithin, Appends}
+use Rattle.vpg_answers.specs.declared.query.Query.{Query}
+use Rattle.vpg_script.specs.Script as script
+use Rattle.vpg_texts.specs.Scene.{scene_of}
+use Rattle.vpg_report.specs.Answers.{Own, own_text, refused_line, room, query_of, answer_limits, order_or}
+use Rattle.vpg_report.specs.Engine.{EngineState, scene_at, AnswersTo}
+use Rattle.vpg_report.proofs.Asked.{unasked, ask_told}
+
+pub vertex_within : (vertices : List NamedVertex) (id : ℕ) (found : Option ℕ) → IfSome found (λ v. slice_get (vertex_ids vertices) v ≡ Some id) → IfSome found (λ v. v < length vertices)
+vertex_within vertices id None h = tt
+vertex_within vertices id (Some v) h = subst (λ (n : ℕ). v < n) (length-map vertices (λ (x : NamedVertex). x.id)) (slice_get_within (vertex_ids vertices) v id h)
+
+pub name_within : (names : List (List ℕ)) (name : List ℕ) (found : Option ℕ) → IfSome found (λ f. slice_get names f ≡ Some name) → IfSome found (λ f. f < length names)
+name_within names name None h = tt
+name_within names name (Some f) h = slice_get_within names f name h
+
+-- what is asked is within an order of the same game and diagram
+pub within_order : (game : NamedGame) (diagram : NamedDiagram) (order : OrderView) (query : Query) → IsOrder order → game ≡ order.game → diagram ≡ order.diagram →
+    IsWithin (length game.vertices) (length diagram.names) query → IsWithin (length order.game.vertices) (feature_count order.diagram.lines) query
+within_order game diagram order query is game_is diagram_is within =
+    subst (λ (n : ℕ). IsWithin (length order.game.vertices) n query) is.diagram.each_named
+    (coe 0 1 (k. IsWithin (length (game_is k).vertices) (length (diagram_is k).names) query) within)
+
+module _ (old : EngineState) (session : ℕ) (game : NamedGame) (diagram : NamedDiagram) (game_is : game ≡ old.client.desk.game) (diagram_is : diagram ≡ old.client.desk.diagram) (inquiry : script.Inquiry) where
+  pub here : (found : Result Query Own) → query_of (scene_of game diagram) inquiry ≡ found → query_of (scene_at old) inquiry ≡ found
+  here found is = coe 0 1 (k. query_of (scene_of (game_is k) (diagram_is k)) inquiry ≡ found) is
+
+  -- what it names is missing
+  pub missing_answers : (own : Own) (before after : List ℕ) → query_of (scene_of game diagram) inquiry ≡ Err own → after ≡ before ++ refused_line (own_text own) →
+      AnswersTo old (record { label = session; command = script.Ask inquiry }) before after old
+  missing_answers own before after is told = unasked old session (script.Ask inquiry) own before after (ap order_or (here (Err own) is)) told
+
+  -- it is answered of an order of the desk
+  pub ask_answers : (limit : ℕ) → limit ≡ room → (new : EngineState) (query : Query) (order : OrderView) (before after : List ℕ) → query_of (scene_of game diagram) inquiry ≡ Ok query →
+      IsLogged limit old.client session Order (Ordered order.decisions order.hopeful order.dual) new.client → IsOrderOf old.client.desk order → new.held ≡ old.held →
+      Appends (IsAnswer (scene_of order.game order.diagram) answer_limits query order.decisions order.hopeful order.dual) before after →
+      AnswersTo old (record { label = session; command = script.Ask inquiry }) before after new
+  ask_answers limit limit_is new query order before after is logged ours held (text, (answered, appended)) =
+      ask_told limit limit_is session old new inquiry query order.decisions order.hopeful order.dual text before after (here (Ok query) is) logged held
+      (coe 0 1 (k. IsAnswer (scene_of (ours.0 k) (ours.1 k)) answer_limits query order.decisions order.hopeful order.dual text) answered) appended

@@ -1,0 +1,69 @@
+//! What lines ask of the page, by places in the game and the diagram.
+ghost use Rattle.std.specs.Prelude.{◌≡◌, ◌<◌, ◌==◌, length, position, IfOk, IfSome};
+ghost use Rattle.vpg_answers.specs.Answers.{IsWithin};
+ghost use Rattle.vpg_game.specs.Game.{vertex_ids};
+ghost use Rattle.vpg_guards.specs.Names.{index_of};
+ghost use Rattle.vpg_report.specs.Answers.{query_of};
+ghost use Rattle.vpg_report.specs.Engine.{IsQuery};
+ghost use Rattle.vpg_script.specs.View.{inquiry_shown};
+ghost use Rattle.vpg_texts.specs.Scene.{scene_of};
+
+use vpg_answers::Query;
+use vpg_diagram::Diagram;
+use vpg_game::GuardedGame;
+use vpg_guards::Names;
+use vpg_script::Inquiry;
+
+/// What is named that the game, or the diagram, lacks.
+#[derive(Clone, Copy)]
+pub(crate) enum Missing {
+    Vertex,
+    Feature,
+}
+
+fn vertex_at(game: &GuardedGame, identifier: u32) -> Option<u32>
+    ensures vertex { result ≡ position (λ n. n == identifier) (vertex_ids game.now.vertices) }
+    ensures within { IfSome result (λ v. v < length game.now.vertices) }
+{
+    game.find(identifier)
+}
+
+fn feature_at(names: &Names, name: &[u8]) -> Option<u16>
+    ensures feature { result ≡ index_of names.now name.now }
+    ensures within { IfSome result (λ f. f < length names.now) }
+{
+    names.get(name)
+}
+
+/// What an inquiry asks, or what it names that isn't there.
+pub(crate) fn query_of(
+    game: &GuardedGame,
+    diagram: &Diagram,
+    inquiry: Inquiry<'_>,
+) -> Result<Query, Missing>
+    ensures query { IsQuery (query_of (scene_of game.now diagram.now) (inquiry_shown inquiry.entry)) result }
+    ensures within { IfOk result (IsWithin (length game.now.vertices) (length diagram.now.names)) }
+{
+    match inquiry {
+        Inquiry::WhyVertex(identifier) => match vertex_at(game, identifier) {
+            Some(vertex) => Ok(Query::WhyVertex { vertex }),
+            None => Err(Missing::Vertex),
+        },
+        Inquiry::Example(which, identifier) => match vertex_at(game, identifier) {
+            Some(vertex) => Ok(Query::Example { which, vertex }),
+            None => Err(Missing::Vertex),
+        },
+        Inquiry::Offer(identifier) => match vertex_at(game, identifier) {
+            Some(vertex) => Ok(Query::Offer { vertex }),
+            None => Err(Missing::Vertex),
+        },
+        Inquiry::WhyFeature(name) => match feature_at(diagram.names(), name) {
+            Some(feature) => Ok(Query::WhyFeature { feature }),
+            None => Err(Missing::Feature),
+        },
+        Inquiry::WhyChoice(value, name) => match feature_at(diagram.names(), name) {
+            Some(feature) => Ok(Query::WhyChoice { feature, value }),
+            None => Err(Missing::Feature),
+        },
+    }
+}
