@@ -13,7 +13,7 @@ use Rattle.vpg_script.specs.Script.{Said, Request, said}
 use Rattle.vpg_script.specs.Output.{Speaks, Answered}
 use Rattle.vpg_report.specs.Held.{Held, undo_meant, redo_meant, harvest_kept, after_change, after_undo, after_redo, after_keep, after_forget, with_harvest, without_harvest}
 use Rattle.vpg_texts.specs.Scene.{Scene}
-use Rattle.vpg_report.specs.Answers.{Own, NoFeature, NoToken, NoHarvest, NoVertex, vertex_of, query_of, call_or, order_or, first_call, full_line, Rest, Ends, Follows, Makes, Asks, TellsSettled, AsksSettled, TellsAdded, Sweeps, Keeps, Lifts, TellsChanged, TellsUndone, TellsRedone, TellsSpent, ShowsPage, TellsEntries, TellsProducts, TellsPlan, CountsPage, TellsPage, TellsAnswer, Continues, Begins, Serves}
+use Rattle.vpg_report.specs.Answers.{Own, NoFeature, NoToken, NoHarvest, NoVertex, vertex_of, query_of, call_or, order_or, first_call, full_line, Rest, Ends, Follows, Makes, Asks, TellsSettled, AsksSettled, TellsAdded, Sweeps, Keeps, Lifts, TellsChanged, TellsUndone, TellsRedone, TellsSpent, ShowsPage, TellsEntries, TellsProducts, TellsPlan, CountsPage, TellsNamed, TellsPage, TellsAnswer, Continues, Begins, Serves}
 use Rattle.vpg_answers.specs.declared.query.Query.{Query}
 use Rattle.vpg_report.specs.Run.{Between, begun, calling, answering, Asked, asking, AnswersAreHistories}
 use Rattle.vpg_report.specs.Setting.{setting_in}
@@ -157,6 +157,7 @@ module _ (scene : Scene) (held : Held) where
     continues made label script.Products reply calls text new so = tells_page L held all (TellsProducts scene) reply calls text new so
     continues made label script.Plan reply calls text new so = tells_page L held all (TellsPlan scene) reply calls text new so
     continues made label script.Count reply calls text new so = tells_page L held all (CountsPage scene) reply calls text new so
+    continues made label (script.Known name) reply calls text new so = tells_page L held all (TellsNamed scene name) reply calls text new so
     continues made label (script.Ask inquiry) reply calls text new so = tells_answer L held all scene inquiry reply calls text new so
 
     begins : (made label : ℕ) (command : script.Command) (call : Call) → HandsIn L call → IsFine L (Begins scene held made label command (Ok call))
@@ -188,6 +189,7 @@ module _ (scene : Scene) (held : Held) where
     serves made label script.Products = begins made label script.Products Page tt
     serves made label script.Plan = begins made label script.Plan Page tt
     serves made label script.Count = begins made label script.Count Page tt
+    serves made label (script.Known name) = begins_or made label (script.Known name) NoFeature (λ f. Page) (index_of scene.names name) (λ _ _. tt)
     serves made label (script.Ask inquiry) = begins_order made label inquiry (query_of scene inquiry)
 
 -- ---- lines

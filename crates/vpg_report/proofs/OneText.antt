@@ -22,8 +22,8 @@ use Rattle.vpg_script.specs.Output.{Speaks, Answered}
 use Rattle.vpg_texts.specs.Plan.{PlansUnder}
 use Rattle.vpg_texts.specs.Text.{plan_text}
 use Rattle.vpg_report.specs.Held.{Held, undo_meant, redo_meant, harvest_kept, after_change, after_undo, after_redo, after_keep, after_forget, with_harvest, without_harvest}
-use Rattle.vpg_texts.specs.Scene.{Scene, UnderKnown, TellsUnder, IsShown, shown_lines, IsCounted, counted_lines, TellsKnown, table_in}
-use Rattle.vpg_report.specs.Answers.{Own, NoFeature, NoToken, NoHarvest, NoVertex, Checks, IsOf, IsLifted, IsPlanAnswer, vertex_of, query_of, answer_limits, call_or, order_or, first_call, full_line, settled_text, Rest, Ends, Follows, Makes, Asks, TellsSettled, AsksSettled, TellsAdded, Sweeps, Keeps, Lifts, TellsChanged, TellsUndone, TellsRedone, TellsSpent, ShowsPage, TellsEntries, TellsProducts, TellsPlan, CountsPage, TellsPage, TellsAnswer, Continues, Begins}
+use Rattle.vpg_texts.specs.Scene.{Scene, UnderKnown, TellsUnder, IsShown, shown_lines, IsCounted, counted_lines, TellsKnown, TellsFeature, table_in}
+use Rattle.vpg_report.specs.Answers.{Own, NoFeature, NoToken, NoHarvest, NoVertex, Checks, IsOf, IsLifted, IsPlanAnswer, vertex_of, query_of, answer_limits, call_or, order_or, first_call, full_line, settled_text, Rest, Ends, Follows, Makes, Asks, TellsSettled, AsksSettled, TellsAdded, Sweeps, Keeps, Lifts, TellsChanged, TellsUndone, TellsRedone, TellsSpent, ShowsPage, TellsEntries, TellsProducts, TellsPlan, CountsPage, TellsNamed, TellsPage, TellsAnswer, Continues, Begins}
 use Rattle.vpg_answers.specs.Answers.{IsAnswer, HasDoubt}
 use Rattle.vpg_answers.specs.declared.query.Query.{Query}
 use Rattle.vpg_answers.proofs.One.{answers_are_one}
@@ -56,6 +56,14 @@ module _ (scene : Scene) (decisions : List Decision) where
 
   products_one : (one other : List ℕ) → TellsKnown scene decisions one → TellsKnown scene decisions other → one ≡ other
   products_one one other = under_one _ _ (λ known a b. a ∙ sym b)
+
+  feature_one : (f : ℕ) (one other : List ℕ) → TellsFeature scene decisions f one → TellsFeature scene decisions f other → one ≡ other
+  feature_one f one other = under_one _ _ (λ known a b. a ∙ sym b)
+
+  named_one : (found : Option ℕ) (one other : List ℕ) → (f : ℕ) × ((found ≡ Some f) × TellsFeature scene decisions f one) → (f : ℕ) × ((found ≡ Some f) × TellsFeature scene decisions f other) → one ≡ other
+  named_one found one other a b =
+      let same : b.0 ≡ a.0 = cc (a.1.0, b.1.0) in
+      feature_one a.0 one other a.1.1 (subst (λ (f : ℕ). TellsFeature scene decisions f other) same b.1.1)
 
   chosen_one : (known : List Tri) (hopeful dual one other : List ℕ) → PlansUnder scene known hopeful dual one → PlansUnder scene known hopeful dual other → one ≡ other
   chosen_one known hopeful dual one other a b =
@@ -364,6 +372,7 @@ module _ (scene : Scene) (held : Held) (Told : List ℕ → Type 0) where
     serves script.Products is = begins script.Products Page (λ reply told. tells_page _ (TellsProducts scene) (λ page one other. products_one scene (decisions_of page) one other) reply)
     serves script.Plan is = begins script.Plan Page (λ reply told. tells_page _ (TellsPlan scene) (λ page one other. planned_one scene (decisions_of page) _ _ one other) reply)
     serves script.Count is = begins script.Count Page (λ reply told. tells_page _ (CountsPage scene) (λ page one other. counted_one scene (decisions_of page) _ _ one other) reply)
+    serves (script.Known name) is = begins_or (script.Known name) NoFeature (λ f. Page) (index_of scene.names name) (λ f reply told. tells_page _ (TellsNamed scene name) (λ page one other. named_one scene (decisions_of page) (index_of scene.names name) one other) reply)
     serves (script.Ask inquiry) is = begins_order inquiry is (query_of scene inquiry)
 
 -- ---- lines
@@ -386,6 +395,7 @@ settle_is_told scene held book made label script.Trail = tt
 settle_is_told scene held book made label script.Products = tt
 settle_is_told scene held book made label script.Plan = tt
 settle_is_told scene held book made label script.Count = tt
+settle_is_told scene held book made label (script.Known name) = tt
 
 module _ (scene : Scene) where
   line_one : (old : Between) (s : Said) (text other : List ℕ) (new newer : Between) → Speaks (settling scene) old s text new → Speaks (settling scene) old s other newer → (text ≡ other) × (new ≡ newer)

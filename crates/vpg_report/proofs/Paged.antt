@@ -1,9 +1,10 @@
 -- A desk's present page as it is shown.
-use Rattle.std.proofs.Common.{◌≡◌, ℕ, ◌≤◌, ◌++◌, List, length, All, Some, None, refl, sym, ap, ap₂, ◌∙◌, subst, inl, inr}
+use Rattle.std.proofs.Common.{◌≡◌, ℕ, ◌≤◌, ◌++◌, List, length, All, Option, Some, None, refl, sym, ap, ap₂, ◌∙◌, subst, inl, inr}
 use Rattle.std.specs.Prelude.{map, codes}
 use Rattle.std.proofs.lemmas.List.{length-map}
 use Rattle.vpg_guards.specs.Formula.{Formula}
 use Rattle.vpg_guards.specs.Known.{kleene}
+use Rattle.vpg_guards.specs.Names.{index_of}
 use Rattle.vpg_guards.specs.declared.tri.Tri.{Tri}
 use Rattle.vpg_diagram.specs.DiagramText.{NamedDiagram}
 use Rattle.vpg_game.specs.Game.{NamedGame, unnamed, graph_of, vertex_ids}
@@ -25,9 +26,9 @@ use Rattle.vpg_desk.proofs.Reaching.{reached_well_formed}
 use Rattle.vpg_script.specs.Script as script
 use Rattle.vpg_texts.specs.Plan.{IsPlanned, IsPlanFault}
 use Rattle.vpg_texts.specs.declared.showing.plans.PlanFault.TheVariants.{NotFull, NotSettled}
-use Rattle.vpg_texts.specs.Scene.{EntryIsWithin, IsShown, IsCounted, TellsKnown, scene_of}
-use Rattle.vpg_texts.specs.Text.{products_text, trail_text}
-use Rattle.vpg_report.specs.Answers.{IsPlanAnswer, refused_line, room}
+use Rattle.vpg_texts.specs.Scene.{EntryIsWithin, IsShown, IsCounted, TellsKnown, TellsFeature, scene_of}
+use Rattle.vpg_texts.specs.Text.{products_text, known_text, trail_text}
+use Rattle.vpg_report.specs.Answers.{NoFeature, IsPlanAnswer, call_or, refused_line, room}
 use Rattle.vpg_report.specs.Engine.{EngineState, AnswersTo}
 use Rattle.vpg_report.proofs.Asked.{page_told}
 use Rattle.vpg_report.proofs.Within.{entries_within}
@@ -103,6 +104,13 @@ module _ (limit : ℕ) (limit_is : limit ≡ room) (old new : EngineState) (sess
         let text = products_text diagram.names games.known in
         page_told limit limit_is session old new script.Products entries text before after refl logged
         (coe 0 1 (k. TellsKnown (scene_of (game_is k) (diagram_is k)) (decisions_here k) text) (games.known, (are.known, refl)), refl, held) appended
+
+    pub known_answers : (games : GamesView) → ArePageGames game diagram (map literal_of decisions) games → (name : List ℕ) (f : ℕ) → index_of old.client.desk.diagram.names name ≡ Some f →
+        after ≡ before ++ known_text diagram.names games.known f → AnswersTo old (record { label = session; command = script.Known name }) before after new
+    known_answers games are name f found appended =
+        let text = known_text diagram.names games.known f in
+        page_told limit limit_is session old new (script.Known name) entries text before after (ap (λ (x : Option ℕ). call_or NoFeature (λ f. AsksPage) x) found) logged
+        ((f, (found, coe 0 1 (k. TellsFeature (scene_of (game_is k) (diagram_is k)) (decisions_here k) f text) (games.known, (are.known, refl)))), refl, held) appended
 
     module _ (hopeful dual : List ℕ) (hopeful_is : hopeful ≡ table_of Hopeful old.client.desk.book.present (length (graph_of old.client.desk.game)))
         (dual_is : dual ≡ table_of Dual old.client.desk.book.present (length (graph_of old.client.desk.game))) where

@@ -19,7 +19,7 @@ use Rattle.vpg_script.specs.Script.{Request}
 use Rattle.vpg_texts.specs.Plan.{IsPlanned, IsPlanFault}
 use Rattle.vpg_texts.specs.declared.showing.plans.PlanFault.TheVariants.{NotFull, NotSettled}
 use Rattle.vpg_texts.specs.Text.{blank_number, blank_name, trail_text}
-use Rattle.vpg_texts.specs.Scene.{Scene, table_in, IsShown, IsCounted, TellsKnown}
+use Rattle.vpg_texts.specs.Scene.{Scene, table_in, IsShown, IsCounted, TellsKnown, TellsFeature}
 use Rattle.vpg_answers.specs.Answers.{IsAnswer}
 use Rattle.vpg_answers.specs.declared.query.Query.{Query}
 use Rattle.vpg_answers.specs.declared.query.Query.TheVariants as queries
@@ -123,6 +123,7 @@ first_call scene held script.Trail = Ok Page
 first_call scene held script.Products = Ok Page
 first_call scene held script.Plan = Ok Page
 first_call scene held script.Count = Ok Page
+first_call scene held (script.Known name) = call_or NoFeature (λ f. Page) (index_of scene.names name)
 first_call scene held (script.Ask inquiry) = order_or (query_of scene inquiry)
 
 -- ---- harvests that lines make
@@ -286,6 +287,11 @@ CountsPage scene page text =
     IsCounted scene (decisions_of page) (table_of Hopeful page (length scene.game))
     (table_of Dual page (length scene.game)) text
 
+-- what is known of the feature of this name
+abbrev pub TellsNamed : Scene → (name : List ℕ) → List Entry → List ℕ → Type 0
+TellsNamed scene name page text =
+    (f : ℕ) × ((index_of scene.names name ≡ Some f) × TellsFeature scene (decisions_of page) f text)
+
 -- one of these is told of the page
 abbrev pub TellsPage : (List Entry → List ℕ → Type 0) → Held → Reply → Rest
 TellsPage Tells held (PageIs page) calls text new = Tells page text × (calls ≡ []) × (new ≡ held)
@@ -325,6 +331,8 @@ Continues scene held made label script.Products reply calls text new =
 Continues scene held made label script.Plan reply calls text new = TellsPage (TellsPlan scene) held reply calls text new
 Continues scene held made label script.Count reply calls text new =
     TellsPage (CountsPage scene) held reply calls text new
+Continues scene held made label (script.Known name) reply calls text new =
+    TellsPage (TellsNamed scene name) held reply calls text new
 Continues scene held made label (script.Ask inquiry) reply calls text new =
     TellsAnswer scene held inquiry reply calls text new
 

@@ -7,7 +7,7 @@ ghost use Rattle.vpg_guards.specs.Names.{index_of};
 ghost use Rattle.vpg_desk.specs.State.{IsOpened};
 ghost use Rattle.vpg_report.specs.Engine.{AnswersTo, SweepsTo, IsOpenFault, deciding, between_of, engine_of, scene_at};
 ghost use Rattle.vpg_report.specs.Run.{answering};
-ghost use Rattle.vpg_script.specs.Script.{Retract, Undo as Undoes, Redo as Redoes, Keep, Forget, Lift, Harvest as Harvests, Commit, Settle, Show, Trail, Products, Plan, Count, Ask};
+ghost use Rattle.vpg_script.specs.Script.{Retract, Undo as Undoes, Redo as Redoes, Keep, Forget, Lift, Harvest as Harvests, Commit, Settle, Show, Trail, Products, Plan, Count, Known, Ask};
 ghost use Rattle.vpg_script.specs.View.{inquiry_shown, request_shown};
 
 use crate::held::{
@@ -30,7 +30,7 @@ use vpg_measure::{Harvest, Which};
 use vpg_office::{NotOpened, Redo, Site, Terms, Undo};
 use vpg_script::{Command, Inquiry, Request, ServeFault, Server};
 use vpg_settle::swept;
-use vpg_texts::{PlanFault, count_over, plan_over, products_over, show_over, trail};
+use vpg_texts::{PlanFault, count_over, known_over, plan_over, products_over, show_over, trail};
 
 /// How many calls the log of a run's office takes.
 pub(crate) const ROOM: u32 = 1_048_576;
@@ -456,6 +456,29 @@ impl<L: Terms> Engine<L> {
         Ok(())
     }
 
+    /// Tells what the present decisions make known of a feature, by its name.
+    fn known<R: Wait>(
+        &mut self,
+        rt: &R,
+        alloc: Global,
+        session: u32,
+        name: &[u8],
+        out: &mut Vec<u8>,
+    ) -> Result<(), ServeFault>
+        ensures { OnOk result (AnswersTo self.old
+            (record { label = session; command = Known name.now }) out.old.items out.new.items self.new) }
+    {
+        let Some(feature) = self.names().get(name) else {
+            return answer::refused(b"UnknownFeature", out);
+        };
+        let (_page, games) = match self.client.page_with_games(rt, alloc, session) {
+            Ok(both) => both,
+            Err(fault) => return answer::unanswered(fault, out),
+        };
+        known_over(alloc, &games, &self.diagram, feature, out)?;
+        Ok(())
+    }
+
     /// Answers what is asked of the present page.
     fn ask<R: Wait>(
         &mut self,
@@ -568,6 +591,7 @@ impl<L: Terms> Server for Engine<L> {
             Command::Products => self.products(rt, alloc, session, out),
             Command::Plan => self.plan(rt, alloc, session, out),
             Command::Count => self.count(rt, alloc, session, out),
+            Command::Known(name) => self.known(rt, alloc, session, name, out),
             Command::Ask(inquiry) => self.ask(rt, alloc, session, inquiry, out),
         }
     }

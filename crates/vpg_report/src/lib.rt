@@ -1,12 +1,13 @@
 //! Runs: a script is carried out on a desk, and each of its lines answered.
 //!
 //! The program above uses `run`, which opens a desk and carries a script out on it. The texts of a page are `show` (its
-//! decisions, tables and verdicts), `trail` (its entries), `products` (what is known of each feature), `plan` (what
-//! Even does where everything is known and settled) and `count` (how many vertices have which verdict). How a script is
-//! read stands in the crate of scripts, the texts in the crate of texts, those of what is asked of the page (`why`,
-//! `example`, `counterexample`, `offer`) in the crate of answers, and how an order is swept in the crate of settling;
-//! this one knows what each command asks of a desk. The tokens and harvests that lines leave are held until later lines
-//! use them up; at the end of a run, also after a fault, all tokens are spent and the desk is closed.
+//! decisions, tables and verdicts), `trail` (its entries), `products` (what is known of each feature), `known` (the
+//! same of one), `plan` (what Even does where everything is known and settled) and `count` (how many vertices have
+//! which verdict). How a script is read stands in the crate of scripts, the texts in the crate of texts, those of what
+//! is asked of the page (`why`, `example`, `counterexample`, `offer`) in the crate of answers, and how an order is
+//! swept in the crate of settling; this one knows what each command asks of a desk. The tokens and harvests that lines
+//! leave are held until later lines use them up; at the end of a run, also after a fault, all tokens are spent and the
+//! desk is closed.
 //!
 //! What lines leave held is defined in `specs/Held`, the calls on a desk's book and their answers in `specs/Answers`
 //! and `specs/Run`, what a run's result says in `specs/Output`. All are this project's own.
@@ -20,4 +21,4 @@ pub mod laws;
 mod runs;
 
 pub use runs::{RunFault, run};
-pub use vpg_texts::{PlanFault, count, plan, products, show, trail};
+pub use vpg_texts::{PlanFault, count, known, plan, products, show, trail};

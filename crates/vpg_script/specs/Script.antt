@@ -71,6 +71,7 @@ pub data Command : Type 0 where
   Products : Command
   Plan : Command
   Count : Command
+  Known : (name : List ℕ) → Command
   Ask : (inquiry : Inquiry) → Command
 
 -- the command that a word names
@@ -92,6 +93,7 @@ verb_of w =
     else if bytes_eq w (codes "products") then Some verbs.Products
     else if bytes_eq w (codes "plan") then Some verbs.Plan
     else if bytes_eq w (codes "count") then Some verbs.Count
+    else if bytes_eq w (codes "known") then Some verbs.Known
     else if bytes_eq w (codes "why") then Some verbs.Why
     else if bytes_eq w (codes "example") then Some verbs.Example
     else if bytes_eq w (codes "counterexample") then Some verbs.Counterexample
@@ -148,6 +150,7 @@ command_with verbs.Keep w = option_map Keep (number_of largest_serial w)
 command_with verbs.Forget w = option_map Forget (number_of largest_serial w)
 command_with verbs.Commit w = option_map Commit (number_of largest_serial w)
 command_with verbs.Settle w = option_map (λ n. Settle (Some n)) (number_of most_sweeps w)
+command_with verbs.Known w = if_name Known w
 command_with verbs.Why w = option_map Ask (why_of w)
 command_with verbs.Example w = option_map Ask (example_of Hopeful w)
 command_with verbs.Counterexample w = option_map Ask (example_of Dual w)

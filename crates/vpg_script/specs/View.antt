@@ -34,6 +34,7 @@ command_shown commands.Trail = script.Trail
 command_shown commands.Products = script.Products
 command_shown commands.Plan = script.Plan
 command_shown commands.Count = script.Count
+command_shown (commands.Known f) = script.Known f.now
 command_shown (commands.Ask inquiry) = script.Ask (inquiry_shown inquiry)
 
 abbrev pub texts : List (Bor (List ℕ)) → List (List ℕ)

@@ -42,6 +42,7 @@ pub enum Verb {
     Products,
     Plan,
     Count,
+    Known,
     Why,
     Example,
     Counterexample,
@@ -84,6 +85,7 @@ pub enum Command<'t> {
     Products,
     Plan,
     Count,
+    Known(&'t [u8]),
     Ask(Inquiry<'t>),
 }
 
@@ -222,6 +224,8 @@ fn verb_named(word: &[u8]) -> Option<Verb>
         Some(Verb::Plan)
     } else if same(word, b"count") {
         Some(Verb::Count)
+    } else if same(word, b"known") {
+        Some(Verb::Known)
     } else if same(word, b"why") {
         Some(Verb::Why)
     } else if same(word, b"example") {
@@ -256,6 +260,7 @@ fn bare_command<'t>(verb: Verb) -> Option<Command<'t>>
         | Verb::Forget
         | Verb::Lift
         | Verb::Commit
+        | Verb::Known
         | Verb::Why
         | Verb::Example
         | Verb::Counterexample
@@ -320,6 +325,7 @@ fn command_with(verb: Verb, word: &[u8]) -> Option<Command>
         Verb::Forget => Some(Command::Forget(number(word, LARGEST_SERIAL)?)),
         Verb::Commit => Some(Command::Commit(number(word, LARGEST_SERIAL)?)),
         Verb::Settle => Some(Command::Settle(Some(number(word, MOST_SWEEPS)?))),
+        Verb::Known if is_name(word) => Some(Command::Known(word)),
         Verb::Why => Some(Command::Ask(why_of(word)?)),
         Verb::Example => Some(Command::Ask(example_of(Which::Hopeful, word)?)),
         Verb::Counterexample => Some(Command::Ask(example_of(Which::Dual, word)?)),

@@ -3,10 +3,10 @@
 //! A script is read line by line from a `Source`; a `Server` carries each line's request out, and its answer is written
 //! whole to a `Sink` before the next line is read. A line is blank, a comment, or a command with its arguments, under a
 //! label from 1 to 64 or none. The commands are `select`, `exclude`, `retract`, `undo`, `redo`, `keep`, `forget`,
-//! `lift`, `harvest`, `commit`, `settle`, `show`, `trail`, `products`, `plan`, `count`, and what is asked of the page,
-//! an `Inquiry`: `why`, `example`, `counterexample` and `offer`; each other first word is a fault of its line. This
-//! crate knows no desk: what a request does is its server's, and `answer_script` holds for each. The crate of runs
-//! above serves a desk. `Device` makes a `Source` of each reader, and a `Sink` of each writer.
+//! `lift`, `harvest`, `commit`, `settle`, `show`, `trail`, `products`, `plan`, `count`, `known`, and what is asked of
+//! the page, an `Inquiry`: `why`, `example`, `counterexample` and `offer`; each other first word is a fault of its
+//! line. This crate knows no desk: what a request does is its server's, and `answer_script` holds for each. The crate
+//! of runs above serves a desk. `Device` makes a `Source` of each reader, and a `Sink` of each writer.
 //!
 //! What a line says is defined in `specs/Script`, what comes next in a text in `specs/Lines`, what is read and written
 //! in `specs/Output`. All are this project's own.

@@ -159,6 +159,8 @@ fn names_the_faulty_line(rt: HostRuntime) -> Result<(), Fail> {
         ("undo -1", LineFault::Args),
         ("show 1", LineFault::Args),
         ("count 1", LineFault::Args),
+        ("known", LineFault::Args),
+        ("known +f", LineFault::Args),
         ("why", LineFault::Args),
         ("why 4294967296", LineFault::Args),
         ("why +", LineFault::Args),

@@ -13,7 +13,7 @@ use Rattle.vpg_measure.specs.Games.{GamesView, games_levels, games_arena}
 use Rattle.vpg_measure.specs.Lifts.{IsProgressTable}
 use Rattle.vpg_measure.specs.TwoGames.{top_for, IsProgressOf}
 use Rattle.vpg_trail.specs.Page.{Which, Hopeful, Dual, Entry, Decided, Lifted, Decision, literal_of}
-use Rattle.vpg_texts.specs.Text.{show_text, count_text, products_text}
+use Rattle.vpg_texts.specs.Text.{show_text, count_text, products_text, known_text}
 
 -- what texts need of a game and of the diagram over whose features it is
 pub record Scene : Type 0 where
@@ -88,6 +88,10 @@ IsCounted scene decisions hopeful dual text =
 -- The text tells of each feature whether the decisions make it known.
 abbrev pub TellsKnown : Scene → List Decision → List ℕ → Type 0
 TellsKnown scene decisions text = UnderKnown scene decisions (λ known. text ≡ products_text scene.names known)
+
+-- The text tells of this feature whether the decisions make it known.
+abbrev pub TellsFeature : Scene → List Decision → ℕ → List ℕ → Type 0
+TellsFeature scene decisions f text = UnderKnown scene decisions (λ known. text ≡ known_text scene.names known f)
 
 -- the features and the vertex of an entry are below these counts
 abbrev pub EntryIsWithin : ℕ → ℕ → Entry → Type 0

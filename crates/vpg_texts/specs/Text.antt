@@ -128,6 +128,18 @@ products_text names known =
     ++ products_line (codes "out") names known No
     ++ products_line (codes "open") names known Unknown
 
+-- ---- known
+
+-- `in`, `out` or `open`
+abbrev pub known_word : Tri → List ℕ
+known_word Yes = codes "in"
+known_word No = codes "out"
+known_word Unknown = codes "open"
+
+-- what is known of a feature, in a word, and its name
+abbrev pub known_text : List (List ℕ) → List Tri → ℕ → List ℕ
+known_text names known f = known_word (slice_index_or known f Unknown) ++ blank_name names f ++ 10 ∷ []
+
 -- ---- plan
 
 -- a vertex's identifier and that of its chosen successor

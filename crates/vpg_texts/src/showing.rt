@@ -8,12 +8,14 @@ ghost use Rattle.vpg_partial.specs.TableLaws.{AreChoicesOf};
 
 mod counts;
 mod entries;
+mod feature;
 mod known;
 mod page;
 mod plans;
 
 pub use counts::{count, count_over};
 pub use entries::trail;
+pub use feature::{known, known_over};
 pub use known::{products, products_over};
 pub use page::{show, show_over};
 pub use plans::{PlanFault, plan, plan_over};

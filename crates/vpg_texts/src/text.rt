@@ -2,7 +2,7 @@
 ghost use Rattle.std.specs.Prelude.{◌≡◌, ◌<◌, ◌≤◌, Some, ◌==◌, ◌++◌, ◌∷◌, [], codes, count_by, decimal, is_some, length, not, map, IfSome, OnOk, OnErr, All, slice_index, suc};
 ghost use Rattle.vpg_texts.specs.Scene.{EntryIsWithin};
 ghost use Rattle.vpg_texts.specs.Text.{blank_number, name_of, blank_name, choice_text, choices_text, decisions_line, answer_line, hopeless_text, sure_text, vertex_line, vertex_lines, show_text};
-ghost use Rattle.vpg_texts.specs.Text.{count_line, count_lines, state_lines, count_text, deciding_text, table_text, entry_line, trail_text, names_known, products_line, products_text, plan_line, plan_text};
+ghost use Rattle.vpg_texts.specs.Text.{count_line, count_lines, state_lines, count_text, deciding_text, table_text, entry_line, trail_text, names_known, products_line, products_text, known_word, known_text, plan_line, plan_text};
 ghost use Rattle.vpg_trail.specs.Page.{literal_of};
 ghost use Rattle.vpg_trail.specs.Shown.{entry_of};
 ghost use Rattle.vpg_game.specs.Game.{vertex_ids};
@@ -394,6 +394,34 @@ pub(crate) fn products(names: &Names, known: &Partial, out: &mut Vec<u8>) -> Res
     products_line(b"in", names, known, Tri::Yes, out)?;
     products_line(b"out", names, known, Tri::No, out)?;
     products_line(b"open", names, known, Tri::Unknown, out)
+}
+
+fn known_word(value: Tri, out: &mut Vec<u8>) -> Result<(), AllocError>
+    ensures { OnOk result (out.new.items ≡ out.old.items ++ known_word value) }
+{
+    match value {
+        Tri::Yes => out.extend_from_slice(b"in")?,
+        Tri::No => out.extend_from_slice(b"out")?,
+        Tri::Unknown => out.extend_from_slice(b"open")?,
+    }
+    Ok(())
+}
+
+/// What is known of a feature.
+pub(crate) fn known(
+    names: &Names,
+    known: &Partial,
+    feature: u16,
+    out: &mut Vec<u8>,
+) -> Result<(), AllocError>
+    requires known { length known.now ≡ length names.now }
+    requires feature { feature < length names.now }
+    ensures { OnOk result (out.new.items ≡ out.old.items ++ known_text names.now known.now feature) }
+{
+    known_word(known.value(feature), out)?;
+    blank_name(names, feature, out)?;
+    out.push(b'\n')?;
+    Ok(())
 }
 
 /// The line of a vertex that has a chosen successor.

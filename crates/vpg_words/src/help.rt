@@ -33,6 +33,7 @@ harvest's number, N a number):
   products, plan         known features; Even's moves, where all is known
   count                  how many vertices have which verdict; whether the page
                          is settled, and full
+  known F                whether F is known to be in or out
   why V, why F           decisions that make V's verdicts so, or F known
   why +F, why -F         decisions that contradict one more
   example V              the first product left in which Even wins at V

@@ -414,6 +414,24 @@ static COUNTS: [Row; 2] = [
     },
 ];
 
+static KNOWN: [Row; 2] = [
+    Row {
+        diagram: DIAGRAM,
+        game: GAME,
+        script: "known r / known f / exclude f / 2: known f / why f / select g / known g / undo / known g / \
+            known h / known r / why r",
+        answers: "in r / open f / done 1 / out f / out f -f / done 2 / in g / undone 2 / open g / \
+            refused UnknownFeature / in r / in r",
+    },
+    // Each product has c, though it isn't known.
+    Row {
+        diagram: "root r / optional r c / alternative r: a b / requires a c / requires b c",
+        game: DOT,
+        script: "known c / select a / known c / known b / retract a / known c",
+        answers: "open c / done 1 / in c / out b / done 2 / open c",
+    },
+];
+
 static WHYS: [Row; 3] = [
     Row {
         diagram: DIAGRAM,
@@ -500,6 +518,12 @@ fn plans_on_full_settled_pages(rt: HostRuntime) -> Result<(), Fail> {
 #[test]
 fn verdicts_counted(rt: HostRuntime) -> Result<(), Fail> {
     assert_eq!(rt; first_wrong(&rt, rt.alloc(), &COUNTS), None);
+    Ok(())
+}
+
+#[test]
+fn one_feature_told(rt: HostRuntime) -> Result<(), Fail> {
+    assert_eq!(rt; first_wrong(&rt, rt.alloc(), &KNOWN), None);
     Ok(())
 }
 

@@ -89,6 +89,12 @@ returns-in-Count-clause-answer g c =
     served c.count.result c.args.self.now c.count.new.self c.args.lifters (asks script.Count) (request_shown c.args.request.now) c.args.out.now.items c.count.new.out.items
     (ap (λ command. asks (command_shown command)) (sym c.in-Count.is)) (λ calls held. tt) c.count.ensures
 
+pub returns-in-Known-clause-answer : goal.returns-in-Known-clause-answer
+returns-in-Known-clause-answer g c =
+    let asks : script.Command → Request = λ command. record { label = c.args.request.now.label; command = command } in
+    served c.known.result c.args.self.now c.known.new.self c.args.lifters (asks (script.Known c.in-Known.name.now)) (request_shown c.args.request.now) c.args.out.now.items c.known.new.out.items
+    (ap (λ command. asks (command_shown command)) (sym c.in-Known.is)) (λ calls held. tt) c.known.ensures
+
 pub returns-in-Ask-clause-answer : goal.returns-in-Ask-clause-answer
 returns-in-Ask-clause-answer g c =
     let asks : script.Command → Request = λ command. record { label = c.args.request.now.label; command = command } in
