@@ -30,7 +30,9 @@ use vpg_measure::{Harvest, Which};
 use vpg_office::{NotOpened, Redo, Site, Terms, Undo};
 use vpg_script::{Command, Inquiry, Request, ServeFault, Server};
 use vpg_settle::swept;
-use vpg_texts::{PlanFault, count_over, known_over, plan_over, products_over, show_over, trail};
+use vpg_texts::{
+    PlanFault, count_over, plan_over, products_over, put_known_over, show_over, trail,
+};
 
 /// How many calls the log of a run's office takes.
 pub(crate) const ROOM: u32 = 1_048_576;
@@ -475,7 +477,7 @@ impl<L: Terms> Engine<L> {
             Ok(both) => both,
             Err(fault) => return answer::unanswered(fault, out),
         };
-        known_over(alloc, &games, &self.diagram, feature, out)?;
+        put_known_over(alloc, &games, &self.diagram, feature, out)?;
         Ok(())
     }
 

@@ -1,7 +1,7 @@
 //! Runs: a script is carried out on a desk, and each of its lines answered.
 //!
 //! The program above uses `run`, which opens a desk and carries a script out on it. The texts of a page are `show` (its
-//! decisions, tables and verdicts), `trail` (its entries), `products` (what is known of each feature), `known` (the
+//! decisions, tables and verdicts), `trail` (its entries), `products` (what is known of each feature), `put_known` (the
 //! same of one), `plan` (what Even does where everything is known and settled) and `count` (how many vertices have
 //! which verdict). How a script is read stands in the crate of scripts, the texts in the crate of texts, those of what
 //! is asked of the page (`why`, `example`, `counterexample`, `offer`) in the crate of answers, and how an order is
@@ -21,4 +21,4 @@ pub mod laws;
 mod runs;
 
 pub use runs::{RunFault, run};
-pub use vpg_texts::{PlanFault, count, known, plan, products, show, trail};
+pub use vpg_texts::{PlanFault, count, plan, products, put_known, show, trail};

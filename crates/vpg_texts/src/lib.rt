@@ -1,13 +1,13 @@
 //! Texts of pages.
 //!
 //! `show` writes a page's decisions, its tables and its verdicts, `count` how many vertices have which verdict, `trail`
-//! its entries, `products` what is known of each feature, `known` the same of one, and `plan` what Even does where
+//! its entries, `products` what is known of each feature, `put_known` the same of one, and `plan` what Even does where
 //! everything is known and settled. They take a page with its game and its diagram, and know no desk. The crate of runs
 //! above answers lines by them, and takes `blank_number` and `blank_name` for its own answers.
 //!
 //! What the page's decisions make of its game they make once, as `PageGames`. Who holds that already, as a desk does,
-//! takes `show_over`, `products_over`, `known_over`, `plan_over` and `count_over`, which write the same and look at no
-//! guard. A game with a priority of 65,536 has no dual and so no page: it is answered as for want of memory.
+//! takes `show_over`, `products_over`, `put_known_over`, `plan_over` and `count_over`, which write the same and look at
+//! no guard. A game with a priority of 65,536 has no dual and so no page: it is answered as for want of memory.
 //!
 //! The texts are defined in `specs/Text`, what they tell of a page in `specs/Scene` and `specs/Plan`. All are this
 //! project's own.
@@ -17,7 +17,7 @@ mod showing;
 mod text;
 
 pub use showing::{
-    PlanFault, count, count_over, known, known_over, plan, plan_over, products, products_over,
-    show, show_over, trail,
+    PlanFault, count, count_over, plan, plan_over, products, products_over, put_known,
+    put_known_over, show, show_over, trail,
 };
 pub use text::{blank_name, blank_number};

@@ -15,7 +15,7 @@ mod plans;
 
 pub use counts::{count, count_over};
 pub use entries::trail;
-pub use feature::{known, known_over};
+pub use feature::{put_known, put_known_over};
 pub use known::{products, products_over};
 pub use page::{show, show_over};
 pub use plans::{PlanFault, plan, plan_over};

@@ -17,7 +17,7 @@ use vpg_trail::Page;
 
 /// Appends whether a feature of the diagram is known in, known out or not known, from games that are made already, over
 /// the features of the diagram. No edge is looked at.
-pub fn known_over(
+pub fn put_known_over(
     alloc: Global,
     games: &PageGames,
     diagram: &Diagram,
@@ -36,7 +36,7 @@ pub fn known_over(
 }
 
 /// Appends whether a feature of the diagram is known in, known out or not known. The page's decisions have no conflict.
-pub fn known(
+pub fn put_known(
     alloc: Global,
     page: &Page,
     game: &GuardedGame,
@@ -55,5 +55,5 @@ pub fn known(
     ensures unchanged { OnErr result (out.new.items ≡ out.old.items) }
 {
     let games = games_of(alloc, game, diagram, page.decisions.as_slice())?;
-    known_over(alloc, &games, diagram, feature, out)
+    put_known_over(alloc, &games, diagram, feature, out)
 }

@@ -26,12 +26,12 @@ returns-in_default g c =
     on_same_view c.refused.result _ old _ _ _ _ c.self.view_is
     (λ told. unasked old c.args.session (script.Known c.args.name.now) NoFeature c.args.out.now.items _ (ap page_or none) told) c.refused.ensures
 
-pub known_over-requires-clause-known : goal.known_over-requires-clause-known
-known_over-requires-clause-known g c =
+pub put_known_over-requires-clause-known : goal.put_known_over-requires-clause-known
+put_known_over-requires-clause-known g c =
     (games_are c.self.inside.client.desk _ c.deref.result.now c.in-Ok.ensures.games c.deref.ensures c.self.inside.client.desk.game c.deref-2.result.now c.in-Ok.both.0.decisions refl (c.deref-2.ensures ∙ c.self.invariant.diagram) c.in-Ok.ensures.decisions).known.length_is
 
-pub known_over-requires-clause-feature : goal.known_over-requires-clause-feature
-known_over-requires-clause-feature g c =
+pub put_known_over-requires-clause-feature : goal.put_known_over-requires-clause-feature
+put_known_over-requires-clause-feature g c =
     let e = c.self.inside in
     let names_are : c.names.result.now ≡ e.client.desk.diagram.names = c.names.ensures ∙ ap (λ (s : EngineState). s.client.desk.diagram.names) (sym c.self.view_is) in
     let within : c.in-Some.feature < length e.client.desk.diagram.names =
@@ -47,7 +47,7 @@ returns g c =
     let are = games_are desk _ c.deref.result.now c.in-Ok.ensures.games c.deref.ensures desk.game c.deref-2.result.now c.in-Ok.both.0.decisions refl diagram_is c.in-Ok.ensures.decisions in
     let found : index_of desk.diagram.names c.args.name.now ≡ Some c.in-Some.feature =
     ap (λ (s : EngineState). index_of s.client.desk.diagram.names c.args.name.now) c.self.view_is ∙ ap (λ (ns : List (List ℕ)). index_of ns c.args.name.now) (sym c.names.ensures) ∙ sym c.get.ensures.index ∙ c.in-Some.is in
-    on_view {E = ServeFault} (Ok tt) _ old _ _ _ _ _ c.self.view_is (λ told. known_answers g.L.Terms.limit c.self.invariant.room_is old _ c.args.session desk.game c.deref-2.result.now c.args.out.now.items _ refl diagram_is c.in-Ok.both.0.entries c.in-Ok.ensures.accepted refl c.in-Ok.both.0.decisions c.in-Ok.ensures.decisions c.deref.result.now are c.args.name.now c.in-Some.feature found told) c.in_ok-known_over.ensures.known
+    on_view {E = ServeFault} (Ok tt) _ old _ _ _ _ _ c.self.view_is (λ told. known_answers g.L.Terms.limit c.self.invariant.room_is old _ c.args.session desk.game c.deref-2.result.now c.args.out.now.items _ refl diagram_is c.in-Ok.both.0.entries c.in-Ok.ensures.accepted refl c.in-Ok.both.0.decisions c.in-Ok.ensures.decisions c.deref.result.now are c.args.name.now c.in-Some.feature found told) c.in_ok-put_known_over.ensures.known
 
 pub returns-in-Err : goal.returns-in-Err
 returns-in-Err g c =
