@@ -13,7 +13,7 @@ use std::alloc::{AllocError, Global};
 use vpg_diagram::Diagram;
 use vpg_draw::{draw_features, draw_game};
 use vpg_game::GuardedGame;
-use vpg_measure::Verdict;
+use vpg_measure::{Verdict, known_under};
 use vpg_names::VertexNames;
 use vpg_partial::{Partial, PartialFault};
 
@@ -30,7 +30,7 @@ fn known_alone(alloc: Global, diagram: &Diagram) -> Result<Partial, Fault>
     ensures known { IfOk result (IsKnownTable diagram.now.lines []) }
     ensures refused { IfErr result (TellsContradiction diagram.now) }
 {
-    match Partial::close(alloc, diagram, &[]) {
+    match known_under(alloc, diagram, &[]) {
         Ok(known) => Ok(known),
         Err(PartialFault::Conflict { feature }) => Err(conflict(alloc, diagram, feature)),
         Err(PartialFault::Memory) => Err(Fault::Memory),
