@@ -9,12 +9,14 @@ ghost use Rattle.vpg_partial.specs.TableLaws.{AreChoicesOf};
 mod counts;
 mod entries;
 mod known;
+mod lookups;
 mod page;
 mod plans;
 
 pub use counts::{count, count_over};
 pub use entries::trail;
 pub use known::{products, products_over};
+pub use lookups::look_over;
 pub use page::{show, show_over};
 pub use plans::{PlanFault, plan, plan_over};
 use std::alloc::{AllocError, Global};
