@@ -4,3 +4,4 @@ pub mod Counted
 pub mod Planned
 pub mod Reading
 pub mod Seen
+pub mod Named

@@ -1,19 +1,24 @@
 -- What a lookup shows of a page: it is so of each lookup, and it is one text.
-use Rattle.std.proofs.Common.{◌≡◌, ℕ, ◌<◌, Bool, List, ◌++◌, length, get_or, Option, sym, ap, ap₂, ◌∙◌, subst, inl, inr}
-use Rattle.std.specs.Prelude.{map}
+use Rattle.std.proofs.Common.{◌≡◌, ℕ, ◌<◌, Bool, List, ◌++◌, length, get_or, Option, Result, sym, ap, ap₂, ◌∙◌, subst, inl, inr}
+use Rattle.std.specs.Prelude.{map, OnOk}
 use Rattle.std.specs.Bool.{one_answer}
 use Rattle.std.proofs.lemmas.List.{same_lists}
 use Rattle.std.proofs.lemmas.Option.{get_or_from_slice_get}
+use Rattle.vpg_diagram.specs.DiagramText.{NamedDiagram}
+use Rattle.vpg_game.specs.Game.{NamedGame, graph_of, vertex_ids}
+use Rattle.vpg_game.specs.Levels.{top_of}
 use Rattle.vpg_guards.specs.Known.{kleene}
 use Rattle.vpg_guards.specs.declared.tri.Tri.{Tri}
-use Rattle.vpg_measure.specs.TwoGames.{arena_for}
+use Rattle.vpg_measure.specs.Games.{GamesView, ArePageGames}
+use Rattle.vpg_measure.specs.TwoGames.{arena_for, top_for}
 use Rattle.vpg_script.specs.Script as script
-use Rattle.vpg_trail.specs.Page.{Hopeful, Decision, Entry, literal_of}
+use Rattle.vpg_trail.specs.Page.{Hopeful, Dual, Decision, Entry, literal_of}
 use Rattle.vpg_texts.specs.Plan.{PlansUnder}
-use Rattle.vpg_texts.specs.Scene.{Scene, UnderKnown, TellsUnder, IsShown, shown_lines, IsCounted, counted_lines, TellsKnown}
-use Rattle.vpg_texts.specs.Sights.{IsAsserted, IsPlanAnswer, IsSeen, asserted_lines}
+use Rattle.vpg_texts.specs.Scene.{Scene, UnderKnown, TellsUnder, IsShown, shown_lines, IsCounted, counted_lines, TellsKnown, scene_of}
+use Rattle.vpg_texts.specs.Sights.{IsAsserted, IsPlanAnswer, IsSeen, asserted_lines, named_lines}
 use Rattle.vpg_texts.specs.Text.{plan_text}
 use Rattle.vpg_texts.proofs.Planned.{known_is_one}
+use Rattle.vpg_texts.proofs.Shown.{on_ok}
 
 module _ (scene : Scene) (entries : List Entry) (decisions : List Decision) where
   under_one : {X : Type 0} (P Q : List Tri → Type 0) → ((known : List Tri) → P known → Q known → X) → UnderKnown scene decisions P → UnderKnown scene decisions Q → X
@@ -66,3 +71,21 @@ module _ (scene : Scene) (entries : List Entry) (decisions : List Decision) wher
   seen_one hopeful dual script.Plan one other = planned_one hopeful dual one other
   seen_one hopeful dual script.Count one other = counted_one hopeful dual one other
   seen_one hopeful dual (script.Assert assertion) one other = asserted_one hopeful dual assertion one other
+
+-- ---- the same, by the code's words
+
+pub seen_as : {E : Type 0} (scene : Scene) (entries : List Entry) (decisions : List Decision) (hopeful dual : List ℕ) (r : Result (Unit {0}) E) (before after : List ℕ) (one lookup : script.Lookup) → one ≡ lookup →
+    OnOk r ((text : List ℕ) × (IsSeen scene one entries decisions hopeful dual text × (after ≡ before ++ text))) →
+    OnOk r ((text : List ℕ) × (IsSeen scene lookup entries decisions hopeful dual text × (after ≡ before ++ text)))
+seen_as scene entries decisions hopeful dual r before after one lookup same told =
+    subst (λ (l : script.Lookup). OnOk r ((text : List ℕ) × (IsSeen scene l entries decisions hopeful dual text × (after ≡ before ++ text)))) same told
+
+pub named_seen : {E : Type 0} (game : NamedGame) (diagram : NamedDiagram) (entries : List Entry) (decisions : List Decision) (hopeful dual : List ℕ) (games : GamesView) → ArePageGames game diagram (map literal_of decisions) games →
+    (r : Result (Unit {0}) E) (before after bytes vs : List ℕ) → bytes ≡ vs →
+    OnOk r (after ≡ before ++ named_lines (top_of games.hopeful_levels) (top_of games.dual_levels) (vertex_ids game.vertices) hopeful dual bytes) →
+    OnOk r ((text : List ℕ) × (IsSeen (scene_of game diagram) (script.Vertices vs) entries decisions hopeful dual text × (after ≡ before ++ text)))
+named_seen game diagram entries decisions hopeful dual games are r before after bytes vs same told =
+    let lines = named_lines (top_of games.hopeful_levels) (top_of games.dual_levels) (vertex_ids game.vertices) hopeful dual bytes in
+    let tops = ap₂ (λ (first second : ℕ). named_lines first second (vertex_ids game.vertices) hopeful dual bytes) (ap top_of (are.levels Hopeful)) (ap top_of (are.levels Dual)) in
+    let all = ap (λ (vs : List ℕ). named_lines (top_for Hopeful (graph_of game)) (top_for Dual (graph_of game)) (vertex_ids game.vertices) hopeful dual vs) same in
+    on_ok r _ _ (λ appended. (lines, (tops ∙ all, appended))) told

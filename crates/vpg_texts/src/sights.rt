@@ -1,5 +1,5 @@
 //! The texts of some vertices of a page, and of what is asserted of it.
-ghost use Rattle.std.specs.Prelude.{◌≡◌, ◌++◌, ◌<◌, Some, flat_map, length, true, OnOk};
+ghost use Rattle.std.specs.Prelude.{◌≡◌, ◌++◌, ◌<◌, IfSome, Some, flat_map, length, not, true, OnOk};
 ghost use Rattle.std.specs.List.{list_all};
 ghost use Rattle.vpg_game.specs.Game.{vertex_ids};
 ghost use Rattle.vpg_game.specs.Levels.{top_of};
@@ -12,10 +12,17 @@ use vpg_game::GuardedGame;
 use vpg_measure::{PageGames, Table, Which};
 use vpg_script::{Assertion, Claim, Lookup};
 
+fn vertex_at(game: &GuardedGame, identifier: u32) -> Option<u32>
+    ensures vertex { result ≡ vertex_of (vertex_ids game.now.vertices) identifier }
+    ensures within { IfSome result (λ v. v < length game.now.vertices) }
+{
+    game.find(identifier)
+}
+
 fn is_vertex(game: &GuardedGame, identifier: u32) -> bool
     ensures { result ≡ is_vertex (vertex_ids game.now.vertices) identifier }
 {
-    game.find(identifier).is_some()
+    vertex_at(game, identifier).is_some()
 }
 
 fn are_vertices(game: &GuardedGame, identifiers: &[u32]) -> bool
@@ -50,7 +57,7 @@ fn place(game: &GuardedGame, identifier: u32) -> u32
     ensures place { vertex_of (vertex_ids game.now.vertices) identifier ≡ Some result }
     ensures within { result < length game.now.vertices }
 {
-    match game.find(identifier) {
+    match vertex_at(game, identifier) {
         Some(v) => v,
         None => unreachable!(),
     }
@@ -141,6 +148,18 @@ fn open_end(none: bool, out: &mut Vec<u8>) -> Result<(), AllocError>
     }
 }
 
+fn all_hold(claims: &[Claim], settled: bool, hopeless: bool, sure: bool) -> bool
+    ensures { result ≡ list_all (holds settled hopeless sure) claims.now }
+{
+    claims.iter().all(|c| holds(*c, settled, hopeless, sure))
+}
+
+fn none_is_open(claims: &[Claim], settled: bool, hopeless: bool, sure: bool) -> bool
+    ensures { result ≡ list_all (λ claim. not (is_open settled hopeless sure claim)) claims.now }
+{
+    claims.iter().all(|c| !is_open(*c, settled, hopeless, sure))
+}
+
 /// Whether all verdicts are asserted rightly, or those that are not.
 fn verdicts(
     settled: bool,
@@ -151,13 +170,12 @@ fn verdicts(
 ) -> Result<(), AllocError>
     ensures { OnOk result (out.new.items ≡ out.old.items ++ verdicts_text settled hopeless sure claims.now) }
 {
-    if claims.iter().all(|c| holds(*c, settled, hopeless, sure)) {
+    if all_hold(claims, settled, hopeless, sure) {
         return out.extend_from_slice(b"holds\n");
     }
-    let none_open = claims.iter().all(|c| !is_open(*c, settled, hopeless, sure));
     out.extend_from_slice(b"fails")?;
     failing(settled, hopeless, sure, claims, out)?;
-    open_end(none_open, out)
+    open_end(none_is_open(claims, settled, hopeless, sure), out)
 }
 
 fn full_line(full: bool, out: &mut Vec<u8>) -> Result<(), AllocError>
