@@ -8,67 +8,67 @@ use Rattle.vpg_report.proofs.engine.EngineServer.serve.Goals as goal
 pub returns-in-Select-clause-answer : goal.returns-in-Select-clause-answer
 returns-in-Select-clause-answer g c =
     let asks : script.Command → Request = λ command. record { label = c.args.request.now.label; command = command } in
-    served c.decide.result c.args.self.now c.decide.new.self c.args.lifters (asks (script.Select c.in-Select.name.now.now)) (request_shown c.args.request.now) c.args.out.now.items c.decide.new.out.items
+    served c.decide.result c.args.self.now c.decide.new.self c.args.lifters (asks (script.Select c.in-Select.name.now)) (request_shown c.args.request.now) c.args.out.now.items c.decide.new.out.items
     (ap (λ command. asks (command_shown command)) (sym c.in-Select.is)) (λ calls held. tt) c.decide.ensures
 
 pub returns-in-Exclude-clause-answer : goal.returns-in-Exclude-clause-answer
 returns-in-Exclude-clause-answer g c =
     let asks : script.Command → Request = λ command. record { label = c.args.request.now.label; command = command } in
-    served c.decide-in-Exclude.result c.args.self.now c.decide-in-Exclude.new.self c.args.lifters (asks (script.Exclude c.in-Exclude.name.now.now)) (request_shown c.args.request.now) c.args.out.now.items c.decide-in-Exclude.new.out.items
+    served c.decide-in-Exclude.result c.args.self.now c.decide-in-Exclude.new.self c.args.lifters (asks (script.Exclude c.in-Exclude.name.now)) (request_shown c.args.request.now) c.args.out.now.items c.decide-in-Exclude.new.out.items
     (ap (λ command. asks (command_shown command)) (sym c.in-Exclude.is)) (λ calls held. tt) c.decide-in-Exclude.ensures
 
 pub returns-in-Retract-clause-answer : goal.returns-in-Retract-clause-answer
 returns-in-Retract-clause-answer g c =
     let asks : script.Command → Request = λ command. record { label = c.args.request.now.label; command = command } in
-    served c.retract.result c.args.self.now c.retract.new.self c.args.lifters (asks (script.Retract c.in-Retract.name.now.now)) (request_shown c.args.request.now) c.args.out.now.items c.retract.new.out.items
+    served c.retract.result c.args.self.now c.retract.new.self c.args.lifters (asks (script.Retract c.in-Retract.name.now)) (request_shown c.args.request.now) c.args.out.now.items c.retract.new.out.items
     (ap (λ command. asks (command_shown command)) (sym c.in-Retract.is)) (λ calls held. tt) c.retract.ensures
 
 pub returns-in-Undo-clause-answer : goal.returns-in-Undo-clause-answer
 returns-in-Undo-clause-answer g c =
     let asks : script.Command → Request = λ command. record { label = c.args.request.now.label; command = command } in
-    served c.undo.result c.args.self.now c.undo.new.self c.args.lifters (asks (script.Undo c.in-Undo.serial.now)) (request_shown c.args.request.now) c.args.out.now.items c.undo.new.out.items
+    served c.undo.result c.args.self.now c.undo.new.self c.args.lifters (asks (script.Undo c.in-Undo.serial)) (request_shown c.args.request.now) c.args.out.now.items c.undo.new.out.items
     (ap (λ command. asks (command_shown command)) (sym c.in-Undo.is)) (λ calls held. tt) c.undo.ensures
 
 pub returns-in-Redo-clause-answer : goal.returns-in-Redo-clause-answer
 returns-in-Redo-clause-answer g c =
     let asks : script.Command → Request = λ command. record { label = c.args.request.now.label; command = command } in
-    served c.redo.result c.args.self.now c.redo.new.self c.args.lifters (asks (script.Redo c.in-Redo.serial.now)) (request_shown c.args.request.now) c.args.out.now.items c.redo.new.out.items
+    served c.redo.result c.args.self.now c.redo.new.self c.args.lifters (asks (script.Redo c.in-Redo.serial)) (request_shown c.args.request.now) c.args.out.now.items c.redo.new.out.items
     (ap (λ command. asks (command_shown command)) (sym c.in-Redo.is)) (λ calls held. tt) c.redo.ensures
 
 pub returns-in-Keep-clause-answer : goal.returns-in-Keep-clause-answer
 returns-in-Keep-clause-answer g c =
     let asks : script.Command → Request = λ command. record { label = c.args.request.now.label; command = command } in
-    served c.keep.result c.args.self.now c.keep.new.self c.args.lifters (asks (script.Keep c.in-Keep.serial.now)) (request_shown c.args.request.now) c.args.out.now.items c.keep.new.out.items
+    served c.keep.result c.args.self.now c.keep.new.self c.args.lifters (asks (script.Keep c.in-Keep.serial)) (request_shown c.args.request.now) c.args.out.now.items c.keep.new.out.items
     (ap (λ command. asks (command_shown command)) (sym c.in-Keep.is)) (λ calls held. tt) c.keep.ensures
 
 pub returns-in-Forget-clause-answer : goal.returns-in-Forget-clause-answer
 returns-in-Forget-clause-answer g c =
     let asks : script.Command → Request = λ command. record { label = c.args.request.now.label; command = command } in
-    served c.forget.result c.args.self.now c.forget.new.self c.args.lifters (asks (script.Forget c.in-Forget.serial.now)) (request_shown c.args.request.now) c.args.out.now.items c.forget.new.out.items
+    served c.forget.result c.args.self.now c.forget.new.self c.args.lifters (asks (script.Forget c.in-Forget.serial)) (request_shown c.args.request.now) c.args.out.now.items c.forget.new.out.items
     (ap (λ command. asks (command_shown command)) (sym c.in-Forget.is)) (λ calls held. tt) c.forget.ensures
 
 pub returns-in-Lift-clause-answer : goal.returns-in-Lift-clause-answer
 returns-in-Lift-clause-answer g c =
     let asks : script.Command → Request = λ command. record { label = c.args.request.now.label; command = command } in
-    served c.lift.result c.args.self.now c.lift.new.self c.args.lifters (asks (script.Lift c.in-Lift.table.now c.in-Lift.identifier.now)) (request_shown c.args.request.now) c.args.out.now.items c.lift.new.out.items
+    served c.lift.result c.args.self.now c.lift.new.self c.args.lifters (asks (script.Lift c.in-Lift.table c.in-Lift.identifier)) (request_shown c.args.request.now) c.args.out.now.items c.lift.new.out.items
     (ap (λ command. asks (command_shown command)) (sym c.in-Lift.is)) (λ calls held. tt) c.lift.ensures
 
 pub returns-in-Commit-clause-answer : goal.returns-in-Commit-clause-answer
 returns-in-Commit-clause-answer g c =
     let asks : script.Command → Request = λ command. record { label = c.args.request.now.label; command = command } in
-    served c.commit.result c.args.self.now c.commit.new.self c.args.lifters (asks (script.Commit c.in-Commit.number.now)) (request_shown c.args.request.now) c.args.out.now.items c.commit.new.out.items
+    served c.commit.result c.args.self.now c.commit.new.self c.args.lifters (asks (script.Commit c.in-Commit.number)) (request_shown c.args.request.now) c.args.out.now.items c.commit.new.out.items
     (ap (λ command. asks (command_shown command)) (sym c.in-Commit.is)) (λ calls held. tt) c.commit.ensures
 
 pub returns-in-Look-clause-answer : goal.returns-in-Look-clause-answer
 returns-in-Look-clause-answer g c =
     let asks : script.Command → Request = λ command. record { label = c.args.request.now.label; command = command } in
-    served c.look.result c.args.self.now c.look.new.self c.args.lifters (asks (script.Look (lookup_shown c.in-Look.lookup.now))) (request_shown c.args.request.now) c.args.out.now.items c.look.new.out.items
+    served c.look.result c.args.self.now c.look.new.self c.args.lifters (asks (script.Look (lookup_shown c.in-Look.lookup))) (request_shown c.args.request.now) c.args.out.now.items c.look.new.out.items
     (ap (λ command. asks (command_shown command)) (sym c.in-Look.is)) (λ calls held. tt) c.look.ensures
 
 pub returns-in-Ask-clause-answer : goal.returns-in-Ask-clause-answer
 returns-in-Ask-clause-answer g c =
     let asks : script.Command → Request = λ command. record { label = c.args.request.now.label; command = command } in
-    served c.ask.result c.args.self.now c.ask.new.self c.args.lifters (asks (script.Ask (inquiry_shown c.in-Ask.inquiry.now))) (request_shown c.args.request.now) c.args.out.now.items c.ask.new.out.items
+    served c.ask.result c.args.self.now c.ask.new.self c.args.lifters (asks (script.Ask (inquiry_shown c.in-Ask.inquiry))) (request_shown c.args.request.now) c.args.out.now.items c.ask.new.out.items
     (ap (λ command. asks (command_shown command)) (sym c.in-Ask.is)) (λ calls held. tt) c.ask.ensures
 
 pub returns-in-Harvest-clause-answer : goal.returns-in-Harvest-clause-answer
@@ -80,5 +80,5 @@ returns-in-Harvest-clause-answer g c =
 pub returns-in-Settle-clause-answer : goal.returns-in-Settle-clause-answer
 returns-in-Settle-clause-answer g c =
     let asks : script.Command → Request = λ command. record { label = c.args.request.now.label; command = command } in
-    served_by c.settle.result c.args.self.now c.settle.new.self c.args.lifters (asks (script.Settle c.in-Settle.sweeps.now)) (request_shown c.args.request.now) c.args.out.now.items c.settle.new.out.items
+    served_by c.settle.result c.args.self.now c.settle.new.self c.args.lifters (asks (script.Settle c.in-Settle.sweeps)) (request_shown c.args.request.now) c.args.out.now.items c.settle.new.out.items
     (ap (λ command. asks (command_shown command)) (sym c.in-Settle.is)) c.settle.ensures

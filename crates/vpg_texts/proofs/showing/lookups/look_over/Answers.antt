@@ -28,7 +28,7 @@ returns-in-Count-clause-seen c =
 pub returns-in-Assert-clause-seen : goal.returns-in-Assert-clause-seen
 returns-in-Assert-clause-seen c =
     let page = c.args.page.now in
-    seen_as (scene_of c.args.game.now c.args.diagram.now) page.entries page.decisions page.hopeful page.dual c.assertion_over.result c.args.out.now.items c.assertion_over.new.out.items (script.Assert (assertion_shown c.in-Assert.assertion.now)) (lookup_shown c.args.lookup.now)
+    seen_as (scene_of c.args.game.now c.args.diagram.now) page.entries page.decisions page.hopeful page.dual c.assertion_over.result c.args.out.now.items c.assertion_over.new.out.items (script.Assert (assertion_shown c.in-Assert.assertion)) (lookup_shown c.args.lookup.now)
     (ap lookup_shown (sym c.in-Assert.is)) c.assertion_over.ensures.asserted
 
 pub returns-in-Vertices-clause-seen : goal.returns-in-Vertices-clause-seen
