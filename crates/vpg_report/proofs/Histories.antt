@@ -1,5 +1,5 @@
 -- The calls of answered lines make a history.
-use Rattle.std.proofs.Common.{◌≡◌, ℕ, zero, suc, ◌+◌, ◌-◌, Bool, List, [], ◌∷◌, ◌++◌, length, Option, Some, None, Result, Ok, Err, refl, sym, ap, ◌∙◌, inl, inr, arith, append_assoc, append-nil, length-append, subst}
+use Rattle.std.proofs.Common.{◌≡◌, ℕ, zero, suc, ◌+◌, ◌-◌, Bool, true, false, List, [], ◌∷◌, ◌++◌, length, Option, Some, None, Result, Ok, Err, refl, sym, ap, ◌∙◌, inl, inr, arith, append_assoc, append-nil, length-append, subst}
 use Rattle.std.specs.Prelude.{IfSome, slice_set}
 use Rattle.std.specs.List.{AllByRecursion}
 use Rattle.vpg_guards.specs.Names.{index_of}
@@ -13,7 +13,8 @@ use Rattle.vpg_script.specs.Script.{Said, Request, said}
 use Rattle.vpg_script.specs.Output.{Speaks, Answered}
 use Rattle.vpg_report.specs.Held.{Held, undo_meant, redo_meant, harvest_kept, after_change, after_undo, after_redo, after_keep, after_forget, with_harvest, without_harvest}
 use Rattle.vpg_texts.specs.Scene.{Scene}
-use Rattle.vpg_report.specs.Answers.{Own, NoFeature, NoToken, NoHarvest, NoVertex, vertex_of, query_of, call_or, order_or, first_call, full_line, Rest, Ends, Follows, Makes, Asks, TellsSettled, AsksSettled, TellsAdded, Sweeps, Keeps, Lifts, TellsChanged, TellsUndone, TellsRedone, TellsSpent, ShowsPage, TellsEntries, TellsProducts, TellsPlan, CountsPage, TellsNamed, TellsPage, TellsAnswer, Continues, Begins, Serves}
+use Rattle.vpg_texts.specs.Sights.{has_vertices}
+use Rattle.vpg_report.specs.Answers.{Own, NoFeature, NoToken, NoHarvest, NoVertex, vertex_of, query_of, call_or, order_or, page_if, first_call, full_line, Rest, Ends, Follows, Makes, Asks, TellsSettled, AsksSettled, TellsAdded, Sweeps, Keeps, Lifts, TellsChanged, TellsUndone, TellsRedone, TellsSpent, Sees, TellsNamed, TellsPage, TellsAnswer, Continues, Begins, Serves}
 use Rattle.vpg_answers.specs.declared.query.Query.{Query}
 use Rattle.vpg_report.specs.Run.{Between, begun, calling, answering, Asked, asking, AnswersAreHistories}
 use Rattle.vpg_report.specs.Setting.{setting_in}
@@ -152,11 +153,7 @@ module _ (scene : Scene) (held : Held) where
     continues made label script.Harvest reply calls text new so = keeps reply calls text new so
     continues made label (script.Commit k) reply calls text new so = tells_added L (without_harvest held k) (gone_lawful L held.harvests (k - 1) all) reply calls text new so
     continues made label (script.Settle n) reply calls text new so = sweeps made label _ reply calls text new so
-    continues made label script.Show reply calls text new so = tells_page L held all (ShowsPage scene) reply calls text new so
-    continues made label script.Trail reply calls text new so = tells_page L held all (TellsEntries scene) reply calls text new so
-    continues made label script.Products reply calls text new so = tells_page L held all (TellsProducts scene) reply calls text new so
-    continues made label script.Plan reply calls text new so = tells_page L held all (TellsPlan scene) reply calls text new so
-    continues made label script.Count reply calls text new so = tells_page L held all (CountsPage scene) reply calls text new so
+    continues made label (script.Look lookup) reply calls text new so = tells_page L held all (Sees scene lookup) reply calls text new so
     continues made label (script.Known name) reply calls text new so = tells_page L held all (TellsNamed scene name) reply calls text new so
     continues made label (script.Ask inquiry) reply calls text new so = tells_answer L held all scene inquiry reply calls text new so
 
@@ -172,6 +169,10 @@ module _ (scene : Scene) (held : Held) where
     begins_order made label inquiry (Err own) calls text new so = ends L _ held all calls text new so
     begins_order made label inquiry (Ok query) calls text new so = begins made label (script.Ask inquiry) Order tt calls text new so
 
+    begins_page : (made label : ℕ) (lookup : script.Lookup) (has : Bool) → IsFine L (Begins scene held made label (script.Look lookup) (page_if has))
+    begins_page made label lookup true calls text new so = begins made label (script.Look lookup) Page tt calls text new so
+    begins_page made label lookup false calls text new so = ends L _ held all calls text new so
+
     serves : (made label : ℕ) (command : script.Command) → IsFine L (Begins scene held made label command (first_call scene held command))
     serves made label (script.Select name) = begins_or made label (script.Select name) NoFeature (λ f. Decide f Bool.true) (index_of scene.names name) (λ _ _. tt)
     serves made label (script.Exclude name) = begins_or made label (script.Exclude name) NoFeature (λ f. Decide f Bool.false) (index_of scene.names name) (λ _ _. tt)
@@ -184,11 +185,7 @@ module _ (scene : Scene) (held : Held) where
     serves made label script.Harvest = begins made label script.Harvest Order tt
     serves made label (script.Commit k) = begins_or made label (script.Commit k) NoHarvest Commit (harvest_kept held.harvests k) (λ made is _. kept_lawful L held.harvests k made all is)
     serves made label (script.Settle n) = begins made label (script.Settle n) Order tt
-    serves made label script.Show = begins made label script.Show Page tt
-    serves made label script.Trail = begins made label script.Trail Page tt
-    serves made label script.Products = begins made label script.Products Page tt
-    serves made label script.Plan = begins made label script.Plan Page tt
-    serves made label script.Count = begins made label script.Count Page tt
+    serves made label (script.Look lookup) = begins_page made label lookup (has_vertices scene.identifiers lookup)
     serves made label (script.Known name) = begins_or made label (script.Known name) NoFeature (λ f. Page) (index_of scene.names name) (λ _ _. tt)
     serves made label (script.Ask inquiry) = begins_order made label inquiry (query_of scene inquiry)
 

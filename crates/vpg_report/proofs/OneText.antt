@@ -1,9 +1,6 @@
 -- Settled answers are one text.
-use Rattle.std.proofs.Common.{◌≡◌, ℕ, ◌+◌, ◌<◌, Bool, true, false, List, [], ◌∷◌, ◌++◌, length, get_or, Option, Some, None, Result, Ok, Err, sym, ap, ap₂, ◌∙◌, subst, inl, inr, arith}
+use Rattle.std.proofs.Common.{◌≡◌, ℕ, ◌+◌, Bool, true, false, List, [], ◌∷◌, ◌++◌, length, Option, Some, None, Result, Ok, Err, sym, ap, ap₂, ◌∙◌, subst, inl, inr, arith}
 use Rattle.std.specs.Prelude.{IfSome, map, not, if◌then◌else◌, ⊤}
-use Rattle.std.specs.Bool.{one_answer}
-use Rattle.std.proofs.lemmas.List.{same_lists}
-use Rattle.std.proofs.lemmas.Option.{get_or_from_slice_get}
 use Rattle.vpg_guards.specs.Names.{index_of}
 use Rattle.vpg_guards.specs.Known.{kleene}
 use Rattle.vpg_guards.specs.declared.tri.Tri.{Tri}
@@ -19,17 +16,17 @@ use Rattle.vpg_desk.specs.Lawful.{harvested}
 use Rattle.vpg_script.specs.Script as script
 use Rattle.vpg_script.specs.Script.{Said, Request, said}
 use Rattle.vpg_script.specs.Output.{Speaks, Answered}
-use Rattle.vpg_texts.specs.Plan.{PlansUnder}
-use Rattle.vpg_texts.specs.Text.{plan_text}
 use Rattle.vpg_report.specs.Held.{Held, undo_meant, redo_meant, harvest_kept, after_change, after_undo, after_redo, after_keep, after_forget, with_harvest, without_harvest}
-use Rattle.vpg_texts.specs.Scene.{Scene, UnderKnown, TellsUnder, IsShown, shown_lines, IsCounted, counted_lines, TellsKnown, TellsFeature, table_in}
-use Rattle.vpg_report.specs.Answers.{Own, NoFeature, NoToken, NoHarvest, NoVertex, Checks, IsOf, IsLifted, IsPlanAnswer, vertex_of, query_of, answer_limits, call_or, order_or, first_call, full_line, settled_text, Rest, Ends, Follows, Makes, Asks, TellsSettled, AsksSettled, TellsAdded, Sweeps, Keeps, Lifts, TellsChanged, TellsUndone, TellsRedone, TellsSpent, ShowsPage, TellsEntries, TellsProducts, TellsPlan, CountsPage, TellsNamed, TellsPage, TellsAnswer, Continues, Begins}
+use Rattle.vpg_texts.specs.Scene.{Scene, UnderKnown, TellsFeature, table_in}
+use Rattle.vpg_texts.specs.Sights.{has_vertices}
+use Rattle.vpg_report.specs.Answers.{Own, NoFeature, NoToken, NoHarvest, NoVertex, Checks, IsOf, IsLifted, vertex_of, query_of, answer_limits, call_or, order_or, page_if, first_call, full_line, settled_text, Rest, Ends, Follows, Makes, Asks, TellsSettled, AsksSettled, TellsAdded, Sweeps, Keeps, Lifts, TellsChanged, TellsUndone, TellsRedone, TellsSpent, Sees, TellsNamed, TellsPage, TellsAnswer, Continues, Begins}
 use Rattle.vpg_answers.specs.Answers.{IsAnswer, HasDoubt}
 use Rattle.vpg_answers.specs.declared.query.Query.{Query}
 use Rattle.vpg_answers.proofs.One.{answers_are_one}
 use Rattle.vpg_report.specs.Run.{Between, begun}
 use Rattle.vpg_report.specs.Settling.{settling, TellsSettle, AreChecked, SettledAnswersAreOne}
 use Rattle.vpg_texts.proofs.Planned.{known_is_one}
+use Rattle.vpg_texts.proofs.Seen.{seen_one}
 use Rattle.vpg_report.proofs.Replies.{reply_one}
 use Rattle.vpg_report.proofs.LeastHarvests.{same_harvests, checked_are_one, settling_are_one}
 use Rattle.vpg_report.proofs.Settling.{none_missing}
@@ -42,21 +39,6 @@ module _ (scene : Scene) (decisions : List Decision) where
   under_one P Q k a b =
       k a.0 a.1.1 (subst Q (known_is_one scene.lines (map literal_of decisions) b.0 a.0 b.1.0 a.1.0) b.1.1)
 
-  tells_one : (hopeful dual : List ℕ) (text_of : Bool → Bool → List ℕ) (one other : List ℕ) → UnderKnown scene decisions (λ known. TellsUnder scene known hopeful dual text_of one) →
-      UnderKnown scene decisions (λ known. TellsUnder scene known hopeful dual text_of other) → one ≡ other
-  tells_one hopeful dual text_of one other =
-      under_one _ _ (λ known a b.
-      a.text_is ∙ ap₂ text_of (one_answer a.full b.full a.full_is b.full_is) (one_answer a.settled b.settled a.settled_is b.settled_is) ∙ sym b.text_is)
-
-  shown_one : (hopeful dual one other : List ℕ) → IsShown scene decisions hopeful dual one → IsShown scene decisions hopeful dual other → one ≡ other
-  shown_one hopeful dual = tells_one hopeful dual (shown_lines scene decisions hopeful dual)
-
-  counted_one : (hopeful dual one other : List ℕ) → IsCounted scene decisions hopeful dual one → IsCounted scene decisions hopeful dual other → one ≡ other
-  counted_one hopeful dual = tells_one hopeful dual (counted_lines scene hopeful dual)
-
-  products_one : (one other : List ℕ) → TellsKnown scene decisions one → TellsKnown scene decisions other → one ≡ other
-  products_one one other = under_one _ _ (λ known a b. a ∙ sym b)
-
   feature_one : (f : ℕ) (one other : List ℕ) → TellsFeature scene decisions f one → TellsFeature scene decisions f other → one ≡ other
   feature_one f one other = under_one _ _ (λ known a b. a ∙ sym b)
 
@@ -64,26 +46,6 @@ module _ (scene : Scene) (decisions : List Decision) where
   named_one found one other a b =
       let same : b.0 ≡ a.0 = cc (a.1.0, b.1.0) in
       feature_one a.0 one other a.1.1 (subst (λ (f : ℕ). TellsFeature scene decisions f other) same b.1.1)
-
-  chosen_one : (known : List Tri) (hopeful dual one other : List ℕ) → PlansUnder scene known hopeful dual one → PlansUnder scene known hopeful dual other → one ≡ other
-  chosen_one known hopeful dual one other a b =
-      a.text_is ∙ ap (plan_text scene.identifiers) (same_lists a.chosen b.chosen (a.chosen_are.0 ∙ sym b.chosen_are.0) same) ∙ sym b.text_is
-    where
-      same : (v : ℕ) (d : Option ℕ) → v < length a.chosen → get_or a.chosen v d ≡ get_or b.chosen v d
-      same v d l =
-          let within : v < length (arena_for (kleene known) Hopeful scene.game) = subst (λ (n : ℕ). v < n) a.chosen_are.0 l in
-          get_or_from_slice_get a.chosen v _ d (a.chosen_are.1 v within) ∙ sym (get_or_from_slice_get b.chosen v _ d (b.chosen_are.1 v within))
-
-  planned_one : (hopeful dual one other : List ℕ) → IsPlanAnswer scene decisions hopeful dual one → IsPlanAnswer scene decisions hopeful dual other → one ≡ other
-  planned_one hopeful dual one other (inl a) (inl b) = under_one _ _ (λ known p q. chosen_one known hopeful dual one other p q) a b
-  planned_one hopeful dual one other (inl a) (inr (inl b)) = absurd (under_one _ _ (λ known p q. q p.full) a b.0)
-  planned_one hopeful dual one other (inl a) (inr (inr b)) = absurd (under_one _ _ (λ known p q. q.1 p.settled) a b.0)
-  planned_one hopeful dual one other (inr (inl a)) (inl b) = absurd (under_one _ _ (λ known p q. p q.full) a.0 b)
-  planned_one hopeful dual one other (inr (inl a)) (inr (inl b)) = a.1 ∙ sym b.1
-  planned_one hopeful dual one other (inr (inl a)) (inr (inr b)) = absurd (under_one _ _ (λ known p q. p q.0) a.0 b.0)
-  planned_one hopeful dual one other (inr (inr a)) (inl b) = absurd (under_one _ _ (λ known p q. p.1 q.settled) a.0 b)
-  planned_one hopeful dual one other (inr (inr a)) (inr (inl b)) = absurd (under_one _ _ (λ known p q. q p.0) a.0 b.0)
-  planned_one hopeful dual one other (inr (inr a)) (inr (inr b)) = a.1 ∙ sym b.1
 
 -- ---- one lift
 
@@ -349,6 +311,10 @@ module _ (scene : Scene) (held : Held) (Told : List ℕ → Type 0) where
     begins_order inquiry sure (Err own) = ends book _ held
     begins_order inquiry sure (Ok query) = begins (script.Ask inquiry) Order (tells_answer inquiry sure)
 
+    begins_page : (lookup : script.Lookup) (has : Bool) → IsOne book (Begins scene held made label (script.Look lookup) (page_if has))
+    begins_page lookup true = begins (script.Look lookup) Page (λ reply told. tells_page _ (Sees scene lookup) (λ page one other. seen_one scene page (decisions_of page) _ _ lookup one other) reply)
+    begins_page lookup false = ends book _ held
+
     -- where a settle is told to be one that was answered `settled`, and an answer about the page to be one without a doubt
     abbrev SettleIsTold : script.Command → Type 0
     SettleIsTold (script.Settle n) = (text : List ℕ) → Told text → (m : ℕ) × (text ≡ settled_text true m)
@@ -367,11 +333,7 @@ module _ (scene : Scene) (held : Held) (Told : List ℕ → Type 0) where
     serves script.Harvest is = begins script.Harvest Order keeps
     serves (script.Commit k) is = begins_or (script.Commit k) NoHarvest Commit (harvest_kept held.harvests k) (λ made reply told. tells_added _ (without_harvest held k) reply)
     serves (script.Settle n) is = begins (script.Settle n) Order (sweeps _ is)
-    serves script.Show is = begins script.Show Page (λ reply told. tells_page _ (ShowsPage scene) (λ page one other. shown_one scene (decisions_of page) _ _ one other) reply)
-    serves script.Trail is = begins script.Trail Page (λ reply told. tells_page _ (TellsEntries scene) (λ page one other a b. a ∙ sym b) reply)
-    serves script.Products is = begins script.Products Page (λ reply told. tells_page _ (TellsProducts scene) (λ page one other. products_one scene (decisions_of page) one other) reply)
-    serves script.Plan is = begins script.Plan Page (λ reply told. tells_page _ (TellsPlan scene) (λ page one other. planned_one scene (decisions_of page) _ _ one other) reply)
-    serves script.Count is = begins script.Count Page (λ reply told. tells_page _ (CountsPage scene) (λ page one other. counted_one scene (decisions_of page) _ _ one other) reply)
+    serves (script.Look lookup) is = begins_page lookup (has_vertices scene.identifiers lookup)
     serves (script.Known name) is = begins_or (script.Known name) NoFeature (λ f. Page) (index_of scene.names name) (λ f reply told. tells_page _ (TellsNamed scene name) (λ page one other. named_one scene (decisions_of page) (index_of scene.names name) one other) reply)
     serves (script.Ask inquiry) is = begins_order inquiry is (query_of scene inquiry)
 
@@ -390,11 +352,7 @@ settle_is_told scene held book made label (script.Forget s) = tt
 settle_is_told scene held book made label (script.Lift table identifier) = tt
 settle_is_told scene held book made label script.Harvest = tt
 settle_is_told scene held book made label (script.Commit k) = tt
-settle_is_told scene held book made label script.Show = tt
-settle_is_told scene held book made label script.Trail = tt
-settle_is_told scene held book made label script.Products = tt
-settle_is_told scene held book made label script.Plan = tt
-settle_is_told scene held book made label script.Count = tt
+settle_is_told scene held book made label (script.Look lookup) = tt
 settle_is_told scene held book made label (script.Known name) = tt
 
 module _ (scene : Scene) where

@@ -1,5 +1,5 @@
 -- A desk's present page as it is shown.
-use Rattle.std.proofs.Common.{◌≡◌, ℕ, ◌≤◌, ◌++◌, List, length, All, Option, Some, None, refl, sym, ap, ap₂, ◌∙◌, subst, inl, inr}
+use Rattle.std.proofs.Common.{◌≡◌, ℕ, ◌≤◌, ◌++◌, Bool, true, false, List, length, All, Option, Some, None, Ok, Err, refl, sym, ap, ◌∙◌, subst, inr}
 use Rattle.std.specs.Prelude.{map, codes}
 use Rattle.std.proofs.lemmas.List.{length-map}
 use Rattle.vpg_guards.specs.Formula.{Formula}
@@ -24,13 +24,12 @@ use Rattle.vpg_client.specs.Client.{IsLogged}
 use Rattle.vpg_desk.proofs.Deciding.{choices_inside}
 use Rattle.vpg_desk.proofs.Reaching.{reached_well_formed}
 use Rattle.vpg_script.specs.Script as script
-use Rattle.vpg_texts.specs.Plan.{IsPlanned, IsPlanFault}
-use Rattle.vpg_texts.specs.declared.showing.plans.PlanFault.TheVariants.{NotFull, NotSettled}
-use Rattle.vpg_texts.specs.Scene.{EntryIsWithin, IsShown, IsCounted, TellsKnown, TellsFeature, scene_of}
-use Rattle.vpg_texts.specs.Text.{products_text, known_text, trail_text}
-use Rattle.vpg_report.specs.Answers.{NoFeature, IsPlanAnswer, call_or, refused_line, room}
-use Rattle.vpg_report.specs.Engine.{EngineState, AnswersTo}
-use Rattle.vpg_report.proofs.Asked.{page_told}
+use Rattle.vpg_texts.specs.Scene.{EntryIsWithin, TellsFeature, scene_of}
+use Rattle.vpg_texts.specs.Text.{known_text}
+use Rattle.vpg_texts.specs.Sights.{IsSeen, has_vertices}
+use Rattle.vpg_report.specs.Answers.{NoFeature, NoVertex, call_or, first_call, page_if, refused_line, room}
+use Rattle.vpg_report.specs.Engine.{EngineState, scene_at, AnswersTo}
+use Rattle.vpg_report.proofs.Asked.{page_told, unasked}
 use Rattle.vpg_report.proofs.Within.{entries_within}
 
 -- the entries are those of the page
@@ -83,27 +82,33 @@ module _ (desk : DeskState) (tells : Tells (setting_of desk) desk.book.present) 
       let counted = subst (λ (n : ℕ). All (EntryIsWithin (feature_count desk.diagram.lines) n) page) (length-map desk.game.vertices unnamed) within in
       coe 0 1 (i. All (EntryIsWithin (feature_count (sym diagram_is i).lines) (length (sym game_is i).vertices)) (sym (entries_are desk entries reply) i)) counted
 
+-- ---- a lookup
+
+module _ (old : EngineState) (lookup : script.Lookup) (game : NamedGame) (game_is : game ≡ old.client.desk.game) where
+  begins_as : (has : Bool) → has_vertices (vertex_ids game.vertices) lookup ≡ has → first_call (scene_at old) old.held (script.Look lookup) ≡ page_if has
+  begins_as has is = ap page_if (ap (λ (g : NamedGame). has_vertices (vertex_ids g.vertices) lookup) (sym game_is) ∙ is)
+
+  -- the game has the vertices that it names
+  pub looks : has_vertices (vertex_ids game.vertices) lookup ≡ true → first_call (scene_at old) old.held (script.Look lookup) ≡ Ok AsksPage
+  looks has = begins_as true has
+
+  lacks : has_vertices (vertex_ids game.vertices) lookup ≡ false → first_call (scene_at old) old.held (script.Look lookup) ≡ Err NoVertex
+  lacks none = begins_as false none
+
+-- the game lacks one
+pub missing_vertex : (old : EngineState) (session : ℕ) (lookup : script.Lookup) (game : NamedGame) (before after : List ℕ) → game ≡ old.client.desk.game → has_vertices (vertex_ids game.vertices) lookup ≡ false →
+    after ≡ before ++ refused_line (codes "NoVertex") → AnswersTo old (record { label = session; command = script.Look lookup }) before after old
+missing_vertex old session lookup game before after game_is none told = unasked old session (script.Look lookup) NoVertex before after (lacks old lookup game game_is none) told
+
 -- what is told of a page, with the game, the diagram, the decisions and the tables as the code has them
 module _ (limit : ℕ) (limit_is : limit ≡ room) (old new : EngineState) (session : ℕ) (game : NamedGame) (diagram : NamedDiagram) (before after : List ℕ) (game_is : game ≡ old.client.desk.game) (diagram_is : diagram ≡ old.client.desk.diagram)
     (entries : List Entry) (logged : IsLogged limit old.client session AsksPage (PageIs entries) new.client) (held : new.held ≡ old.held) where
   present : entries ≡ old.client.desk.book.present
   present = entries_are old.client.desk entries logged.step.step.0
 
-  pub trail_answers : after ≡ before ++ trail_text diagram.names (vertex_ids game.vertices) entries → AnswersTo old (record { label = session; command = script.Trail }) before after new
-  trail_answers appended =
-      page_told limit limit_is session old new script.Trail entries (trail_text old.client.desk.diagram.names (vertex_ids old.client.desk.game.vertices) entries) before after refl logged (refl, refl, held)
-      (appended ∙ ap₂ (λ (d : NamedDiagram) (g : NamedGame). before ++ trail_text d.names (vertex_ids g.vertices) entries) diagram_is game_is)
-
   module _ (decisions : List Decision) (decisions_are : decisions ≡ decisions_of old.client.desk.book.present) where
     decisions_here : decisions ≡ decisions_of entries
     decisions_here = decisions_are ∙ ap decisions_of (sym present)
-
-    pub products_answers : (games : GamesView) → ArePageGames game diagram (map literal_of decisions) games → after ≡ before ++ products_text diagram.names games.known →
-        AnswersTo old (record { label = session; command = script.Products }) before after new
-    products_answers games are appended =
-        let text = products_text diagram.names games.known in
-        page_told limit limit_is session old new script.Products entries text before after refl logged
-        (coe 0 1 (k. TellsKnown (scene_of (game_is k) (diagram_is k)) (decisions_here k) text) (games.known, (are.known, refl)), refl, held) appended
 
     pub known_answers : (games : GamesView) → ArePageGames game diagram (map literal_of decisions) games → (name : List ℕ) (f : ℕ) → index_of old.client.desk.diagram.names name ≡ Some f →
         after ≡ before ++ known_text diagram.names games.known f → AnswersTo old (record { label = session; command = script.Known name }) before after new
@@ -117,26 +122,9 @@ module _ (limit : ℕ) (limit_is : limit ≡ room) (old new : EngineState) (sess
       table_here : (which : Which) (table : List ℕ) → table ≡ table_of which old.client.desk.book.present (length (graph_of old.client.desk.game)) → table ≡ table_of which entries (length (graph_of old.client.desk.game))
       table_here which table is = is ∙ ap (λ (page : List Entry). table_of which page (length (graph_of old.client.desk.game))) (sym present)
 
-      pub show_answers : (text : List ℕ) × (IsShown (scene_of game diagram) decisions hopeful dual text × (after ≡ before ++ text)) → AnswersTo old (record { label = session; command = script.Show }) before after new
-      show_answers (text, (shown, appended)) =
-          page_told limit limit_is session old new script.Show entries text before after refl logged
-          (coe 0 1 (k. IsShown (scene_of (game_is k) (diagram_is k)) (decisions_here k) (table_here Hopeful hopeful hopeful_is k) (table_here Dual dual dual_is k) text) shown, refl, held) appended
-
-      pub count_answers : (text : List ℕ) × (IsCounted (scene_of game diagram) decisions hopeful dual text × (after ≡ before ++ text)) → AnswersTo old (record { label = session; command = script.Count }) before after new
-      count_answers (text, (counted, appended)) =
-          page_told limit limit_is session old new script.Count entries text before after refl logged
-          (coe 0 1 (k. IsCounted (scene_of (game_is k) (diagram_is k)) (decisions_here k) (table_here Hopeful hopeful hopeful_is k) (table_here Dual dual dual_is k) text) counted, refl, held) appended
-
-      planned : (text : List ℕ) → IsPlanAnswer (scene_of game diagram) decisions hopeful dual text → after ≡ before ++ text → AnswersTo old (record { label = session; command = script.Plan }) before after new
-      planned text plan appended =
-          page_told limit limit_is session old new script.Plan entries text before after refl logged
-          (coe 0 1 (k. IsPlanAnswer (scene_of (game_is k) (diagram_is k)) (decisions_here k) (table_here Hopeful hopeful hopeful_is k) (table_here Dual dual dual_is k) text) plan, refl, held) appended
-
-      pub plan_answers : (text : List ℕ) × (IsPlanned (scene_of game diagram) decisions hopeful dual text × (after ≡ before ++ text)) → AnswersTo old (record { label = session; command = script.Plan }) before after new
-      plan_answers (text, (plan, appended)) = planned text (inl plan) appended
-
-      pub not_full : IsPlanFault (scene_of game diagram) decisions hopeful dual NotFull → after ≡ before ++ refused_line (codes "NotFull") → AnswersTo old (record { label = session; command = script.Plan }) before after new
-      not_full fault appended = planned (refused_line (codes "NotFull")) (inr (inl (fault, refl))) appended
-
-      pub not_settled : IsPlanFault (scene_of game diagram) decisions hopeful dual NotSettled → after ≡ before ++ refused_line (codes "NotSettled") → AnswersTo old (record { label = session; command = script.Plan }) before after new
-      not_settled fault appended = planned (refused_line (codes "NotSettled")) (inr (inr (fault, refl))) appended
+      pub look_answers : (lookup : script.Lookup) → has_vertices (vertex_ids game.vertices) lookup ≡ true →
+          (text : List ℕ) × (IsSeen (scene_of game diagram) lookup entries decisions hopeful dual text × (after ≡ before ++ text)) →
+          AnswersTo old (record { label = session; command = script.Look lookup }) before after new
+      look_answers lookup has (text, (seen, appended)) =
+          page_told limit limit_is session old new (script.Look lookup) entries text before after (looks old lookup game game_is has) logged
+          (coe 0 1 (k. IsSeen (scene_of (game_is k) (diagram_is k)) lookup entries (decisions_here k) (table_here Hopeful hopeful hopeful_is k) (table_here Dual dual dual_is k) text) seen, refl, held) appended

@@ -16,10 +16,9 @@ use Rattle.vpg_desk.specs.Desk.{family_of}
 use Rattle.vpg_report.specs.Held.{Held, undo_meant, redo_meant, harvest_kept, after_change, after_undo, after_redo, after_keep, after_forget, with_harvest, without_harvest}
 use Rattle.vpg_script.specs.Script as script
 use Rattle.vpg_script.specs.Script.{Request}
-use Rattle.vpg_texts.specs.Plan.{IsPlanned, IsPlanFault}
-use Rattle.vpg_texts.specs.declared.showing.plans.PlanFault.TheVariants.{NotFull, NotSettled}
-use Rattle.vpg_texts.specs.Text.{blank_number, blank_name, trail_text}
-use Rattle.vpg_texts.specs.Scene.{Scene, table_in, IsShown, IsCounted, TellsKnown, TellsFeature}
+use Rattle.vpg_texts.specs.Text.{blank_number, blank_name}
+use Rattle.vpg_texts.specs.Scene.{Scene, table_in, TellsFeature}
+use Rattle.vpg_texts.specs.Sights.{IsSeen, has_vertices}
 use Rattle.vpg_answers.specs.Answers.{IsAnswer}
 use Rattle.vpg_answers.specs.declared.query.Query.{Query}
 use Rattle.vpg_answers.specs.declared.query.Query.TheVariants as queries
@@ -105,6 +104,11 @@ abbrev pub order_or : Result Query Own → Result Call Own
 order_or (Err own) = Err own
 order_or (Ok query) = Ok Order
 
+-- what is looked at of the page, where the game has the vertices that are named
+abbrev pub page_if : Bool → Result Call Own
+page_if true = Ok Page
+page_if false = Err NoVertex
+
 -- the first call of a command, or why there is none
 abbrev pub first_call : Scene → Held → script.Command → Result Call Own
 first_call scene held (script.Select name) = call_or NoFeature (λ f. Decide f true) (index_of scene.names name)
@@ -118,11 +122,7 @@ first_call scene held (script.Lift table identifier) = call_or NoVertex (λ v. O
 first_call scene held script.Harvest = Ok Order
 first_call scene held (script.Commit k) = call_or NoHarvest Commit (harvest_kept held.harvests k)
 first_call scene held (script.Settle n) = Ok Order
-first_call scene held script.Show = Ok Page
-first_call scene held script.Trail = Ok Page
-first_call scene held script.Products = Ok Page
-first_call scene held script.Plan = Ok Page
-first_call scene held script.Count = Ok Page
+first_call scene held (script.Look lookup) = page_if (has_vertices scene.identifiers lookup)
 first_call scene held (script.Known name) = call_or NoFeature (λ f. Page) (index_of scene.names name)
 first_call scene held (script.Ask inquiry) = order_or (query_of scene inquiry)
 
@@ -259,32 +259,10 @@ TellsSpent answer held _ calls text new = ⊥
 
 -- ---- texts of a page
 
-abbrev pub ShowsPage : Scene → List Entry → List ℕ → Type 0
-ShowsPage scene page text =
-    IsShown scene (decisions_of page) (table_of Hopeful page (length scene.game))
-    (table_of Dual page (length scene.game)) text
-
-abbrev pub TellsEntries : Scene → List Entry → List ℕ → Type 0
-TellsEntries scene page text = text ≡ trail_text scene.names scene.identifiers page
-
-abbrev pub TellsProducts : Scene → List Entry → List ℕ → Type 0
-TellsProducts scene page text = TellsKnown scene (decisions_of page) text
-
--- a plan, or why there is none
-abbrev pub IsPlanAnswer : Scene → List Decision → (hopeful dual text : List ℕ) → Type 0
-IsPlanAnswer scene decisions hopeful dual text =
-    IsPlanned scene decisions hopeful dual text
-    ⊎ (IsPlanFault scene decisions hopeful dual NotFull × (text ≡ refused_line (codes "NotFull")))
-    ⊎ (IsPlanFault scene decisions hopeful dual NotSettled × (text ≡ refused_line (codes "NotSettled")))
-
-abbrev pub TellsPlan : Scene → List Entry → List ℕ → Type 0
-TellsPlan scene page text =
-    IsPlanAnswer scene (decisions_of page) (table_of Hopeful page (length scene.game))
-    (table_of Dual page (length scene.game)) text
-
-abbrev pub CountsPage : Scene → List Entry → List ℕ → Type 0
-CountsPage scene page text =
-    IsCounted scene (decisions_of page) (table_of Hopeful page (length scene.game))
+-- what is looked at
+abbrev pub Sees : Scene → script.Lookup → List Entry → List ℕ → Type 0
+Sees scene lookup page text =
+    IsSeen scene lookup page (decisions_of page) (table_of Hopeful page (length scene.game))
     (table_of Dual page (length scene.game)) text
 
 -- what is known of the feature of this name
@@ -292,7 +270,7 @@ abbrev pub TellsNamed : Scene → (name : List ℕ) → List Entry → List ℕ 
 TellsNamed scene name page text =
     (f : ℕ) × ((index_of scene.names name ≡ Some f) × TellsFeature scene (decisions_of page) f text)
 
--- one of these is told of the page
+-- this is told of the page
 abbrev pub TellsPage : (List Entry → List ℕ → Type 0) → Held → Reply → Rest
 TellsPage Tells held (PageIs page) calls text new = Tells page text × (calls ≡ []) × (new ≡ held)
 TellsPage Tells held _ calls text new = ⊥
@@ -323,14 +301,8 @@ Continues scene held made label (script.Commit k) reply calls text new =
     TellsAdded (without_harvest held k) reply calls text new
 Continues scene held made label (script.Settle n) reply calls text new =
     Sweeps scene held made label (sweeps_of n) reply calls text new
-Continues scene held made label script.Show reply calls text new = TellsPage (ShowsPage scene) held reply calls text new
-Continues scene held made label script.Trail reply calls text new =
-    TellsPage (TellsEntries scene) held reply calls text new
-Continues scene held made label script.Products reply calls text new =
-    TellsPage (TellsProducts scene) held reply calls text new
-Continues scene held made label script.Plan reply calls text new = TellsPage (TellsPlan scene) held reply calls text new
-Continues scene held made label script.Count reply calls text new =
-    TellsPage (CountsPage scene) held reply calls text new
+Continues scene held made label (script.Look lookup) reply calls text new =
+    TellsPage (Sees scene lookup) held reply calls text new
 Continues scene held made label (script.Known name) reply calls text new =
     TellsPage (TellsNamed scene name) held reply calls text new
 Continues scene held made label (script.Ask inquiry) reply calls text new =

@@ -7,8 +7,8 @@ ghost use Rattle.vpg_guards.specs.Names.{index_of};
 ghost use Rattle.vpg_desk.specs.State.{IsOpened};
 ghost use Rattle.vpg_report.specs.Engine.{AnswersTo, SweepsTo, IsOpenFault, deciding, between_of, engine_of, scene_at};
 ghost use Rattle.vpg_report.specs.Run.{answering};
-ghost use Rattle.vpg_script.specs.Script.{Retract, Undo as Undoes, Redo as Redoes, Keep, Forget, Lift, Harvest as Harvests, Commit, Settle, Show, Trail, Products, Plan, Count, Known, Ask};
-ghost use Rattle.vpg_script.specs.View.{inquiry_shown, request_shown};
+ghost use Rattle.vpg_script.specs.Script.{Retract, Undo as Undoes, Redo as Redoes, Keep, Forget, Lift, Harvest as Harvests, Commit, Settle, Look, Known, Ask};
+ghost use Rattle.vpg_script.specs.View.{inquiry_shown, lookup_shown, request_shown};
 
 use crate::held::{
     hold_redo, hold_redone, hold_strayed, hold_undo, hold_undone, put_back_unspent, redo_place,
@@ -28,11 +28,9 @@ use vpg_game::GuardedGame;
 use vpg_guards::Names;
 use vpg_measure::{Harvest, Which};
 use vpg_office::{NotOpened, Redo, Site, Terms, Undo};
-use vpg_script::{Command, Inquiry, Request, ServeFault, Server};
+use vpg_script::{Command, Inquiry, Lookup, Request, ServeFault, Server};
 use vpg_settle::swept;
-use vpg_texts::{
-    PlanFault, count_over, plan_over, products_over, put_known_over, show_over, trail,
-};
+use vpg_texts::{has_vertices, look_over, put_known_over};
 
 /// How many calls the log of a run's office takes.
 pub(crate) const ROOM: u32 = 1_048_576;
@@ -359,102 +357,27 @@ impl<L: Terms> Engine<L> {
         answer::settled(settled, added, out)
     }
 
-    /// Shows the present page.
-    fn show<R: Wait>(
+    /// Shows what is looked at of the present page.
+    fn look<R: Wait>(
         &mut self,
         rt: &R,
         alloc: Global,
         session: u32,
+        lookup: &Lookup,
         out: &mut Vec<u8>,
     ) -> Result<(), ServeFault>
         ensures { OnOk result (AnswersTo self.old
-            (record { label = session; command = Show }) out.old.items out.new.items self.new) }
+            (record { label = session; command = Look (lookup_shown lookup.now) })
+            out.old.items out.new.items self.new) }
     {
-        let (page, games) = match self.client.page_with_games(rt, alloc, session) {
-            Ok(both) => both,
-            Err(fault) => return answer::unanswered(fault, out),
-        };
-        show_over(alloc, &games, &page, &self.game, &self.diagram, out)?;
-        Ok(())
-    }
-
-    /// Tells the entries of the present page.
-    fn trail<R: Wait>(
-        &mut self,
-        rt: &R,
-        alloc: Global,
-        session: u32,
-        out: &mut Vec<u8>,
-    ) -> Result<(), ServeFault>
-        ensures { OnOk result (AnswersTo self.old
-            (record { label = session; command = Trail }) out.old.items out.new.items self.new) }
-    {
-        let page = match self.client.page(rt, alloc, session) {
-            Ok(page) => page,
-            Err(fault) => return answer::unanswered(fault, out),
-        };
-        trail(alloc, &page, &self.game, &self.diagram, out)?;
-        Ok(())
-    }
-
-    /// Tells what the present decisions make known of each feature.
-    fn products<R: Wait>(
-        &mut self,
-        rt: &R,
-        alloc: Global,
-        session: u32,
-        out: &mut Vec<u8>,
-    ) -> Result<(), ServeFault>
-        ensures { OnOk result (AnswersTo self.old
-            (record { label = session; command = Products }) out.old.items out.new.items self.new) }
-    {
-        let (_page, games) = match self.client.page_with_games(rt, alloc, session) {
-            Ok(both) => both,
-            Err(fault) => return answer::unanswered(fault, out),
-        };
-        products_over(alloc, &games, &self.diagram, out)?;
-        Ok(())
-    }
-
-    /// Tells what Even does, where every feature is known and the present page is settled.
-    fn plan<R: Wait>(
-        &mut self,
-        rt: &R,
-        alloc: Global,
-        session: u32,
-        out: &mut Vec<u8>,
-    ) -> Result<(), ServeFault>
-        ensures { OnOk result (AnswersTo self.old
-            (record { label = session; command = Plan }) out.old.items out.new.items self.new) }
-    {
-        let (page, games) = match self.client.page_with_games(rt, alloc, session) {
-            Ok(both) => both,
-            Err(fault) => return answer::unanswered(fault, out),
-        };
-        match plan_over(alloc, &games, &page, &self.game, &self.diagram, out) {
-            Ok(()) => Ok(()),
-            Err(PlanFault::NotFull) => answer::refused(b"NotFull", out),
-            Err(PlanFault::NotSettled) => answer::refused(b"NotSettled", out),
-            Err(PlanFault::Memory) => Err(ServeFault::Memory),
+        if !has_vertices(&self.game, lookup) {
+            return answer::missing(asking::Missing::Vertex, out);
         }
-    }
-
-    /// Counts the verdicts of the present page.
-    fn count<R: Wait>(
-        &mut self,
-        rt: &R,
-        alloc: Global,
-        session: u32,
-        out: &mut Vec<u8>,
-    ) -> Result<(), ServeFault>
-        ensures { OnOk result (AnswersTo self.old
-            (record { label = session; command = Count }) out.old.items out.new.items self.new) }
-    {
         let (page, games) = match self.client.page_with_games(rt, alloc, session) {
             Ok(both) => both,
             Err(fault) => return answer::unanswered(fault, out),
         };
-        count_over(alloc, &games, &page, &self.game, &self.diagram, out)?;
+        look_over(alloc, &games, &page, &self.game, &self.diagram, lookup, out)?;
         Ok(())
     }
 
@@ -574,27 +497,28 @@ impl<L: Terms> Server for Engine<L> {
         out: &mut Vec<u8>,
     ) -> Result<(), ServeFault> {
         let session = request.label;
-        match request.command {
-            Command::Select(name) => self.decide(rt, alloc, session, name, true, out),
-            Command::Exclude(name) => self.decide(rt, alloc, session, name, false, out),
-            Command::Retract(name) => self.retract(rt, alloc, session, name, out),
-            Command::Undo(serial) => self.undo(rt, alloc, session, serial, out),
-            Command::Redo(serial) => self.redo(rt, alloc, session, serial, out),
-            Command::Keep(serial) => self.keep(rt, session, serial, out),
-            Command::Forget(serial) => self.forget(rt, session, serial, out),
+        match &request.command {
+            Command::Select(name) => self.decide(rt, alloc, session, *name, true, out),
+            Command::Exclude(name) => self.decide(rt, alloc, session, *name, false, out),
+            Command::Retract(name) => self.retract(rt, alloc, session, *name, out),
+            Command::Undo(serial) => self.undo(rt, alloc, session, *serial, out),
+            Command::Redo(serial) => self.redo(rt, alloc, session, *serial, out),
+            Command::Keep(serial) => self.keep(rt, session, *serial, out),
+            Command::Forget(serial) => self.forget(rt, session, *serial, out),
             Command::Lift(table, identifier) => self.lift(
-                rt, alloc, session, table, identifier, out,
+                rt,
+                alloc,
+                session,
+                *table,
+                *identifier,
+                out,
             ),
             Command::Harvest => self.harvest(rt, alloc, session, lifters, out),
-            Command::Commit(number) => self.commit(rt, alloc, session, number, out),
-            Command::Settle(sweeps) => self.settle(rt, alloc, session, sweeps, lifters, out),
-            Command::Show => self.show(rt, alloc, session, out),
-            Command::Trail => self.trail(rt, alloc, session, out),
-            Command::Products => self.products(rt, alloc, session, out),
-            Command::Plan => self.plan(rt, alloc, session, out),
-            Command::Count => self.count(rt, alloc, session, out),
-            Command::Known(name) => self.known(rt, alloc, session, name, out),
-            Command::Ask(inquiry) => self.ask(rt, alloc, session, inquiry, out),
+            Command::Commit(number) => self.commit(rt, alloc, session, *number, out),
+            Command::Settle(sweeps) => self.settle(rt, alloc, session, *sweeps, lifters, out),
+            Command::Look(lookup) => self.look(rt, alloc, session, lookup, out),
+            Command::Known(name) => self.known(rt, alloc, session, *name, out),
+            Command::Ask(inquiry) => self.ask(rt, alloc, session, *inquiry, out),
         }
     }
 }

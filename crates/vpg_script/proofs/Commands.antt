@@ -1,15 +1,34 @@
-use Rattle.std.proofs.Common.{◌≡◌, ℕ, ◌+◌, ◌*◌, ◌≤◌, List, [], ◌∷◌, length, min, None, refl, arith}
+use Rattle.std.proofs.Common.{◌≡◌, ℕ, suc, zero, ◌+◌, ◌*◌, ◌≤◌, ◌<◌, List, [], ◌∷◌, length, get_or, min, map, Option, Some, None, option_map, refl, ap, ◌∙◌, arith}
 use Rattle.std.specs.Borrow.{Bor}
 use Rattle.vpg_script.specs.declared.command.Verb.{Verb}
-use Rattle.vpg_script.specs.Script.{command_of}
+use Rattle.vpg_script.specs.Script.{command_with_few, all_there}
 use Rattle.vpg_script.specs.View.{texts}
 
--- no command has three arguments
-pub too_long : (verb : Verb) (args : List (Bor (List ℕ))) → 3 ≤ length args → None ≡ command_of verb (texts args)
-too_long verb [] h = absurd (omega arith)
-too_long verb (a ∷ []) h = absurd (omega arith)
-too_long verb (a ∷ b ∷ []) h = absurd (omega arith)
-too_long verb (a ∷ b ∷ c ∷ args) h = refl
+-- no command that takes no list has three arguments
+pub too_long : (verb : Verb) (first : List ℕ) (more : List (Bor (List ℕ))) → 2 ≤ length more → None ≡ command_with_few verb first (texts more)
+too_long verb first [] h = absurd (omega arith)
+too_long verb first (a ∷ []) h = absurd (omega arith)
+too_long verb first (a ∷ b ∷ more) h = refl
 
 pub capped : (above v w d : ℕ) → v ≡ min above w → min above (v * 10 + d) ≡ min above (w * 10 + d)
 capped above v w d h = omega arith
+
+-- ---- words that each name something
+
+module _ {X : Type 0} (named : List ℕ → Option X) where
+  pub all_named : (found : List X) (words : List (Option X)) → words ≡ map Some found → all_there words ≡ Some found
+  all_named found words is = ap all_there is ∙ go found
+    where
+      go : (xs : List X) → all_there (map Some xs) ≡ Some xs
+      go [] = refl
+      go (x ∷ xs) = ap (option_map (λ ys. x ∷ ys)) (go xs)
+
+  -- one names nothing
+  pub none_at : (words : List (Bor (List ℕ))) (i : ℕ) (d : Bor (List ℕ)) → i < length words → named (get_or words i d).now ≡ None → all_there (map named (texts words)) ≡ None
+  none_at [] i d l none = absurd (omega (arith, l))
+  none_at (w ∷ words) zero d l none = ap (λ (x : Option X). all_there (x ∷ map named (texts words))) none
+  none_at (w ∷ words) (suc i) d l none = go (named w.now) (none_at words i d (omega (arith, l)) none)
+    where
+      go : (x : Option X) → all_there (map named (texts words)) ≡ None → all_there (x ∷ map named (texts words)) ≡ None
+      go None rest = refl
+      go (Some x) rest = ap (option_map (λ ys. x ∷ ys)) rest

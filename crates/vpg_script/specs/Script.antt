@@ -1,5 +1,5 @@
 -- The lines of a script, and the commands that they spell.
-use Rattle.std.specs.Prelude.{ℕ, ◌-◌, Bool, true, false, ◌&&◌, ◌||◌, ◌==◌, nat_le, nat_lt, if◌then◌else◌, List, [], ◌∷◌, length, take, filter, Option, Some, None, is_none, option_map, Result, Ok, Err, slice_index, codes, bytes_eq}
+use Rattle.std.specs.Prelude.{ℕ, ◌-◌, Bool, true, false, ◌&&◌, ◌||◌, ◌==◌, nat_le, nat_lt, if◌then◌else◌, List, [], ◌∷◌, length, map, take, filter, Option, Some, None, is_none, option_map, Result, Ok, Err, slice_index, codes, bytes_eq}
 use Rattle.std.specs.List.{list_all, slice_split}
 use Rattle.std.specs.Char.{is_ascii_digit}
 use Rattle.std.specs.Str.Parse.{digits_value}
@@ -8,6 +8,8 @@ use Rattle.vpg_measure.specs.declared.which.Which.{Which}
 use Rattle.vpg_measure.specs.declared.which.Which.TheVariants.{Hopeful, Dual}
 use Rattle.vpg_script.specs.declared.command.Verb.{Verb}
 use Rattle.vpg_script.specs.declared.command.Verb.TheVariants as verbs
+use Rattle.vpg_script.specs.declared.command.Claim.{Claim}
+use Rattle.vpg_script.specs.declared.command.Claim.TheVariants as claims
 use Rattle.vpg_script.specs.declared.command.LineFault.{LineFault}
 use Rattle.vpg_script.specs.declared.command.LineFault.TheVariants as faults
 
@@ -54,6 +56,22 @@ pub data Inquiry : Type 0 where
   Example : (which : Which) → (identifier : ℕ) → Inquiry
   Offer : (identifier : ℕ) → Inquiry
 
+-- what a line asserts of the page: of a vertex its verdicts, or of the page as a whole
+pub data Assertion : Type 0 where
+  Verdicts : (identifier : ℕ) → (claims : List Claim) → Assertion
+  Full : Assertion
+  Settled : Assertion
+
+-- what is looked at of the page, which stays as it is
+pub data Lookup : Type 0 where
+  Show : Lookup
+  Vertices : (identifiers : List ℕ) → Lookup
+  Trail : Lookup
+  Products : Lookup
+  Plan : Lookup
+  Count : Lookup
+  Assert : (assertion : Assertion) → Lookup
+
 pub data Command : Type 0 where
   Select : (name : List ℕ) → Command
   Exclude : (name : List ℕ) → Command
@@ -66,11 +84,7 @@ pub data Command : Type 0 where
   Harvest : Command
   Commit : (number : ℕ) → Command
   Settle : (sweeps : Option ℕ) → Command
-  Show : Command
-  Trail : Command
-  Products : Command
-  Plan : Command
-  Count : Command
+  Look : (lookup : Lookup) → Command
   Known : (name : List ℕ) → Command
   Ask : (inquiry : Inquiry) → Command
 
@@ -94,6 +108,7 @@ verb_of w =
     else if bytes_eq w (codes "plan") then Some verbs.Plan
     else if bytes_eq w (codes "count") then Some verbs.Count
     else if bytes_eq w (codes "known") then Some verbs.Known
+    else if bytes_eq w (codes "assert") then Some verbs.Assert
     else if bytes_eq w (codes "why") then Some verbs.Why
     else if bytes_eq w (codes "example") then Some verbs.Example
     else if bytes_eq w (codes "counterexample") then Some verbs.Counterexample
@@ -106,11 +121,11 @@ bare_command verbs.Undo = Some (Undo None)
 bare_command verbs.Redo = Some (Redo None)
 bare_command verbs.Harvest = Some Harvest
 bare_command verbs.Settle = Some (Settle None)
-bare_command verbs.Show = Some Show
-bare_command verbs.Trail = Some Trail
-bare_command verbs.Products = Some Products
-bare_command verbs.Plan = Some Plan
-bare_command verbs.Count = Some Count
+bare_command verbs.Show = Some (Look Show)
+bare_command verbs.Trail = Some (Look Trail)
+bare_command verbs.Products = Some (Look Products)
+bare_command verbs.Plan = Some (Look Plan)
+bare_command verbs.Count = Some (Look Count)
 bare_command _ = None
 
 abbrev pub if_name : (List ℕ → Command) → List ℕ → Option Command
@@ -173,11 +188,56 @@ abbrev pub command_with_two : Verb → List ℕ → List ℕ → Option Command
 command_with_two verbs.Lift a b = lift_of (table_named a) (number_of largest_identifier b)
 command_with_two _ a b = None
 
+-- with a first and at most one more
+abbrev pub command_with_few : Verb → List ℕ → List (List ℕ) → Option Command
+command_with_few verb a [] = command_with verb a
+command_with_few verb a (b ∷ []) = command_with_two verb a b
+command_with_few verb a (b ∷ c ∷ args) = None
+
+-- all of them, where none is missing
+abbrev pub all_there : {X : Type 0} → List (Option X) → Option (List X)
+all_there [] = Some []
+all_there (None ∷ found) = None
+all_there (Some x ∷ found) = option_map (λ xs. x ∷ xs) (all_there found)
+
+-- the identifiers that words are
+abbrev pub identifiers_of : List (List ℕ) → Option (List ℕ)
+identifiers_of ws = all_there (map (λ w. number_of largest_identifier w) ws)
+
+-- the verdict that a word names
+abbrev pub claim_named : List ℕ → Option Claim
+claim_named w =
+    if bytes_eq w (codes "hopeless") then Some claims.Hopeless
+    else if bytes_eq w (codes "possible") then Some claims.Possible
+    else if bytes_eq w (codes "sure") then Some claims.Sure
+    else if bytes_eq w (codes "unsure") then Some claims.Unsure
+    else None
+
+abbrev pub claims_of : List (List ℕ) → Option (List Claim)
+claims_of ws = all_there (map claim_named ws)
+
+-- of the page as a whole
+abbrev pub state_named : List ℕ → Option Assertion
+state_named w =
+    if bytes_eq w (codes "full") then Some Full
+    else if bytes_eq w (codes "settled") then Some Settled
+    else None
+
+abbrev pub verdicts_of : Option ℕ → Option (List Claim) → Option Assertion
+verdicts_of (Some identifier) (Some claims) = Some (Verdicts identifier claims)
+verdicts_of _ _ = None
+
+-- one word, or the identifier of a vertex and its verdicts
+abbrev pub assertion_of : List ℕ → List (List ℕ) → Option Assertion
+assertion_of w [] = state_named w
+assertion_of w (claim ∷ more) = verdicts_of (number_of largest_identifier w) (claims_of (claim ∷ more))
+
+-- the command of a verb and its arguments: of a list of them, or of two at most
 abbrev pub command_of : Verb → List (List ℕ) → Option Command
 command_of verb [] = bare_command verb
-command_of verb (a ∷ []) = command_with verb a
-command_of verb (a ∷ b ∷ []) = command_with_two verb a b
-command_of verb (a ∷ b ∷ c ∷ args) = None
+command_of verbs.Show (a ∷ args) = option_map (λ ids. Look (Vertices ids)) (identifiers_of (a ∷ args))
+command_of verbs.Assert (a ∷ args) = option_map (λ said. Look (Assert said)) (assertion_of a args)
+command_of verb (a ∷ args) = command_with_few verb a args
 
 -- the label that a word is: a number from 1 to 64 and a colon
 abbrev pub if_positive : Option ℕ → Option ℕ

@@ -2,6 +2,10 @@
 use Rattle.std.specs.Prelude.{◌≡◌, ℕ, List, map, Option, option_map, Result, Ok, Err}
 use Rattle.std.specs.Borrow.{Bor}
 use Rattle.vpg_script.specs.Script as script
+use Rattle.vpg_script.specs.declared.command.Assertion.{Assertion}
+use Rattle.vpg_script.specs.declared.command.Assertion.TheVariants as assertions
+use Rattle.vpg_script.specs.declared.command.Lookup.{Lookup}
+use Rattle.vpg_script.specs.declared.command.Lookup.TheVariants as lookups
 use Rattle.vpg_script.specs.declared.command.Command.{Command}
 use Rattle.vpg_script.specs.declared.command.Command.TheVariants as commands
 use Rattle.vpg_script.specs.declared.command.Inquiry.{Inquiry}
@@ -17,6 +21,22 @@ inquiry_shown (inquiries.WhyChoice value f) = script.WhyChoice value f.now
 inquiry_shown (inquiries.Example which v) = script.Example which v
 inquiry_shown (inquiries.Offer v) = script.Offer v
 
+-- what is asserted, as definitions see it
+abbrev pub assertion_shown : Assertion → script.Assertion
+assertion_shown (assertions.Verdicts v claims) = script.Verdicts v claims.items
+assertion_shown assertions.Full = script.Full
+assertion_shown assertions.Settled = script.Settled
+
+-- what is looked at, as definitions see it
+abbrev pub lookup_shown : Lookup → script.Lookup
+lookup_shown lookups.Show = script.Show
+lookup_shown (lookups.Vertices vs) = script.Vertices vs.items
+lookup_shown lookups.Trail = script.Trail
+lookup_shown lookups.Products = script.Products
+lookup_shown lookups.Plan = script.Plan
+lookup_shown lookups.Count = script.Count
+lookup_shown (lookups.Assert assertion) = script.Assert (assertion_shown assertion)
+
 abbrev pub command_shown : Command → script.Command
 command_shown (commands.Select f) = script.Select f.now
 command_shown (commands.Exclude f) = script.Exclude f.now
@@ -29,11 +49,7 @@ command_shown (commands.Lift table v) = script.Lift table v
 command_shown commands.Harvest = script.Harvest
 command_shown (commands.Commit k) = script.Commit k
 command_shown (commands.Settle n) = script.Settle n
-command_shown commands.Show = script.Show
-command_shown commands.Trail = script.Trail
-command_shown commands.Products = script.Products
-command_shown commands.Plan = script.Plan
-command_shown commands.Count = script.Count
+command_shown (commands.Look lookup) = script.Look (lookup_shown lookup)
 command_shown (commands.Known f) = script.Known f.now
 command_shown (commands.Ask inquiry) = script.Ask (inquiry_shown inquiry)
 

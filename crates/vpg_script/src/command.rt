@@ -4,8 +4,9 @@ ghost use Rattle.std.specs.List.{list_all};
 ghost use Rattle.std.specs.Char.{is_ascii_digit, digit_value};
 ghost use Rattle.std.specs.Str.Parse.{digits_value};
 ghost use Rattle.std.specs.Prelude.{bytes_eq};
-ghost use Rattle.vpg_script.specs.Script.{is_blank, is_nonempty, words, is_feature_name, number_of, verb_of, bare_command, signed, why_of, example_of, offer_of, command_with, table_named, command_with_two, command_of, label_of, is_comment};
-ghost use Rattle.vpg_script.specs.View.{command_shown, inquiry_shown, texts};
+ghost use Rattle.vpg_script.specs.Script.{is_blank, is_nonempty, words, is_feature_name, number_of, verb_of, bare_command, signed, why_of, example_of, offer_of, command_with, table_named, command_with_two, label_of, is_comment};
+ghost use Rattle.vpg_script.specs.Script.{command_with_few, identifiers_of, claim_named, claims_of, state_named, assertion_of, command_of};
+ghost use Rattle.vpg_script.specs.View.{assertion_shown, command_shown, inquiry_shown, texts};
 
 use std::alloc::{AllocError, Global};
 use thiserror::Error;
@@ -43,10 +44,44 @@ pub enum Verb {
     Plan,
     Count,
     Known,
+    Assert,
     Why,
     Example,
     Counterexample,
     Offer,
+}
+
+/// A verdict that a line asserts of a vertex.
+#[derive(Clone, Copy, Debug, PartialEq, Eq)]
+pub enum Claim {
+    Hopeless,
+    Possible,
+    Sure,
+    Unsure,
+}
+
+/// What a line asserts of the page.
+#[derive(Drop)]
+pub enum Assertion {
+    /// That a vertex, by its identifier, has these verdicts.
+    Verdicts(u32, Vec<Claim>),
+    /// That each feature is known.
+    Full,
+    /// That both tables are progress tables.
+    Settled,
+}
+
+/// What is looked at of the page, which stays as it is.
+#[derive(Drop)]
+pub enum Lookup {
+    Show,
+    /// Some vertices, by their identifiers.
+    Vertices(Vec<u32>),
+    Trail,
+    Products,
+    Plan,
+    Count,
+    Assert(Assertion),
 }
 
 /// What is asked of the page. Names stand in the line that was read.
@@ -66,7 +101,7 @@ pub enum Inquiry<'t> {
 }
 
 /// A command. Names stand in the line that was read.
-#[derive(Clone, Copy)]
+#[derive(Drop)]
 pub enum Command<'t> {
     Select(&'t [u8]),
     Exclude(&'t [u8]),
@@ -80,11 +115,7 @@ pub enum Command<'t> {
     Harvest,
     Commit(u64),
     Settle(Option<u64>),
-    Show,
-    Trail,
-    Products,
-    Plan,
-    Count,
+    Look(Lookup),
     Known(&'t [u8]),
     Ask(Inquiry<'t>),
 }
@@ -104,7 +135,7 @@ pub enum LineFault {
 }
 
 /// A command under its label.
-#[derive(Clone, Copy)]
+#[derive(Drop)]
 pub struct Request<'t> {
     pub label: u32,
     pub command: Command<'t>,
@@ -226,6 +257,8 @@ fn verb_named(word: &[u8]) -> Option<Verb>
         Some(Verb::Count)
     } else if same(word, b"known") {
         Some(Verb::Known)
+    } else if same(word, b"assert") {
+        Some(Verb::Assert)
     } else if same(word, b"why") {
         Some(Verb::Why)
     } else if same(word, b"example") {
@@ -248,11 +281,11 @@ fn bare_command<'t>(verb: Verb) -> Option<Command<'t>>
         Verb::Redo => Some(Command::Redo(None)),
         Verb::Harvest => Some(Command::Harvest),
         Verb::Settle => Some(Command::Settle(None)),
-        Verb::Show => Some(Command::Show),
-        Verb::Trail => Some(Command::Trail),
-        Verb::Products => Some(Command::Products),
-        Verb::Plan => Some(Command::Plan),
-        Verb::Count => Some(Command::Count),
+        Verb::Show => Some(Command::Look(Lookup::Show)),
+        Verb::Trail => Some(Command::Look(Lookup::Trail)),
+        Verb::Products => Some(Command::Look(Lookup::Products)),
+        Verb::Plan => Some(Command::Look(Lookup::Plan)),
+        Verb::Count => Some(Command::Look(Lookup::Count)),
         Verb::Select
         | Verb::Exclude
         | Verb::Retract
@@ -261,6 +294,7 @@ fn bare_command<'t>(verb: Verb) -> Option<Command<'t>>
         | Verb::Lift
         | Verb::Commit
         | Verb::Known
+        | Verb::Assert
         | Verb::Why
         | Verb::Example
         | Verb::Counterexample
@@ -360,15 +394,116 @@ fn command_with_two<'t>(verb: Verb, first: &[u8], second: &[u8]) -> Option<Comma
     }
 }
 
-/// The command of a verb and its arguments.
-fn command_of<'t>(verb: Verb, args: &[&'t [u8]]) -> Option<Command<'t>>
-    ensures { option_map command_shown result ≡ command_of verb (texts args.now) }
+/// A command with a first argument and at most one more.
+fn command_with_few<'t>(verb: Verb, first: &'t [u8], more: &[&'t [u8]]) -> Option<Command<'t>>
+    ensures { option_map command_shown result ≡ command_with_few verb first.now (texts more.now) }
 {
-    match args {
-        [] => bare_command(verb),
-        [a] => command_with(verb, a),
-        [a, b] => command_with_two(verb, a, b),
-        [_, _, _, ..] => None,
+    match more {
+        [] => command_with(verb, first),
+        [second] => command_with_two(verb, first, second),
+        [_, _, ..] => None,
+    }
+}
+
+/// The identifiers of vertices that words are.
+fn identifiers_of(alloc: Global, words: &[&[u8]]) -> Result<Option<Vec<u32>>, AllocError>
+    ensures { IfOk result (λ found. option_map (λ ids. ids.items) found ≡ identifiers_of (texts words.now)) }
+{
+    let mut identifiers = Vec::new(alloc);
+    for word in words {
+        let Some(identifier) = number(word, LARGEST_IDENTIFIER) else {
+            return Ok(None);
+        };
+        identifiers.push(identifier as u32)?;
+    }
+    Ok(Some(identifiers))
+}
+
+fn claim_named(word: &[u8]) -> Option<Claim>
+    ensures { result ≡ claim_named word.now }
+{
+    if same(word, b"hopeless") {
+        Some(Claim::Hopeless)
+    } else if same(word, b"possible") {
+        Some(Claim::Possible)
+    } else if same(word, b"sure") {
+        Some(Claim::Sure)
+    } else if same(word, b"unsure") {
+        Some(Claim::Unsure)
+    } else {
+        None
+    }
+}
+
+/// The verdicts that words are.
+fn claims_of(alloc: Global, words: &[&[u8]]) -> Result<Option<Vec<Claim>>, AllocError>
+    ensures { IfOk result (λ found. option_map (λ claims. claims.items) found ≡ claims_of (texts words.now)) }
+{
+    let mut claims = Vec::new(alloc);
+    for word in words {
+        let Some(claim) = claim_named(word) else {
+            return Ok(None);
+        };
+        claims.push(claim)?;
+    }
+    Ok(Some(claims))
+}
+
+/// What is asserted of the page as a whole.
+fn state_named(word: &[u8]) -> Option<Assertion>
+    ensures { option_map assertion_shown result ≡ state_named word.now }
+{
+    if same(word, b"full") {
+        Some(Assertion::Full)
+    } else if same(word, b"settled") {
+        Some(Assertion::Settled)
+    } else {
+        None
+    }
+}
+
+/// What is asserted: of the page as a whole, or of a vertex.
+fn assertion_of(
+    alloc: Global,
+    first: &[u8],
+    more: &[&[u8]],
+) -> Result<Option<Assertion>, AllocError>
+    ensures { IfOk result (λ found.
+        option_map assertion_shown found ≡ assertion_of first.now (texts more.now)) }
+{
+    if more.is_empty() {
+        return Ok(state_named(first));
+    }
+    let Some(identifier) = number(first, LARGEST_IDENTIFIER) else {
+        return Ok(None);
+    };
+    match claims_of(alloc, more)? {
+        Some(claims) => Ok(Some(Assertion::Verdicts(identifier as u32, claims))),
+        None => Ok(None),
+    }
+}
+
+/// The command of a verb and its arguments.
+fn command_of<'t>(
+    alloc: Global,
+    verb: Verb,
+    args: &[&'t [u8]],
+) -> Result<Option<Command<'t>>, AllocError>
+    ensures { IfOk result (λ found. option_map command_shown found ≡ command_of verb (texts args.now)) }
+{
+    let [first, more @ ..] = args else {
+        return Ok(bare_command(verb));
+    };
+    match verb {
+        Verb::Show => match identifiers_of(alloc, args)? {
+            Some(identifiers) => Ok(Some(Command::Look(Lookup::Vertices(identifiers)))),
+            None => Ok(None),
+        },
+        Verb::Assert => match assertion_of(alloc, first, more)? {
+            Some(assertion) => Ok(Some(Command::Look(Lookup::Assert(assertion)))),
+            None => Ok(None),
+        },
+        _ => Ok(command_with_few(verb, first, more)),
     }
 }
 
@@ -406,7 +541,11 @@ fn is_comment(word: &[u8]) -> bool
     }
 }
 
-fn after_label<'t>(label: u32, words: &[&'t [u8]]) -> Result<Option<Request<'t>>, ReadFault>
+fn after_label<'t>(
+    alloc: Global,
+    label: u32,
+    words: &[&'t [u8]],
+) -> Result<Option<Request<'t>>, ReadFault>
     ensures { Says result (after_label label (texts words.now)) }
 {
     let [word, args @ ..] = words else {
@@ -415,13 +554,14 @@ fn after_label<'t>(label: u32, words: &[&'t [u8]]) -> Result<Option<Request<'t>>
     let Some(verb) = verb_named(word) else {
         return Err(ReadFault::Line(LineFault::Word));
     };
-    match command_of(verb, args) {
-        Some(command) => Ok(Some(Request { label, command })),
-        None => Err(ReadFault::Line(LineFault::Args)),
+    match command_of(alloc, verb, args) {
+        Ok(Some(command)) => Ok(Some(Request { label, command })),
+        Ok(None) => Err(ReadFault::Line(LineFault::Args)),
+        Err(_) => Err(ReadFault::Memory),
     }
 }
 
-fn said_by<'t>(words: &[&'t [u8]]) -> Result<Option<Request<'t>>, ReadFault>
+fn said_by<'t>(alloc: Global, words: &[&'t [u8]]) -> Result<Option<Request<'t>>, ReadFault>
     ensures { Says result (said_by (texts words.now)) }
 {
     let [word, rest @ ..] = words else {
@@ -431,8 +571,8 @@ fn said_by<'t>(words: &[&'t [u8]]) -> Result<Option<Request<'t>>, ReadFault>
         return Ok(None);
     }
     match label(word) {
-        Some(n) => after_label(n, rest),
-        None => after_label(1, words),
+        Some(n) => after_label(alloc, n, rest),
+        None => after_label(alloc, 1, words),
     }
 }
 
@@ -446,5 +586,5 @@ pub fn read_line(alloc: Global, line: &[u8]) -> Result<Option<Request>, ReadFaul
     let Ok(words) = words_of(alloc, line) else {
         return Err(ReadFault::Memory);
     };
-    said_by(&words)
+    said_by(alloc, &words)
 }

@@ -41,12 +41,12 @@ impl Server for Refuser {
         request: &Request<'_>,
         out: &mut Vec<u8>,
     ) -> Result<(), ServeFault> {
-        match request.command {
+        match &request.command {
             Command::Undo(_) | Command::Redo(_) | Command::Keep(_) | Command::Forget(_) => {
                 out.extend_from_slice(b"refused NoToken\n")?
             }
             Command::Commit(_) => out.extend_from_slice(b"refused NoHarvest\n")?,
-            Command::Show => return Err(ServeFault::Stray),
+            Command::Look(_) => return Err(ServeFault::Stray),
             _ => return Err(ServeFault::Memory),
         }
         Ok(())
@@ -157,7 +157,14 @@ fn names_the_faulty_line(rt: HostRuntime) -> Result<(), Fail> {
         ("lift hopeful 4294967296", LineFault::Args),
         ("keep 18446744073709551616", LineFault::Args),
         ("undo -1", LineFault::Args),
-        ("show 1", LineFault::Args),
+        ("show f", LineFault::Args),
+        ("show 1 4294967296", LineFault::Args),
+        ("assert", LineFault::Args),
+        ("assert 1", LineFault::Args),
+        ("assert 1 full", LineFault::Args),
+        ("assert 1 sure possible never", LineFault::Args),
+        ("assert full settled", LineFault::Args),
+        ("assert sure 1", LineFault::Args),
         ("count 1", LineFault::Args),
         ("known", LineFault::Args),
         ("known +f", LineFault::Args),

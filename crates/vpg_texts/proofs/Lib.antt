@@ -3,3 +3,5 @@ pub mod Shown
 pub mod Counted
 pub mod Planned
 pub mod Reading
+pub mod Seen
+pub mod Named

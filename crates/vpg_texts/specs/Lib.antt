@@ -1,3 +1,4 @@
 pub mod Plan
 pub mod Scene
 pub mod Text
+pub mod Sights

@@ -10,6 +10,7 @@ mod counts;
 mod entries;
 mod feature;
 mod known;
+mod lookups;
 mod page;
 mod plans;
 
@@ -17,6 +18,7 @@ pub use counts::{count, count_over};
 pub use entries::trail;
 pub use feature::{put_known, put_known_over};
 pub use known::{products, products_over};
+pub use lookups::look_over;
 pub use page::{show, show_over};
 pub use plans::{PlanFault, plan, plan_over};
 use std::alloc::{AllocError, Global};

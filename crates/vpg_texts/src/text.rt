@@ -144,7 +144,7 @@ fn identifier(game: &GuardedGame, v: u32) -> u32
 }
 
 /// The line of a vertex.
-fn vertex(
+pub(crate) fn vertex(
     games: &PageGames,
     game: &GuardedGame,
     hopeful: &Table,

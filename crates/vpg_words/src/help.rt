@@ -30,10 +30,15 @@ harvest's number, N a number):
   lift dual V            the same of the other
   harvest, commit K      settle copies of the tables; take them into the page
   show, trail            verdicts; the page's entries
+  show V ..              the verdicts of these vertices
   products, plan         known features; Even's moves, where all is known
   count                  how many vertices have which verdict; whether the page
                          is settled, and full
   known F                whether F is known to be in or out
+  assert V WORD ..       whether V is hopeless, possible, sure or unsure, and
+                         stays so
+  assert full            whether each feature is known;
+  assert settled         whether the page is settled
   why V, why F           decisions that make V's verdicts so, or F known
   why +F, why -F         decisions that contradict one more
   example V              the first product left in which Even wins at V

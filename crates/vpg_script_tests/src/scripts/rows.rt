@@ -432,6 +432,51 @@ static KNOWN: [Row; 2] = [
     },
 ];
 
+static SIGHTS: [Row; 7] = [
+    Row {
+        diagram: DIAGRAM,
+        game: GAME,
+        script: "show 1 / exclude f / settle / show 00 1",
+        answers: "1 0 0 possible unsure / done 1 / settled 2 / 0 2 0 hopeless unsure / 1 0 1 possible unsure",
+    },
+    Row {
+        diagram: DIAGRAM,
+        game: GAME,
+        script: "show 7 / show 0 7 / assert 7 sure",
+        answers: "refused NoVertex / refused NoVertex / refused NoVertex",
+    },
+    Row {
+        diagram: DIAGRAM,
+        game: GAME,
+        script: "exclude f / assert 0 hopeless / assert 0 possible / assert 0 sure unsure hopeless",
+        answers: "done 1 / fails hopeless unsettled / fails possible unsettled / fails sure unsure hopeless unsettled",
+    },
+    Row {
+        diagram: DIAGRAM,
+        game: GAME,
+        script: "exclude f / 2: settle / assert 0 hopeless unsure / assert 0 sure / assert 0 sure possible unsure",
+        answers: "done 1 / settled 2 / holds / fails sure / fails sure possible",
+    },
+    Row {
+        diagram: DIAGRAM,
+        game: GAME,
+        script: "assert settled / settle / assert settled / assert full / select f / exclude g / assert full",
+        answers: "fails settled / settled 2 / holds / fails full / done 1 / done 2 / holds",
+    },
+    Row {
+        diagram: DIAGRAM,
+        game: "5 1 0 5; 3 2 0 3; 4 0 1 5[f],3;",
+        script: "lift hopeful 5 / lift hopeful 5 / assert 5 hopeless / assert 5 hopeless unsure / assert 5 possible",
+        answers: "added 1 / added 1 / holds / fails unsure unsettled / fails possible",
+    },
+    Row {
+        diagram: DIAGRAM,
+        game: "5 1 0 5; 3 2 0 3; 4 0 1 5[f],3;",
+        script: "lift hopeful 5 / lift hopeful 5 / assert 5 possible sure / settle / assert 4 possible unsure",
+        answers: "added 1 / added 1 / fails possible sure unsettled / settled 2 / holds",
+    },
+];
+
 static WHYS: [Row; 3] = [
     Row {
         diagram: DIAGRAM,
@@ -524,6 +569,12 @@ fn verdicts_counted(rt: HostRuntime) -> Result<(), Fail> {
 #[test]
 fn one_feature_told(rt: HostRuntime) -> Result<(), Fail> {
     assert_eq!(rt; first_wrong(&rt, rt.alloc(), &KNOWN), None);
+    Ok(())
+}
+
+#[test]
+fn vertices_shown_and_asserted(rt: HostRuntime) -> Result<(), Fail> {
+    assert_eq!(rt; first_wrong(&rt, rt.alloc(), &SIGHTS), None);
     Ok(())
 }
 

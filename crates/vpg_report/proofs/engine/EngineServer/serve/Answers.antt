@@ -1,7 +1,7 @@
 use Rattle.std.proofs.Common.{sym, ap}
 use Rattle.vpg_script.specs.Script as script
 use Rattle.vpg_script.specs.Script.{Request}
-use Rattle.vpg_script.specs.View.{command_shown, inquiry_shown, request_shown}
+use Rattle.vpg_script.specs.View.{command_shown, inquiry_shown, lookup_shown, request_shown}
 use Rattle.vpg_report.proofs.Asked.{served, served_by}
 use Rattle.vpg_report.proofs.engine.EngineServer.serve.Goals as goal
 
@@ -59,35 +59,11 @@ returns-in-Commit-clause-answer g c =
     served c.commit.result c.args.self.now c.commit.new.self c.args.lifters (asks (script.Commit c.in-Commit.number)) (request_shown c.args.request.now) c.args.out.now.items c.commit.new.out.items
     (ap (λ command. asks (command_shown command)) (sym c.in-Commit.is)) (λ calls held. tt) c.commit.ensures
 
-pub returns-in-Show-clause-answer : goal.returns-in-Show-clause-answer
-returns-in-Show-clause-answer g c =
+pub returns-in-Look-clause-answer : goal.returns-in-Look-clause-answer
+returns-in-Look-clause-answer g c =
     let asks : script.Command → Request = λ command. record { label = c.args.request.now.label; command = command } in
-    served c.show.result c.args.self.now c.show.new.self c.args.lifters (asks script.Show) (request_shown c.args.request.now) c.args.out.now.items c.show.new.out.items
-    (ap (λ command. asks (command_shown command)) (sym c.in-Show.is)) (λ calls held. tt) c.show.ensures
-
-pub returns-in-Trail-clause-answer : goal.returns-in-Trail-clause-answer
-returns-in-Trail-clause-answer g c =
-    let asks : script.Command → Request = λ command. record { label = c.args.request.now.label; command = command } in
-    served c.trail.result c.args.self.now c.trail.new.self c.args.lifters (asks script.Trail) (request_shown c.args.request.now) c.args.out.now.items c.trail.new.out.items
-    (ap (λ command. asks (command_shown command)) (sym c.in-Trail.is)) (λ calls held. tt) c.trail.ensures
-
-pub returns-in-Products-clause-answer : goal.returns-in-Products-clause-answer
-returns-in-Products-clause-answer g c =
-    let asks : script.Command → Request = λ command. record { label = c.args.request.now.label; command = command } in
-    served c.products.result c.args.self.now c.products.new.self c.args.lifters (asks script.Products) (request_shown c.args.request.now) c.args.out.now.items c.products.new.out.items
-    (ap (λ command. asks (command_shown command)) (sym c.in-Products.is)) (λ calls held. tt) c.products.ensures
-
-pub returns-in-Plan-clause-answer : goal.returns-in-Plan-clause-answer
-returns-in-Plan-clause-answer g c =
-    let asks : script.Command → Request = λ command. record { label = c.args.request.now.label; command = command } in
-    served c.plan.result c.args.self.now c.plan.new.self c.args.lifters (asks script.Plan) (request_shown c.args.request.now) c.args.out.now.items c.plan.new.out.items
-    (ap (λ command. asks (command_shown command)) (sym c.in-Plan.is)) (λ calls held. tt) c.plan.ensures
-
-pub returns-in-Count-clause-answer : goal.returns-in-Count-clause-answer
-returns-in-Count-clause-answer g c =
-    let asks : script.Command → Request = λ command. record { label = c.args.request.now.label; command = command } in
-    served c.count.result c.args.self.now c.count.new.self c.args.lifters (asks script.Count) (request_shown c.args.request.now) c.args.out.now.items c.count.new.out.items
-    (ap (λ command. asks (command_shown command)) (sym c.in-Count.is)) (λ calls held. tt) c.count.ensures
+    served c.look.result c.args.self.now c.look.new.self c.args.lifters (asks (script.Look (lookup_shown c.in-Look.lookup))) (request_shown c.args.request.now) c.args.out.now.items c.look.new.out.items
+    (ap (λ command. asks (command_shown command)) (sym c.in-Look.is)) (λ calls held. tt) c.look.ensures
 
 pub returns-in-Known-clause-answer : goal.returns-in-Known-clause-answer
 returns-in-Known-clause-answer g c =

@@ -1,0 +1,91 @@
+-- What a lookup shows of a page: it is so of each lookup, and it is one text.
+use Rattle.std.proofs.Common.{◌≡◌, ℕ, ◌<◌, Bool, List, ◌++◌, length, get_or, Option, Result, sym, ap, ap₂, ◌∙◌, subst, inl, inr}
+use Rattle.std.specs.Prelude.{map, OnOk}
+use Rattle.std.specs.Bool.{one_answer}
+use Rattle.std.proofs.lemmas.List.{same_lists}
+use Rattle.std.proofs.lemmas.Option.{get_or_from_slice_get}
+use Rattle.vpg_diagram.specs.DiagramText.{NamedDiagram}
+use Rattle.vpg_game.specs.Game.{NamedGame, graph_of, vertex_ids}
+use Rattle.vpg_game.specs.Levels.{top_of}
+use Rattle.vpg_guards.specs.Known.{kleene}
+use Rattle.vpg_guards.specs.declared.tri.Tri.{Tri}
+use Rattle.vpg_measure.specs.Games.{GamesView, ArePageGames}
+use Rattle.vpg_measure.specs.TwoGames.{arena_for, top_for}
+use Rattle.vpg_script.specs.Script as script
+use Rattle.vpg_trail.specs.Page.{Hopeful, Dual, Decision, Entry, literal_of}
+use Rattle.vpg_texts.specs.Plan.{PlansUnder}
+use Rattle.vpg_texts.specs.Scene.{Scene, UnderKnown, TellsUnder, IsShown, shown_lines, IsCounted, counted_lines, TellsKnown, scene_of}
+use Rattle.vpg_texts.specs.Sights.{IsAsserted, IsPlanAnswer, IsSeen, asserted_lines, named_lines}
+use Rattle.vpg_texts.specs.Text.{plan_text}
+use Rattle.vpg_texts.proofs.Planned.{known_is_one}
+use Rattle.vpg_texts.proofs.Shown.{on_ok}
+
+module _ (scene : Scene) (entries : List Entry) (decisions : List Decision) where
+  under_one : {X : Type 0} (P Q : List Tri → Type 0) → ((known : List Tri) → P known → Q known → X) → UnderKnown scene decisions P → UnderKnown scene decisions Q → X
+  under_one P Q k a b =
+      k a.0 a.1.1 (subst Q (known_is_one scene.lines (map literal_of decisions) b.0 a.0 b.1.0 a.1.0) b.1.1)
+
+  tells_one : (hopeful dual : List ℕ) (text_of : Bool → Bool → List ℕ) (one other : List ℕ) → UnderKnown scene decisions (λ known. TellsUnder scene known hopeful dual text_of one) →
+      UnderKnown scene decisions (λ known. TellsUnder scene known hopeful dual text_of other) → one ≡ other
+  tells_one hopeful dual text_of one other =
+      under_one _ _ (λ known a b.
+      a.text_is ∙ ap₂ text_of (one_answer a.full b.full a.full_is b.full_is) (one_answer a.settled b.settled a.settled_is b.settled_is) ∙ sym b.text_is)
+
+  shown_one : (hopeful dual one other : List ℕ) → IsShown scene decisions hopeful dual one → IsShown scene decisions hopeful dual other → one ≡ other
+  shown_one hopeful dual = tells_one hopeful dual (shown_lines scene decisions hopeful dual)
+
+  counted_one : (hopeful dual one other : List ℕ) → IsCounted scene decisions hopeful dual one → IsCounted scene decisions hopeful dual other → one ≡ other
+  counted_one hopeful dual = tells_one hopeful dual (counted_lines scene hopeful dual)
+
+  products_one : (one other : List ℕ) → TellsKnown scene decisions one → TellsKnown scene decisions other → one ≡ other
+  products_one one other = under_one _ _ (λ known a b. a ∙ sym b)
+
+  chosen_one : (known : List Tri) (hopeful dual one other : List ℕ) → PlansUnder scene known hopeful dual one → PlansUnder scene known hopeful dual other → one ≡ other
+  chosen_one known hopeful dual one other a b =
+      a.text_is ∙ ap (plan_text scene.identifiers) (same_lists a.chosen b.chosen (a.chosen_are.0 ∙ sym b.chosen_are.0) same) ∙ sym b.text_is
+    where
+      same : (v : ℕ) (d : Option ℕ) → v < length a.chosen → get_or a.chosen v d ≡ get_or b.chosen v d
+      same v d l =
+          let within : v < length (arena_for (kleene known) Hopeful scene.game) = subst (λ (n : ℕ). v < n) a.chosen_are.0 l in
+          get_or_from_slice_get a.chosen v _ d (a.chosen_are.1 v within) ∙ sym (get_or_from_slice_get b.chosen v _ d (b.chosen_are.1 v within))
+
+  planned_one : (hopeful dual one other : List ℕ) → IsPlanAnswer scene decisions hopeful dual one → IsPlanAnswer scene decisions hopeful dual other → one ≡ other
+  planned_one hopeful dual one other (inl a) (inl b) = under_one _ _ (λ known p q. chosen_one known hopeful dual one other p q) a b
+  planned_one hopeful dual one other (inl a) (inr (inl b)) = absurd (under_one _ _ (λ known p q. q p.full) a b.0)
+  planned_one hopeful dual one other (inl a) (inr (inr b)) = absurd (under_one _ _ (λ known p q. q.1 p.settled) a b.0)
+  planned_one hopeful dual one other (inr (inl a)) (inl b) = absurd (under_one _ _ (λ known p q. p q.full) a.0 b)
+  planned_one hopeful dual one other (inr (inl a)) (inr (inl b)) = a.1 ∙ sym b.1
+  planned_one hopeful dual one other (inr (inl a)) (inr (inr b)) = absurd (under_one _ _ (λ known p q. p q.0) a.0 b.0)
+  planned_one hopeful dual one other (inr (inr a)) (inl b) = absurd (under_one _ _ (λ known p q. p.1 q.settled) a.0 b)
+  planned_one hopeful dual one other (inr (inr a)) (inr (inl b)) = absurd (under_one _ _ (λ known p q. q p.0) a.0 b.0)
+  planned_one hopeful dual one other (inr (inr a)) (inr (inr b)) = a.1 ∙ sym b.1
+
+  asserted_one : (hopeful dual : List ℕ) (assertion : script.Assertion) (one other : List ℕ) → IsAsserted scene assertion decisions hopeful dual one → IsAsserted scene assertion decisions hopeful dual other → one ≡ other
+  asserted_one hopeful dual assertion = tells_one hopeful dual (asserted_lines scene hopeful dual assertion)
+
+  pub seen_one : (hopeful dual : List ℕ) (lookup : script.Lookup) (one other : List ℕ) → IsSeen scene lookup entries decisions hopeful dual one → IsSeen scene lookup entries decisions hopeful dual other → one ≡ other
+  seen_one hopeful dual script.Show one other = shown_one hopeful dual one other
+  seen_one hopeful dual (script.Vertices vs) one other = λ a b. a ∙ sym b
+  seen_one hopeful dual script.Trail one other = λ a b. a ∙ sym b
+  seen_one hopeful dual script.Products one other = products_one one other
+  seen_one hopeful dual script.Plan one other = planned_one hopeful dual one other
+  seen_one hopeful dual script.Count one other = counted_one hopeful dual one other
+  seen_one hopeful dual (script.Assert assertion) one other = asserted_one hopeful dual assertion one other
+
+-- ---- the same, by the code's words
+
+pub seen_as : {E : Type 0} (scene : Scene) (entries : List Entry) (decisions : List Decision) (hopeful dual : List ℕ) (r : Result (Unit {0}) E) (before after : List ℕ) (one lookup : script.Lookup) → one ≡ lookup →
+    OnOk r ((text : List ℕ) × (IsSeen scene one entries decisions hopeful dual text × (after ≡ before ++ text))) →
+    OnOk r ((text : List ℕ) × (IsSeen scene lookup entries decisions hopeful dual text × (after ≡ before ++ text)))
+seen_as scene entries decisions hopeful dual r before after one lookup same told =
+    subst (λ (l : script.Lookup). OnOk r ((text : List ℕ) × (IsSeen scene l entries decisions hopeful dual text × (after ≡ before ++ text)))) same told
+
+pub named_seen : {E : Type 0} (game : NamedGame) (diagram : NamedDiagram) (entries : List Entry) (decisions : List Decision) (hopeful dual : List ℕ) (games : GamesView) → ArePageGames game diagram (map literal_of decisions) games →
+    (r : Result (Unit {0}) E) (before after bytes vs : List ℕ) → bytes ≡ vs →
+    OnOk r (after ≡ before ++ named_lines (top_of games.hopeful_levels) (top_of games.dual_levels) (vertex_ids game.vertices) hopeful dual bytes) →
+    OnOk r ((text : List ℕ) × (IsSeen (scene_of game diagram) (script.Vertices vs) entries decisions hopeful dual text × (after ≡ before ++ text)))
+named_seen game diagram entries decisions hopeful dual games are r before after bytes vs same told =
+    let lines = named_lines (top_of games.hopeful_levels) (top_of games.dual_levels) (vertex_ids game.vertices) hopeful dual bytes in
+    let tops = ap₂ (λ (first second : ℕ). named_lines first second (vertex_ids game.vertices) hopeful dual bytes) (ap top_of (are.levels Hopeful)) (ap top_of (are.levels Dual)) in
+    let all = ap (λ (vs : List ℕ). named_lines (top_for Hopeful (graph_of game)) (top_for Dual (graph_of game)) (vertex_ids game.vertices) hopeful dual vs) same in
+    on_ok r _ _ (λ appended. (lines, (tops ∙ all, appended))) told

@@ -1,0 +1,138 @@
+-- What is seen of a page: the answer to a lookup. This project's own.
+use Rattle.std.specs.Prelude.{◌≡◌, ◌⊎◌, ℕ, Bool, true, not, ◌&&◌, ◌==◌, if◌then◌else◌, List, [], ◌∷◌, ◌++◌, Option, Some, None, flat_map, is_some, position, slice_index, codes}
+use Rattle.std.specs.List.{list_all}
+use Rattle.vpg_script.specs.declared.command.Claim.{Claim}
+use Rattle.vpg_script.specs.declared.command.Claim.TheVariants as claims
+use Rattle.vpg_script.specs.Script as script
+use Rattle.vpg_measure.specs.TwoGames.{top_for}
+use Rattle.vpg_trail.specs.Page.{Hopeful, Dual, Decision, Entry}
+use Rattle.vpg_texts.specs.declared.showing.plans.PlanFault.TheVariants.{NotFull, NotSettled}
+use Rattle.vpg_texts.specs.Plan.{IsPlanned, IsPlanFault}
+use Rattle.vpg_texts.specs.Scene.{Scene, UnderKnown, TellsUnder, IsShown, IsCounted, TellsKnown}
+use Rattle.vpg_texts.specs.Text.{trail_text, vertex_line}
+
+-- ---- vertices by their identifiers
+
+-- the place of the vertex with an identifier
+abbrev pub vertex_of : List ℕ → ℕ → Option ℕ
+vertex_of identifiers identifier = position (λ n. n == identifier) identifiers
+
+abbrev pub is_vertex : List ℕ → ℕ → Bool
+is_vertex identifiers identifier = is_some (vertex_of identifiers identifier)
+
+-- whether the game has the vertex that an assertion names
+abbrev pub has_asserted : List ℕ → script.Assertion → Bool
+has_asserted identifiers (script.Verdicts v claims) = is_vertex identifiers v
+has_asserted identifiers script.Full = true
+has_asserted identifiers script.Settled = true
+
+-- whether the game has each vertex that a lookup names
+abbrev pub has_vertices : List ℕ → script.Lookup → Bool
+has_vertices identifiers (script.Vertices vs) = list_all (is_vertex identifiers) vs
+has_vertices identifiers (script.Assert assertion) = has_asserted identifiers assertion
+has_vertices identifiers script.Show = true
+has_vertices identifiers script.Trail = true
+has_vertices identifiers script.Products = true
+has_vertices identifiers script.Plan = true
+has_vertices identifiers script.Count = true
+
+-- the line of the vertex at a place
+abbrev pub line_at : ℕ → ℕ → List ℕ → (hopeful dual : List ℕ) → Option ℕ → List ℕ
+line_at hopeful_top dual_top identifiers hopeful dual None = []
+line_at hopeful_top dual_top identifiers hopeful dual (Some v) =
+    vertex_line hopeful_top dual_top (slice_index identifiers v) (slice_index hopeful v) (slice_index dual v)
+
+-- the lines of the vertices with these identifiers
+abbrev pub named_lines : ℕ → ℕ → List ℕ → (hopeful dual : List ℕ) → List ℕ → List ℕ
+named_lines hopeful_top dual_top identifiers hopeful dual vs =
+    flat_map (λ v. line_at hopeful_top dual_top identifiers hopeful dual (vertex_of identifiers v)) vs
+
+-- ---- assertions
+
+-- Whether a verdict is asserted rightly of a vertex. Once a vertex has the top it keeps it; that it stays below the top
+-- shows a settled page alone.
+abbrev pub holds : (settled hopeless sure : Bool) → Claim → Bool
+holds settled hopeless sure claims.Hopeless = hopeless
+holds settled hopeless sure claims.Possible = settled && not hopeless
+holds settled hopeless sure claims.Sure = sure
+holds settled hopeless sure claims.Unsure = settled && not sure
+
+-- whether a verdict could still be another once the page is settled
+abbrev pub is_open : (settled hopeless sure : Bool) → Claim → Bool
+is_open settled hopeless sure claims.Hopeless = not settled && not hopeless
+is_open settled hopeless sure claims.Possible = not settled && not hopeless
+is_open settled hopeless sure claims.Sure = not settled && not sure
+is_open settled hopeless sure claims.Unsure = not settled && not sure
+
+abbrev pub claim_text : Claim → List ℕ
+claim_text claims.Hopeless = codes " hopeless"
+claim_text claims.Possible = codes " possible"
+claim_text claims.Sure = codes " sure"
+claim_text claims.Unsure = codes " unsure"
+
+-- a verdict, where it is asserted wrongly
+abbrev pub failing_text : (settled hopeless sure : Bool) → Claim → List ℕ
+failing_text settled hopeless sure claim = if holds settled hopeless sure claim then [] else claim_text claim
+
+-- the end of a line: whether one of the verdicts could still be another
+abbrev pub open_text : Bool → List ℕ
+open_text none = if none then codes "\n" else codes " unsettled\n"
+
+-- that all hold, or those that fail
+abbrev pub verdicts_text : (settled hopeless sure : Bool) → List Claim → List ℕ
+verdicts_text settled hopeless sure asserted =
+    if list_all (holds settled hopeless sure) asserted then codes "holds\n"
+    else codes "fails" ++ flat_map (failing_text settled hopeless sure) asserted
+    ++ open_text (list_all (λ claim. not (is_open settled hopeless sure claim)) asserted)
+
+-- of the vertex at a place
+abbrev pub verdicts_at : ℕ → ℕ → (hopeful dual : List ℕ) → Bool → List Claim → Option ℕ → List ℕ
+verdicts_at hopeful_top dual_top hopeful dual settled asserted None = []
+verdicts_at hopeful_top dual_top hopeful dual settled asserted (Some v) =
+    verdicts_text settled (slice_index hopeful v == hopeful_top) (slice_index dual v == dual_top) asserted
+
+abbrev pub full_text : Bool → List ℕ
+full_text full = if full then codes "holds\n" else codes "fails full\n"
+
+abbrev pub settled_text : Bool → List ℕ
+settled_text settled = if settled then codes "holds\n" else codes "fails settled\n"
+
+abbrev pub assertion_text : ℕ → ℕ → List ℕ → (hopeful dual : List ℕ) → script.Assertion → (full settled : Bool) →
+    List ℕ
+assertion_text hopeful_top dual_top identifiers hopeful dual (script.Verdicts v asserted) full settled =
+    verdicts_at hopeful_top dual_top hopeful dual settled asserted (vertex_of identifiers v)
+assertion_text hopeful_top dual_top identifiers hopeful dual script.Full full settled = full_text full
+assertion_text hopeful_top dual_top identifiers hopeful dual script.Settled full settled = settled_text settled
+
+-- the answer to an assertion by these tables
+abbrev pub asserted_lines : Scene → (hopeful dual : List ℕ) → script.Assertion → (full settled : Bool) → List ℕ
+asserted_lines scene hopeful dual assertion full settled =
+    assertion_text (top_for Hopeful scene.game) (top_for Dual scene.game) scene.identifiers hopeful dual assertion full
+    settled
+
+-- The text answers an assertion, by these tables, under what the decisions make known.
+abbrev pub IsAsserted : Scene → script.Assertion → List Decision → (hopeful dual text : List ℕ) → Type 0
+IsAsserted scene assertion decisions hopeful dual text =
+    UnderKnown scene decisions
+    (λ known. TellsUnder scene known hopeful dual (asserted_lines scene hopeful dual assertion) text)
+
+-- ---- all that is looked at
+
+-- a plan, or why there is none
+abbrev pub IsPlanAnswer : Scene → List Decision → (hopeful dual text : List ℕ) → Type 0
+IsPlanAnswer scene decisions hopeful dual text =
+    IsPlanned scene decisions hopeful dual text
+    ⊎ (IsPlanFault scene decisions hopeful dual NotFull × (text ≡ codes "refused NotFull\n"))
+    ⊎ (IsPlanFault scene decisions hopeful dual NotSettled × (text ≡ codes "refused NotSettled\n"))
+
+-- The text is what a lookup shows of a page with these entries, decisions and tables.
+abbrev pub IsSeen : Scene → script.Lookup → List Entry → List Decision → (hopeful dual text : List ℕ) → Type 0
+IsSeen scene script.Show entries decisions hopeful dual text = IsShown scene decisions hopeful dual text
+IsSeen scene (script.Vertices vs) entries decisions hopeful dual text =
+    text ≡ named_lines (top_for Hopeful scene.game) (top_for Dual scene.game) scene.identifiers hopeful dual vs
+IsSeen scene script.Trail entries decisions hopeful dual text = text ≡ trail_text scene.names scene.identifiers entries
+IsSeen scene script.Products entries decisions hopeful dual text = TellsKnown scene decisions text
+IsSeen scene script.Plan entries decisions hopeful dual text = IsPlanAnswer scene decisions hopeful dual text
+IsSeen scene script.Count entries decisions hopeful dual text = IsCounted scene decisions hopeful dual text
+IsSeen scene (script.Assert assertion) entries decisions hopeful dual text =
+    IsAsserted scene assertion decisions hopeful dual text

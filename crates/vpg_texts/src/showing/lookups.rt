@@ -1,0 +1,163 @@
+//! The answers to lookups.
+ghost use Rattle.std.specs.Prelude.{◌≡◌, ◌≤◌, ◌++◌, ℕ, List, length, map, All, OnOk, OnErr, true};
+ghost use Rattle.std.specs.List.{list_all};
+ghost use Rattle.vpg_diagram.specs.FeatureDiagram.{feature_count};
+ghost use Rattle.vpg_game.specs.Game.{graph_of, vertex_ids};
+ghost use Rattle.vpg_game.specs.Levels.{top_of};
+ghost use Rattle.vpg_measure.specs.Games.{ArePageGames};
+ghost use Rattle.vpg_measure.specs.TwoGames.{top_for};
+ghost use Rattle.vpg_partial.specs.Known.{literal_of};
+ghost use Rattle.vpg_partial.specs.TableLaws.{AreChoicesOf};
+ghost use Rattle.vpg_script.specs.View.{assertion_shown, lookup_shown};
+ghost use Rattle.vpg_texts.specs.Scene.{EntryIsWithin, scene_of};
+ghost use Rattle.vpg_texts.specs.Sights.{IsAsserted, IsPlanAnswer, IsSeen, has_asserted, has_vertices, is_vertex, named_lines};
+
+use crate::showing::counts::count_over;
+use crate::showing::entries::trail;
+use crate::showing::known::products_over;
+use crate::showing::page::{is_settled, show_over};
+use crate::showing::plans::{PlanFault, plan_over};
+use crate::sights;
+use std::alloc::{AllocError, Global};
+use vpg_diagram::Diagram;
+use vpg_game::GuardedGame;
+use vpg_measure::{PageGames, Which};
+use vpg_script::{Assertion, Lookup};
+use vpg_trail::Page;
+
+/// Appends the lines of some vertices, as `show` has them.
+fn vertices_over(
+    alloc: Global,
+    games: &PageGames,
+    page: &Page,
+    game: &GuardedGame,
+    identifiers: &[u32],
+    out: &mut Vec<u8>,
+) -> Result<(), AllocError>
+    requires vertices { list_all (is_vertex (vertex_ids game.now.vertices)) identifiers.now ≡ true }
+    requires hopeful { length page.now.hopeful ≡ length game.now.vertices }
+    requires dual { length page.now.dual ≡ length game.now.vertices }
+    ensures named { OnOk result (out.new.items ≡ out.old.items
+        ++ named_lines (top_of games.now.hopeful_levels) (top_of games.now.dual_levels)
+        (vertex_ids game.now.vertices) page.now.hopeful page.now.dual identifiers.now) }
+    ensures unchanged { OnErr result (out.new.items ≡ out.old.items) }
+{
+    let mut text = Vec::new(alloc);
+    sights::named(
+        games,
+        game,
+        &page.hopeful,
+        &page.dual,
+        identifiers,
+        &mut text,
+    )?;
+    out.extend_from_slice(&text)
+}
+
+/// Appends a plan, or why there is none.
+fn plan_answer(
+    alloc: Global,
+    games: &PageGames,
+    page: &Page,
+    game: &GuardedGame,
+    diagram: &Diagram,
+    out: &mut Vec<u8>,
+) -> Result<(), AllocError>
+    requires features { game.now.features ≡ feature_count diagram.now.lines }
+    requires games { ArePageGames game.now diagram.now (map literal_of page.now.decisions) games.now }
+    requires named { AreChoicesOf diagram.now.lines (map literal_of page.now.decisions) }
+    requires hopeful { length page.now.hopeful ≡ length game.now.vertices }
+    requires dual { length page.now.dual ≡ length game.now.vertices }
+    requires hopeful_within { All (λ n. n ≤ top_for Which.Hopeful (graph_of game.now)) page.now.hopeful }
+    requires dual_within { All (λ n. n ≤ top_for Which.Dual (graph_of game.now)) page.now.dual }
+    ensures planned { OnOk result
+        ((text : List ℕ) ×
+        (IsPlanAnswer (scene_of game.now diagram.now) page.now.decisions page.now.hopeful page.now.dual text ×
+        (out.new.items ≡ out.old.items ++ text))) }
+    ensures unchanged { OnErr result (out.new.items ≡ out.old.items) }
+{
+    match plan_over(alloc, games, page, game, diagram, out) {
+        Ok(()) => Ok(()),
+        Err(PlanFault::NotFull) => out.extend_from_slice(b"refused NotFull\n"),
+        Err(PlanFault::NotSettled) => out.extend_from_slice(b"refused NotSettled\n"),
+        Err(PlanFault::Memory) => Err(AllocError),
+    }
+}
+
+/// Appends the answer to an assertion.
+fn assertion_over(
+    alloc: Global,
+    games: &PageGames,
+    page: &Page,
+    game: &GuardedGame,
+    diagram: &Diagram,
+    assertion: &Assertion,
+    out: &mut Vec<u8>,
+) -> Result<(), AllocError>
+    requires vertices { has_asserted (vertex_ids game.now.vertices) (assertion_shown assertion.now) ≡ true }
+    requires games { ArePageGames game.now diagram.now (map literal_of page.now.decisions) games.now }
+    requires hopeful { length page.now.hopeful ≡ length game.now.vertices }
+    requires dual { length page.now.dual ≡ length game.now.vertices }
+    requires hopeful_within { All (λ n. n ≤ top_for Which.Hopeful (graph_of game.now)) page.now.hopeful }
+    requires dual_within { All (λ n. n ≤ top_for Which.Dual (graph_of game.now)) page.now.dual }
+    ensures asserted { OnOk result
+        ((text : List ℕ) ×
+        (IsAsserted (scene_of game.now diagram.now) (assertion_shown assertion.now) page.now.decisions
+        page.now.hopeful page.now.dual text × (out.new.items ≡ out.old.items ++ text))) }
+    ensures unchanged { OnErr result (out.new.items ≡ out.old.items) }
+{
+    let full = games.known().is_full();
+    let settled = is_settled(games, &page.hopeful, &page.dual);
+    let mut text = Vec::new(alloc);
+    sights::assertion(
+        games,
+        game,
+        &page.hopeful,
+        &page.dual,
+        assertion,
+        full,
+        settled,
+        &mut text,
+    )?;
+    out.extend_from_slice(&text)
+}
+
+/// Appends the answer to a lookup, over what the page's decisions make of its game: no guard is looked at. The game has
+/// the vertices that the lookup names.
+pub fn look_over(
+    alloc: Global,
+    games: &PageGames,
+    page: &Page,
+    game: &GuardedGame,
+    diagram: &Diagram,
+    lookup: &Lookup,
+    out: &mut Vec<u8>,
+) -> Result<(), AllocError>
+    requires vertices { has_vertices (vertex_ids game.now.vertices) (lookup_shown lookup.now) ≡ true }
+    requires features { game.now.features ≡ feature_count diagram.now.lines }
+    requires games { ArePageGames game.now diagram.now (map literal_of page.now.decisions) games.now }
+    requires named { AreChoicesOf diagram.now.lines (map literal_of page.now.decisions) }
+    requires entries { All (EntryIsWithin (feature_count diagram.now.lines)
+        (length game.now.vertices)) page.now.entries }
+    requires hopeful { length page.now.hopeful ≡ length game.now.vertices }
+    requires dual { length page.now.dual ≡ length game.now.vertices }
+    requires hopeful_within { All (λ n. n ≤ top_for Which.Hopeful (graph_of game.now)) page.now.hopeful }
+    requires dual_within { All (λ n. n ≤ top_for Which.Dual (graph_of game.now)) page.now.dual }
+    ensures seen { OnOk result
+        ((text : List ℕ) ×
+        (IsSeen (scene_of game.now diagram.now) (lookup_shown lookup.now) page.now.entries page.now.decisions
+        page.now.hopeful page.now.dual text × (out.new.items ≡ out.old.items ++ text))) }
+    ensures unchanged { OnErr result (out.new.items ≡ out.old.items) }
+{
+    match lookup {
+        Lookup::Show => show_over(alloc, games, page, game, diagram, out),
+        Lookup::Vertices(vs) => vertices_over(alloc, games, page, game, vs, out),
+        Lookup::Trail => trail(alloc, page, game, diagram, out),
+        Lookup::Products => products_over(alloc, games, diagram, out),
+        Lookup::Plan => plan_answer(alloc, games, page, game, diagram, out),
+        Lookup::Count => count_over(alloc, games, page, game, diagram, out),
+        Lookup::Assert(assertion) => {
+            assertion_over(alloc, games, page, game, diagram, assertion, out)
+        }
+    }
+}

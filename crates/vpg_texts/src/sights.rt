@@ -1,0 +1,229 @@
+//! The texts of some vertices of a page, and of what is asserted of it.
+ghost use Rattle.std.specs.Prelude.{◌≡◌, ◌++◌, ◌<◌, IfSome, Some, flat_map, length, not, true, OnOk};
+ghost use Rattle.std.specs.List.{list_all};
+ghost use Rattle.vpg_game.specs.Game.{vertex_ids};
+ghost use Rattle.vpg_game.specs.Levels.{top_of};
+ghost use Rattle.vpg_script.specs.View.{assertion_shown, lookup_shown};
+ghost use Rattle.vpg_texts.specs.Sights.{assertion_text, claim_text, failing_text, full_text, has_asserted, has_vertices, holds, is_open, is_vertex, named_lines, open_text, settled_text, verdicts_text, vertex_of};
+
+use crate::text::vertex;
+use std::alloc::AllocError;
+use vpg_game::GuardedGame;
+use vpg_measure::{PageGames, Table, Which};
+use vpg_script::{Assertion, Claim, Lookup};
+
+fn vertex_at(game: &GuardedGame, identifier: u32) -> Option<u32>
+    ensures vertex { result ≡ vertex_of (vertex_ids game.now.vertices) identifier }
+    ensures within { IfSome result (λ v. v < length game.now.vertices) }
+{
+    game.find(identifier)
+}
+
+fn is_vertex(game: &GuardedGame, identifier: u32) -> bool
+    ensures { result ≡ is_vertex (vertex_ids game.now.vertices) identifier }
+{
+    vertex_at(game, identifier).is_some()
+}
+
+fn are_vertices(game: &GuardedGame, identifiers: &[u32]) -> bool
+    ensures { result ≡ list_all (is_vertex (vertex_ids game.now.vertices)) identifiers.now }
+{
+    identifiers.iter().all(|v| is_vertex(game, *v))
+}
+
+fn has_asserted(game: &GuardedGame, assertion: &Assertion) -> bool
+    ensures { result ≡ has_asserted (vertex_ids game.now.vertices) (assertion_shown assertion.now) }
+{
+    match assertion {
+        Assertion::Verdicts(v, _) => is_vertex(game, *v),
+        Assertion::Full | Assertion::Settled => true,
+    }
+}
+
+/// Whether the game has each vertex that a lookup names.
+pub fn has_vertices(game: &GuardedGame, lookup: &Lookup) -> bool
+    ensures { result ≡ has_vertices (vertex_ids game.now.vertices) (lookup_shown lookup.now) }
+{
+    match lookup {
+        Lookup::Vertices(vs) => are_vertices(game, vs),
+        Lookup::Assert(assertion) => has_asserted(game, assertion),
+        Lookup::Show | Lookup::Trail | Lookup::Products | Lookup::Plan | Lookup::Count => true,
+    }
+}
+
+/// The place of the vertex with an identifier.
+fn place(game: &GuardedGame, identifier: u32) -> u32
+    requires { is_vertex (vertex_ids game.now.vertices) identifier ≡ true }
+    ensures place { vertex_of (vertex_ids game.now.vertices) identifier ≡ Some result }
+    ensures within { result < length game.now.vertices }
+{
+    match vertex_at(game, identifier) {
+        Some(v) => v,
+        None => unreachable!(),
+    }
+}
+
+/// The lines of the vertices with these identifiers.
+pub(crate) fn named(
+    games: &PageGames,
+    game: &GuardedGame,
+    hopeful: &Table,
+    dual: &Table,
+    identifiers: &[u32],
+    out: &mut Vec<u8>,
+) -> Result<(), AllocError>
+    requires vertices { list_all (is_vertex (vertex_ids game.now.vertices)) identifiers.now ≡ true }
+    requires hopeful { length hopeful.now ≡ length game.now.vertices }
+    requires dual { length dual.now ≡ length game.now.vertices }
+    ensures { OnOk result (out.new.items ≡ out.old.items
+        ++ named_lines (top_of games.now.hopeful_levels) (top_of games.now.dual_levels)
+        (vertex_ids game.now.vertices) hopeful.now dual.now identifiers.now) }
+{
+    for identifier in identifiers {
+        vertex(games, game, hopeful, dual, place(game, *identifier), out)?;
+    }
+    Ok(())
+}
+
+fn holds(claim: Claim, settled: bool, hopeless: bool, sure: bool) -> bool
+    ensures { result ≡ holds settled hopeless sure claim }
+{
+    match claim {
+        Claim::Hopeless => hopeless,
+        Claim::Possible => settled && !hopeless,
+        Claim::Sure => sure,
+        Claim::Unsure => settled && !sure,
+    }
+}
+
+/// Whether a verdict could still be another once the page is settled.
+fn is_open(claim: Claim, settled: bool, hopeless: bool, sure: bool) -> bool
+    ensures { result ≡ is_open settled hopeless sure claim }
+{
+    match claim {
+        Claim::Hopeless | Claim::Possible => !settled && !hopeless,
+        Claim::Sure | Claim::Unsure => !settled && !sure,
+    }
+}
+
+fn claim(claim: Claim, out: &mut Vec<u8>) -> Result<(), AllocError>
+    ensures { OnOk result (out.new.items ≡ out.old.items ++ claim_text claim) }
+{
+    match claim {
+        Claim::Hopeless => out.extend_from_slice(b" hopeless")?,
+        Claim::Possible => out.extend_from_slice(b" possible")?,
+        Claim::Sure => out.extend_from_slice(b" sure")?,
+        Claim::Unsure => out.extend_from_slice(b" unsure")?,
+    }
+    Ok(())
+}
+
+/// The verdicts that are asserted wrongly.
+fn failing(
+    settled: bool,
+    hopeless: bool,
+    sure: bool,
+    claims: &[Claim],
+    out: &mut Vec<u8>,
+) -> Result<(), AllocError>
+    ensures { OnOk result (out.new.items ≡ out.old.items
+        ++ flat_map (failing_text settled hopeless sure) claims.now) }
+{
+    for c in claims {
+        if !holds(*c, settled, hopeless, sure) {
+            claim(*c, out)?;
+        }
+    }
+    Ok(())
+}
+
+/// The end of a line: whether one of the verdicts could still be another.
+fn open_end(none: bool, out: &mut Vec<u8>) -> Result<(), AllocError>
+    ensures { OnOk result (out.new.items ≡ out.old.items ++ open_text none) }
+{
+    if none {
+        out.extend_from_slice(b"\n")
+    } else {
+        out.extend_from_slice(b" unsettled\n")
+    }
+}
+
+fn all_hold(claims: &[Claim], settled: bool, hopeless: bool, sure: bool) -> bool
+    ensures { result ≡ list_all (holds settled hopeless sure) claims.now }
+{
+    claims.iter().all(|c| holds(*c, settled, hopeless, sure))
+}
+
+fn none_is_open(claims: &[Claim], settled: bool, hopeless: bool, sure: bool) -> bool
+    ensures { result ≡ list_all (λ claim. not (is_open settled hopeless sure claim)) claims.now }
+{
+    claims.iter().all(|c| !is_open(*c, settled, hopeless, sure))
+}
+
+/// Whether all verdicts are asserted rightly, or those that are not.
+fn verdicts(
+    settled: bool,
+    hopeless: bool,
+    sure: bool,
+    claims: &[Claim],
+    out: &mut Vec<u8>,
+) -> Result<(), AllocError>
+    ensures { OnOk result (out.new.items ≡ out.old.items ++ verdicts_text settled hopeless sure claims.now) }
+{
+    if all_hold(claims, settled, hopeless, sure) {
+        return out.extend_from_slice(b"holds\n");
+    }
+    out.extend_from_slice(b"fails")?;
+    failing(settled, hopeless, sure, claims, out)?;
+    open_end(none_is_open(claims, settled, hopeless, sure), out)
+}
+
+fn full_line(full: bool, out: &mut Vec<u8>) -> Result<(), AllocError>
+    ensures { OnOk result (out.new.items ≡ out.old.items ++ full_text full) }
+{
+    if full {
+        out.extend_from_slice(b"holds\n")
+    } else {
+        out.extend_from_slice(b"fails full\n")
+    }
+}
+
+fn settled_line(settled: bool, out: &mut Vec<u8>) -> Result<(), AllocError>
+    ensures { OnOk result (out.new.items ≡ out.old.items ++ settled_text settled) }
+{
+    if settled {
+        out.extend_from_slice(b"holds\n")
+    } else {
+        out.extend_from_slice(b"fails settled\n")
+    }
+}
+
+/// The answer to an assertion.
+pub(crate) fn assertion(
+    games: &PageGames,
+    game: &GuardedGame,
+    hopeful: &Table,
+    dual: &Table,
+    asserted: &Assertion,
+    full: bool,
+    settled: bool,
+    out: &mut Vec<u8>,
+) -> Result<(), AllocError>
+    requires vertices { has_asserted (vertex_ids game.now.vertices) (assertion_shown asserted.now) ≡ true }
+    requires hopeful { length hopeful.now ≡ length game.now.vertices }
+    requires dual { length dual.now ≡ length game.now.vertices }
+    ensures { OnOk result (out.new.items ≡ out.old.items
+        ++ assertion_text (top_of games.now.hopeful_levels) (top_of games.now.dual_levels)
+        (vertex_ids game.now.vertices) hopeful.now dual.now (assertion_shown asserted.now) full settled) }
+{
+    match asserted {
+        Assertion::Verdicts(identifier, claims) => {
+            let v = place(game, *identifier);
+            let hopeless = hopeful.get(v) == games.shape(Which::Hopeful).top();
+            let sure = dual.get(v) == games.shape(Which::Dual).top();
+            verdicts(settled, hopeless, sure, claims, out)
+        }
+        Assertion::Full => full_line(full, out),
+        Assertion::Settled => settled_line(settled, out),
+    }
+}
