@@ -4,8 +4,11 @@
 //! whole to a `Sink` before the next line is read. A line is blank, a comment, or a command with its arguments, under a
 //! label from 1 to 64 or none. The commands are `select`, `exclude`, `retract`, `undo`, `redo`, `keep`, `forget`,
 //! `lift`, `harvest`, `commit`, `settle`, `show`, `trail`, `products`, `plan`, `count`, and what is asked of the page,
-//! an `Inquiry`: `why`, `example`, `counterexample` and `offer`; each other first word is a fault of its line. This
-//! crate knows no desk: what a request does is its server's, and `answer_script` holds for each. The crate of runs
+//! an `Inquiry`: `why`, `example`, `counterexample`, `offer`, `needs` and `repair`. Each other first word is a fault of
+//! its line. A further question of a vertex is a `VertexQuestion` more: the crate of answers has to know it, and the
+//! crate of runs does not.
+//!
+//! This crate knows no desk: what a request does is its server's, and `answer_script` holds for each. The crate of runs
 //! above serves a desk. `Device` makes a `Source` of each reader, and a `Sink` of each writer.
 //!
 //! What a line says is defined in `specs/Script`, what comes next in a text in `specs/Lines`, what is read and written
@@ -18,7 +21,9 @@ pub mod laws;
 mod lines;
 mod serving;
 
-pub use command::{Command, Inquiry, LONGEST_LINE, LineFault, ReadFault, Request, read_line};
+pub use command::{
+    Command, Inquiry, LONGEST_LINE, LineFault, ReadFault, Request, VertexQuestion, read_line,
+};
 pub use device::{Device, Failed, Sink, Source};
 pub use lines::{MOST_READS, Next, NextFault, next_line};
 pub use serving::{ScriptFault, ServeFault, Server, answer_script};
