@@ -13,6 +13,8 @@ pub forcing-preserved : goal.forcing-preserved
 forcing-preserved c = elim c.match-tri.branch [
   | in-Unknown+in_ok-is_barred+in-Yes+in_ok-push-in-Yes w ↦ rw (w.literals-is, w.exact-is, w.in_ok-push-in-Yes.ensures.items, w.has-value.ensures)
       (forced_next (IsSettled c.args.order.now.game c.args.order.now.diagram c.args.limits (asks.Lost c.args.aim)) c.args.order.now.game c.args.order.now.diagram c.args.aim (choices c.args.order.now.decisions) c.args.product.now c.requires.remaining c.requires.meets c.forcing.literals.items c.forcing.feature c.forcing.exact c.forcing.invariant
+      c.known-known.result.now (subst (λ (k : List Tri). IsKnownTable c.args.order.now.diagram.lines (choices c.args.order.now.decisions) k) (sym (c.known-known.ensures ∙ ap (λ (g : GamesView). g.known) c.deref.ensures)) c.games.ensures.known)
+      (sym c.value-tri.ensures ∙ w.in-Unknown.is)
       (c.forcing.literals.items ++ choice c.forcing.feature (slice_index_or c.args.product.now c.forcing.feature false) ∷ []) refl (rw w.has-value.ensures at (w.in_ok-is_barred.ensures.yes w.in-Yes.is)))
   | in-Unknown+in_ok-is_barred+in-No w ↦ rw (w.literals-is, w.exact-is)
       (free_next (IsSettled c.args.order.now.game c.args.order.now.diagram c.args.limits (asks.Lost c.args.aim)) c.args.order.now.game c.args.order.now.diagram c.args.aim (choices c.args.order.now.decisions) c.args.product.now c.requires.remaining c.requires.meets c.forcing.literals.items c.forcing.feature c.forcing.exact c.forcing.invariant
