@@ -8,7 +8,7 @@ use Rattle.vpg_partial.specs.declared.decision.Decision.{Decision}
 use Rattle.vpg_why.specs.Explained.{choices}
 use Rattle.vpg_why.specs.Repaired.{KeepsOldest, ends, keeps, gives_up, IsRepair}
 use Rattle.vpg_answers.specs.Repairs.{AreSingles}
-use Rattle.vpg_answers.specs.Repairs.AreSingles as singles
+use Rattle.vpg_answers.specs.Repairs as singles
 
 clash : IsTrue false → ⊥
 clash e = cc e

@@ -1,11 +1,11 @@
-use Rattle.std.proofs.Common.{◌∙◌, ◌++◌, ◌∷◌, [], List, false, slice_index_or, refl, sym, ap, subst}
+use Rattle.std.proofs.Common.{arith, ◌∙◌, ◌++◌, ◌∷◌, [], List, false, slice_index_or, refl, sym, ap, subst}
 use Rattle.vpg_guards.specs.declared.tri.Tri.{Tri}
 use Rattle.vpg_measure.specs.Games.{GamesView}
 use Rattle.vpg_partial.specs.TableLaws.{IsKnownTable}
 use Rattle.vpg_why.specs.declared.question.Question.TheVariants as asks
 use Rattle.vpg_why.specs.Explained.{choices}
 use Rattle.vpg_why.specs.Suffices.{choice, IsSettled}
-use Rattle.vpg_why.proofs.OpenFeatures.{known_next, forced_next, free_next, unshown_next}
+use Rattle.vpg_why.proofs.OpenFeatures.{all_forced, known_next, forced_next, free_next, unshown_next}
 use Rattle.vpg_why.proofs.forcing.list_forced.Goals as goal
 use Rattle.vpg_why.proofs.forcing.list_forced.Goals.{in-Unknown+in_ok-is_barred+in-Yes+in_ok-push-in-Yes, in-Unknown+in_ok-is_barred+in-No, in-Unknown+in_ok-is_barred+in-Unsettled, in_default}
 
@@ -27,3 +27,14 @@ forcing-preserved c = elim c.match-tri.branch [
       c.known-known.result.now c.games.ensures.is_diagram (subst (λ (k : List Tri). IsKnownTable c.args.order.now.diagram.lines (choices c.args.order.now.decisions) k) (sym (c.known-known.ensures ∙ ap (λ (g : GamesView). g.known) c.deref.ensures)) c.games.ensures.known)
       (λ e. w.in_default.not-Unknown (c.value-tri.ensures ∙ e)))
 ]
+
+pub returns-clause-needs : goal.returns-clause-needs
+returns-clause-needs c =
+    let order = c.args.order.now in
+    all_forced (IsSettled order.game order.diagram c.args.limits (asks.Lost c.args.aim)) order.game order.diagram c.args.aim (choices order.decisions) c.forcing.literals.items
+    c.forcing.feature c.forcing.exact
+    (omega (
+      arith,
+      rw (c.features-features.ensures.count, c.deref-2.ensures, c.diagram.ensures.diagram) at c.forcing-test.false,
+      rw (c.features-features.ensures.count, c.deref-2.ensures, c.diagram.ensures.diagram) at c.forcing.auto.feature-end,
+    )) c.forcing.invariant
