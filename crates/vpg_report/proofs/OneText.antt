@@ -109,8 +109,8 @@ not_full n e = let same : 114 ≡ 115 = ap first_byte e in absurd (omega (arith,
 not_unsettled : (m n : ℕ) → settled_text false m ≡ settled_text true n → ⊥
 not_unsettled m n e = let same : 117 ≡ 115 = ap first_byte e in absurd (omega (arith, same))
 
-ok_one : {X E : Type 0} {x y : X} → Ok {E = E} x ≡ Ok y → x ≡ y
-ok_one e = cc e
+query_one : (asked : Result Query Own) (one other : Query) → asked ≡ Ok one → asked ≡ Ok other → one ≡ other
+query_one asked one other a b = cc (a, b)
 
 -- ---- calls from one book
 
@@ -303,7 +303,7 @@ module _ (scene : Scene) (held : Held) (Told : List ℕ → Type 0) where
 
     answered : (inquiry : script.Inquiry) → ((text : List ℕ) → Told text → ¬ (HasDoubt text)) → IsOne book (TellsAnswer scene held inquiry (Ordered decisions hopeful dual))
     answered inquiry sure calls more text other new newer a b fit fits =
-        let same : b.0.0 ≡ a.0.0 = ok_one (sym b.0.1.0 ∙ a.0.1.0) in
+        let same : b.0.0 ≡ a.0.0 = query_one (query_of scene inquiry) b.0.0 a.0.0 b.0.1.0 a.0.1.0 in
         let of_one : IsAnswer scene answer_limits a.0.0 decisions hopeful dual other = subst (λ (q : Query). IsAnswer scene answer_limits q decisions hopeful dual other) same b.0.1.1 in
         (a.1 ∙ sym b.1, answers_are_one scene answer_limits answer_limits a.0.0 decisions hopeful dual text other a.0.1.1 of_one (sure text fit.told) (sure other fits.told), a.2 ∙ sym b.2)
 
@@ -324,7 +324,7 @@ module _ (scene : Scene) (held : Held) (Told : List ℕ → Type 0) where
 
     tells_answer : (inquiry : script.Inquiry) → ((text : List ℕ) → Told text → ¬ (HasDoubt text)) → (reply : Reply) → IsReply all book Order reply →
         IsOne (next all book label Order reply) (TellsAnswer scene held inquiry reply)
-    tells_answer inquiry sure (Ordered d h u) told = answered (next all book label Order (Ordered d h u)) d h u inquiry sure
+    tells_answer inquiry sure (Ordered d h u) told = answered book d h u (ordered book d h u told) inquiry sure
     tells_answer inquiry sure _ told = λ calls more text other new newer a. absurd a
 
     begins : (command : script.Command) (call : Call) → ((reply : Reply) → IsReply all book call reply → IsOne (next all book label call reply) (Continues scene held (made + 1) label command reply)) →
