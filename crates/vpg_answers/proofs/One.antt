@@ -8,6 +8,8 @@ use Rattle.vpg_measure.specs.declared.which.Which.TheVariants.{Hopeful, Dual}
 use Rattle.vpg_partial.specs.Known.{literal_of}
 use Rattle.vpg_partial.specs.TableLaws.{AreChoicesOf}
 use Rattle.vpg_partial.specs.declared.decision.Decision.{Decision}
+use Rattle.vpg_script.specs.declared.command.VertexQuestion.{VertexQuestion}
+use Rattle.vpg_script.specs.declared.command.VertexQuestion.TheVariants as questions
 use Rattle.vpg_texts.specs.Scene.{Scene}
 use Rattle.vpg_texts.specs.Text.{blank_number, choices_text}
 use Rattle.vpg_why.specs.Explained.{choices}
@@ -23,9 +25,10 @@ use Rattle.vpg_why.proofs.Next.{explanations_are_one}
 use Rattle.vpg_answers.specs.declared.query.Query.{Query}
 use Rattle.vpg_answers.specs.declared.query.Query.TheVariants as queries
 use Rattle.vpg_answers.specs.Texts.{verdict_word, verdict_line, other_line, known_line, conflict_line, names_in, product_line}
-use Rattle.vpg_answers.specs.Answers.{MakeSo, IsReason, identifier_of, TellsVerdict, TellsVertex, TellsKnownBy, TellsFeature, TellsChoice, TellsExample, Tells, HasDoubt}
+use Rattle.vpg_answers.specs.Answers.{MakeSo, IsReason, identifier_of, TellsVerdict, TellsVertex, TellsKnownBy, TellsFeature, TellsChoice, TellsExample, TellsOfVertex, Tells, HasDoubt}
 use Rattle.vpg_answers.specs.Laws.{AnswersAreOne}
 use Rattle.vpg_answers.proofs.OneOffers.{offers_one}
+use Rattle.vpg_answers.proofs.OneRepairs.{needs_one, repair_one}
 
 -- ---- doubts
 
@@ -144,12 +147,19 @@ module _ (scene : Scene) (limits others : Limits) (decisions : List Decision) (i
     example_one one other (inr (inl a)) (inr (inr b)) sure also = absurd (also (inr (inr (inl b.1))))
     example_one one other (inr (inr a)) b sure also = absurd (sure (inr (inr (inl a.1))))
 
-  tells_one : (query : Query) (hopeful dual one other : List ℕ) → Tells scene limits query decisions hopeful dual one → Tells scene others query decisions hopeful dual other → ¬ (HasDoubt one) → ¬ (HasDoubt other) → one ≡ other
-  tells_one (queries.WhyVertex vertex) hopeful dual one other a b sure also = vertex_one vertex hopeful dual one other a b sure also
-  tells_one (queries.WhyFeature feature) hopeful dual one other a b sure also = feature_one feature one other a b
-  tells_one (queries.WhyChoice feature value) hopeful dual one other a b sure also = choice_one feature value one other a b
-  tells_one (queries.Example which vertex) hopeful dual one other a b sure also = example_one which vertex one other a b sure also
-  tells_one (queries.Offer vertex) hopeful dual one other a b sure also = offers_one scene limits others vertex decisions one other a b sure also
+  of_vertex_one : (question : VertexQuestion) (vertex : ℕ) (hopeful dual one other : List ℕ) → TellsOfVertex scene limits question vertex decisions hopeful dual one →
+      TellsOfVertex scene others question vertex decisions hopeful dual other → ¬ (HasDoubt one) → ¬ (HasDoubt other) → one ≡ other
+  of_vertex_one questions.Why vertex hopeful dual one other a b sure also = vertex_one vertex hopeful dual one other a b sure also
+  of_vertex_one (questions.Example which) vertex hopeful dual one other a b sure also = example_one which vertex one other a b sure also
+  of_vertex_one questions.Offer vertex hopeful dual one other a b sure also = offers_one scene limits others vertex decisions one other a b sure also
+  of_vertex_one questions.Needs vertex hopeful dual one other a b sure also = needs_one scene limits others vertex decisions one other a b sure also
+  of_vertex_one questions.Repair vertex hopeful dual one other a b sure also = repair_one scene limits others vertex decisions is named hopeful one other a b sure also
+
+  tells_one : (query : Query) (hopeful dual one other : List ℕ) → Tells scene limits query decisions hopeful dual one → Tells scene others query decisions hopeful dual other →
+      ¬ (HasDoubt one) → ¬ (HasDoubt other) → one ≡ other
+  tells_one (queries.OfVertex question vertex) hopeful dual one other a b sure also = of_vertex_one question vertex hopeful dual one other a b sure also
+  tells_one (queries.OfFeature feature) hopeful dual one other a b sure also = feature_one feature one other a b
+  tells_one (queries.OfChoice feature value) hopeful dual one other a b sure also = choice_one feature value one other a b
 
 pub answers_are_one : AnswersAreOne
 answers_are_one scene limits others query decisions hopeful dual one other a b sure also =

@@ -74,7 +74,7 @@ module _ (names : List (List ℕ)) where
   without_doubt : (listed : List Offered) (text : List ℕ) → text ≡ offers_text names listed → ¬ (HasDoubt text) → AllByRecursion (λ o. IsSettledOffer o.offer) listed
   without_doubt listed text is sure =
       all_settled listed ((codes "offers" ++ blank_number (length listed)) ++ codes "\n")
-      (λ before behind same. sure (inr (inr (inr (before, behind, is ∙ ends (flat_map (offer_line names) listed) (codes "offers") (blank_number (length listed)) (codes "\n") ∙ same)))))
+      (λ before behind same. sure (inr (inr (inr (inl (before, behind, is ∙ ends (flat_map (offer_line names) listed) (codes "offers") (blank_number (length listed)) (codes "\n") ∙ same))))))
 
 -- ---- one page
 

@@ -1,5 +1,5 @@
 -- What answers say of a page. This project's own.
-use Rattle.std.specs.Prelude.{◌≡◌, ℕ, ◌<◌, ◌⊎◌, Bool, true, false, List, ◌++◌, codes, length, slice_index, IsTrue}
+use Rattle.std.specs.Prelude.{◌≡◌, ◌≢◌, ℕ, ◌<◌, ◌⊎◌, Bool, true, false, List, [], ◌++◌, codes, length, slice_index, IsTrue}
 use Rattle.vpg_guards.specs.declared.tri.Tri.{Tri}
 use Rattle.vpg_diagram.specs.FeatureDiagram.{IsDiagram}
 use Rattle.vpg_diagram.specs.declared.clause.Literal.{Literal}
@@ -9,9 +9,12 @@ use Rattle.vpg_measure.specs.declared.which.Which.TheVariants.{Hopeful, Dual}
 use Rattle.vpg_partial.specs.KnownLaws.{IsRemaining}
 use Rattle.vpg_partial.specs.TableLaws.{AreChoicesOf, IsKnownTable}
 use Rattle.vpg_partial.specs.declared.decision.Decision.{Decision}
+use Rattle.vpg_script.specs.declared.command.VertexQuestion.{VertexQuestion}
+use Rattle.vpg_script.specs.declared.command.VertexQuestion.TheVariants as questions
 use Rattle.vpg_texts.specs.Scene.{Scene}
 use Rattle.vpg_why.specs.Explained.{choices, Explains}
-use Rattle.vpg_why.specs.Products.{MeetsIn, NoneMeetsIn, IsFirstIn}
+use Rattle.vpg_why.specs.Products.{MeetsIn, NoneMeetsIn, IsFirstIn, AreNeedsIn}
+use Rattle.vpg_why.specs.Repaired.{IsRepair}
 use Rattle.vpg_why.specs.Suffices.{SufficeIn, choice}
 use Rattle.vpg_why.specs.declared.question.Aim.TheVariants as aims
 use Rattle.vpg_why.specs.declared.question.Limits.{Limits}
@@ -20,8 +23,9 @@ use Rattle.vpg_why.specs.declared.question.Question.TheVariants as asks
 use Rattle.vpg_answers.specs.declared.offers.Offered.{Offered}
 use Rattle.vpg_answers.specs.declared.query.Query.{Query}
 use Rattle.vpg_answers.specs.declared.query.Query.TheVariants as queries
-use Rattle.vpg_answers.specs.Texts.{verdict_line, other_line, known_line, not_known_line, conflict_line, no_conflict_line, product_line, none_line, unsettled_line, offers_text}
+use Rattle.vpg_answers.specs.Texts.{verdict_line, other_line, known_line, not_known_line, conflict_line, no_conflict_line, product_line, none_line, unsettled_line, offers_text, needs_text, singles_text, several_text}
 use Rattle.vpg_answers.specs.Offers.{AreOffers}
+use Rattle.vpg_answers.specs.Repairs.{AreSingles}
 use Rattle.vpg_answers.specs.Room.{RoundsSettle, SearchEnds}
 
 -- the choices alone make it so, in the scene's game and diagram
@@ -105,17 +109,77 @@ TellsOffers scene limits vertex decisions text =
     AreOffers scene limits vertex decisions known (length known) listed
     × (text ≡ offers_text scene.names listed)
 
+-- ---- what is needed
+
+-- What every product has that is left and in which Even wins from the vertex, where there is one; or there is none; or
+-- the limits leave no room.
+abbrev pub TellsNeeds : Scene → Limits → (vertex : ℕ) → List Decision → (text : List ℕ) → Type 0
+TellsNeeds scene limits vertex decisions text =
+    ((listed : List Literal) × (exact : Bool) × (set : List Bool) × IsRemaining scene.lines (choices decisions) set ×
+    MeetsIn scene.game (aims.Won Hopeful vertex) set ×
+    AreNeedsIn scene.game scene.lines (aims.Won Hopeful vertex) (choices decisions) listed exact ×
+    (text ≡ needs_text scene.names listed exact)
+    × (SearchEnds scene limits Hopeful → IsTrue exact))
+    ⊎ (NoneMeetsIn scene.game scene.lines (aims.Won Hopeful vertex) (choices decisions) × (text ≡ none_line))
+    ⊎ (¬ (SearchEnds scene limits Hopeful) × (text ≡ unsettled_line))
+
+-- ---- what to retract
+
+-- a settled page of these choices alone has the vertex hopeless
+abbrev pub IsHopelessBy : Scene → (vertex : ℕ) → List Literal → Type 0
+IsHopelessBy scene vertex = MakeSo scene (asks.Verdict Hopeful vertex)
+
+-- some decisions can be retracted alone
+abbrev pub TellsSingles : Scene → Limits → (vertex : ℕ) → List Decision → (text : List ℕ) → Type 0
+TellsSingles scene limits vertex decisions text =
+    (listed : List Decision) × (exact : Bool) × (listed ≢ []) ×
+    AreSingles (IsHopelessBy scene vertex) exact [] decisions listed × (text ≡ singles_text scene.names listed exact)
+    × (RoundsSettle scene limits.rounds Hopeful → IsTrue exact)
+
+-- none can, where that is shown, and several together can, so that the oldest are kept
+abbrev pub TellsSeveral : Scene → Limits → (vertex : ℕ) → List Decision → (text : List ℕ) → Type 0
+TellsSeveral scene limits vertex decisions text =
+    (kept : List Decision) × (given : List Decision) × (exact : Bool) ×
+    AreSingles (IsHopelessBy scene vertex) exact [] decisions [] ×
+    IsRepair (IsHopelessBy scene vertex) decisions kept given exact × (text ≡ several_text scene.names given exact)
+    × (RoundsSettle scene limits.rounds Hopeful → IsTrue exact)
+
+-- some or several can; or the vertex is hopeless whatever is retracted; or the limits leave no room
+abbrev pub TellsRetractions : Scene → Limits → (vertex : ℕ) → List Decision → (text : List ℕ) → Type 0
+TellsRetractions scene limits vertex decisions text =
+    TellsSingles scene limits vertex decisions text ⊎ TellsSeveral scene limits vertex decisions text
+    ⊎ (IsHopelessBy scene vertex [] × (text ≡ none_line))
+    ⊎ (¬ (RoundsSettle scene limits.rounds Hopeful) × (text ≡ unsettled_line))
+
+-- the page's table has the top at the vertex, and this can be retracted; or it hasn't
+abbrev pub TellsRepair : Scene → Limits → (vertex : ℕ) → List Decision → (hopeful text : List ℕ) → Type 0
+TellsRepair scene limits vertex decisions hopeful text =
+    ((slice_index hopeful vertex ≡ top_for Hopeful scene.game) × TellsRetractions scene limits vertex decisions text)
+    ⊎ (¬ (slice_index hopeful vertex ≡ top_for Hopeful scene.game)
+    × (text ≡ other_line Hopeful (identifier_of scene vertex)))
+
 -- ---- any
 
-abbrev pub Tells : Scene → Limits → Query → List Decision → (hopeful dual text : List ℕ) → Type 0
-Tells scene limits (queries.WhyVertex vertex) decisions hopeful dual text =
+-- what is asked of a vertex
+abbrev pub TellsOfVertex : Scene → Limits → VertexQuestion → (vertex : ℕ) → List Decision →
+    (hopeful dual text : List ℕ) → Type 0
+TellsOfVertex scene limits questions.Why vertex decisions hopeful dual text =
     TellsVertex scene limits vertex decisions hopeful dual text
-Tells scene limits (queries.WhyFeature feature) decisions hopeful dual text = TellsFeature scene feature decisions text
-Tells scene limits (queries.WhyChoice feature value) decisions hopeful dual text =
-    TellsChoice scene feature value decisions text
-Tells scene limits (queries.Example which vertex) decisions hopeful dual text =
+TellsOfVertex scene limits (questions.Example which) vertex decisions hopeful dual text =
     TellsExample scene limits which vertex decisions text
-Tells scene limits (queries.Offer vertex) decisions hopeful dual text = TellsOffers scene limits vertex decisions text
+TellsOfVertex scene limits questions.Offer vertex decisions hopeful dual text =
+    TellsOffers scene limits vertex decisions text
+TellsOfVertex scene limits questions.Needs vertex decisions hopeful dual text =
+    TellsNeeds scene limits vertex decisions text
+TellsOfVertex scene limits questions.Repair vertex decisions hopeful dual text =
+    TellsRepair scene limits vertex decisions hopeful text
+
+abbrev pub Tells : Scene → Limits → Query → List Decision → (hopeful dual text : List ℕ) → Type 0
+Tells scene limits (queries.OfVertex question vertex) decisions hopeful dual text =
+    TellsOfVertex scene limits question vertex decisions hopeful dual text
+Tells scene limits (queries.OfFeature feature) decisions hopeful dual text = TellsFeature scene feature decisions text
+Tells scene limits (queries.OfChoice feature value) decisions hopeful dual text =
+    TellsChoice scene feature value decisions text
 
 -- The text answers what is asked within these limits, of the page with these decisions and tables: decisions of a
 -- diagram's features.
@@ -131,17 +195,17 @@ Appends Holds before after = (text : List ℕ) × (Holds text × (after ≡ befo
 
 -- the vertex or the feature that is asked of is one of so many
 abbrev pub IsWithin : (vertices features : ℕ) → Query → Type 0
-IsWithin vertices features (queries.WhyVertex vertex) = vertex < vertices
-IsWithin vertices features (queries.WhyFeature feature) = feature < features
-IsWithin vertices features (queries.WhyChoice feature value) = feature < features
-IsWithin vertices features (queries.Example which vertex) = vertex < vertices
-IsWithin vertices features (queries.Offer vertex) = vertex < vertices
+IsWithin vertices features (queries.OfVertex question vertex) = vertex < vertices
+IsWithin vertices features (queries.OfFeature feature) = feature < features
+IsWithin vertices features (queries.OfChoice feature value) = feature < features
 
--- A limit was met: somewhere in the text a line says that fewer decisions may do; or it tells of some product, or of
--- none but that it is unsettled; or it is unsettled what some decision would make.
+-- A limit was met: somewhere in the text a line says that fewer decisions may do, or at its end that there may be more
+-- lines; or it tells of some product, or of none but that it is unsettled; or it is unsettled what some decision would
+-- make.
 abbrev pub HasDoubt : List ℕ → Type 0
 HasDoubt text =
     ((before : List ℕ) × (behind : List ℕ) × (text ≡ before ++ codes " or fewer\n" ++ behind))
     ⊎ ((behind : List ℕ) × (text ≡ codes "some product" ++ behind))
     ⊎ (text ≡ unsettled_line)
     ⊎ ((before : List ℕ) × (behind : List ℕ) × (text ≡ codes "offer" ++ before ++ codes " unsettled" ++ behind))
+    ⊎ ((before : List ℕ) × (text ≡ before ++ codes " or more\n"))

@@ -1,5 +1,6 @@
 pub mod Answers
 pub mod Laws
 pub mod Offers
+pub mod Repairs
 pub mod Room
 pub mod Texts

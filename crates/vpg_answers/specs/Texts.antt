@@ -100,3 +100,30 @@ offer_line names offered = codes "offer" ++ choice_text names offered.choice ++ 
 abbrev pub offers_text : List (List ℕ) → List Offered → List ℕ
 offers_text names listed =
     flat_map (offer_line names) listed ++ codes "offers" ++ blank_number (length listed) ++ 10 ∷ []
+
+-- ---- needs and repairs
+
+-- one choice behind a word
+abbrev pub choice_line : (word : List ℕ) → List (List ℕ) → Literal → List ℕ
+choice_line word names choice = word ++ choice_text names choice ++ 10 ∷ []
+
+-- where there may be others
+abbrev pub more_text : Bool → List ℕ
+more_text exact = if exact then [] else codes " or more"
+
+-- behind so many lines
+abbrev pub total_line : (word : List ℕ) → (lines : ℕ) → Bool → List ℕ
+total_line word lines exact = word ++ blank_number lines ++ more_text exact ++ 10 ∷ []
+
+abbrev pub needs_text : List (List ℕ) → List Literal → Bool → List ℕ
+needs_text names listed exact =
+    flat_map (choice_line (codes "needs") names) listed ++ total_line (codes "needs") (length listed) exact
+
+-- decisions of which each can be retracted alone
+abbrev pub singles_text : List (List ℕ) → List Decision → Bool → List ℕ
+singles_text names listed exact = flat_map (λ d. choice_line (codes "repair") names (literal_of d)) listed ++
+    total_line (codes "repairs") (length listed) exact
+
+-- decisions that are to be retracted together
+abbrev pub several_text : List (List ℕ) → List Decision → Bool → List ℕ
+several_text names given exact = codes "repair" ++ reason_text names given exact ++ codes "repairs 1\n"

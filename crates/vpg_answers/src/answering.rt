@@ -1,14 +1,40 @@
 //! Answering a query.
-ghost use Rattle.std.specs.Prelude.{length, OnOk};
-ghost use Rattle.vpg_answers.specs.Answers.{Appends, IsAnswer, IsWithin};
+ghost use Rattle.std.specs.Prelude.{◌<◌, length, OnOk};
+ghost use Rattle.vpg_answers.specs.Answers.{Appends, IsAnswer, IsWithin, TellsOfVertex};
 ghost use Rattle.vpg_diagram.specs.FeatureDiagram.{feature_count};
 ghost use Rattle.vpg_texts.specs.Scene.{scene_of};
 
 use crate::query::Query;
-use crate::{examples, offers, reasons};
+use crate::{examples, needs, offers, reasons, repairs};
 use std::alloc::{AllocError, Global};
 use vpg_measure::Order;
+use vpg_script::VertexQuestion;
 use vpg_why::Limits;
+
+/// The text of an answer about a vertex.
+fn of_vertex(
+    alloc: Global,
+    order: &Order,
+    question: VertexQuestion,
+    vertex: u32,
+    limits: Limits,
+    out: &mut Vec<u8>,
+) -> Result<(), AllocError>
+    requires { vertex < length order.now.game.vertices }
+    ensures { OnOk result (Appends
+        (TellsOfVertex (scene_of order.now.game order.now.diagram) limits question vertex order.now.decisions
+        order.now.hopeful order.now.dual) out.old.items out.new.items) }
+{
+    match question {
+        VertexQuestion::Why => reasons::vertex(alloc, order, vertex, limits, out),
+        VertexQuestion::Example(which) => {
+            examples::example(alloc, order, which, vertex, limits, out)
+        }
+        VertexQuestion::Offer => offers::offers(alloc, order, vertex, limits, out),
+        VertexQuestion::Needs => needs::needs_at(alloc, order, vertex, limits, out),
+        VertexQuestion::Repair => repairs::repairs_at(alloc, order, vertex, limits, out),
+    }
+}
 
 /// The text of an answer.
 fn told(
@@ -26,13 +52,11 @@ fn told(
     // What every order keeps, for the proof.
     let _order = order.game();
     match query {
-        Query::WhyVertex { vertex } => reasons::vertex(alloc, order, vertex, limits, out),
-        Query::WhyFeature { feature } => reasons::feature(alloc, order, feature, out),
-        Query::WhyChoice { feature, value } => reasons::choice(alloc, order, feature, value, out),
-        Query::Example { which, vertex } => {
-            examples::example(alloc, order, which, vertex, limits, out)
+        Query::OfVertex { question, vertex } => {
+            of_vertex(alloc, order, question, vertex, limits, out)
         }
-        Query::Offer { vertex } => offers::offers(alloc, order, vertex, limits, out),
+        Query::OfFeature { feature } => reasons::feature(alloc, order, feature, out),
+        Query::OfChoice { feature, value } => reasons::choice(alloc, order, feature, value, out),
     }
 }
 

@@ -1,26 +1,31 @@
 //! Answers about a page, as texts.
 //!
-//! `answer` takes the order of a page and a `Query`: why a vertex has its verdicts, why a feature is known, why one
-//! more decision contradicts the page, which product is left and won or lost at a vertex, what each further decision
-//! would make of a vertex. It asks the crate of answers below, and appends the lines. The layer above answers lines of
-//! scripts by it; it changes nothing.
+//! `answer` takes the order of a page and a `Query`: why a feature is known, why one more decision contradicts the
+//! page, or a `VertexQuestion`. Those are: why the vertex has its verdicts, which product is left and won or lost at
+//! it, what each further decision would make of it, what every product has that is left and won at it, what to retract
+//! so that it is possible. The crate of scripts has these questions, since its lines spell them. This one asks the
+//! crate of reasons below, and appends the lines. The layer above answers lines of scripts by it; it changes nothing.
 //!
 //! An answer is a function of the page where no limit was met (`laws::answers_are_one`), and none is met where the
 //! limits leave room. Where one was, the text says so: ` or fewer`, decisions that suffice and of which some may be
-//! needless; `some product`, one that need not be the first; `unsettled`, what was not shown.
+//! needless; ` or more`, lines to which others may belong; `some product`, one that need not be the first; `unsettled`,
+//! what was not shown.
 //!
-//! The texts are defined in `specs/Texts`, what they say of a page in `specs/Answers` and `specs/Offers`, when limits
-//! leave room in `specs/Room`. All are this project's own.
+//! The texts are defined in `specs/Texts`, what they say of a page in `specs/Answers`, `specs/Offers` and
+//! `specs/Repairs`, when limits leave room in `specs/Room`. All are this project's own.
 #![tactic(auto)]
 
 mod answering;
 mod examples;
 pub mod laws;
 mod lines;
+mod needs;
 mod offers;
 mod query;
 mod reasons;
+mod repairs;
 
 pub use answering::answer;
 pub use query::Query;
+pub use vpg_script::VertexQuestion;
 pub use vpg_why::Limits;

@@ -2,7 +2,7 @@
 ghost use Rattle.std.specs.Prelude.{◌≡◌, ◌<◌, ◌++◌, All, OnOk, false, length, map, slice_index_or};
 ghost use Rattle.vpg_partial.specs.Known.{literal_of};
 ghost use Rattle.vpg_texts.specs.Text.{choice_text, choices_text, name_of};
-ghost use Rattle.vpg_answers.specs.Texts.{conflict_line, doubt_text, known_line, known_word, names_in, no_conflict_line, none_line, not_known_line, other_line, other_word, product_line, product_word, reason_text, unsettled_line, verdict_line, verdict_word};
+ghost use Rattle.vpg_answers.specs.Texts.{choice_line, conflict_line, doubt_text, known_line, known_word, more_text, names_in, no_conflict_line, none_line, not_known_line, other_line, other_word, product_line, product_word, reason_text, total_line, unsettled_line, verdict_line, verdict_word};
 
 use std::alloc::AllocError;
 use vpg_diagram::Literal;
@@ -29,7 +29,7 @@ pub(crate) fn choice(names: &Names, l: Literal, out: &mut Vec<u8>) -> Result<(),
     Ok(())
 }
 
-fn literal(d: &Decision) -> Literal
+pub(crate) fn literal(d: &Decision) -> Literal
     ensures { result ≡ literal_of d.now }
 {
     Literal {
@@ -59,7 +59,7 @@ fn doubt(exact: bool, out: &mut Vec<u8>) -> Result<(), AllocError>
 }
 
 /// Decisions that make something so, up to the line's end.
-fn reason(
+pub(crate) fn reason(
     names: &Names,
     listed: &[Decision],
     exact: bool,
@@ -239,4 +239,43 @@ pub(crate) fn unsettled(out: &mut Vec<u8>) -> Result<(), AllocError>
     ensures { OnOk result (out.new.items ≡ out.old.items ++ unsettled_line) }
 {
     out.extend_from_slice(b"unsettled\n")
+}
+
+/// One choice behind a word.
+pub(crate) fn choice_line(
+    word: &[u8],
+    names: &Names,
+    l: Literal,
+    out: &mut Vec<u8>,
+) -> Result<(), AllocError>
+    requires { l.feature < length names.now }
+    ensures { OnOk result (out.new.items ≡ out.old.items ++ choice_line word.now names.now l) }
+{
+    out.extend_from_slice(word)?;
+    choice(names, l, out)?;
+    out.extend_from_slice(b"\n")
+}
+
+fn more(exact: bool, out: &mut Vec<u8>) -> Result<(), AllocError>
+    ensures { OnOk result (out.new.items ≡ out.old.items ++ more_text exact) }
+{
+    if !exact {
+        out.extend_from_slice(b" or more")?;
+    }
+    Ok(())
+}
+
+/// How many lines stand before this one, and whether it was shown that there are no others.
+pub(crate) fn total(
+    word: &[u8],
+    lines: usize,
+    exact: bool,
+    out: &mut Vec<u8>,
+) -> Result<(), AllocError>
+    ensures { OnOk result (out.new.items ≡ out.old.items ++ total_line word.now lines exact) }
+{
+    out.extend_from_slice(word)?;
+    blank_number(lines as u64, out)?;
+    more(exact, out)?;
+    out.extend_from_slice(b"\n")
 }

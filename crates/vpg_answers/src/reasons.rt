@@ -20,7 +20,7 @@ pub(crate) fn names(order: &Order) -> &Names
     order.diagram().names()
 }
 
-fn identifier(order: &Order, vertex: u32) -> u32
+pub(crate) fn identifier(order: &Order, vertex: u32) -> u32
     requires { vertex < length order.now.game.vertices }
     ensures { result ≡ slice_index (vertex_ids order.now.game.vertices) vertex }
 {

@@ -87,13 +87,11 @@ query_or own query (Some place) = Ok (query place)
 
 -- what is asked of the page, by places in the game and the diagram; or what is named there that they lack
 abbrev pub query_of : Scene → script.Inquiry → Result Query Own
-query_of scene (script.WhyVertex identifier) = query_or NoVertex queries.WhyVertex (vertex_of scene identifier)
-query_of scene (script.WhyFeature name) = query_or NoFeature queries.WhyFeature (index_of scene.names name)
-query_of scene (script.WhyChoice value name) =
-    query_or NoFeature (λ f. queries.WhyChoice f value) (index_of scene.names name)
-query_of scene (script.Example which identifier) =
-    query_or NoVertex (queries.Example which) (vertex_of scene identifier)
-query_of scene (script.Offer identifier) = query_or NoVertex queries.Offer (vertex_of scene identifier)
+query_of scene (script.OfVertex question identifier) =
+    query_or NoVertex (queries.OfVertex question) (vertex_of scene identifier)
+query_of scene (script.OfFeature name) = query_or NoFeature queries.OfFeature (index_of scene.names name)
+query_of scene (script.OfChoice value name) =
+    query_or NoFeature (λ f. queries.OfChoice f value) (index_of scene.names name)
 
 -- how far it is followed
 abbrev pub answer_limits : Limits

@@ -45,24 +45,16 @@ pub(crate) fn query_of(
     ensures within { IfOk result (IsWithin (length game.now.vertices) (length diagram.now.names)) }
 {
     match inquiry {
-        Inquiry::WhyVertex(identifier) => match vertex_at(game, identifier) {
-            Some(vertex) => Ok(Query::WhyVertex { vertex }),
+        Inquiry::OfVertex(question, identifier) => match vertex_at(game, identifier) {
+            Some(vertex) => Ok(Query::OfVertex { question, vertex }),
             None => Err(Missing::Vertex),
         },
-        Inquiry::Example(which, identifier) => match vertex_at(game, identifier) {
-            Some(vertex) => Ok(Query::Example { which, vertex }),
-            None => Err(Missing::Vertex),
-        },
-        Inquiry::Offer(identifier) => match vertex_at(game, identifier) {
-            Some(vertex) => Ok(Query::Offer { vertex }),
-            None => Err(Missing::Vertex),
-        },
-        Inquiry::WhyFeature(name) => match feature_at(diagram.names(), name) {
-            Some(feature) => Ok(Query::WhyFeature { feature }),
+        Inquiry::OfFeature(name) => match feature_at(diagram.names(), name) {
+            Some(feature) => Ok(Query::OfFeature { feature }),
             None => Err(Missing::Feature),
         },
-        Inquiry::WhyChoice(value, name) => match feature_at(diagram.names(), name) {
-            Some(feature) => Ok(Query::WhyChoice { feature, value }),
+        Inquiry::OfChoice(value, name) => match feature_at(diagram.names(), name) {
+            Some(feature) => Ok(Query::OfChoice { feature, value }),
             None => Err(Missing::Feature),
         },
     }

@@ -10,6 +10,8 @@ use Rattle.vpg_script.specs.declared.command.Verb.{Verb}
 use Rattle.vpg_script.specs.declared.command.Verb.TheVariants as verbs
 use Rattle.vpg_script.specs.declared.command.Claim.{Claim}
 use Rattle.vpg_script.specs.declared.command.Claim.TheVariants as claims
+use Rattle.vpg_script.specs.declared.command.VertexQuestion.{VertexQuestion}
+use Rattle.vpg_script.specs.declared.command.VertexQuestion.TheVariants as questions
 use Rattle.vpg_script.specs.declared.command.LineFault.{LineFault}
 use Rattle.vpg_script.specs.declared.command.LineFault.TheVariants as faults
 
@@ -50,11 +52,9 @@ longest_line = 4096
 
 -- what is asked of the page
 pub data Inquiry : Type 0 where
-  WhyVertex : (identifier : ℕ) → Inquiry
-  WhyFeature : (name : List ℕ) → Inquiry
-  WhyChoice : (value : Bool) → (name : List ℕ) → Inquiry
-  Example : (which : Which) → (identifier : ℕ) → Inquiry
-  Offer : (identifier : ℕ) → Inquiry
+  OfVertex : (question : VertexQuestion) → (identifier : ℕ) → Inquiry
+  OfFeature : (name : List ℕ) → Inquiry
+  OfChoice : (value : Bool) → (name : List ℕ) → Inquiry
 
 -- what a line asserts of the page: of a vertex its verdicts, or of the page as a whole
 pub data Assertion : Type 0 where
@@ -113,6 +113,8 @@ verb_of w =
     else if bytes_eq w (codes "example") then Some verbs.Example
     else if bytes_eq w (codes "counterexample") then Some verbs.Counterexample
     else if bytes_eq w (codes "offer") then Some verbs.Offer
+    else if bytes_eq w (codes "needs") then Some verbs.Needs
+    else if bytes_eq w (codes "repair") then Some verbs.Repair
     else None
 
 -- a command without arguments
@@ -136,23 +138,30 @@ abbrev pub signed : ℕ → List ℕ → Option (List ℕ)
 signed sign [] = None
 signed sign (b ∷ name) = if (b == sign) && is_feature_name name then Some name else None
 
--- of a decision in, of one out, or of a vertex
-abbrev pub why_else : Option (List ℕ) → Option (List ℕ) → Option ℕ → Option Inquiry
-why_else (Some name) out n = Some (WhyChoice true name)
-why_else None (Some name) n = Some (WhyChoice false name)
-why_else None None n = option_map WhyVertex n
+-- of a vertex, by its identifier
+abbrev pub of_vertex : VertexQuestion → List ℕ → Option Inquiry
+of_vertex question w = option_map (OfVertex question) (number_of largest_identifier w)
+
+-- of a decision in, of one out, or else
+abbrev pub why_else : Option (List ℕ) → Option (List ℕ) → Option Inquiry → Option Inquiry
+why_else (Some name) out other = Some (OfChoice true name)
+why_else None (Some name) other = Some (OfChoice false name)
+why_else None None other = other
 
 -- of a feature's name; of a decision, `+` (43) or `-` (45) and a name; or of a vertex's identifier
 abbrev pub why_of : List ℕ → Option Inquiry
-why_of w = if is_feature_name w then Some (WhyFeature w)
-    else why_else (signed 43 w) (signed 45 w) (number_of largest_identifier w)
+why_of w = if is_feature_name w then Some (OfFeature w)
+    else why_else (signed 43 w) (signed 45 w) (of_vertex questions.Why w)
 
--- of a vertex, by its identifier
-abbrev pub example_of : Which → List ℕ → Option Inquiry
-example_of which w = option_map (Example which) (number_of largest_identifier w)
-
-abbrev pub offer_of : List ℕ → Option Inquiry
-offer_of w = option_map Offer (number_of largest_identifier w)
+-- what a verb asks of the page, with one argument
+abbrev pub asked : Verb → List ℕ → Option Inquiry
+asked verbs.Why w = why_of w
+asked verbs.Example w = of_vertex (questions.Example Hopeful) w
+asked verbs.Counterexample w = of_vertex (questions.Example Dual) w
+asked verbs.Offer w = of_vertex questions.Offer w
+asked verbs.Needs w = of_vertex questions.Needs w
+asked verbs.Repair w = of_vertex questions.Repair w
+asked _ w = None
 
 -- with one
 abbrev pub command_with : Verb → List ℕ → Option Command
@@ -166,11 +175,7 @@ command_with verbs.Forget w = option_map Forget (number_of largest_serial w)
 command_with verbs.Commit w = option_map Commit (number_of largest_serial w)
 command_with verbs.Settle w = option_map (λ n. Settle (Some n)) (number_of most_sweeps w)
 command_with verbs.Known w = if_name Known w
-command_with verbs.Why w = option_map Ask (why_of w)
-command_with verbs.Example w = option_map Ask (example_of Hopeful w)
-command_with verbs.Counterexample w = option_map Ask (example_of Dual w)
-command_with verbs.Offer w = option_map Ask (offer_of w)
-command_with _ w = None
+command_with verb w = option_map Ask (asked verb w)
 
 -- the table that a word names
 abbrev pub table_named : List ℕ → Option Which

@@ -15,11 +15,9 @@ use Rattle.vpg_script.specs.declared.command.ReadFault.{ReadFault}
 use Rattle.vpg_script.specs.declared.command.ReadFault.TheVariants as faults
 
 abbrev pub inquiry_shown : Inquiry → script.Inquiry
-inquiry_shown (inquiries.WhyVertex v) = script.WhyVertex v
-inquiry_shown (inquiries.WhyFeature f) = script.WhyFeature f.now
-inquiry_shown (inquiries.WhyChoice value f) = script.WhyChoice value f.now
-inquiry_shown (inquiries.Example which v) = script.Example which v
-inquiry_shown (inquiries.Offer v) = script.Offer v
+inquiry_shown (inquiries.OfVertex question v) = script.OfVertex question v
+inquiry_shown (inquiries.OfFeature f) = script.OfFeature f.now
+inquiry_shown (inquiries.OfChoice value f) = script.OfChoice value f.now
 
 -- what is asserted, as definitions see it
 abbrev pub assertion_shown : Assertion → script.Assertion

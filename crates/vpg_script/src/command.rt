@@ -4,7 +4,7 @@ ghost use Rattle.std.specs.List.{list_all};
 ghost use Rattle.std.specs.Char.{is_ascii_digit, digit_value};
 ghost use Rattle.std.specs.Str.Parse.{digits_value};
 ghost use Rattle.std.specs.Prelude.{bytes_eq};
-ghost use Rattle.vpg_script.specs.Script.{is_blank, is_nonempty, words, is_feature_name, number_of, verb_of, bare_command, signed, why_of, example_of, offer_of, command_with, table_named, command_with_two, label_of, is_comment};
+ghost use Rattle.vpg_script.specs.Script.{is_blank, is_nonempty, words, is_feature_name, number_of, verb_of, bare_command, signed, why_of, of_vertex, asked, command_with, table_named, command_with_two, label_of, is_comment};
 ghost use Rattle.vpg_script.specs.Script.{command_with_few, identifiers_of, claim_named, claims_of, state_named, assertion_of, command_of};
 ghost use Rattle.vpg_script.specs.View.{assertion_shown, command_shown, inquiry_shown, texts};
 
@@ -49,6 +49,23 @@ pub enum Verb {
     Example,
     Counterexample,
     Offer,
+    Needs,
+    Repair,
+}
+
+/// What is asked of a vertex.
+#[derive(Clone, Copy)]
+pub enum VertexQuestion {
+    /// Why it has its verdicts.
+    Why,
+    /// A product that is left in which Even wins from it, for the first table, or Odd, for the second.
+    Example(Which),
+    /// What each further decision would make of it.
+    Offer,
+    /// What each product has that is left and in which Even wins from it.
+    Needs,
+    /// What to retract so that it is not hopeless any more.
+    Repair,
 }
 
 /// A verdict that a line asserts of a vertex.
@@ -87,17 +104,12 @@ pub enum Lookup {
 /// What is asked of the page. Names stand in the line that was read.
 #[derive(Clone, Copy)]
 pub enum Inquiry<'t> {
-    /// Why a vertex has its verdicts, by its identifier.
-    WhyVertex(u32),
+    /// Something of a vertex, by its identifier.
+    OfVertex(VertexQuestion, u32),
     /// Why a feature is known.
-    WhyFeature(&'t [u8]),
+    OfFeature(&'t [u8]),
     /// Why one more decision contradicts the page: whether the feature is to be in, and its name.
-    WhyChoice(bool, &'t [u8]),
-    /// A product in which Even wins from a vertex, for the first table, or Odd, for the second; by the vertex's
-    /// identifier.
-    Example(Which, u32),
-    /// What each further decision would make of a vertex, by its identifier.
-    Offer(u32),
+    OfChoice(bool, &'t [u8]),
 }
 
 /// A command. Names stand in the line that was read.
@@ -267,6 +279,10 @@ fn verb_named(word: &[u8]) -> Option<Verb>
         Some(Verb::Counterexample)
     } else if same(word, b"offer") {
         Some(Verb::Offer)
+    } else if same(word, b"needs") {
+        Some(Verb::Needs)
+    } else if same(word, b"repair") {
+        Some(Verb::Repair)
     } else {
         None
     }
@@ -298,7 +314,9 @@ fn bare_command<'t>(verb: Verb) -> Option<Command<'t>>
         | Verb::Why
         | Verb::Example
         | Verb::Counterexample
-        | Verb::Offer => None,
+        | Verb::Offer
+        | Verb::Needs
+        | Verb::Repair => None,
     }
 }
 
@@ -312,37 +330,43 @@ fn signed(sign: u8, word: &[u8]) -> Option<&[u8]>
     }
 }
 
+/// A question of the vertex whose identifier a word is.
+fn of_vertex<'t>(question: VertexQuestion, word: &[u8]) -> Option<Inquiry<'t>>
+    ensures { option_map inquiry_shown result ≡ of_vertex question word.now }
+{
+    let identifier = number(word, LARGEST_IDENTIFIER)?;
+    Some(Inquiry::OfVertex(question, identifier as u32))
+}
+
 /// What is asked why: a vertex, a feature, or a decision.
 fn why_of(word: &[u8]) -> Option<Inquiry>
     ensures { option_map inquiry_shown result ≡ why_of word.now }
 {
     if is_name(word) {
-        return Some(Inquiry::WhyFeature(word));
+        return Some(Inquiry::OfFeature(word));
     }
     if let Some(name) = signed(b'+', word) {
-        return Some(Inquiry::WhyChoice(true, name));
+        return Some(Inquiry::OfChoice(true, name));
     }
     if let Some(name) = signed(b'-', word) {
-        return Some(Inquiry::WhyChoice(false, name));
+        return Some(Inquiry::OfChoice(false, name));
     }
-    let identifier = number(word, LARGEST_IDENTIFIER)?;
-    Some(Inquiry::WhyVertex(identifier as u32))
+    of_vertex(VertexQuestion::Why, word)
 }
 
-/// A product that is asked for.
-fn example_of<'t>(which: Which, word: &[u8]) -> Option<Inquiry<'t>>
-    ensures { option_map inquiry_shown result ≡ example_of which word.now }
+/// What a command with one argument asks of the page; nothing where the verb asks nothing.
+fn asked(verb: Verb, word: &[u8]) -> Option<Inquiry>
+    ensures { option_map inquiry_shown result ≡ asked verb word.now }
 {
-    let identifier = number(word, LARGEST_IDENTIFIER)?;
-    Some(Inquiry::Example(which, identifier as u32))
-}
-
-/// What each further decision would make of a vertex.
-fn offer_of<'t>(word: &[u8]) -> Option<Inquiry<'t>>
-    ensures { option_map inquiry_shown result ≡ offer_of word.now }
-{
-    let identifier = number(word, LARGEST_IDENTIFIER)?;
-    Some(Inquiry::Offer(identifier as u32))
+    match verb {
+        Verb::Why => why_of(word),
+        Verb::Example => of_vertex(VertexQuestion::Example(Which::Hopeful), word),
+        Verb::Counterexample => of_vertex(VertexQuestion::Example(Which::Dual), word),
+        Verb::Offer => of_vertex(VertexQuestion::Offer, word),
+        Verb::Needs => of_vertex(VertexQuestion::Needs, word),
+        Verb::Repair => of_vertex(VertexQuestion::Repair, word),
+        _ => None,
+    }
 }
 
 /// A command with one argument.
@@ -360,11 +384,7 @@ fn command_with(verb: Verb, word: &[u8]) -> Option<Command>
         Verb::Commit => Some(Command::Commit(number(word, LARGEST_SERIAL)?)),
         Verb::Settle => Some(Command::Settle(Some(number(word, MOST_SWEEPS)?))),
         Verb::Known if is_name(word) => Some(Command::Known(word)),
-        Verb::Why => Some(Command::Ask(why_of(word)?)),
-        Verb::Example => Some(Command::Ask(example_of(Which::Hopeful, word)?)),
-        Verb::Counterexample => Some(Command::Ask(example_of(Which::Dual, word)?)),
-        Verb::Offer => Some(Command::Ask(offer_of(word)?)),
-        _ => None,
+        _ => Some(Command::Ask(asked(verb, word)?)),
     }
 }
 

@@ -175,6 +175,8 @@ fn names_the_faulty_line(rt: HostRuntime) -> Result<(), Fail> {
         ("example", LineFault::Args),
         ("counterexample f", LineFault::Args),
         ("offer 0 1", LineFault::Args),
+        ("needs", LineFault::Args),
+        ("repair f", LineFault::Args),
         ("select", LineFault::Args),
         ("select 9", LineFault::Args),
         ("65: undo", LineFault::Word),

@@ -5,10 +5,12 @@ pub mod FirstOnes
 pub mod OpenFeatures
 pub mod Fronts
 pub mod Halving
+pub mod InOrder
 pub mod InTurn
 pub mod KeepingOldest
 pub mod Listing
 pub mod Next
+pub mod OneRepair
 pub mod Losing
 pub mod Ordered
 pub mod Rooms

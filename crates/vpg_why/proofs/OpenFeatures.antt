@@ -9,15 +9,16 @@ use Rattle.vpg_diagram.specs.DiagramText.{NamedDiagram, IsNamedDiagram}
 use Rattle.vpg_diagram.specs.FeatureDiagram.{feature_count}
 use Rattle.vpg_diagram.specs.Clauses.{IsTrueIn}
 use Rattle.vpg_diagram.specs.declared.clause.Literal.{Literal}
-use Rattle.vpg_diagram.proofs.Lists.{All-append, All-front, All-back, Contains-cons, Contains-here, Contains-nil}
+use Rattle.vpg_diagram.proofs.Lists.{All-append, All-front, All-back, All-from_contained, Contains-cons, Contains-here, Contains-nil}
 use Rattle.vpg_game.specs.Game.{NamedGame}
 use Rattle.vpg_partial.specs.KnownTable.{is_known_as}
 use Rattle.vpg_partial.specs.KnownLaws.{IsRemaining, IsKnownOf}
 use Rattle.vpg_partial.specs.TableLaws.{IsKnownTable}
 use Rattle.vpg_partial.proofs.Tables.{remaining_products_complete}
 use Rattle.vpg_why.specs.declared.question.Aim.{Aim}
-use Rattle.vpg_why.specs.Products.{Meets, NoneMeets, IsForced, AreNeeds}
+use Rattle.vpg_why.specs.Products.{Meets, NoneMeets, IsForced, AreInOrder, AreNeeds}
 use Rattle.vpg_why.specs.Suffices.{choice}
+use Rattle.vpg_why.proofs.InOrder.{one_behind}
 
 -- a product has the one value of a feature or the other
 either_value : (set : List Bool) (f : ℕ) (value : Bool) → IsTrueIn set (choice f value) ⊎ IsTrueIn set (choice f (not value))
@@ -39,6 +40,14 @@ not_both a false e f = clash (sym e ∙ f)
     clash : false ≡ true → ⊥
     clash x = cc
 
+no_value : (t : Tri) (value : Bool) → t ≡ Unknown → IsTrue (is_known_as t value) → ⊥
+no_value No value same e = cc same
+no_value Unknown value same e = clash e
+  where
+    clash : false ≡ true → ⊥
+    clash x = cc
+no_value Yes value same e = cc same
+
 known_value : (t : Tri) (a value : Bool) → (t ≡ Unknown → ⊥) → Agrees t a → a ≡ value → IsTrue (is_known_as t value)
 known_value No a true known agrees e = absurd (not_both a true e agrees)
 known_value No a false known agrees e = refl
@@ -48,6 +57,9 @@ known_value Yes a false known agrees e = absurd (not_both a false e agrees)
 
 -- What is listed of the features before one.
 pub record IsForcing (Settles : Type 0) (game : NamedGame) (diagram : NamedDiagram) (aim : Aim) (choices listed : List Literal) (feature : ℕ) (exact : Bool) : Type 0 where
+  pub below : (l : Literal) → Contains listed l → l.feature < feature
+  pub in_order : AreInOrder listed
+  pub not_known : (l : Literal) → Contains listed l → ¬ (IsKnownOf diagram.lines choices l)
   pub forced : (l : Literal) → Contains listed l → IsForced game diagram aim choices l
   pub complete : IsTrue exact → (l : Literal) → l.feature < feature → IsForced game diagram aim choices l → IsKnownOf diagram.lines choices l ⊎ Contains listed l
   pub settled : Settles → IsTrue exact
@@ -72,6 +84,9 @@ module _ (Settles : Type 0) (game : NamedGame) (diagram : NamedDiagram) (aim : A
 
   pub none_forced : IsForcing Settles game diagram aim choices [] 0 true
   none_forced = record {
+    below = λ l h. absurd (Contains-nil l h);
+    in_order = tt;
+    not_known = λ l h. absurd (Contains-nil l h);
     forced = λ l h. absurd (Contains-nil l h);
     complete = λ t l less. absurd (omega (arith, less));
     settled = λ s. refl;
@@ -81,6 +96,9 @@ module _ (Settles : Type 0) (game : NamedGame) (diagram : NamedDiagram) (aim : A
       (is : IsForcing Settles game diagram aim choices listed feature exact) where
     abbrev here : Bool
     here = slice_index_or product feature false
+
+    lower : (l : Literal) → Contains listed l → l.feature < feature + 1
+    lower l h = let less = is.below l h in omega (arith, less)
 
     -- the feature itself, or one before it
     further : (more : List Literal) → ((l : Literal) → Contains listed l → Contains more l) → (IsTrue exact → IsForced game diagram aim choices (choice feature here) → IsKnownOf diagram.lines choices (choice feature here) ⊎ Contains more (choice feature here)) →
@@ -105,6 +123,9 @@ module _ (Settles : Type 0) (game : NamedGame) (diagram : NamedDiagram) (aim : A
     -- the feature is known
     pub known_next : (known : List Tri) → IsNamedDiagram diagram → IsKnownTable diagram.lines choices known → (slice_index_or known feature Unknown ≡ Unknown → ⊥) → IsForcing Settles game diagram aim choices listed (feature + 1) exact
     known_next known is_diagram t not_open = record {
+      below = lower;
+      in_order = is.in_order;
+      not_known = is.not_known;
       forced = is.forced;
       complete = further listed (λ l h. h) (λ e forced. inl (t.known_only (choice feature here)
           (known_value (slice_index_or known feature Unknown) here here not_open (remaining_products_complete diagram.lines choices known product is_diagram.diagram t remaining feature) refl)));
@@ -112,25 +133,36 @@ module _ (Settles : Type 0) (game : NamedGame) (diagram : NamedDiagram) (aim : A
     }
 
     -- it is forced
-    pub forced_next : (more : List Literal) → more ≡ listed ++ choice feature here ∷ [] → NoneMeets game diagram aim (choices ++ choice feature (not here) ∷ []) → IsForcing Settles game diagram aim choices more (feature + 1) exact
-    forced_next more e lost = subst (λ (ls : List Literal). IsForcing Settles game diagram aim choices ls (feature + 1) exact) (sym e) (record {
-      forced = λ l h. of l (Contains-append_cases listed (choice feature here ∷ []) l h);
+    pub forced_next : (known : List Tri) → IsKnownTable diagram.lines choices known → slice_index_or known feature Unknown ≡ Unknown → (more : List Literal) → more ≡ listed ++ choice feature here ∷ [] →
+        NoneMeets game diagram aim (choices ++ choice feature (not here) ∷ []) → IsForcing Settles game diagram aim choices more (feature + 1) exact
+    forced_next known t unknown more e lost = subst (λ (ls : List Literal). IsForcing Settles game diagram aim choices ls (feature + 1) exact) (sym e) (record {
+      below = all (λ l. l.feature < feature + 1) lower (omega arith);
+      in_order = one_behind listed (choice feature here) is.in_order is.below;
+      not_known = all (λ l. ¬ (IsKnownOf diagram.lines choices l)) is.not_known (λ k. no_value (slice_index_or known feature Unknown) here unknown (t.all_known (choice feature here) k));
+      forced = all (λ l. IsForced game diagram aim choices l) is.forced (opposite_forced feature here lost);
       complete = further (listed ++ choice feature here ∷ []) (λ l h. Contains-append_left listed (choice feature here ∷ []) l h)
           (λ t forced. inr (Contains-append_right listed (choice feature here ∷ []) (choice feature here) (Contains-here (choice feature here) [])));
       settled = is.settled;
     })
       where
-        one : (l : Literal) → (choice feature here ≡ l) ⊎ Contains [] l → IsForced game diagram aim choices l
-        one l (inl same) = subst (λ (x : Literal). IsForced game diagram aim choices x) same (opposite_forced feature here lost)
-        one l (inr none) = absurd (Contains-nil l none)
+        -- what holds of those listed, and of this one
+        all : (Q : Literal → Type 0) → ((l : Literal) → Contains listed l → Q l) → Q (choice feature here) → (l : Literal) → Contains (listed ++ choice feature here ∷ []) l → Q l
+        all Q before this l h = of (Contains-append_cases listed (choice feature here ∷ []) l h)
+          where
+            one : (choice feature here ≡ l) ⊎ Contains [] l → Q l
+            one (inl same) = subst (λ (x : Literal). Q x) same this
+            one (inr none) = absurd (Contains-nil l none)
 
-        of : (l : Literal) → Contains listed l ⊎ Contains (choice feature here ∷ []) l → IsForced game diagram aim choices l
-        of l (inl k) = is.forced l k
-        of l (inr k) = one l (Contains-cons (choice feature here) [] l k)
+            of : Contains listed l ⊎ Contains (choice feature here ∷ []) l → Q l
+            of (inl k) = before l k
+            of (inr k) = one (Contains-cons (choice feature here) [] l k)
 
     -- it is not
     pub free_next : (NoneMeets game diagram aim (choices ++ choice feature (not here) ∷ []) → ⊥) → IsForcing Settles game diagram aim choices listed (feature + 1) exact
     free_next free = record {
+      below = lower;
+      in_order = is.in_order;
+      not_known = is.not_known;
       forced = is.forced;
       complete = further listed (λ l h. h) (λ t forced. absurd (free (forced_bars feature here forced)));
       settled = is.settled;
@@ -139,6 +171,9 @@ module _ (Settles : Type 0) (game : NamedGame) (diagram : NamedDiagram) (aim : A
     -- it was not shown
     pub unshown_next : (Settles → ⊥) → IsForcing Settles game diagram aim choices listed (feature + 1) false
     unshown_next unsettled = record {
+      below = lower;
+      in_order = is.in_order;
+      not_known = is.not_known;
       forced = is.forced;
       complete = λ t. absurd (clash t);
       settled = λ s. absurd (unsettled s);
@@ -149,6 +184,9 @@ module _ (Settles : Type 0) (game : NamedGame) (diagram : NamedDiagram) (aim : A
 
   pub all_forced : (listed : List Literal) (feature : ℕ) (exact : Bool) → feature ≡ feature_count diagram.lines → IsForcing Settles game diagram aim choices listed feature exact → AreNeeds game diagram aim choices listed exact
   all_forced listed feature exact e is = record {
+    named = All-from_contained (λ c. c.feature < feature_count diagram.lines) listed (λ l h. subst (λ n. l.feature < n) e (is.below l h));
+    in_order = is.in_order;
+    not_known = is.not_known;
     forced = is.forced;
     complete = λ t l less. is.complete t l (subst (λ n. l.feature < n) (sym e) less);
   }

@@ -15,7 +15,8 @@ use Rattle.vpg_why.specs.declared.question.Question.TheVariants as asks
 use Rattle.vpg_why.specs.Explained.{choices, Explains}
 use Rattle.vpg_why.specs.declared.question.Aim.{Aim}
 use Rattle.vpg_why.specs.declared.question.Aim.TheVariants as aims
-use Rattle.vpg_why.specs.Products.{NoneMeets, MeetsIn, IsFirstIn}
+use Rattle.vpg_why.specs.Products.{NoneMeets, MeetsIn, IsFirstIn, AreNeedsIn}
+use Rattle.vpg_why.specs.Repaired.{IsRepair}
 use Rattle.vpg_why.specs.Suffices.{Suffice, SufficeIn}
 
 -- what suffices still suffices with more choices
@@ -39,3 +40,17 @@ abbrev pub FirstProductsAreOne : Type 0
 FirstProductsAreOne = (game : GuardedGame Formula) (lines : List Line) (aim : Aim) (choices : List Literal) (one other : List Bool) →
     IsRemaining lines choices one → MeetsIn game aim one → IsFirstIn game lines aim choices one →
     IsRemaining lines choices other → MeetsIn game aim other → IsFirstIn game lines aim choices other → one ≡ other
+
+-- Two lists of what is needed for one aim are the same, where it is shown of both that nothing else is.
+abbrev pub NeedsAreOne : Type 0
+NeedsAreOne = (game : GuardedGame Formula) (lines : List Line) (aim : Aim) (choices one other : List Literal) →
+    AreNeedsIn game lines aim choices one true → AreNeedsIn game lines aim choices other true → one ≡ other
+
+-- Two repairs of one page give up the same decisions, where it is shown of both that each of them has to be.
+abbrev pub RepairsAreOne : Type 0
+RepairsAreOne =
+    (game : GuardedGame Formula) (lines : List Line) (question : Question)
+    (decisions kept given others gone : List Decision) →
+    IsDiagram lines → AreChoicesOf lines (choices decisions) →
+    IsRepair (SufficeIn game lines question) decisions kept given true →
+    IsRepair (SufficeIn game lines question) decisions others gone true → given ≡ gone

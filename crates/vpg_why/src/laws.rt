@@ -1,5 +1,5 @@
 //! Laws of the definitions. Each function does nothing: its contract is the law.
-ghost use Rattle.vpg_why.specs.Laws.{ExplanationsAreOne, FirstProductsAreOne, MoreChoicesSuffice, SufficientChoicesLose};
+ghost use Rattle.vpg_why.specs.Laws.{ExplanationsAreOne, FirstProductsAreOne, MoreChoicesSuffice, NeedsAreOne, RepairsAreOne, SufficientChoicesLose};
 
 /// What suffices still suffices with more decisions.
 pub fn more_choices_suffice()
@@ -19,4 +19,14 @@ pub fn explanations_are_one()
 /// A search finds one product from given decisions, where it was shown to be the first: such an answer is a function of them.
 pub fn first_products_are_one()
     ensures { FirstProductsAreOne }
+{}
+
+/// What is needed for an aim is one list, where it was shown to be all: such an answer is a function of the page.
+pub fn needs_are_one()
+    ensures { NeedsAreOne }
+{}
+
+/// A page has one repair that keeps the oldest decisions, where each decision was shown to have to be retracted.
+pub fn repairs_are_one()
+    ensures { RepairsAreOne }
 {}

@@ -44,6 +44,8 @@ harvest's number, N a number):
   example V              the first product left in which Even wins at V
   counterexample V       the same of Odd
   offer V                what each further decision would make of V
+  needs V                what every product has that is left and won at V
+  repair V               what to retract so that V is possible
   # ..                   a comment
   N: COMMAND             session N (1 to 64) gives the command
 

@@ -530,6 +530,42 @@ static OFFERS: [Row; 2] = [
     },
 ];
 
+static NEEDS_AND_REPAIRS: [Row; 3] = [
+    Row {
+        diagram: DIAGRAM,
+        game: GAME,
+        script: "\
+            needs 0 / needs 1 / repair 0 / exclude g / exclude f / settle / needs 0 / 2: repair 0 / repair 1 / \
+            needs 7 / repair 7",
+        answers: "\
+            needs +f / needs 1 / needs 0 / possible 0 / done 1 / done 2 / settled 2 / none / repair -f / \
+            repairs 1 / possible 1 / refused NoVertex / refused NoVertex",
+    },
+    Row {
+        diagram: "\
+            root r / optional r a / optional r b / optional r c / optional r d / requires a d / requires b d / \
+            excludes c d",
+        game: "0 0 0 1[!a | !b]; 1 0 0 1; 2 0 0 1[a],0[c]; 3 1 0 3;",
+        script: "\
+            needs 0 / needs 2 / needs 3 / repair 3 / select b / select a / repair 0 / settle / repair 0 / \
+            repair 3 / needs 0 / needs 2",
+        answers: "\
+            needs 0 / needs 0 / none / possible 3 / done 1 / done 2 / possible 0 / settled 4 / repair +b / \
+            repair +a / repairs 2 / none / none / needs 0",
+    },
+    // Each of two decisions is enough, so both are retracted together; the oldest stays.
+    Row {
+        diagram: "root r / optional r a / optional r b / optional r c",
+        game: "0 0 0 1[!a & !b]; 1 0 0 1;",
+        script: "\
+            needs 0 / select c / select b / select a / settle / repair 0 / needs 0 / retract a / settle / \
+            repair 0",
+        answers: "\
+            needs -a / needs -b / needs 2 / done 1 / done 2 / done 3 / settled 2 / repair +b +a / repairs 1 / \
+            none / done 4 / settled 2 / repair +b / repairs 1",
+    },
+];
+
 #[test]
 fn settling_and_showing(rt: HostRuntime) -> Result<(), Fail> {
     assert_eq!(rt; first_wrong(&rt, rt.alloc(), &SETTLING), None);
@@ -593,6 +629,12 @@ fn products_found(rt: HostRuntime) -> Result<(), Fail> {
 #[test]
 fn decisions_offered(rt: HostRuntime) -> Result<(), Fail> {
     assert_eq!(rt; first_wrong(&rt, rt.alloc(), &OFFERS), None);
+    Ok(())
+}
+
+#[test]
+fn needs_and_repairs_told(rt: HostRuntime) -> Result<(), Fail> {
+    assert_eq!(rt; first_wrong(&rt, rt.alloc(), &NEEDS_AND_REPAIRS), None);
     Ok(())
 }
 

@@ -7,20 +7,20 @@ use Rattle.vpg_answers.specs.declared.query.Query.TheVariants as queries
 use Rattle.vpg_answers.proofs.Telling.{answers}
 use Rattle.vpg_answers.proofs.answering.told.Goals as goal
 
-pub returns-in-WhyFeature : goal.returns-in-WhyFeature
-returns-in-WhyFeature c =
+pub returns-in-OfVertex : goal.returns-in-OfVertex
+returns-in-OfVertex c =
+    let order = c.args.order.now in
+    let before = c.args.out.now.items in
+    let after = c.of_vertex.new.out.items in
+    on_ok c.of_vertex.result _ _
+    (λ told. subst (λ (q : Query). Appends (IsAnswer (scene_of order.game order.diagram) c.args.limits q order.decisions order.hopeful order.dual) before after) (sym c.in-OfVertex.is)
+    (answers order c.game-order.ensures.order c.args.limits (queries.OfVertex c.in-OfVertex.question c.in-OfVertex.vertex) before after told)) c.of_vertex.ensures
+
+pub returns-in-OfFeature : goal.returns-in-OfFeature
+returns-in-OfFeature c =
     let order = c.args.order.now in
     let before = c.args.out.now.items in
     let after = c.feature.new.out.items in
     on_ok c.feature.result _ _
-    (λ told. subst (λ (q : Query). Appends (IsAnswer (scene_of order.game order.diagram) c.args.limits q order.decisions order.hopeful order.dual) before after) (sym c.in-WhyFeature.is)
-    (answers order c.game-order.ensures.order c.args.limits (queries.WhyFeature c.in-WhyFeature.feature) before after told)) c.feature.ensures
-
-pub returns-in-WhyVertex : goal.returns-in-WhyVertex
-returns-in-WhyVertex c =
-    let order = c.args.order.now in
-    let before = c.args.out.now.items in
-    let after = c.vertex.new.out.items in
-    on_ok c.vertex.result _ _
-    (λ told. subst (λ (q : Query). Appends (IsAnswer (scene_of order.game order.diagram) c.args.limits q order.decisions order.hopeful order.dual) before after) (sym c.in-WhyVertex.is)
-    (answers order c.game-order.ensures.order c.args.limits (queries.WhyVertex c.in-WhyVertex.vertex) before after told)) c.vertex.ensures
+    (λ told. subst (λ (q : Query). Appends (IsAnswer (scene_of order.game order.diagram) c.args.limits q order.decisions order.hopeful order.dual) before after) (sym c.in-OfFeature.is)
+    (answers order c.game-order.ensures.order c.args.limits (queries.OfFeature c.in-OfFeature.feature) before after told)) c.feature.ensures

@@ -1,11 +1,11 @@
-use Rattle.std.proofs.Common.{◌∙◌, ◌++◌, ◌∷◌, [], List, false, slice_index_or, refl, sym, ap, subst}
+use Rattle.std.proofs.Common.{arith, ◌∙◌, ◌++◌, ◌∷◌, [], List, false, slice_index_or, refl, sym, ap, subst}
 use Rattle.vpg_guards.specs.declared.tri.Tri.{Tri}
 use Rattle.vpg_measure.specs.Games.{GamesView}
 use Rattle.vpg_partial.specs.TableLaws.{IsKnownTable}
 use Rattle.vpg_why.specs.declared.question.Question.TheVariants as asks
 use Rattle.vpg_why.specs.Explained.{choices}
 use Rattle.vpg_why.specs.Suffices.{choice, IsSettled}
-use Rattle.vpg_why.proofs.OpenFeatures.{known_next, forced_next, free_next, unshown_next}
+use Rattle.vpg_why.proofs.OpenFeatures.{all_forced, known_next, forced_next, free_next, unshown_next}
 use Rattle.vpg_why.proofs.forcing.list_forced.Goals as goal
 use Rattle.vpg_why.proofs.forcing.list_forced.Goals.{in-Unknown+in_ok-is_barred+in-Yes+in_ok-push-in-Yes, in-Unknown+in_ok-is_barred+in-No, in-Unknown+in_ok-is_barred+in-Unsettled, in_default}
 
@@ -13,6 +13,8 @@ pub forcing-preserved : goal.forcing-preserved
 forcing-preserved c = elim c.match-tri.branch [
   | in-Unknown+in_ok-is_barred+in-Yes+in_ok-push-in-Yes w ↦ rw (w.literals-is, w.exact-is, w.in_ok-push-in-Yes.ensures.items, w.has-value.ensures)
       (forced_next (IsSettled c.args.order.now.game c.args.order.now.diagram c.args.limits (asks.Lost c.args.aim)) c.args.order.now.game c.args.order.now.diagram c.args.aim (choices c.args.order.now.decisions) c.args.product.now c.requires.remaining c.requires.meets c.forcing.literals.items c.forcing.feature c.forcing.exact c.forcing.invariant
+      c.known-known.result.now (subst (λ (k : List Tri). IsKnownTable c.args.order.now.diagram.lines (choices c.args.order.now.decisions) k) (sym (c.known-known.ensures ∙ ap (λ (g : GamesView). g.known) c.deref.ensures)) c.games.ensures.known)
+      (sym c.value-tri.ensures ∙ w.in-Unknown.is)
       (c.forcing.literals.items ++ choice c.forcing.feature (slice_index_or c.args.product.now c.forcing.feature false) ∷ []) refl (rw w.has-value.ensures at (w.in_ok-is_barred.ensures.yes w.in-Yes.is)))
   | in-Unknown+in_ok-is_barred+in-No w ↦ rw (w.literals-is, w.exact-is)
       (free_next (IsSettled c.args.order.now.game c.args.order.now.diagram c.args.limits (asks.Lost c.args.aim)) c.args.order.now.game c.args.order.now.diagram c.args.aim (choices c.args.order.now.decisions) c.args.product.now c.requires.remaining c.requires.meets c.forcing.literals.items c.forcing.feature c.forcing.exact c.forcing.invariant
@@ -25,3 +27,14 @@ forcing-preserved c = elim c.match-tri.branch [
       c.known-known.result.now c.games.ensures.is_diagram (subst (λ (k : List Tri). IsKnownTable c.args.order.now.diagram.lines (choices c.args.order.now.decisions) k) (sym (c.known-known.ensures ∙ ap (λ (g : GamesView). g.known) c.deref.ensures)) c.games.ensures.known)
       (λ e. w.in_default.not-Unknown (c.value-tri.ensures ∙ e)))
 ]
+
+pub returns-clause-needs : goal.returns-clause-needs
+returns-clause-needs c =
+    let order = c.args.order.now in
+    all_forced (IsSettled order.game order.diagram c.args.limits (asks.Lost c.args.aim)) order.game order.diagram c.args.aim (choices order.decisions) c.forcing.literals.items
+    c.forcing.feature c.forcing.exact
+    (omega (
+      arith,
+      rw (c.features-features.ensures.count, c.deref-2.ensures, c.diagram.ensures.diagram) at c.forcing-test.false,
+      rw (c.features-features.ensures.count, c.deref-2.ensures, c.diagram.ensures.diagram) at c.forcing.auto.feature-end,
+    )) c.forcing.invariant
