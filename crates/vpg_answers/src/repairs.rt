@@ -21,7 +21,7 @@ use vpg_why::{Limits, Offer, Remedy, Shown, look_back, repair};
 
 /// Decisions each of which alone, once retracted, leaves a vertex possible.
 #[derive(Drop)]
-struct Singles {
+struct Alone {
     listed: Vec<Decision>,
     /// Whether it was shown that there are no others.
     exact: bool,
@@ -55,7 +55,7 @@ fn is_hopeless_without(
     }
 }
 
-fn singles(alloc: Global, order: &Order, vertex: u32, limits: Limits) -> Result<Singles, AllocError>
+fn singles(alloc: Global, order: &Order, vertex: u32, limits: Limits) -> Result<Alone, AllocError>
     requires { vertex < length order.now.game.vertices }
     ensures singles { IfOk result (λ found. AreSingles
         (IsHopelessBy (scene_of order.now.game order.now.diagram) vertex) found.exact [] order.now.decisions
@@ -73,7 +73,7 @@ fn singles(alloc: Global, order: &Order, vertex: u32, limits: Limits) -> Result<
             Shown::Unsettled => exact = false,
         }
     }
-    Ok(Singles { listed, exact })
+    Ok(Alone { listed, exact })
 }
 
 fn each(names: &Names, listed: &[Decision], out: &mut Vec<u8>) -> Result<(), AllocError>
