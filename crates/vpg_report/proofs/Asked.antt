@@ -1,14 +1,13 @@
 -- A request's calls, its answer, and what is held then.
-use Rattle.std.proofs.Common.{◌≡◌, ℕ, ◌+◌, ◌<◌, Bool, true, false, List, [], ◌∷◌, ◌++◌, Option, Some, None, Result, Ok, Err, refl, sym, ap, ◌∙◌, subst, inl, inr, arith}
+use Rattle.std.proofs.Common.{◌≡◌, ℕ, ◌+◌, ◌<◌, Bool, true, false, List, [], ◌∷◌, ◌++◌, Option, Some, Result, Ok, Err, refl, sym, ap, ◌∙◌, subst, inl, inr, arith}
 use Rattle.std.specs.Prelude.{length, codes, OnOk}
 use Rattle.vpg_guards.specs.Names.{index_of}
 use Rattle.vpg_diagram.specs.DiagramText.{NamedDiagram}
-use Rattle.vpg_game.specs.Game.{NamedGame}
 use Rattle.vpg_trail.specs.Page.{Which, Decision, Entry}
-use Rattle.vpg_desk.specs.Book.{Book, Harvest, Call, Reply, Decide, Order, Commit, Settled, Page, Changed, Ordered, Added, IsSettled, PageIs, Refused, Refusal, IsReply, next}
+use Rattle.vpg_desk.specs.Book.{Harvest, Call, Reply, Decide, Order, Commit, Settled, Page, Changed, Ordered, Added, IsSettled, PageIs, Refused, Refusal}
 use Rattle.vpg_desk.specs.Desk.{family_of}
 use Rattle.vpg_desk.specs.History.{Event, IsLegalFrom, book_after}
-use Rattle.vpg_desk.specs.State.{DeskState, setting_between, setting_of}
+use Rattle.vpg_desk.specs.State.{setting_between, setting_of}
 use Rattle.vpg_client.specs.Client.{ClientState, IsLogged}
 use Rattle.vpg_client.specs.Faults.{Tells, UnlessStray}
 use Rattle.vpg_client.specs.declared.fault.ClientFault.{ClientFault}
@@ -20,7 +19,7 @@ use Rattle.vpg_texts.specs.Scene.{Scene}
 use Rattle.vpg_report.specs.Answers.{Own, NoFeature, NoVertex, own_text, full_line, refused_line, refusal_text, numbered, settled_text, room, call_or, vertex_of, query_of, answer_limits, order_or, first_call, IsSwept, IsLifted, most_sweeps, sweeps_of, Follows, Continues, Begins, Serves}
 use Rattle.vpg_answers.specs.Answers.{IsAnswer}
 use Rattle.vpg_answers.specs.declared.query.Query.{Query}
-use Rattle.vpg_report.specs.Run.{calling, answering}
+use Rattle.vpg_report.specs.Run.{answering}
 use Rattle.vpg_report.specs.Made.{IsMadeBy, AreMadeBy}
 use Rattle.vpg_report.specs.Setting.{setting_in}
 use Rattle.vpg_report.specs.Engine.{EngineState, scene_at, between_of, deciding, TellsRefusal, TellsFault, AnswersTo, SweepsTo}

@@ -1,4 +1,4 @@
-use Rattle.std.proofs.Common.{◌≡◌, ◌∙◌, Option, Some, None, Ok, refl, sym, ap}
+use Rattle.std.proofs.Common.{◌∙◌, Ok, refl, sym, ap}
 use Rattle.vpg_desk.specs.Book.{Order}
 use Rattle.vpg_office.specs.Faults.{never_refused}
 use Rattle.vpg_script.specs.Script as script
