@@ -53,7 +53,7 @@ none_listed n [] len b e f = refl
 none_listed n (x ∷ rest) len b e f = let none : n ≡ 0 = eqb-true n 0 (sym e ∙ f) in absurd (omega (arith, none, len))
 
 pub some_listed : {X : Type 0} (n : ℕ) (listed : List X) → n ≡ length listed → (b : Bool) → b ≡ nat_eq n 0 → b ≡ false → listed ≢ []
-some_listed n listed len b e f none = let some : n ≡ 0 → ⊥ = eqb-false n 0 (sym e ∙ f) in some (len ∙ ap (λ (xs : List X). length xs) none)
+some_listed {X = X} n listed len b e f none = let some : n ≡ 0 → ⊥ = eqb-false n 0 (sym e ∙ f) in some (len ∙ ap (λ (xs : List X). length xs) none)
 
 -- a contradiction makes a verdict so
 pub conflict_is_yes : (scene : Scene) (limits : Limits) (vertex : ℕ) (chosen : List Literal) (which : Which) → HasConflictOf scene.lines chosen →
