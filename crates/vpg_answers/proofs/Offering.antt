@@ -1,5 +1,5 @@
 -- What is listed of the features before one.
-use Rattle.std.proofs.Common.{◌≡◌, ℕ, zero, suc, ◌+◌, ◌<◌, Bool, true, false, List, [], ◌∷◌, ◌++◌, length, map, slice_index_or, All, refl, sym, ap, ap₂, ◌∙◌, subst, append_assoc, append-nil, add-one, arith}
+use Rattle.std.proofs.Common.{◌≡◌, ℕ, zero, suc, ◌+◌, ◌<◌, Bool, true, false, List, [], ◌∷◌, ◌++◌, map, slice_index_or, All, refl, sym, ap, ap₂, ◌∙◌, subst, append_assoc, append-nil, add-one, arith}
 use Rattle.std.specs.List.{AllByRecursion}
 use Rattle.std.proofs.lemmas.List.{map-append}
 use Rattle.vpg_guards.specs.declared.tri.Tri.{Tri}
@@ -13,7 +13,6 @@ use Rattle.vpg_measure.specs.declared.which.Which.TheVariants.{Hopeful, Dual}
 use Rattle.vpg_partial.specs.declared.decision.Decision.{Decision}
 use Rattle.vpg_texts.specs.Scene.{Scene, scene_of}
 use Rattle.vpg_texts.specs.Text.{is_value}
-use Rattle.vpg_why.specs.Explained.{choices}
 use Rattle.vpg_why.specs.Offered.{IsShown, IsOffer}
 use Rattle.vpg_why.specs.Suffices.{choice}
 use Rattle.vpg_why.specs.declared.offering.Offer.{Offer}
@@ -21,7 +20,7 @@ use Rattle.vpg_why.specs.declared.offering.Offer.TheVariants as offers
 use Rattle.vpg_why.specs.declared.question.Limits.{Limits}
 use Rattle.vpg_why.specs.declared.question.Shown.{Shown}
 use Rattle.vpg_answers.specs.declared.offers.Offered.{Offered}
-use Rattle.vpg_answers.specs.Offers.{IsVerdictShown, IsOfferOf, IsOffered, both_if, open_choices, AreOffers}
+use Rattle.vpg_answers.specs.Offers.{IsVerdictShown, IsOfferOf, IsOffered, both_if, AreOffers}
 
 not_open : (t : Tri) → (t ≡ Unknown → ⊥) → is_value t Unknown ≡ false
 not_open No known = refl

@@ -1,5 +1,5 @@
 -- Two lists of offers are one text.
-use Rattle.std.proofs.Common.{◌≡◌, ◌≢◌, ℕ, Bool, List, [], ◌∷◌, ◌++◌, length, map, refl, sym, ap, ap₂, ◌∙◌, subst, inl, inr, append_assoc}
+use Rattle.std.proofs.Common.{◌≡◌, ◌≢◌, ℕ, List, [], ◌∷◌, ◌++◌, length, map, refl, sym, ap, ap₂, ◌∙◌, subst, inr, append_assoc}
 use Rattle.std.specs.Prelude.{codes, flat_map, ⊤}
 use Rattle.std.specs.List.{AllByRecursion}
 use Rattle.vpg_guards.specs.declared.tri.Tri.{Tri}
@@ -17,7 +17,7 @@ use Rattle.vpg_why.specs.declared.question.Limits.{Limits}
 use Rattle.vpg_why.specs.declared.question.Shown.{Shown}
 use Rattle.vpg_why.specs.declared.question.Shown.TheVariants as shown
 use Rattle.vpg_answers.specs.declared.offers.Offered.{Offered}
-use Rattle.vpg_answers.specs.Offers.{IsVerdictShown, IsOfferOf, IsOffered, open_choices, AreOffers}
+use Rattle.vpg_answers.specs.Offers.{IsVerdictShown, IsOfferOf, IsOffered, open_choices}
 use Rattle.vpg_answers.specs.Texts.{shown_word, offer_words, offer_line, offers_text}
 use Rattle.vpg_answers.specs.Answers.{TellsOffers, HasDoubt}
 
