@@ -1,5 +1,5 @@
 -- Two lists of offers are one text.
-use Rattle.std.proofs.Common.{◌≡◌, ◌≢◌, ℕ, List, [], ◌∷◌, ◌++◌, length, map, refl, sym, ap, ap₂, ◌∙◌, subst, inr, append_assoc}
+use Rattle.std.proofs.Common.{◌≡◌, ◌≢◌, ℕ, List, [], ◌∷◌, ◌++◌, length, map, refl, sym, ap, ap₂, ◌∙◌, subst, inl, inr, append_assoc}
 use Rattle.std.specs.Prelude.{codes, flat_map, ⊤}
 use Rattle.std.specs.List.{AllByRecursion}
 use Rattle.vpg_guards.specs.declared.tri.Tri.{Tri}

@@ -1,6 +1,7 @@
 -- What is told of needs and repairs.
 use Rattle.std.proofs.Common.{◌≡◌, ◌≢◌, ℕ, zero, suc, ◌<◌, ◌&&◌, Bool, true, false, List, [], ◌∷◌, ◌++◌, length, refl, sym, ap, ◌∙◌, subst, inl, inr, arith}
-use Rattle.std.specs.Prelude.{All, IsTrue, slice_index}
+use Rattle.std.specs.Prelude.{All, IsTrue, nat_eq, slice_index}
+use Rattle.std.proofs.lemmas.Bool.{eqb-false, eqb-true}
 use Rattle.std.specs.List.{AllByRecursion}
 use Rattle.vpg_diagram.specs.FeatureDiagram.{Line, feature_count}
 use Rattle.vpg_diagram.specs.declared.clause.Literal.{Literal}
@@ -45,6 +46,14 @@ literals_below : (n m : ℕ) (listed : List Literal) → n ≡ m → AllByRecurs
 literals_below n m [] is named k d less = absurd (omega (arith, less))
 literals_below n m (l ∷ rest) is named zero d less = subst (λ (x : ℕ). l.feature < x) (sym is) named.0
 literals_below n m (l ∷ rest) is named (suc k) d less = literals_below n m rest is named.1 k d (omega (arith, less))
+
+-- a list that was told to be empty is, and else it is not
+pub none_listed : {X : Type 0} (n : ℕ) (listed : List X) → n ≡ length listed → (b : Bool) → b ≡ nat_eq n 0 → b ≡ true → listed ≡ []
+none_listed n [] len b e f = refl
+none_listed n (x ∷ rest) len b e f = let none : n ≡ 0 = eqb-true n 0 (sym e ∙ f) in absurd (omega (arith, none, len))
+
+pub some_listed : {X : Type 0} (n : ℕ) (listed : List X) → n ≡ length listed → (b : Bool) → b ≡ nat_eq n 0 → b ≡ false → listed ≢ []
+some_listed {X = X} n listed len b e f none = let some : n ≡ 0 → ⊥ = eqb-false n 0 (sym e ∙ f) in some (len ∙ ap (λ (xs : List X). length xs) none)
 
 -- a contradiction makes a verdict so
 pub conflict_is_yes : (scene : Scene) (limits : Limits) (vertex : ℕ) (chosen : List Literal) (which : Which) → HasConflictOf scene.lines chosen →

@@ -62,24 +62,38 @@ module _ (Suffices : List Literal → Type 0) (Settles : Type 0) (decisions : Li
         AreSingles Suffices final (take place decisions ++ get_or decisions place x ∷ []) (drop (suc place) decisions) more
     behind final more h = subst (λ (bs : List Decision). AreSingles Suffices final bs (drop (suc place) decisions) more) (take-suc decisions place x inside) h
 
-    pub freed : (Suffices (choices (take place decisions ++ drop (suc place) decisions)) → ⊥) → IsTrying Suffices Settles decisions (listed ++ get_or decisions place x ∷ []) (suc place) exact
-    freed lacks = record {
+    freed_next : (Suffices (choices (take place decisions ++ drop (suc place) decisions)) → ⊥) → IsTrying Suffices Settles decisions (listed ++ get_or decisions place x ∷ []) (suc place) exact
+    freed_next lacks = record {
       so_far = λ final i more h. subst (λ (ls : List Decision). AreSingles Suffices final [] decisions ls) (sym (append_assoc listed (get_or decisions place x ∷ []) more))
           (is.so_far final i (get_or decisions place x ∷ more) (onward final (get_or decisions place x ∷ more) (singles.frees lacks (behind final more h))));
       settled = is.settled;
     }
 
-    pub stayed : Suffices (choices (take place decisions ++ drop (suc place) decisions)) → IsTrying Suffices Settles decisions listed (suc place) exact
-    stayed enough = record {
+    stayed_next : Suffices (choices (take place decisions ++ drop (suc place) decisions)) → IsTrying Suffices Settles decisions listed (suc place) exact
+    stayed_next enough = record {
       so_far = λ final i more h. is.so_far final i more (onward final more (singles.stays (λ t. enough) (behind final more h)));
       settled = is.settled;
     }
 
-    pub unshown : (Settles → ⊥) → IsTrying Suffices Settles decisions listed (suc place) false
-    unshown unsettled = record {
+    unshown_next : (Settles → ⊥) → IsTrying Suffices Settles decisions listed (suc place) false
+    unshown_next unsettled = record {
       so_far = λ final i more h. is.so_far final (λ t. absurd (clash (i t))) more (onward final more (singles.stays (λ t. absurd (clash (i t))) (behind final more h)));
       settled = λ s. absurd (unsettled s);
     }
+
+    -- the same, as a loop counts
+    abbrev Without : ℕ → Type 0
+    Without next = Suffices (choices (take place decisions ++ drop next decisions))
+
+    pub freed : (Without (place + 1) → ⊥) → IsTrying Suffices Settles decisions (listed ++ get_or decisions place x ∷ []) (place + 1) exact
+    freed lacks = subst (λ (n : ℕ). IsTrying Suffices Settles decisions (listed ++ get_or decisions place x ∷ []) n exact) (sym (add-one place))
+        (freed_next (λ h. lacks (subst (λ (n : ℕ). Without n) (sym (add-one place)) h)))
+
+    pub stayed : Without (place + 1) → IsTrying Suffices Settles decisions listed (place + 1) exact
+    stayed enough = subst (λ (n : ℕ). IsTrying Suffices Settles decisions listed n exact) (sym (add-one place)) (stayed_next (subst (λ (n : ℕ). Without n) (add-one place) enough))
+
+    pub unshown : (Settles → ⊥) → IsTrying Suffices Settles decisions listed (place + 1) false
+    unshown unsettled = subst (λ (n : ℕ). IsTrying Suffices Settles decisions listed n false) (sym (add-one place)) (unshown_next unsettled)
 
   pub tried : (listed : List Decision) (place : ℕ) (exact : Bool) → length decisions ≤ place → IsTrying Suffices Settles decisions listed place exact → AreSingles Suffices exact [] decisions listed
   tried listed place exact all is = subst (λ (ls : List Decision). AreSingles Suffices exact [] decisions ls) (append-nil listed)

@@ -2,14 +2,15 @@
 //!
 //! `answer` takes the order of a page and a `Query`: why a feature is known, why one more decision contradicts the
 //! page, or a `VertexQuestion`. Those are: why the vertex has its verdicts, which product is left and won or lost at
-//! it, what each further decision would make of it, what every product has that is left and won at it, what to retract
-//! so that it is possible. The crate of scripts has these questions, since its lines spell them. This one asks the
-//! crate of reasons below, and appends the lines. The layer above answers lines of scripts by it; it changes nothing.
+//! it, what each further decision would make of it, what every product has that is left and won at it, what to
+//! retract so that it is possible. The crate of scripts has these questions, since its lines spell them. This one asks
+//! the crate of reasons below, and appends the lines. The layer above answers lines of scripts by it; it changes
+//! nothing.
 //!
 //! An answer is a function of the page where no limit was met (`laws::answers_are_one`), and none is met where the
 //! limits leave room. Where one was, the text says so: ` or fewer`, decisions that suffice and of which some may be
-//! needless; ` or more`, lines to which others may belong; `some product`, one that need not be the first; `unsettled`,
-//! what was not shown.
+//! needless; ` or more`, lines to which others may belong; `some product`, one that need not be the first;
+//! `unsettled`, what was not shown.
 //!
 //! The texts are defined in `specs/Texts`, what they say of a page in `specs/Answers`, `specs/Offers` and
 //! `specs/Repairs`, when limits leave room in `specs/Room`. All are this project's own.
