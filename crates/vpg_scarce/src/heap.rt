@@ -82,7 +82,9 @@ fn pass_by(alloc: Global, size: usize) {
     let _block = block_of(alloc, size);
 }
 
-/// Uses a part of the stack once, so that it is there when the process can get no more.
+/// Uses a megabyte of the stack below its caller, so that it is there when the process can get no more. Put into its
+/// caller by the compiler it would use what lies above all later calls.
+#[inline(never)]
 fn deepen(at: usize) -> u8 {
     let mut room = [0u8; 1 << 20];
     let last = room.len() - 1;

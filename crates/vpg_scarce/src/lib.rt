@@ -13,9 +13,11 @@
 #![tactic(auto)]
 
 mod heap;
+mod pages;
 mod report;
 mod trial;
 
 pub use heap::Heap;
+pub use pages::is_same_page;
 pub use report::Report;
 pub use trial::{End, MOST_TRIES, Told, Trial, more, tried, tried_through};
