@@ -1,0 +1,141 @@
+//! Orders of decisions.
+
+ghost use Rattle.std.specs.Arc.{arc_value};
+ghost use Rattle.std.specs.Prelude.{◌≡◌, ◌<◌, ◌↔◌, map, IsTrue, All};
+ghost use Rattle.vpg_diagram.specs.FeatureDiagram.{feature_count};
+ghost use Rattle.vpg_partial.specs.Known.{literal_of};
+ghost use Rattle.vpg_partial.specs.TableLaws.{AreChoicesOf};
+
+use crate::decided::are_below;
+use crate::{DIAGRAM, GAME};
+use anyhow::Result;
+use std::alloc::{AllocError, Global};
+use std::sync::{Arc, Wait};
+use vpg_diagram::Diagram;
+use vpg_game::GuardedGame;
+use vpg_measure::laws::orders::zeros_are_opening;
+use vpg_measure::{Order, OrderFault, Refused, Table};
+use vpg_partial::Decision;
+use vpg_scarce::{End, Heap, Report, Trial};
+
+/// Lets an order go. A function that does so itself takes the prover seconds.
+fn let_go(_order: Order) {}
+
+const DECISIONS: [Decision; 2] = [
+    Decision {
+        serial: 1,
+        session: 1,
+        feature: 1,
+        value: true,
+    },
+    Decision {
+        serial: 2,
+        session: 1,
+        feature: 2,
+        value: false,
+    },
+];
+
+/// Whether a game has a diagram's features, and each decision is of one.
+fn fit(game: &GuardedGame, diagram: &Diagram, decisions: &[Decision]) -> bool
+    ensures features { IsTrue result → game.now.features ≡ feature_count diagram.now.lines }
+    ensures named { IsTrue result → AreChoicesOf diagram.now.lines (map literal_of decisions.now) }
+{
+    if game.features() != diagram.features() {
+        return false;
+    }
+    are_below(diagram.features(), decisions)
+}
+
+/// The order of decisions with two tables of zeros, or why there is none.
+fn order_of(
+    alloc: Global,
+    game: Arc<GuardedGame>,
+    diagram: Arc<Diagram>,
+    decisions: Vec<Decision>,
+) -> Result<Result<Order, Refused>, AllocError>
+    requires features { (arc_value game).features ≡ feature_count (arc_value diagram).lines }
+    requires named { AreChoicesOf (arc_value diagram).lines (map literal_of decisions.items) }
+{
+    zeros_are_opening();
+    let vertices = game.vertices() as u32;
+    let hopeful = Table::zero(alloc, vertices)?;
+    let dual = Table::zero(alloc, vertices)?;
+    Ok(Order::of(alloc, game, diagram, decisions, hopeful, dual))
+}
+
+/// Whether all that was handed in came back for want of memory.
+fn came_back(refused: Refused) -> bool {
+    refused.fault == OrderFault::Memory
+        && refused.game.vertices() == 2
+        && refused.diagram.features() == 3
+        && refused.decisions.as_slice() == DECISIONS.as_slice()
+        && refused.hopeful.values() == [0, 0].as_slice()
+        && refused.dual.values() == [0, 0].as_slice()
+}
+
+/// An order that is made again and again.
+#[derive(Drop)]
+struct Ordering {
+    game: Arc<GuardedGame>,
+    diagram: Arc<Diagram>,
+    /// Whether what was handed in last came back.
+    is_back: bool,
+}
+
+impl Ordering {
+    /// Makes the order.
+    fn make(
+        &mut self,
+        alloc: Global,
+        game: Arc<GuardedGame>,
+        diagram: Arc<Diagram>,
+        decisions: Vec<Decision>,
+    ) -> End {
+        if !fit(&game, &diagram, &decisions) {
+            return End::Otherwise;
+        }
+        match order_of(alloc, game, diagram, decisions) {
+            Ok(Ok(order)) => {
+                let_go(order);
+                End::Done
+            }
+            Ok(Err(refused)) => {
+                self.is_back = came_back(refused);
+                End::Memory
+            }
+            Err(_) => End::Memory,
+        }
+    }
+}
+
+impl<R> Trial<R> for Ordering {
+    fn attempt(&mut self, _rt: &R, alloc: Global) -> End {
+        let Ok(decisions) = Vec::from_slice(alloc, &DECISIONS) else {
+            return End::Memory;
+        };
+        match (Arc::try_clone(&self.game), Arc::try_clone(&self.diagram)) {
+            (Ok(game), Ok(diagram)) => self.make(alloc, game, diagram, decisions),
+            _ => End::Otherwise,
+        }
+    }
+
+    fn is_unchanged(&mut self, _rt: &R, _alloc: Global) -> bool {
+        self.is_back
+    }
+}
+
+/// Makes an order with little memory.
+pub(crate) fn refuse<R: Wait>(rt: &R, heap: &mut Heap, report: &mut Report) -> Result<()> {
+    let alloc = heap.alloc();
+    let diagram = Diagram::read(alloc, DIAGRAM)?;
+    let game = Arc::new(alloc, GuardedGame::read(alloc, GAME, diagram.names())?)?;
+    let diagram = Arc::new(alloc, diagram)?;
+    let mut ordering = Ordering {
+        game,
+        diagram,
+        is_back: true,
+    };
+    report.try_call(rt, heap, "Order::of", &mut ordering);
+    Ok(())
+}

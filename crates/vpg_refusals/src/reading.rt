@@ -1,0 +1,134 @@
+//! Calls that read texts.
+
+use anyhow::Result;
+use std::alloc::Global;
+use std::sync::Wait;
+use vpg_diagram::{Diagram, DiagramFault};
+use vpg_game::{GameFault, GuardedGame};
+use vpg_guards::{GuardFault, NameFault, Names, parse_guard};
+use vpg_scarce::{End, Heap, Report, Trial};
+
+const DIAGRAM: &[u8] = b"root r\nmandatory r a\noptional r b\nalternative b: c d\nor a: e f g
+group r 1 2: h i j\nrequires c e\nexcludes d h\n";
+
+const GAME: &[u8] =
+    b"parity 9; start 1;\n1 1 0 2[a & !(b | c)],3 \"one\";\n2 4 1 1[!a],3[d],3[!d & true];
+3 3 0 3[(a | b) & (c | d)],1;\n9 0 1;\n";
+
+/// The names of the diagram's features but the root, in another order than its own.
+const TEN: [&str; 10] = ["a", "b", "c", "d", "e", "f", "g", "h", "i", "j"];
+
+/// A text that is read.
+#[derive(Clone, Copy)]
+enum Text {
+    NoNames,
+    Name,
+    Guard,
+    Diagram,
+    Game,
+}
+
+/// A text that is read, and names over which it is.
+#[derive(Drop)]
+struct Reading {
+    text: Text,
+    names: Names,
+}
+
+/// Whether the names are those ten, each at its place.
+fn are_ten(names: &Names) -> bool {
+    for k in 0..TEN.len() {
+        if names.get(TEN[k].as_bytes()) != Some(k as u16) {
+            return false;
+        }
+    }
+    names.len() == TEN.len()
+}
+
+fn make_names(alloc: Global) -> End {
+    match Names::new(alloc) {
+        Ok(names) if names.len() == 0 => End::Done,
+        Ok(_) => End::Otherwise,
+        Err(_) => End::Memory,
+    }
+}
+
+fn add_name(alloc: Global, names: &mut Names) -> End {
+    match names.add(alloc, b"another") {
+        Ok(10) => End::Done,
+        Err(NameFault::Memory) => End::Memory,
+        _ => End::Otherwise,
+    }
+}
+
+fn read_guard(alloc: Global, names: &Names) -> End {
+    match parse_guard(alloc, b"!(a|b) & true & (c | d | !!e)", names) {
+        Ok(_) => End::Done,
+        Err(GuardFault::Memory) => End::Memory,
+        Err(_) => End::Otherwise,
+    }
+}
+
+fn read_diagram(alloc: Global) -> End {
+    match Diagram::read(alloc, DIAGRAM) {
+        Ok(diagram) if diagram.features() == 11 => End::Done,
+        Err(DiagramFault::Memory) => End::Memory,
+        _ => End::Otherwise,
+    }
+}
+
+fn read_game(alloc: Global, names: &Names) -> End {
+    match GuardedGame::read(alloc, GAME, names) {
+        Ok(game) if game.vertices() == 4 => End::Done,
+        Err(GameFault::Memory) => End::Memory,
+        _ => End::Otherwise,
+    }
+}
+
+impl<R> Trial<R> for Reading {
+    fn attempt(&mut self, _rt: &R, alloc: Global) -> End {
+        match self.text {
+            Text::NoNames => make_names(alloc),
+            Text::Name => add_name(alloc, &mut self.names),
+            Text::Guard => read_guard(alloc, &self.names),
+            Text::Diagram => read_diagram(alloc),
+            Text::Game => read_game(alloc, &self.names),
+        }
+    }
+
+    fn is_unchanged(&mut self, _rt: &R, _alloc: Global) -> bool {
+        are_ten(&self.names)
+    }
+}
+
+/// The names of ten features.
+fn ten_names(alloc: Global) -> Result<Names> {
+    let mut names = Names::new(alloc)?;
+    for name in TEN {
+        names.add(alloc, name.as_bytes())?;
+    }
+    Ok(names)
+}
+
+/// Reads each text with little memory.
+fn refuse_each<R: Wait>(rt: &R, heap: &mut Heap, report: &mut Report, reading: &mut Reading) {
+    for (name, text) in [
+        ("Names::new", Text::NoNames),
+        ("parse_guard", Text::Guard),
+        ("Diagram::read", Text::Diagram),
+        ("GuardedGame::read", Text::Game),
+        ("Names::add", Text::Name),
+    ] {
+        reading.text = text;
+        report.try_call(rt, heap, name, reading);
+    }
+}
+
+/// Reads each text with little memory.
+pub(crate) fn refuse<R: Wait>(rt: &R, heap: &mut Heap, report: &mut Report) -> Result<()> {
+    let names = ten_names(heap.alloc())?;
+    let text = Text::NoNames;
+    let mut reading = Reading { text, names };
+    refuse_each(rt, heap, report, &mut reading);
+    Ok(())
+}

@@ -1,0 +1,23 @@
+//! Calls made with little memory.
+//!
+//! The libraries allocate from the C library, and nothing else can be handed to them in its place. So memory is refused
+//! here as a machine refuses it: [`Heap`] takes every block that the process can get, gives so many bytes back, and a
+//! call is made with those alone. [`tried`] makes a call so again and again, first with none, then with sixteen bytes
+//! more each time, until it is done. So each growth beyond all that the call held before is refused in turn, and after
+//! each refusal the call's [`Trial`] says whether anything changed. [`Report`] writes a line for each call.
+//!
+//! Memory that is only taken and never written costs a process address space and no more.
+//!
+//! A heap may also be *marked*: then it takes nothing, and allocates a block of a size that nothing else has before a
+//! call and after it. `bench/refused.py` sees these sizes, and refuses each allocation between two marks in turn.
+#![tactic(auto)]
+
+mod heap;
+mod pages;
+mod report;
+mod trial;
+
+pub use heap::Heap;
+pub use pages::is_same_page;
+pub use report::Report;
+pub use trial::{End, MOST_TRIES, Told, Trial, more, tried, tried_through};

@@ -1,0 +1,100 @@
+//! Calls that are made with more and more memory.
+
+use crate::heap::Heap;
+use std::alloc::Global;
+use std::sync::Wait;
+
+/// How a call ended.
+#[derive(Clone, Copy, PartialEq, Eq, Debug, Drop)]
+pub enum End {
+    /// As with ample memory.
+    Done,
+    /// It was refused memory.
+    Memory,
+    /// In another way.
+    Otherwise,
+}
+
+/// A call, with all that it may change.
+pub trait Trial<R> {
+    /// Makes the call.
+    fn attempt(&mut self, rt: &R, alloc: Global) -> End;
+
+    /// Whether all is as it was before the call, looked at with ample memory.
+    fn is_unchanged(&mut self, rt: &R, alloc: Global) -> bool;
+}
+
+/// What came of a call that was made again and again.
+#[derive(Clone, Copy, PartialEq, Eq, Debug, Drop)]
+pub enum Told {
+    /// It was done where there was no memory at all.
+    TakesNone,
+    /// It was refused memory, which changed nothing each time, and then done.
+    Unchanged,
+    /// It was refused memory, and something changed.
+    Changed,
+    /// It ended neither done nor refused memory.
+    Otherwise,
+    /// It was never done.
+    Never,
+}
+
+/// More than a call is ever made: up to a megabyte.
+pub const MOST_TRIES: usize = 1 << 16;
+
+/// How much memory is left at the next try: what the C library rounds sizes up to is added.
+pub fn more(bytes: usize) -> usize {
+    bytes.saturating_add(16)
+}
+
+/// Makes the call with so much memory: how it ended, and whether a refusal changed nothing.
+fn try_once<R: Wait, T: Trial<R>>(
+    rt: &R,
+    heap: &mut Heap,
+    trial: &mut T,
+    bytes: usize,
+) -> (End, bool) {
+    heap.leave(bytes);
+    let end = trial.attempt(rt, heap.alloc());
+    heap.relax();
+    let unchanged = end != End::Memory || trial.is_unchanged(rt, heap.alloc());
+    (end, unchanged)
+}
+
+/// Makes the call with more and more memory until it is done.
+pub fn tried<R: Wait, T: Trial<R>>(rt: &R, heap: &mut Heap, trial: &mut T) -> Told {
+    let mut bytes = 0;
+    for tries in 0..MOST_TRIES {
+        match try_once(rt, heap, trial, bytes) {
+            (End::Done, _) if tries == 0 => return Told::TakesNone,
+            (End::Done, _) => return Told::Unchanged,
+            (End::Memory, true) => bytes = more(bytes),
+            (End::Memory, false) => return Told::Changed,
+            (End::Otherwise, _) => return Told::Otherwise,
+        }
+    }
+    Told::Never
+}
+
+/// Makes the call with more and more memory, up to so many bytes. It may be done in a lesser form where there is
+/// little, and has to be done at the end.
+pub fn tried_through<R: Wait, T: Trial<R>>(
+    rt: &R,
+    heap: &mut Heap,
+    trial: &mut T,
+    most: usize,
+) -> Told {
+    let mut bytes = 0;
+    let mut done = Told::TakesNone;
+    for _ in 0..MOST_TRIES {
+        match try_once(rt, heap, trial, bytes) {
+            (End::Done, _) if bytes >= most || heap.is_marked() => return done,
+            (End::Done, _) => {}
+            (End::Memory, true) => done = Told::Unchanged,
+            (End::Memory, false) => return Told::Changed,
+            (End::Otherwise, _) => return Told::Otherwise,
+        }
+        bytes = more(bytes);
+    }
+    Told::Never
+}
