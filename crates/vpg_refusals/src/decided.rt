@@ -84,7 +84,8 @@ fn close_checked(
 }
 
 fn close(alloc: Global, diagram: &Diagram) -> End {
-    match close_checked(alloc, diagram, &DECISIONS) {
+    let made = close_checked(alloc, diagram, &DECISIONS);
+    match &made {
         Ok(known) if known.is_full() => End::Done,
         Err(PartialFault::Memory) => End::Memory,
         _ => End::Otherwise,
@@ -92,7 +93,8 @@ fn close(alloc: Global, diagram: &Diagram) -> End {
 }
 
 fn make_product(alloc: Global, known: &Partial) -> End {
-    match known.product(alloc) {
+    let made = known.product(alloc);
+    match &made {
         Ok(Some(set)) if set.as_slice() == [true, true, true].as_slice() => End::Done,
         Ok(_) => End::Otherwise,
         Err(_) => End::Memory,
@@ -103,7 +105,8 @@ fn make_arena(alloc: Global, game: &GuardedGame, known: &Partial) -> End {
     if known.values().len() != game.features() {
         return End::Otherwise;
     }
-    match Arena::hopeful(alloc, game, known) {
+    let made = Arena::hopeful(alloc, game, known);
+    match &made {
         Ok(arena) if arena.vertices() == 2 => End::Done,
         Ok(_) => End::Otherwise,
         Err(_) => End::Memory,
@@ -111,7 +114,8 @@ fn make_arena(alloc: Global, game: &GuardedGame, known: &Partial) -> End {
 }
 
 fn make_shape(alloc: Global, game: &GuardedGame) -> End {
-    match Shape::of(alloc, game) {
+    let made = Shape::of(alloc, game);
+    match &made {
         Ok(shape) if shape.top() == 2 => End::Done,
         Ok(_) => End::Otherwise,
         Err(_) => End::Memory,
@@ -119,7 +123,8 @@ fn make_shape(alloc: Global, game: &GuardedGame) -> End {
 }
 
 fn make_zeros(alloc: Global) -> End {
-    match Table::zero(alloc, 3) {
+    let made = Table::zero(alloc, 3);
+    match &made {
         Ok(table) if table.values() == [0, 0, 0].as_slice() => End::Done,
         Ok(_) => End::Otherwise,
         Err(_) => End::Memory,
@@ -127,7 +132,8 @@ fn make_zeros(alloc: Global) -> End {
 }
 
 fn copy_table(alloc: Global, table: &Table) -> End {
-    match table.copy(alloc) {
+    let made = table.copy(alloc);
+    match &made {
         Ok(copy) if copy.values() == table.values() => End::Done,
         Ok(_) => End::Otherwise,
         Err(_) => End::Memory,
@@ -146,7 +152,8 @@ fn make_strategy(alloc: Global, shape: &Shape, arena: &Arena, table: &Table) -> 
     if !is_table(shape, arena, table) {
         return End::Otherwise;
     }
-    match strategy(alloc, shape, arena, table) {
+    let made = strategy(alloc, shape, arena, table);
+    match &made {
         Ok(choices) if choices.as_slice() == [Some(1), None].as_slice() => End::Done,
         Err(StrategyFault::Memory) => End::Memory,
         _ => End::Otherwise,

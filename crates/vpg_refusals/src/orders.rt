@@ -125,17 +125,36 @@ impl<R> Trial<R> for Ordering {
     }
 }
 
-/// Makes an order with little memory.
-pub(crate) fn refuse<R: Wait>(rt: &R, heap: &mut Heap, report: &mut Report) -> Result<()> {
-    let alloc = heap.alloc();
-    let diagram = Diagram::read(alloc, DIAGRAM)?;
-    let game = Arc::new(alloc, GuardedGame::read(alloc, GAME, diagram.names())?)?;
-    let diagram = Arc::new(alloc, diagram)?;
+/// Makes an order of these with little memory.
+fn refuse_of<R: Wait>(
+    rt: &R,
+    heap: &mut Heap,
+    report: &mut Report,
+    game: Arc<GuardedGame>,
+    diagram: Arc<Diagram>,
+) {
     let mut ordering = Ordering {
         game,
         diagram,
         is_back: true,
     };
     report.try_call(rt, heap, "Order::of", &mut ordering);
+}
+
+fn game_of(alloc: Global, diagram: &Diagram) -> Result<Arc<GuardedGame>> {
+    let game = GuardedGame::read(alloc, GAME, diagram.names())?;
+    Ok(Arc::new(alloc, game)?)
+}
+
+fn diagram_of(alloc: Global) -> Result<Arc<Diagram>> {
+    let diagram = Diagram::read(alloc, DIAGRAM)?;
+    Ok(Arc::new(alloc, diagram)?)
+}
+
+/// Makes an order with little memory.
+pub(crate) fn refuse<R: Wait>(rt: &R, heap: &mut Heap, report: &mut Report) -> Result<()> {
+    let diagram = diagram_of(heap.alloc())?;
+    let game = game_of(heap.alloc(), &diagram)?;
+    refuse_of(rt, heap, report, game, diagram);
     Ok(())
 }

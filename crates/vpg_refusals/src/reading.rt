@@ -45,8 +45,11 @@ fn are_ten(names: &Names) -> bool {
     names.len() == TEN.len()
 }
 
+// Each of these lets go what was read in one place, at its end: more ends take the prover seconds each.
+
 fn make_names(alloc: Global) -> End {
-    match Names::new(alloc) {
+    let made = Names::new(alloc);
+    match &made {
         Ok(names) if names.len() == 0 => End::Done,
         Ok(_) => End::Otherwise,
         Err(_) => End::Memory,
@@ -62,7 +65,8 @@ fn add_name(alloc: Global, names: &mut Names) -> End {
 }
 
 fn read_guard(alloc: Global, names: &Names) -> End {
-    match parse_guard(alloc, b"!(a|b) & true & (c | d | !!e)", names) {
+    let read = parse_guard(alloc, b"!(a|b) & true & (c | d | !!e)", names);
+    match &read {
         Ok(_) => End::Done,
         Err(GuardFault::Memory) => End::Memory,
         Err(_) => End::Otherwise,
@@ -70,7 +74,8 @@ fn read_guard(alloc: Global, names: &Names) -> End {
 }
 
 fn read_diagram(alloc: Global) -> End {
-    match Diagram::read(alloc, DIAGRAM) {
+    let read = Diagram::read(alloc, DIAGRAM);
+    match &read {
         Ok(diagram) if diagram.features() == 11 => End::Done,
         Err(DiagramFault::Memory) => End::Memory,
         _ => End::Otherwise,
@@ -78,7 +83,8 @@ fn read_diagram(alloc: Global) -> End {
 }
 
 fn read_game(alloc: Global, names: &Names) -> End {
-    match GuardedGame::read(alloc, GAME, names) {
+    let read = GuardedGame::read(alloc, GAME, names);
+    match &read {
         Ok(game) if game.vertices() == 4 => End::Done,
         Err(GameFault::Memory) => End::Memory,
         _ => End::Otherwise,
@@ -101,13 +107,12 @@ impl<R> Trial<R> for Reading {
     }
 }
 
-/// The names of ten features.
-fn ten_names(alloc: Global) -> Result<Names> {
-    let mut names = Names::new(alloc)?;
+/// Adds the ten names.
+fn add_ten(alloc: Global, names: &mut Names) -> Result<()> {
     for name in TEN {
         names.add(alloc, name.as_bytes())?;
     }
-    Ok(names)
+    Ok(())
 }
 
 /// Reads each text with little memory.
@@ -124,11 +129,22 @@ fn refuse_each<R: Wait>(rt: &R, heap: &mut Heap, report: &mut Report, reading: &
     }
 }
 
+/// Adds ten names, and reads each text over them with little memory.
+fn refuse_over<R: Wait>(
+    rt: &R,
+    heap: &mut Heap,
+    report: &mut Report,
+    reading: &mut Reading,
+) -> Result<()> {
+    add_ten(heap.alloc(), &mut reading.names)?;
+    refuse_each(rt, heap, report, reading);
+    Ok(())
+}
+
 /// Reads each text with little memory.
 pub(crate) fn refuse<R: Wait>(rt: &R, heap: &mut Heap, report: &mut Report) -> Result<()> {
-    let names = ten_names(heap.alloc())?;
     let text = Text::NoNames;
+    let names = Names::new(heap.alloc())?;
     let mut reading = Reading { text, names };
-    refuse_each(rt, heap, report, &mut reading);
-    Ok(())
+    refuse_over(rt, heap, report, &mut reading)
 }

@@ -43,7 +43,8 @@ struct Trailing {
 }
 
 fn open(alloc: Global) -> End {
-    match Trail::open(alloc, 2) {
+    let opened = Trail::open(alloc, 2);
+    match &opened {
         Ok(trail) if trail.entries().is_empty() => End::Done,
         Ok(_) => End::Otherwise,
         Err(_) => End::Memory,
@@ -93,8 +94,9 @@ fn splice(alloc: Global, trail: &mut Trail) -> End {
     let Ok(suffix) = suffix_of(alloc) else {
         return End::Memory;
     };
-    match trail.splice(0, suffix) {
-        Ok(removed) if removed.len() == 1 && are_first(&removed) => End::Done,
+    let spliced = trail.splice(0, suffix);
+    match &spliced {
+        Ok(removed) if removed.len() == 1 && are_first(removed) => End::Done,
         Err(refused) if refused.value.len() == 4 => End::Memory,
         _ => End::Otherwise,
     }

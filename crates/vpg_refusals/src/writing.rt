@@ -69,7 +69,8 @@ fn write_plain(alloc: Global, plain: &PlainGame, out: &mut Vec<u8>) -> End {
 }
 
 fn make_dual(alloc: Global, game: &GuardedGame) -> End {
-    match game.dual(alloc) {
+    let made = game.dual(alloc);
+    match &made {
         Ok(dual) if dual.tops() == game.tops() => End::Done,
         Err(DualFault::Memory) => End::Memory,
         _ => End::Otherwise,
@@ -81,7 +82,8 @@ fn make_projection(alloc: Global, game: &GuardedGame, diagram: &Diagram) -> End 
     if diagram.features() != 3 || game.features() != 3 {
         return End::Otherwise;
     }
-    match project(alloc, game, diagram, &set) {
+    let made = project(alloc, game, diagram, &set);
+    match &made {
         Ok(_) => End::Done,
         Err(ProjectFault::Memory) => End::Memory,
         Err(_) => End::Otherwise,
