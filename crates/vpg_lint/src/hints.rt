@@ -1,37 +1,74 @@
-//! What a text looks like that is no game.
+//! Hints that a whole text gives: it has a mark in front, or is another kind of file.
+use crate::message::put_hint;
 use std::alloc::AllocError;
-
-/// The word that begins a diagram.
-const ROOT: &[u8] = b"root";
+use vpg_places::{COMMANDS, LINES, form_of};
 
 /// The byte order mark in UTF-8.
-const MARK: [u8; 3] = [239, 187, 191];
+pub(crate) const MARK: [u8; 3] = [239, 187, 191];
 
-/// Appends a hint, where the whole text tells one.
-pub(crate) fn of_text(text: &[u8], out: &mut Vec<u8>) -> Result<(), AllocError> {
-    if text.starts_with(&MARK) {
-        return out.extend_from_slice(
-            b"  hint: the text begins with a byte order mark; save it without one\n",
-        );
-    }
-    if text.trim_ascii_start().starts_with(ROOT) {
-        return out.extend_from_slice(
-            b"  hint: this looks like a diagram; are GAME and DIAGRAM exchanged?\n",
-        );
-    }
-    Ok(())
+/// What a text looks like.
+#[derive(Clone, Copy)]
+pub(crate) enum Kind {
+    Game,
+    Diagram,
+    Script,
 }
 
-/// Appends a hint of a byte that many formats have and this one has not.
-pub(crate) fn of_byte(found: &[u8], out: &mut Vec<u8>) -> Result<(), AllocError> {
-    match found {
-        [b'#', ..] => out.extend_from_slice(
-            b"  hint: a game has no comments; a remark is a name, between two `\"`\n",
+fn is_letter(b: u8) -> bool {
+    b.is_ascii_alphabetic()
+}
+
+/// The letters in front of a text, blanks left out.
+fn front(text: &[u8]) -> &[u8] {
+    let text = text.strip_prefix(&MARK).unwrap_or(text).trim_ascii_start();
+    let letters = text.iter().take_while(|b| is_letter(**b)).count();
+    text.get(..letters).unwrap_or(text)
+}
+
+/// What the front of a text looks like.
+fn kind_of(text: &[u8]) -> Option<Kind> {
+    let word = front(text);
+    if word == b"parity".as_slice() {
+        return Some(Kind::Game);
+    }
+    if form_of(&LINES, word).is_some() {
+        return Some(Kind::Diagram);
+    }
+    if form_of(&COMMANDS, word).is_some() {
+        return Some(Kind::Script);
+    }
+    let first = text.trim_ascii_start().first();
+    if first.is_some_and(|b| b.is_ascii_digit()) {
+        return Some(Kind::Game);
+    }
+    None
+}
+
+/// Appends what a text is that should be of a kind, where it looks like another.
+pub(crate) fn put_text_hint(
+    text: &[u8],
+    wanted: Kind,
+    out: &mut Vec<u8>,
+) -> Result<(), AllocError> {
+    if text.starts_with(&MARK) {
+        put_hint(
+            b"the text begins with a byte order mark; save it without one",
+            out,
+        )?;
+    }
+    match (wanted, kind_of(text)) {
+        (Kind::Game, Some(Kind::Diagram)) | (Kind::Diagram, Some(Kind::Game)) => put_hint(
+            b"this looks like the other file; GAME comes before DIAGRAM",
+            out,
         ),
-        [b'-', ..] => out.extend_from_slice(b"  hint: numbers have no signs\n"),
-        [b'"', ..] => {
-            out.extend_from_slice(b"  hint: an entry has one name, behind its successors\n")
-        }
+        (Kind::Script, Some(Kind::Game | Kind::Diagram)) => put_hint(
+            b"this looks like no script; the words are GAME DIAGRAM SCRIPT",
+            out,
+        ),
+        (Kind::Game | Kind::Diagram, Some(Kind::Script)) => put_hint(
+            b"this looks like a script; the words are GAME DIAGRAM SCRIPT",
+            out,
+        ),
         _ => Ok(()),
     }
 }

@@ -1,16 +1,23 @@
-//! Messages that point: where a fault of a game's text stands, what was found there, what was expected, and the nearest name.
+//! Messages that point: where a fault of a text stands, what was found there, what was expected, the nearest name, and
+//! hints.
 //!
-//! `explain_game` takes the fault that `GuardedGame::read` answered, and writes lines of words behind it; `place_of` is the line and the
-//! column of a byte. Only lines and columns have contracts: what the words say is for people.
+//! `explain_game` and `explain_diagram` take the fault with which a text was refused, `explain_line` a line of a script
+//! that is no command, and each makes a message; `put_message` writes it. Only lines and columns have contracts: what
+//! the words say is for people.
 //!
-//! `specs/Places` says what lines and columns are.
+//! `specs/Messages` says where a fault stands as its reader gives it, and how a message is written. Lines and columns
+//! are those of `vpg_places`.
 #![tactic(auto)]
 
-mod explaining;
+mod diagrams;
+mod games;
 mod hints;
+mod message;
 mod naming;
-mod place;
+mod scripts;
 
-pub use explaining::explain_game;
+pub use diagrams::explain_diagram;
+pub use games::explain_game;
+pub use message::{Message, put_message, put_number, put_place, put_shown, put_text};
 pub use naming::nearest;
-pub use place::{Place, place_of};
+pub use scripts::explain_line;

@@ -3,23 +3,94 @@ ghost use Rattle.std.specs.Prelude.{◌<◌, IfOk, IfSome, length};
 
 use std::alloc::{AllocError, Global};
 use strsim::levenshtein;
-use vpg_guards::Names;
+use vpg_guards::{LONGEST_NAME, Names};
 
 /// The most edits that lead from a word to a name that is told.
 const MOST_EDITS: usize = 3;
+
+/// A word of more bytes is no name with a few letters changed.
+const LONGEST: usize = LONGEST_NAME + MOST_EDITS;
+
+/// More edits than lead to a name that is told.
+fn too_many_edits(word: &str) -> usize {
+    MOST_EDITS.min(word.len() / 2) + 1
+}
+
+/// The text of a word that may be a name with a few letters changed.
+fn text_of(word: &[u8]) -> Option<&str> {
+    if word.len() > LONGEST {
+        return None;
+    }
+    str::from_utf8(word).ok()
+}
 
 /// Of the names that few edits lead to, fewer than half the word's bytes, the first with the fewest.
 pub fn nearest(alloc: Global, names: &Names, word: &str) -> Result<Option<u16>, AllocError>
     ensures { IfOk result (λ found. IfSome found (λ f. f < length names.now)) }
 {
     let mut found = None;
-    let mut fewest = MOST_EDITS.min(word.len() / 2) + 1;
+    if word.len() > LONGEST {
+        return Ok(found);
+    }
+    let mut fewest = too_many_edits(word);
     let count = names.len() as u16;
     for f in 0..count {
         let edits = levenshtein(alloc, word, names.name(f))?;
         if edits < fewest {
             fewest = edits;
             found = Some(f);
+        }
+    }
+    Ok(found)
+}
+
+/// The same of some words.
+pub(crate) fn nearest_of<'t>(
+    alloc: Global,
+    words: &[&'t [u8]],
+    word: &[u8],
+) -> Result<Option<&'t [u8]>, AllocError> {
+    let mut found = None;
+    let Some(word) = text_of(word) else {
+        return Ok(found);
+    };
+    let mut fewest = too_many_edits(word);
+    for other in words {
+        if let Some(name) = text_of(other) {
+            let edits = levenshtein(alloc, word, name)?;
+            if edits < fewest {
+                fewest = edits;
+                found = Some(*other);
+            }
+        }
+    }
+    Ok(found)
+}
+
+/// The edits that lead from a word to a text. Letters count alike, whether large or small, where nothing else differs.
+fn edits_to(alloc: Global, word: &str, text: &str) -> Result<usize, AllocError> {
+    if text.as_bytes().eq_ignore_ascii_case(word.as_bytes()) {
+        return Ok(0);
+    }
+    levenshtein(alloc, word, text)
+}
+
+/// The same of some texts.
+pub(crate) fn nearest_text(
+    alloc: Global,
+    texts: &[&'static str],
+    word: &[u8],
+) -> Result<Option<&'static str>, AllocError> {
+    let mut found = None;
+    let Some(word) = text_of(word) else {
+        return Ok(found);
+    };
+    let mut fewest = too_many_edits(word);
+    for text in texts {
+        let edits = edits_to(alloc, word, text)?;
+        if edits < fewest {
+            fewest = edits;
+            found = Some(*text);
         }
     }
     Ok(found)

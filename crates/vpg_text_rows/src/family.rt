@@ -7,7 +7,7 @@ use std::alloc::{AllocError, Global};
 use vpg_diagram::Diagram;
 use vpg_draw::{draw_features, draw_game};
 use vpg_game::GuardedGame;
-use vpg_lint::explain_game;
+use vpg_guards::Names;
 use vpg_measure::Verdict;
 use vpg_names::VertexNames;
 use vpg_partial::{Decision, Partial};
@@ -21,6 +21,11 @@ pub struct Family {
 }
 
 impl Family {
+    /// The names of its features.
+    pub fn features(&self) -> &Names {
+        self.diagram.names()
+    }
+
     /// Where its game starts.
     pub fn start(&self) -> Option<u64> {
         self.names.start()
@@ -108,16 +113,5 @@ pub fn pictures(alloc: Global, family: &Family, text: &[u8], row: &[u8]) -> Resu
     let mut out = Vec::new(alloc);
     game_picture(alloc, family, &known, &decisions, &mut out)?;
     feature_picture(alloc, text, diagram, &known, &decisions, &mut out)?;
-    Ok(out)
-}
-
-/// What is said of a text that is no game over the features of the family.
-pub fn explained(alloc: Global, family: &Family, text: &[u8]) -> Result<Vec<u8>> {
-    let names = family.diagram.names();
-    let mut out = Vec::new(alloc);
-    match GuardedGame::read(alloc, text, names) {
-        Ok(_) => out.extend_from_slice(b"a game\n")?,
-        Err(fault) => explain_game(alloc, text, names, fault, &mut out)?,
-    }
     Ok(out)
 }

@@ -6,7 +6,7 @@
 //!
 //! Behind them comes what is shown at a terminal. `diagram` and `game` are a family, and `family` makes up verdicts of it, so that each of
 //! the four is there. The program writes where its game starts, its two pictures under each list of decisions of `pictures`, and what
-//! is wrong with each text of `faults` as its game.
+//! is said of each text of `mistakes`.
 #![tactic(auto)]
 
 mod arenas;
@@ -15,10 +15,11 @@ mod diagrams;
 mod family;
 mod games;
 mod guards;
+mod mistakes;
 mod names;
 mod text;
 
-use crate::family::{Family, explained, pictures, read};
+use crate::family::{Family, pictures, read};
 use crate::text::spelled;
 use anyhow::{Context, Result};
 use std::alloc::Global;
@@ -93,13 +94,23 @@ fn draw(rt: &HostRuntime, family: &Family, text: &str) -> Result<()> {
     Ok(())
 }
 
-/// Writes what is wrong with each text of a table.
-fn explain(rt: &HostRuntime, family: &Family) -> Result<()> {
-    let rows = fs::read_to_string(rt, "faults")?;
-    for row in rows.lines() {
-        let written = explained(rt.alloc(), family, row.as_bytes())?;
-        println!(rt; "# {row}")?;
+/// Writes a row, and what is said of its text.
+fn explain_row(rt: &HostRuntime, family: &Family, row: &str) -> Result<()> {
+    println!(rt; "# {row}")?;
+    if !row.is_empty() && !row.starts_with('#') {
+        let (asked, writing) = row.split_once(' ').unwrap_or((row, ""));
+        let text = spelled(rt.alloc(), writing)?;
+        let written = mistakes::said(rt.alloc(), family.features(), asked, &text)?;
         print!(rt; "{}", str::from_utf8(&written)?)?;
+    }
+    Ok(())
+}
+
+/// Writes what is said of each text of a table.
+fn explain(rt: &HostRuntime, family: &Family) -> Result<()> {
+    let rows = fs::read_to_string(rt, "mistakes")?;
+    for row in rows.lines() {
+        explain_row(rt, family, row)?;
     }
     Ok(())
 }

@@ -1,0 +1,390 @@
+//! What a fault of a diagram's text means.
+ghost use Rattle.std.specs.Prelude.{◌≡◌, IfOk};
+ghost use Rattle.vpg_places.specs.Places.{line_text, IsColumnOf};
+ghost use Rattle.vpg_lint.specs.Messages.{line_of_fault};
+
+use crate::hints::{Kind, MARK, put_text_hint};
+use crate::message::{Message, put_found, put_hint, put_hint_line, put_hint_with};
+use crate::naming::{nearest_of, nearest_text};
+use std::alloc::{AllocError, Global};
+use vpg_diagram::DiagramFault;
+use vpg_places::{
+    Declared, Departure, Form, LINES, Line, Part, Word, declared_of, find, form_of, line_at,
+    names_before, words_of, words_of_forms,
+};
+
+/// The rule for names.
+pub(crate) const NAME_RULE: &[u8] =
+    b"a name is a letter or `_`, then letters, digits and `_`, at most 64 bytes, and neither `true` nor `false`";
+
+const KINDS: &[u8] =
+    b"`root`, `mandatory`, `optional`, `alternative`, `or`, `group`, `requires` or `excludes`";
+
+/// A text with a faulty line, and the words of the line.
+#[derive(Drop)]
+struct Faulty<'t> {
+    text: &'t [u8],
+    line: Line<'t>,
+    words: Vec<Word<'t>>,
+}
+
+impl<'t> Faulty<'t> {
+    /// The word at a place, or an empty one at the line's end.
+    fn word(&self, place: usize) -> Word<'t> {
+        match self.words.get(place) {
+            Some(word) => *word,
+            None => Word {
+                at: self.line.bytes.len(),
+                bytes: &[],
+            },
+        }
+    }
+
+    /// Appends what was found at a place, and what was expected. Where it stands in the line.
+    fn put_found(
+        &self,
+        place: usize,
+        expected: &[u8],
+        out: &mut Vec<u8>,
+    ) -> Result<usize, AllocError> {
+        let word = self.word(place);
+        put_found(word.bytes, b"the line", expected, out)?;
+        Ok(word.at)
+    }
+}
+
+fn is_remark(word: &[u8]) -> bool {
+    word.starts_with(b"#") || word.starts_with(b"//") || word.starts_with(b"--")
+}
+
+/// Appends a hint about the first word of a line.
+fn put_kind_hint(alloc: Global, word: &[u8], out: &mut Vec<u8>) -> Result<(), AllocError> {
+    let word = word.strip_prefix(&MARK).unwrap_or(word);
+    if is_remark(word) {
+        return put_hint(b"a diagram has no comments", out);
+    }
+    let kinds = words_of_forms(alloc, &LINES)?;
+    if let Some(kind) = nearest_text(alloc, &kinds, word)? {
+        if kind.as_bytes() != word {
+            return put_hint_with(b"is ", kind.as_bytes(), b" meant?", out);
+        }
+    }
+    Ok(())
+}
+
+/// Appends a hint about a name that is none.
+fn put_name_hint(word: &[u8], out: &mut Vec<u8>) -> Result<(), AllocError> {
+    if word.is_empty() {
+        return Ok(());
+    }
+    if word == b":".as_slice() {
+        return put_hint(
+            b"a name is missing before the `:`, or a `:` is left over",
+            out,
+        );
+    }
+    if is_remark(word) {
+        return put_hint(b"a diagram has no comments", out);
+    }
+    if word.contains(&b',') {
+        return put_hint(b"blanks stand between names, and no commas", out);
+    }
+    put_hint(NAME_RULE, out)
+}
+
+/// Appends a hint about a word that was expected to be something else.
+fn put_departure_hint(
+    form: &Form,
+    departure: Departure,
+    word: &[u8],
+    out: &mut Vec<u8>,
+) -> Result<(), AllocError> {
+    match departure.expected {
+        None if word == b":".as_slice() => put_hint(b"no `:` stands in such a line", out),
+        None if is_remark(word) => put_hint(b"a diagram has no comments", out),
+        None if form.parts.contains(&Part::Child) => put_hint(b"one line for each child", out),
+        None => Ok(()),
+        Some(Part::Colon) if !word.is_empty() => {
+            put_hint(b"is the `:` behind the parent missing?", out)
+        }
+        Some(part) if part.is_name() => put_name_hint(word, out),
+        Some(_) => Ok(()),
+    }
+}
+
+/// Appends where a line departs from its form.
+fn put_departure(
+    faulty: &Faulty<'_>,
+    form: &Form,
+    departure: Departure,
+    out: &mut Vec<u8>,
+) -> Result<usize, AllocError> {
+    // The first word of the line is not among those of the form.
+    let place = departure.place.saturating_add(1);
+    let expected = match departure.expected {
+        Some(part) => part.told(),
+        None => b"the end of the line",
+    };
+    let at = faulty.put_found(place, expected, out)?;
+    put_hint_with(
+        b"such a line is written ",
+        form.written.as_bytes(),
+        b"",
+        out,
+    )?;
+    put_departure_hint(form, departure, faulty.word(place).bytes, out)?;
+    Ok(at)
+}
+
+/// Appends what is wrong with the form of a line.
+fn put_form(alloc: Global, faulty: &Faulty<'_>, out: &mut Vec<u8>) -> Result<usize, AllocError> {
+    let Some((first, rest)) = faulty.words.split_first() else {
+        return faulty.put_found(0, KINDS, out);
+    };
+    match form_of(&LINES, first.bytes) {
+        Some(form) => match form.departure(rest) {
+            Some(departure) => put_departure(faulty, &form, departure, out),
+            None => faulty.put_found(0, KINDS, out),
+        },
+        None => {
+            let at = faulty.put_found(0, KINDS, out)?;
+            put_kind_hint(alloc, first.bytes, out)?;
+            Ok(at)
+        }
+    }
+}
+
+/// The same, and what the whole text looks like where its first line is no line.
+fn put_syntax(alloc: Global, faulty: &Faulty<'_>, out: &mut Vec<u8>) -> Result<usize, AllocError> {
+    let at = put_form(alloc, faulty, out)?;
+    if faulty.line.number == 1 || faulty.text.starts_with(&MARK) {
+        put_text_hint(faulty.text, Kind::Diagram, out)?;
+    }
+    Ok(at)
+}
+
+/// The place of the first word of a line that no earlier line names, of those that one has to name.
+fn unknown_place(faulty: &Faulty<'_>, form: &Form, known: &[&[u8]]) -> Option<usize> {
+    for (place, part) in form.parts.iter().enumerate() {
+        let place = place.saturating_add(1);
+        let word = faulty.word(place).bytes;
+        let is_named = known.iter().any(|name| *name == word);
+        if matches!(part, Part::Parent | Part::First | Part::Second) && !is_named {
+            return Some(place);
+        }
+    }
+    None
+}
+
+/// Appends a hint about a name that no earlier line has: a later one has it, or one has a name that is much like it.
+fn put_unknown_hint(
+    alloc: Global,
+    declared: &[Declared<'_>],
+    known: &[&[u8]],
+    word: &[u8],
+    out: &mut Vec<u8>,
+) -> Result<(), AllocError> {
+    if let Some(it) = find(declared, word) {
+        let hint = b"a feature is named before it is used; it is named on line ";
+        return put_hint_line(hint, it.line, out);
+    }
+    match nearest_of(alloc, known, word)? {
+        Some(other) => put_hint_with(b"is ", other, b" meant?", out),
+        None => put_hint(
+            b"each feature is first named as the root or as a child",
+            out,
+        ),
+    }
+}
+
+/// Appends what is wrong with the name at a place, which no earlier line has.
+fn put_unnamed(
+    alloc: Global,
+    faulty: &Faulty<'_>,
+    place: usize,
+    declared: &[Declared<'_>],
+    known: &[&[u8]],
+    out: &mut Vec<u8>,
+) -> Result<usize, AllocError> {
+    let at = faulty.put_found(place, b"a feature that an earlier line names", out)?;
+    put_unknown_hint(alloc, declared, known, faulty.word(place).bytes, out)?;
+    Ok(at)
+}
+
+/// Appends which name of a line no earlier line has.
+fn put_unknown(alloc: Global, faulty: &Faulty<'_>, out: &mut Vec<u8>) -> Result<usize, AllocError> {
+    let declared = declared_of(alloc, faulty.text)?;
+    let known = names_before(alloc, &declared, faulty.line.number)?;
+    if known.is_empty() {
+        let at = faulty.put_found(0, b"`root` and the name of the root", out)?;
+        put_hint(b"the first line names the root", out)?;
+        return Ok(at);
+    }
+    let form = form_of(&LINES, faulty.word(0).bytes);
+    match form.and_then(|form| unknown_place(faulty, &form, &known)) {
+        Some(place) => put_unnamed(alloc, faulty, place, &declared, &known, out),
+        None => faulty.put_found(0, b"features that earlier lines name", out),
+    }
+}
+
+/// The first child of a line that has been a child before, and the line where.
+fn second_parent<'t>(declared: &[Declared<'t>], line: usize) -> Option<(Declared<'t>, usize)> {
+    for it in declared {
+        if it.line == line {
+            if let Some(earlier) = find(declared, it.name) {
+                if earlier.at < it.at {
+                    return Some((*it, earlier.line));
+                }
+            }
+        }
+    }
+    None
+}
+
+/// Appends which child of a line has a parent.
+fn put_two_parents(
+    alloc: Global,
+    faulty: &Faulty<'_>,
+    out: &mut Vec<u8>,
+) -> Result<usize, AllocError> {
+    let declared = declared_of(alloc, faulty.text)?;
+    let Some((it, earlier)) = second_parent(&declared, faulty.line.number) else {
+        return faulty.put_found(0, b"children without a parent", out);
+    };
+    put_found(it.name, b"the line", b"a feature without a parent", out)?;
+    put_hint_line(b"it is named already on line ", earlier, out)?;
+    put_hint(
+        b"a feature has one parent; `requires` and `excludes` say more of it",
+        out,
+    )?;
+    Ok(it.at.saturating_sub(faulty.line.from))
+}
+
+/// Appends that there is a second root.
+fn put_two_roots(
+    alloc: Global,
+    faulty: &Faulty<'_>,
+    out: &mut Vec<u8>,
+) -> Result<usize, AllocError> {
+    let at = faulty.put_found(0, b"no second `root`", out)?;
+    let declared = declared_of(alloc, faulty.text)?;
+    if let Some(root) = declared.first() {
+        put_hint_line(b"the root is named on line ", root.line, out)?;
+    }
+    Ok(at)
+}
+
+/// Appends what there is too much of.
+fn put_too_many(faulty: &Faulty<'_>, out: &mut Vec<u8>) -> Result<usize, AllocError> {
+    let word = faulty.word(0).bytes;
+    if word == b"requires".as_slice() || word == b"excludes".as_slice() {
+        return faulty.put_found(0, b"at most 16,384 lines of `requires` and `excludes`", out);
+    }
+    faulty.put_found(0, b"at most 512 features", out)
+}
+
+/// The digits of a number without zeros in front.
+fn significant(digits: &[u8]) -> &[u8] {
+    let zeros = digits.iter().take_while(|b| **b == b'0').count();
+    digits.get(zeros..).unwrap_or(digits)
+}
+
+/// Whether a number, in digits, is less than another.
+fn is_less(a: &[u8], b: &[u8]) -> bool {
+    let (a, b) = (significant(a), significant(b));
+    if a.len() != b.len() {
+        return a.len() < b.len();
+    }
+    for (x, y) in a.iter().zip(b) {
+        if x != y {
+            return x < y;
+        }
+    }
+    false
+}
+
+/// Appends what is wrong with the range of a group.
+fn put_bad_range(faulty: &Faulty<'_>, out: &mut Vec<u8>) -> Result<usize, AllocError> {
+    let (low, high) = (faulty.word(2), faulty.word(3));
+    if is_less(high.bytes, low.bytes) {
+        return faulty.put_found(2, b"a number that is not above the next", out);
+    }
+    faulty.put_found(3, b"at most the number of children of this line", out)
+}
+
+/// Appends that a text is blank.
+fn put_no_root(faulty: &Faulty<'_>, out: &mut Vec<u8>) -> Result<usize, AllocError> {
+    let at = faulty.put_found(0, b"`root` and the name of the root", out)?;
+    put_hint(b"the text is blank", out)?;
+    Ok(at)
+}
+
+/// Appends that memory ran out.
+fn put_memory(out: &mut Vec<u8>) -> Result<usize, AllocError> {
+    out.extend_from_slice(b"memory ran out\n")?;
+    Ok(0)
+}
+
+/// Appends what is wrong with a line. Where it stands in the line.
+fn put_line_fault(
+    alloc: Global,
+    faulty: &Faulty<'_>,
+    fault: DiagramFault,
+    out: &mut Vec<u8>,
+) -> Result<usize, AllocError> {
+    match fault {
+        DiagramFault::Syntax { .. } => put_syntax(alloc, faulty, out),
+        DiagramFault::TwoRoots { .. } => put_two_roots(alloc, faulty, out),
+        DiagramFault::UnknownFeature { .. } => put_unknown(alloc, faulty, out),
+        DiagramFault::TwoParents { .. } => put_two_parents(alloc, faulty, out),
+        DiagramFault::TooMany { .. } => put_too_many(faulty, out),
+        DiagramFault::BadRange { .. } => put_bad_range(faulty, out),
+        DiagramFault::NoRoot => put_no_root(faulty, out),
+        DiagramFault::Memory => put_memory(out),
+    }
+}
+
+/// The number of the line that has a fault.
+fn line_of_fault(fault: DiagramFault) -> usize
+    ensures { result ≡ line_of_fault fault }
+{
+    match fault {
+        DiagramFault::Syntax { line } => line,
+        DiagramFault::TwoRoots { line } => line,
+        DiagramFault::UnknownFeature { line } => line,
+        DiagramFault::TwoParents { line } => line,
+        DiagramFault::TooMany { line } => line,
+        DiagramFault::BadRange { line } => line,
+        DiagramFault::NoRoot | DiagramFault::Memory => 1,
+    }
+}
+
+/// Appends what is wrong with a line of a text. Where it stands in the line.
+fn put_fault(
+    alloc: Global,
+    text: &[u8],
+    line: Line<'_>,
+    fault: DiagramFault,
+    out: &mut Vec<u8>,
+) -> Result<usize, AllocError> {
+    let words = words_of(alloc, line.bytes, true)?;
+    put_line_fault(alloc, &Faulty { text, line, words }, fault, out)
+}
+
+/// What the fault means with which `Diagram::read` refused a text. It stands on the line that the reader says, at the
+/// word that is wrong.
+pub fn explain_diagram(
+    alloc: Global,
+    text: &[u8],
+    fault: DiagramFault,
+) -> Result<Message, AllocError>
+    ensures line { IfOk result (λ message. message.place.line ≡ line_of_fault fault) }
+    ensures column { IfOk result (λ message.
+        IsColumnOf (line_text text.now (line_of_fault fault)) message.place.column) }
+{
+    let line = line_at(text, line_of_fault(fault));
+    let mut words = Vec::new(alloc);
+    let at = put_fault(alloc, text, line, fault, &mut words)?;
+    let place = line.place(at);
+    Ok(Message { place, words })
+}

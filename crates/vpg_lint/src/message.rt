@@ -1,0 +1,132 @@
+//! How messages are written.
+ghost use Rattle.std.specs.Prelude.{◌≡◌, ◌++◌, OnOk, map, decimal};
+ghost use Rattle.vpg_lint.specs.Messages.{shown_byte, place_text, message_text};
+
+use itoa::Buffer;
+use std::alloc::AllocError;
+use vpg_places::{Place, begins_character};
+
+/// What is said of a fault: where it stands, and lines that say what was found there, what was expected, and hints.
+#[derive(Drop)]
+pub struct Message {
+    pub place: Place,
+    pub words: Vec<u8>,
+}
+
+/// Behind so many bytes a word is cut.
+const MOST_SHOWN: usize = 60;
+
+/// Appends a number.
+pub fn put_number(n: usize, out: &mut Vec<u8>) -> Result<(), AllocError>
+    ensures { OnOk result (out.new.items ≡ out.old.items ++ decimal n) }
+{
+    let mut buffer = Buffer::new();
+    out.extend_from_slice(buffer.format(n as u64).as_bytes())
+}
+
+/// A byte, `?` where it is a control character.
+fn shown_byte(b: u8) -> u8
+    ensures { result ≡ shown_byte b }
+{
+    if b < 32 || b == 127 { b'?' } else { b }
+}
+
+/// Appends a text without control characters.
+pub fn put_text(text: &[u8], out: &mut Vec<u8>) -> Result<(), AllocError>
+    ensures { OnOk result (out.new.items ≡ out.old.items ++ map shown_byte text.now) }
+{
+    for b in text {
+        out.push(shown_byte(*b))?;
+    }
+    Ok(())
+}
+
+/// Appends `NAME:LINE:COLUMN: `.
+pub fn put_place(name: &str, place: Place, out: &mut Vec<u8>) -> Result<(), AllocError>
+    ensures { OnOk result (out.new.items ≡ out.old.items ++ place_text name.now place.line place.column) }
+{
+    put_text(name.as_bytes(), out)?;
+    out.push(b':')?;
+    put_number(place.line, out)?;
+    out.push(b':')?;
+    put_number(place.column, out)?;
+    out.extend_from_slice(b": ")
+}
+
+/// Appends a message about the file of this name.
+pub fn put_message(name: &str, message: &Message, out: &mut Vec<u8>) -> Result<(), AllocError>
+    ensures { OnOk result (out.new.items ≡ out.old.items ++ message_text name.now message.now) }
+{
+    put_place(name, message.place, out)?;
+    out.extend_from_slice(&message.words)
+}
+
+/// Appends the front of a word.
+pub fn put_shown(word: &[u8], out: &mut Vec<u8>) -> Result<(), AllocError> {
+    for (i, b) in word.iter().enumerate() {
+        if i >= MOST_SHOWN && begins_character(*b) {
+            return out.extend_from_slice(b"..");
+        }
+        out.push(shown_byte(*b))?;
+    }
+    Ok(())
+}
+
+/// Appends what was found, or what ended.
+fn put_word(word: &[u8], ended: &[u8], out: &mut Vec<u8>) -> Result<(), AllocError> {
+    if word.is_empty() {
+        out.extend_from_slice(ended)?;
+        return out.extend_from_slice(b" ends");
+    }
+    out.extend_from_slice(b"found `")?;
+    put_shown(word, out)?;
+    out.extend_from_slice(b"`")
+}
+
+/// Appends what was found, or what ended, and what was expected.
+pub(crate) fn put_found(
+    word: &[u8],
+    ended: &[u8],
+    expected: &[u8],
+    out: &mut Vec<u8>,
+) -> Result<(), AllocError> {
+    put_word(word, ended, out)?;
+    out.extend_from_slice(b"; expected ")?;
+    out.extend_from_slice(expected)?;
+    out.extend_from_slice(b"\n")
+}
+
+/// Appends a hint.
+pub(crate) fn put_hint(hint: &[u8], out: &mut Vec<u8>) -> Result<(), AllocError> {
+    out.extend_from_slice(b"  hint: ")?;
+    out.extend_from_slice(hint)?;
+    out.extend_from_slice(b"\n")
+}
+
+/// Appends a hint with a word in quotes.
+pub(crate) fn put_hint_with(
+    before: &[u8],
+    word: &[u8],
+    behind: &[u8],
+    out: &mut Vec<u8>,
+) -> Result<(), AllocError> {
+    out.extend_from_slice(b"  hint: ")?;
+    out.extend_from_slice(before)?;
+    out.extend_from_slice(b"`")?;
+    put_shown(word, out)?;
+    out.extend_from_slice(b"`")?;
+    out.extend_from_slice(behind)?;
+    out.extend_from_slice(b"\n")
+}
+
+/// Appends a hint that ends in a line's number.
+pub(crate) fn put_hint_line(
+    before: &[u8],
+    line: usize,
+    out: &mut Vec<u8>,
+) -> Result<(), AllocError> {
+    out.extend_from_slice(b"  hint: ")?;
+    out.extend_from_slice(before)?;
+    put_number(line, out)?;
+    out.extend_from_slice(b"\n")
+}

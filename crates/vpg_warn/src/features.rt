@@ -1,0 +1,154 @@
+//! What looks wrong in a diagram.
+ghost use Rattle.std.specs.Prelude.{◌≡◌, length, IfOk};
+
+use crate::products::{Closed, closure_of, finds_product, is_dead};
+use crate::warnings::{Sort, Warnings};
+use std::alloc::{AllocError, Global};
+use vpg_diagram::Diagram;
+use vpg_game::GuardedGame;
+use vpg_guards::Tri;
+use vpg_places::{Declared, LINES, Part, declared_of, form_of, lines_of, words_of};
+
+/// Where a feature is named first.
+fn declared_at(declared: &[Declared<'_>], f: usize) -> usize {
+    match declared.get(f) {
+        Some(it) => it.at,
+        None => 0,
+    }
+}
+
+/// Warns of a diagram of which propagation finds no product.
+fn warn_of_none_found(
+    alloc: Global,
+    diagram: &Diagram,
+    root: usize,
+    warnings: &mut Warnings,
+) -> Result<(), AllocError>
+    ensures { warnings.new.length ≡ warnings.old.length }
+{
+    if finds_product(alloc, diagram)? {
+        return Ok(());
+    }
+    warnings.warn(Sort::NoneFound, root, 0)
+}
+
+/// Warns of features that are in no product, where the known values are these.
+fn warn_of_dead(
+    alloc: Global,
+    diagram: &Diagram,
+    known: &[Tri],
+    declared: &[Declared<'_>],
+    warnings: &mut Warnings,
+) -> Result<(), AllocError>
+    ensures { warnings.new.length ≡ warnings.old.length }
+{
+    let features = diagram.names().len() as u16;
+    for f in 0..features {
+        if is_dead(alloc, diagram, known, f)? {
+            warnings.warn(Sort::Dead, declared_at(declared, f as usize), f as u32)?;
+        }
+    }
+    Ok(())
+}
+
+/// Warns of a diagram that has no product, and else of what propagation shows of its products.
+fn warn_of_products(
+    alloc: Global,
+    diagram: &Diagram,
+    declared: &[Declared<'_>],
+    warnings: &mut Warnings,
+) -> Result<(), AllocError>
+    ensures { warnings.new.length ≡ warnings.old.length }
+{
+    let root = declared_at(declared, 0);
+    match closure_of(alloc, diagram, &[])? {
+        Closed::Conflict => warnings.warn(Sort::NoProduct, root, 0),
+        Closed::Known(known) => {
+            warn_of_none_found(alloc, diagram, root, warnings)?;
+            warn_of_dead(alloc, diagram, known.values(), declared, warnings)
+        }
+    }
+}
+
+/// The parent that a line names, where it names one.
+fn parent_of<'t>(alloc: Global, line: &'t [u8]) -> Result<Option<&'t [u8]>, AllocError> {
+    let words = words_of(alloc, line, true)?;
+    let (Some(first), Some(parent)) = (words.first(), words.get(1)) else {
+        return Ok(None);
+    };
+    match form_of(&LINES, first.bytes) {
+        Some(form) if form.parts.contains(&Part::Parent) => Ok(Some(parent.bytes)),
+        _ => Ok(None),
+    }
+}
+
+/// The parents that the lines of a diagram name.
+fn parents_of<'t>(alloc: Global, text: &'t [u8]) -> Result<Vec<&'t [u8]>, AllocError> {
+    let lines = lines_of(alloc, text)?;
+    let mut parents = Vec::new(alloc);
+    for line in &lines {
+        if let Some(parent) = parent_of(alloc, line.bytes)? {
+            parents.push(parent)?;
+        }
+    }
+    Ok(parents)
+}
+
+/// Whether a feature has no children and no guard names it.
+fn is_unnamed(game: &GuardedGame, parents: &[&[u8]], f: usize, name: &[u8]) -> bool {
+    0 < f
+        && f < 512
+        && game.naming(f as u16).is_empty()
+        && !parents.iter().any(|parent| *parent == name)
+}
+
+/// Warns of features without children that no guard names.
+fn warn_of_unnamed(
+    game: &GuardedGame,
+    parents: &[&[u8]],
+    declared: &[Declared<'_>],
+    warnings: &mut Warnings,
+) -> Result<(), AllocError>
+    ensures { warnings.new.length ≡ warnings.old.length }
+{
+    for (f, it) in declared.iter().enumerate() {
+        if f < 512 && is_unnamed(game, parents, f, it.name) {
+            warnings.warn(Sort::Unnamed, it.at, f as u32)?;
+        }
+    }
+    Ok(())
+}
+
+/// Warns of a diagram, and of how a game uses it.
+fn warn_of_diagram(
+    alloc: Global,
+    text: &[u8],
+    diagram: &Diagram,
+    game: &GuardedGame,
+    warnings: &mut Warnings,
+) -> Result<(), AllocError>
+    ensures { warnings.new.length ≡ warnings.old.length }
+{
+    let declared = declared_of(alloc, text)?;
+    warn_of_products(alloc, diagram, &declared, warnings)?;
+    let parents = parents_of(alloc, text)?;
+    warn_of_unnamed(game, &parents, &declared, warnings)
+}
+
+/// What looks wrong in a diagram that was read from a text, and in how a game uses it: that the diagram has no product,
+/// or that propagation alone finds none; features that are in no product, as far as propagation shows it; and features
+/// without children that no guard names.
+pub fn warnings_of_diagram(
+    alloc: Global,
+    text: &[u8],
+    diagram: &Diagram,
+    game: &GuardedGame,
+) -> Result<Warnings, AllocError>
+    ensures { IfOk result (λ warnings. warnings.length ≡ length text.now) }
+{
+    let mut warnings = Warnings::new(alloc, text.len());
+    match warn_of_diagram(alloc, text, diagram, game, &mut warnings) {
+        Ok(()) => Ok(warnings),
+        Err(fault) => Err(fault),
+    }
+}

@@ -1,0 +1,121 @@
+//! What propagation finds of a diagram's products.
+ghost use Rattle.std.specs.Prelude.{◌≡◌, ◌↔◌, ◌<◌, IsTrue, All};
+
+use std::alloc::{AllocError, Global};
+use vpg_diagram::Diagram;
+use vpg_guards::Tri;
+use vpg_partial::{Decision, Partial, PartialFault};
+
+/// What decisions make known, or that they contradict each other.
+#[derive(Drop)]
+pub(crate) enum Closed {
+    Known(Partial),
+    Conflict,
+}
+
+/// Whether each decision is of one of so many features.
+fn are_below(features: usize, decisions: &[Decision]) -> bool
+    ensures { IsTrue result ↔ All (λ d. d.feature < features) decisions.now }
+{
+    decisions.iter().all(|d| (d.feature as usize) < features)
+}
+
+/// What decisions make known. Those that are of no feature have a conflict.
+pub(crate) fn closure_of(
+    alloc: Global,
+    diagram: &Diagram,
+    decisions: &[Decision],
+) -> Result<Closed, AllocError> {
+    let features = diagram.features();
+    if !are_below(features, decisions) {
+        return Ok(Closed::Conflict);
+    }
+    match Partial::close(alloc, diagram, decisions) {
+        Ok(known) => Ok(Closed::Known(known)),
+        Err(PartialFault::Conflict { .. }) => Ok(Closed::Conflict),
+        Err(PartialFault::Memory) => Err(AllocError),
+    }
+}
+
+/// A decision.
+pub(crate) fn decision(feature: u16, value: bool) -> Decision {
+    Decision {
+        serial: 1,
+        session: 1,
+        feature,
+        value,
+    }
+}
+
+/// Whether decisions contradict each other.
+fn have_conflict(
+    alloc: Global,
+    diagram: &Diagram,
+    decisions: &[Decision],
+) -> Result<bool, AllocError> {
+    let closed = closure_of(alloc, diagram, decisions)?;
+    Ok(matches!(closed, Closed::Conflict))
+}
+
+/// Whether a feature is known out without decisions, or contradicts the diagram where it is chosen.
+pub(crate) fn is_dead(
+    alloc: Global,
+    diagram: &Diagram,
+    known: &[Tri],
+    feature: u16,
+) -> Result<bool, AllocError> {
+    match known.get(feature as usize) {
+        Some(Tri::No) => Ok(true),
+        Some(Tri::Unknown) => have_conflict(alloc, diagram, &[decision(feature, true)]),
+        Some(Tri::Yes) | None => Ok(false),
+    }
+}
+
+/// The value of a feature under decisions.
+fn value_under(
+    alloc: Global,
+    diagram: &Diagram,
+    decisions: &[Decision],
+    feature: u16,
+) -> Result<Tri, AllocError> {
+    match closure_of(alloc, diagram, decisions)? {
+        Closed::Known(known) => Ok(
+            *known
+                .values()
+                .get(feature as usize)
+                .unwrap_or(&Tri::Unknown),
+        ),
+        Closed::Conflict => Ok(Tri::Unknown),
+    }
+}
+
+/// Decides a feature, out where that is no contradiction. Whether one of the values is none.
+fn decide(
+    alloc: Global,
+    diagram: &Diagram,
+    decisions: &mut Vec<Decision>,
+    feature: u16,
+) -> Result<bool, AllocError> {
+    for value in [false, true] {
+        decisions.push(decision(feature, value))?;
+        if !have_conflict(alloc, diagram, decisions)? {
+            return Ok(true);
+        }
+        decisions.pop();
+    }
+    Ok(false)
+}
+
+/// Whether a product is found by propagation alone: each feature that is open is left out where that is no
+/// contradiction, and else taken.
+pub(crate) fn finds_product(alloc: Global, diagram: &Diagram) -> Result<bool, AllocError> {
+    let mut decisions = Vec::new(alloc);
+    let features = diagram.names().len() as u16;
+    for feature in 0..features {
+        let value = value_under(alloc, diagram, &decisions, feature)?;
+        if value == Tri::Unknown && !decide(alloc, diagram, &mut decisions, feature)? {
+            return Ok(false);
+        }
+    }
+    Ok(true)
+}

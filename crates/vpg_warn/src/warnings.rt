@@ -1,0 +1,64 @@
+//! Warnings, and where they stand.
+ghost use Rattle.std.specs.Prelude.{◌≡◌, All};
+ghost use Rattle.vpg_warn.specs.Warned.{StandsWithin};
+
+use std::alloc::{AllocError, Global};
+
+/// What a warning is of.
+#[derive(Clone, Copy, PartialEq, Eq)]
+pub enum Sort {
+    /// The diagram has no product.
+    NoProduct,
+    /// Propagation alone finds no product.
+    NoneFound,
+    /// A feature that is in no product.
+    Dead,
+    /// A feature that no guard names.
+    Unnamed,
+    /// A vertex without moves.
+    Stuck,
+    /// A start that is no vertex.
+    NoStart,
+    /// A vertex that can't be reached from the start.
+    Unreached,
+}
+
+/// A warning.
+#[derive(Clone, Copy)]
+pub struct Warning {
+    pub sort: Sort,
+    /// The offset in the text where it stands.
+    pub at: usize,
+    /// The feature or the vertex that it is of, 0 where it is of none.
+    pub index: u32,
+}
+
+/// The warnings of a text, each within it.
+#[derive(Drop)]
+pub struct Warnings {
+    /// The length of the text.
+    pub length: usize,
+    pub list: Vec<Warning>,
+    ghost within: { All (StandsWithin length) list.items },
+}
+
+impl Warnings {
+    /// None yet, of a text of this length.
+    pub fn new(alloc: Global, length: usize) -> Warnings
+        ensures { result.length ≡ length }
+    {
+        Warnings {
+            length,
+            list: Vec::new(alloc),
+        }
+    }
+
+    /// Adds one, which stands at an offset, or at the end of the text where the offset is greater.
+    pub(crate) fn warn(&mut self, sort: Sort, at: usize, index: u32) -> Result<(), AllocError>
+        ensures { self.new.length ≡ self.old.length }
+    {
+        let at = at.min(self.length);
+        self.list.push(Warning { sort, at, index })?;
+        Ok(())
+    }
+}
