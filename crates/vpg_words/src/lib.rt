@@ -1,6 +1,6 @@
 //! The words that the program is called with: what they ask for, and what is told of them.
 //!
-//! `read` takes the words, the program's name among them, and gives a `Task`; or what is told in place of one, as `clap` writes it: help, the
+//! `read` takes the words, the program's name among them, and gives a `Task`, and whether its faults are explained; or what is told in place of one, as `clap` writes it: help, the
 //! version, or what is wrong with the words. `docs/FORMATS.md` lists words and options. No contract says which words ask for what: tests do.
 #![tactic(auto)]
 
@@ -9,4 +9,4 @@ mod reading;
 mod task;
 
 pub use reading::{not_text, read};
-pub use task::Task;
+pub use task::{Asked, Task};
