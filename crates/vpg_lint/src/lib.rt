@@ -10,6 +10,7 @@
 #![tactic(auto)]
 
 mod diagrams;
+mod faulty;
 mod games;
 mod hints;
 mod message;
