@@ -142,8 +142,8 @@ fn departure_behind(words: &[Word<'_>], parts: usize, rest: Option<Part>) -> Opt
     None
 }
 
-/// The same of the words of an assertion, of which the first is as it should be. Verdicts follow a vertex, at least one;
-/// nothing follows another word.
+/// The same of the words of an assertion, of which the first is as it should be. At least one verdict follows a vertex,
+/// and nothing another word.
 fn departure_of_asserted(words: &[Word<'_>]) -> Option<Departure> {
     let is_vertex = words.first().is_some_and(|word| are_digits(word.bytes));
     let rest = if is_vertex { Some(Part::Verdict) } else { None };
