@@ -4,7 +4,7 @@ ghost use Rattle.vpg_family.specs.Families.{IsFamilyFault};
 
 use crate::family::{read_diagram, read_game};
 use crate::fault::Fault;
-use crate::files::{Paths, Texts};
+use crate::files::Paths;
 use std::alloc::{AllocError, Global};
 use vpg_diagram::Diagram;
 use vpg_game::GuardedGame;
@@ -14,17 +14,18 @@ use vpg_warn::{File, put_warned};
 fn warned(
     alloc: Global,
     paths: Paths<'_>,
-    texts: &Texts,
+    diagram_text: &[u8],
+    game_text: &[u8],
     diagram: &Diagram,
     game: &GuardedGame,
 ) -> Result<Vec<u8>, AllocError> {
     let of_diagram = File {
         name: paths.diagram,
-        text: &texts.diagram,
+        text: diagram_text,
     };
     let of_game = File {
         name: paths.game,
-        text: &texts.game,
+        text: game_text,
     };
     let mut lines = Vec::new(alloc);
     match put_warned(alloc, of_diagram, of_game, diagram, game, &mut lines) {
@@ -33,20 +34,25 @@ fn warned(
     }
 }
 
-/// Lines that warn of what looks wrong in the family that two texts spell, and a last one that counts the warnings. A
-/// fault of the diagram is told before any of the game.
-pub fn linted(alloc: Global, paths: Paths<'_>, texts: &Texts) -> Result<Vec<u8>, Fault>
-    ensures { IfErr result (IsFamilyFault texts.now.diagram.items texts.now.game.items) }
+/// Lines that warn of what looks wrong in the family that the texts of these files spell, and a last one that counts
+/// the warnings. A fault of the diagram is told before any of the game.
+pub fn linted(
+    alloc: Global,
+    paths: Paths<'_>,
+    diagram_text: &[u8],
+    game_text: &[u8],
+) -> Result<Vec<u8>, Fault>
+    ensures { IfErr result (IsFamilyFault diagram_text.now game_text.now) }
 {
-    let diagram = match read_diagram(alloc, &texts.diagram) {
+    let diagram = match read_diagram(alloc, diagram_text) {
         Ok(diagram) => diagram,
         Err(fault) => return Err(fault),
     };
-    let game = match read_game(alloc, &texts.game, &diagram) {
+    let game = match read_game(alloc, game_text, &diagram) {
         Ok(game) => game,
         Err(fault) => return Err(fault),
     };
-    match warned(alloc, paths, texts, &diagram, &game) {
+    match warned(alloc, paths, diagram_text, game_text, &diagram, &game) {
         Ok(lines) => Ok(lines),
         Err(_) => Err(Fault::Memory),
     }

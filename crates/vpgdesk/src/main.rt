@@ -82,7 +82,7 @@ fn draw(rt: &HostRuntime, alloc: Global, paths: Paths<'_>, subject: Subject) -> 
 /// Writes what looks wrong in a family.
 fn lint(rt: &HostRuntime, alloc: Global, paths: Paths<'_>) -> Result<(), Fault> {
     let texts = read_texts(rt, alloc, paths)?;
-    let lines = linted(alloc, paths, &texts)?;
+    let lines = linted(alloc, paths, &texts.diagram, &texts.game)?;
     put(&mut Device::writer(rt.stdout().lock()), &lines)
 }
 

@@ -3,7 +3,7 @@ use super::{DIAGRAM, GAME};
 use std::alloc::{AllocError, Global};
 use std::fs;
 use std::test::*;
-use vpg_family::{Fault, Paths, Texts, explained, linted, read_family};
+use vpg_family::{Fault, Paths, explained, linted, read_family};
 use vpg_script::LineFault;
 
 const PATHS: Paths<'static> = Paths {
@@ -233,19 +233,10 @@ warnings 12
     },
 ];
 
-fn texts(alloc: Global, row: &Warned) -> Result<Texts, AllocError> {
-    Ok(Texts {
-        diagram: Vec::from_slice(alloc, row.diagram.as_bytes())?,
-        game: Vec::from_slice(alloc, row.game.as_bytes())?,
-    })
-}
-
 /// Whether the family of a row warns of just this.
 fn is_warned(alloc: Global, row: &Warned) -> bool {
-    let Ok(texts) = texts(alloc, row) else {
-        return false;
-    };
-    linted(alloc, PATHS, &texts).is_ok_and(|found| found.as_slice() == row.lines.as_bytes())
+    let found = linted(alloc, PATHS, row.diagram.as_bytes(), row.game.as_bytes());
+    found.is_ok_and(|lines| lines.as_slice() == row.lines.as_bytes())
 }
 
 /// The place of the first row that is not warned of so.
