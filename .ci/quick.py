@@ -87,7 +87,10 @@ def of_links():
 def of_names():
     """Looks up the names that documents cite: in backticks, with `_` or a second capital, or in a path by `::`."""
     known = set()
-    for path in [*glob.glob(f"{ROOT}/crates/*/*/**/*", recursive=True), *glob.glob(f"{ROOT}/bench/*")]:
+    # (a check writes into out/ meanwhile)
+    folders = [it for it in glob.glob(f"{ROOT}/crates/*/*") if os.path.basename(it) != "out"]
+    inside = [path for it in folders for path in glob.glob(f"{it}/**/*", recursive=True)]
+    for path in [*inside, *glob.glob(f"{ROOT}/bench/*")]:
         if path.endswith((".rt", ".antt", ".py")):
             known.update(re.findall(r"\w+", text_of(path)), re.findall(r"\w+", os.path.relpath(path, ROOT)))
         elif path.endswith(".edit"):
