@@ -1,7 +1,9 @@
 //! A product family in two files: read, counted, projected to one product and drawn; and what is told of its faults.
 //!
-//! `read_family` takes the files of a diagram and a game. A `Family` counts itself (`counted`) and gives the plain game of one product
-//! (`projected`); `drawn` gives a picture of two texts. Each fault of the program is a `Fault`, and `line_of` is the line that tells of it.
+//! `read_family` takes the files of a diagram and a game. A `Family` counts itself (`counted`) and gives the plain game
+//! of one product (`projected`); `drawn` gives a picture of two texts, and `linted` warns of what looks wrong in them.
+//! Each fault of the program is a `Fault`, `line_of` is the line that tells of it, and `explained` are lines that say
+//! where and why.
 //! The crate knows no desk: scripts are carried out above it.
 //!
 //! `specs/Families` says which texts spell a family and which words name a product, `specs/Counts`, `specs/Pictures` and `specs/Faults` what is
@@ -10,13 +12,17 @@
 
 mod counts;
 mod drawing;
+mod explaining;
 mod family;
 mod fault;
 mod files;
+mod linting;
 mod telling;
 
 pub use drawing::{Subject, drawn};
+pub use explaining::explained;
 pub use family::{Family, conflict};
 pub use fault::Fault;
 pub use files::{Paths, Texts, open_script, read_family, read_texts};
+pub use linting::linted;
 pub use telling::line_of;

@@ -1,5 +1,6 @@
 //! What no clause says: which fault is told first, and that the texts are those of `docs/FORMATS.md`.
 
+mod explained;
 mod faults;
 mod files;
 

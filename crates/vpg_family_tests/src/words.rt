@@ -4,7 +4,7 @@ use clap::error::ErrorKind;
 use std::alloc::{AllocError, Global};
 use std::test::*;
 use vpg_family::Subject;
-use vpg_words::{Task, not_text, read};
+use vpg_words::{Asked, Task, not_text, read};
 
 /// How words are taken.
 #[derive(Clone, Copy, PartialEq, Eq)]
@@ -16,6 +16,9 @@ enum Taken {
     Project(usize),
     Check,
     Draw(Subject),
+    Lint,
+    /// Its faults are explained, with so many lifters.
+    Explained(u32),
     /// Help or the version is shown, with status 0.
     Shown,
     /// Refused, with status 2.
@@ -28,7 +31,7 @@ struct Call {
     taken: Taken,
 }
 
-static CALLS: [Call; 46] = [
+static CALLS: [Call; 51] = [
     Call {
         words: "",
         taken: Taken::BuiltIn,
@@ -111,6 +114,26 @@ static CALLS: [Call; 46] = [
     },
     Call {
         words: "check g d --features",
+        taken: Taken::Wrong,
+    },
+    Call {
+        words: "lint g d",
+        taken: Taken::Lint,
+    },
+    Call {
+        words: "lint g d s",
+        taken: Taken::Wrong,
+    },
+    Call {
+        words: "lint g d --explain",
+        taken: Taken::Wrong,
+    },
+    Call {
+        words: "run g d s --explain --lifters 2",
+        taken: Taken::Explained(2),
+    },
+    Call {
+        words: "run g d s --explain --explain",
         taken: Taken::Wrong,
     },
     Call {
@@ -246,7 +269,15 @@ fn task_taken(task: &Task<'_>) -> Taken {
         Task::Run { lifters, .. } => Taken::Run(*lifters),
         Task::Project { features, .. } => Taken::Project(features.len()),
         Task::Check { .. } => Taken::Check,
+        Task::Lint { .. } => Taken::Lint,
         Task::Draw { subject, .. } => Taken::Draw(*subject),
+    }
+}
+
+fn asked_taken(asked: &Asked<'_>) -> Taken {
+    match &asked.task {
+        Task::Run { lifters, .. } if asked.explains => Taken::Explained(*lifters),
+        task => task_taken(task),
     }
 }
 
@@ -263,7 +294,7 @@ fn told_taken(told: &Error) -> Option<Taken> {
 
 fn line_taken(alloc: Global, line: &[String]) -> Option<Taken> {
     match read(alloc, line) {
-        Ok(task) => Some(task_taken(&task)),
+        Ok(asked) => Some(asked_taken(&asked)),
         Err(told) => told_taken(&told),
     }
 }
@@ -304,7 +335,7 @@ fn asks_for_run(alloc: Global, words: &str, game: &str, diagram: &str, wanted: &
         return false;
     };
     match read(alloc, &line) {
-        Ok(task) => is_run(&task, game, diagram, wanted),
+        Ok(asked) => is_run(&asked.task, game, diagram, wanted),
         Err(_) => false,
     }
 }
@@ -330,7 +361,7 @@ fn asks_for_product(alloc: Global, words: &str, wanted: &[&str]) -> bool {
         return false;
     };
     match read(alloc, &line) {
-        Ok(task) => is_product(&task, wanted),
+        Ok(asked) => is_product(&asked.task, wanted),
         Err(_) => false,
     }
 }
@@ -348,7 +379,7 @@ fn asks_for_counts(alloc: Global, words: &str) -> bool {
         return false;
     };
     match read(alloc, &line) {
-        Ok(task) => is_count(&task),
+        Ok(asked) => is_count(&asked.task),
         Err(_) => false,
     }
 }

@@ -3,13 +3,14 @@ ghost use Rattle.std.specs.Prelude.{◌≡◌, IfOk};
 ghost use Rattle.vpg_places.specs.Places.{line_text, IsColumnOf};
 ghost use Rattle.vpg_lint.specs.Messages.{line_of_fault};
 
+use crate::faulty::Faulty;
 use crate::hints::{Kind, MARK, put_text_hint};
 use crate::message::{Message, put_found, put_hint, put_hint_line, put_hint_with};
 use crate::naming::{nearest_of, nearest_text};
 use std::alloc::{AllocError, Global};
 use vpg_diagram::DiagramFault;
 use vpg_places::{
-    Declared, Departure, Form, LINES, Line, Part, Word, declared_of, find, form_of, line_at,
+    Declared, Departure, Form, LINES, Line, Part, declared_of, find, form_of, line_at,
     names_before, words_of, words_of_forms,
 };
 
@@ -19,39 +20,6 @@ pub(crate) const NAME_RULE: &[u8] =
 
 const KINDS: &[u8] =
     b"`root`, `mandatory`, `optional`, `alternative`, `or`, `group`, `requires` or `excludes`";
-
-/// A text with a faulty line, and the words of the line.
-#[derive(Drop)]
-struct Faulty<'t> {
-    text: &'t [u8],
-    line: Line<'t>,
-    words: Vec<Word<'t>>,
-}
-
-impl<'t> Faulty<'t> {
-    /// The word at a place, or an empty one at the line's end.
-    fn word(&self, place: usize) -> Word<'t> {
-        match self.words.get(place) {
-            Some(word) => *word,
-            None => Word {
-                at: self.line.bytes.len(),
-                bytes: &[],
-            },
-        }
-    }
-
-    /// Appends what was found at a place, and what was expected. Where it stands in the line.
-    fn put_found(
-        &self,
-        place: usize,
-        expected: &[u8],
-        out: &mut Vec<u8>,
-    ) -> Result<usize, AllocError> {
-        let word = self.word(place);
-        put_found(word.bytes, b"the line", expected, out)?;
-        Ok(word.at)
-    }
-}
 
 fn is_remark(word: &[u8]) -> bool {
     word.starts_with(b"#") || word.starts_with(b"//") || word.starts_with(b"--")
@@ -290,7 +258,7 @@ fn significant(digits: &[u8]) -> &[u8] {
 }
 
 /// Whether a number, in digits, is less than another.
-fn is_less(a: &[u8], b: &[u8]) -> bool {
+pub(crate) fn is_less(a: &[u8], b: &[u8]) -> bool {
     let (a, b) = (significant(a), significant(b));
     if a.len() != b.len() {
         return a.len() < b.len();

@@ -125,7 +125,7 @@ fn put_syntax(text: &[u8], at: usize, out: &mut Vec<u8>) -> Result<(), AllocErro
 }
 
 /// Appends the name that a word was perhaps meant to be.
-pub(crate) fn put_nearest(
+fn put_nearest(
     alloc: Global,
     names: &Names,
     word: &[u8],
@@ -175,16 +175,19 @@ fn hint_of_sign(word: &[u8]) -> Option<&'static [u8]> {
     }
 }
 
-/// Appends what is wrong with a name in a guard.
-fn put_unknown(
+/// Appends that a word is the name of no feature, and what it was perhaps meant to be.
+pub fn put_unknown(
     alloc: Global,
-    text: &[u8],
-    at: usize,
     names: &Names,
+    word: &[u8],
     out: &mut Vec<u8>,
 ) -> Result<(), AllocError> {
-    put_found_at(text, at, b"the name of a feature of the diagram", out)?;
-    let word = word_at(text, at);
+    put_found(
+        word,
+        b"the word",
+        b"the name of a feature of the diagram",
+        out,
+    )?;
     match hint_of_sign(word) {
         Some(hint) => put_hint(hint, out),
         None => put_nearest(alloc, names, word, out),
@@ -212,7 +215,7 @@ fn put_guard_fault(
 ) -> Result<(), AllocError> {
     match fault {
         GuardFault::Syntax { .. } => put_guard_syntax(text, at, out),
-        GuardFault::UnknownFeature { .. } => put_unknown(alloc, text, at, names, out),
+        GuardFault::UnknownFeature { .. } => put_unknown(alloc, names, word_at(text, at), out),
         GuardFault::TooDeep { .. } => put_found_at(text, at, b"at most 64 open `(` and `!`", out),
         GuardFault::Memory => Ok(()),
     }

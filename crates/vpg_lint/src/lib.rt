@@ -2,14 +2,15 @@
 //! hints.
 //!
 //! `explain_game` and `explain_diagram` take the fault with which a text was refused, `explain_line` a line of a script
-//! that is no command, and each makes a message; `put_message` writes it. Only lines and columns have contracts: what
-//! the words say is for people.
+//! that is no command, and each makes a message; `put_message` writes it. `put_unknown` says of a word alone that no
+//! feature has this name. Only lines and columns have contracts: what the words say is for people.
 //!
 //! `specs/Messages` says where a fault stands as its reader gives it, and how a message is written. Lines and columns
 //! are those of `vpg_places`.
 #![tactic(auto)]
 
 mod diagrams;
+mod faulty;
 mod games;
 mod hints;
 mod message;
@@ -17,7 +18,7 @@ mod naming;
 mod scripts;
 
 pub use diagrams::explain_diagram;
-pub use games::explain_game;
+pub use games::{explain_game, put_unknown};
 pub use message::{Message, put_message, put_number, put_place, put_shown, put_text};
 pub use naming::nearest;
 pub use scripts::explain_line;

@@ -2,47 +2,16 @@
 ghost use Rattle.std.specs.Prelude.{◌≡◌, IfOk};
 ghost use Rattle.vpg_places.specs.Places.{IsColumnOf};
 
-use crate::diagrams::NAME_RULE;
-use crate::hints::{Kind, put_text_hint};
-use crate::message::{Message, put_found, put_hint, put_hint_with};
+use crate::diagrams::{NAME_RULE, is_less};
+use crate::faulty::Faulty;
+use crate::hints::{Kind, MARK, put_text_hint};
+use crate::message::{Message, put_hint, put_hint_with};
 use crate::naming::nearest_text;
 use std::alloc::{AllocError, Global};
-use vpg_places::{COMMANDS, Departure, Form, Line, Part, Word, form_of, words_of, words_of_forms};
+use vpg_places::{COMMANDS, Departure, Form, Line, Part, form_of, words_of, words_of_forms};
 
 /// The most bytes of a line.
 const LONGEST_LINE: usize = 4096;
-
-/// A line of a script that is no command.
-#[derive(Drop)]
-struct Refused<'t> {
-    line: Line<'t>,
-    words: Vec<Word<'t>>,
-}
-
-impl<'t> Refused<'t> {
-    /// The word at a place, or an empty one at the line's end.
-    fn word(&self, place: usize) -> Word<'t> {
-        match self.words.get(place) {
-            Some(word) => *word,
-            None => Word {
-                at: self.line.bytes.len(),
-                bytes: &[],
-            },
-        }
-    }
-
-    /// Appends what was found at a place, and what was expected. Where it stands in the line.
-    fn put_found(
-        &self,
-        place: usize,
-        expected: &[u8],
-        out: &mut Vec<u8>,
-    ) -> Result<usize, AllocError> {
-        let word = self.word(place);
-        put_found(word.bytes, b"the line", expected, out)?;
-        Ok(word.at)
-    }
-}
 
 /// Whether a word is a label as it should be.
 fn is_label(word: &[u8]) -> bool {
@@ -69,8 +38,10 @@ fn put_command_hint(alloc: Global, word: &[u8], out: &mut Vec<u8>) -> Result<(),
             out,
         );
     }
+    let word = word.strip_prefix(&MARK).unwrap_or(word);
     let commands = words_of_forms(alloc, &COMMANDS)?;
     match nearest_text(alloc, &commands, word)? {
+        Some(command) if command.as_bytes() == word => Ok(()),
         Some(command) => put_hint_with(b"is ", command.as_bytes(), b" meant?", out),
         None => put_hint(b"`vpgdesk --help` lists the commands", out),
     }
@@ -79,14 +50,14 @@ fn put_command_hint(alloc: Global, word: &[u8], out: &mut Vec<u8>) -> Result<(),
 /// Appends what is wrong with a word that should be a command.
 fn put_unknown(
     alloc: Global,
-    refused: &Refused<'_>,
+    faulty: &Faulty<'_>,
     place: usize,
     out: &mut Vec<u8>,
 ) -> Result<usize, AllocError> {
-    let at = refused.put_found(place, b"a command", out)?;
-    put_command_hint(alloc, refused.word(place).bytes, out)?;
-    if refused.line.number == 1 {
-        put_text_hint(refused.line.bytes, Kind::Script, out)?;
+    let at = faulty.put_found(place, b"a command", out)?;
+    put_command_hint(alloc, faulty.word(place).bytes, out)?;
+    if faulty.line.number == 1 {
+        put_text_hint(faulty.line.bytes, Kind::Script, out)?;
     }
     Ok(at)
 }
@@ -98,18 +69,18 @@ fn put_argument_hint(
     out: &mut Vec<u8>,
 ) -> Result<(), AllocError> {
     match departure.expected {
+        _ if word.starts_with(b"#") => put_hint(b"a comment is a line of its own", out),
         Some(part) if part.is_name() && !word.is_empty() => put_hint(NAME_RULE, out),
         Some(Part::Serial | Part::Vertex | Part::Number) if !word.is_empty() => {
             put_hint(b"a number is digits alone", out)
         }
-        None if word.starts_with(b"#") => { put_hint(b"a comment is a line of its own", out) }
         _ => Ok(()),
     }
 }
 
 /// Appends where the arguments of a command depart from its form. Those behind a place are its arguments.
 fn put_departure(
-    refused: &Refused<'_>,
+    faulty: &Faulty<'_>,
     form: &Form,
     departure: Departure,
     first: usize,
@@ -120,52 +91,72 @@ fn put_departure(
         Some(part) => part.told(),
         None => b"the end of the line",
     };
-    let at = refused.put_found(place, expected, out)?;
+    let at = faulty.put_found(place, expected, out)?;
     put_hint_with(b"it is written ", form.written.as_bytes(), b"", out)?;
-    put_argument_hint(departure, refused.word(place).bytes, out)?;
+    put_argument_hint(departure, faulty.word(place).bytes, out)?;
     Ok(at)
 }
 
-/// Appends that the last number of a line is too great.
-fn put_too_great(refused: &Refused<'_>, out: &mut Vec<u8>) -> Result<usize, AllocError> {
-    let place = refused.words.len().saturating_sub(1);
-    let at = refused.put_found(place, b"a smaller number", out)?;
-    put_hint(
-        b"a vertex is at most 4,294,967,295, the sweeps of `settle` at most 1,000,000,000",
-        out,
-    )?;
-    Ok(at)
+/// The greatest number that a command of this form takes, in digits, and what is expected of it.
+fn limit_of(form: &Form) -> (&'static [u8], &'static [u8]) {
+    if form.word == "settle" {
+        (b"1000000000", b"at most 1,000,000,000 sweeps")
+    } else if form.word == "commit" || form.parts.contains(&Part::Serial) {
+        (
+            b"18446744073709551615",
+            b"a number up to 18,446,744,073,709,551,615",
+        )
+    } else {
+        (
+            b"4294967295",
+            b"the identifier of a vertex, up to 4,294,967,295",
+        )
+    }
+}
+
+/// The place of the first word that is a number above a limit, from a place on.
+fn great_place(faulty: &Faulty<'_>, first: usize, limit: &[u8]) -> usize {
+    for (place, word) in faulty.words.iter().enumerate() {
+        let is_number = word.bytes.iter().all(|b| b.is_ascii_digit());
+        if place >= first && is_number && is_less(limit, word.bytes) {
+            return place;
+        }
+    }
+    first
+}
+
+/// Appends which number of a line is too great.
+fn put_too_great(
+    faulty: &Faulty<'_>,
+    form: &Form,
+    first: usize,
+    out: &mut Vec<u8>,
+) -> Result<usize, AllocError> {
+    let (limit, expected) = limit_of(form);
+    faulty.put_found(great_place(faulty, first, limit), expected, out)
 }
 
 /// Appends what is wrong with the arguments of a command, which stands at a place.
 fn put_arguments(
-    refused: &Refused<'_>,
+    faulty: &Faulty<'_>,
     form: &Form,
     command: usize,
     out: &mut Vec<u8>,
 ) -> Result<usize, AllocError> {
     let first = command.saturating_add(1);
-    let arguments = refused.words.get(first..).unwrap_or(&[]);
+    let arguments = faulty.words.get(first..).unwrap_or(&[]);
     match form.departure(arguments) {
-        Some(departure) => put_departure(refused, form, departure, first, out),
-        None => put_too_great(refused, out),
+        Some(departure) => put_departure(faulty, form, departure, first, out),
+        None => put_too_great(faulty, form, first, out),
     }
 }
 
 /// Appends what is wrong with a line. Where it stands in the line.
-fn put_refused(
-    alloc: Global,
-    refused: &Refused<'_>,
-    out: &mut Vec<u8>,
-) -> Result<usize, AllocError> {
-    let command = if is_label(refused.word(0).bytes) {
-        1
-    } else {
-        0
-    };
-    match form_of(&COMMANDS, refused.word(command).bytes) {
-        Some(form) => put_arguments(refused, &form, command, out),
-        None => put_unknown(alloc, refused, command, out),
+fn put_refused(alloc: Global, faulty: &Faulty<'_>, out: &mut Vec<u8>) -> Result<usize, AllocError> {
+    let command = if is_label(faulty.word(0).bytes) { 1 } else { 0 };
+    match form_of(&COMMANDS, faulty.word(command).bytes) {
+        Some(form) => put_arguments(faulty, &form, command, out),
+        None => put_unknown(alloc, faulty, command, out),
     }
 }
 
@@ -176,7 +167,12 @@ fn put_line(alloc: Global, line: Line<'_>, out: &mut Vec<u8>) -> Result<usize, A
         return Ok(LONGEST_LINE);
     }
     let words = words_of(alloc, line.bytes, false)?;
-    put_refused(alloc, &Refused { line, words }, out)
+    let faulty = Faulty {
+        text: line.bytes,
+        line,
+        words,
+    };
+    put_refused(alloc, &faulty, out)
 }
 
 /// Why a line of a script, of this number, is no command.

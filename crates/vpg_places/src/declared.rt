@@ -38,7 +38,7 @@ fn declare<'t>(
     };
     let first = first_child(&form);
     for (place, word) in rest.iter().enumerate() {
-        if place >= first && (form.is_list || place < form.parts.len()) {
+        if place >= first && (form.rest.is_some() || place < form.parts.len()) {
             declared.push(Declared {
                 at: line.from.saturating_add(word.at),
                 name: word.bytes,

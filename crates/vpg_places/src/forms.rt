@@ -19,6 +19,11 @@ pub enum Part {
     Table,
     Vertex,
     Number,
+    /// What is asked why.
+    Asked,
+    /// What is asserted of the page, or the vertex of which something is.
+    Asserted,
+    Verdict,
 }
 
 impl Part {
@@ -29,7 +34,10 @@ impl Part {
                 is_feature_name(word),
             Part::Low | Part::High | Part::Serial | Part::Vertex | Part::Number => are_digits(word),
             Part::Colon => word == b":".as_slice(),
-            Part::Table => word == b"hopeful".as_slice() || word == b"dual".as_slice(),
+            Part::Table => is_one_of(word, &["hopeful", "dual"]),
+            Part::Asked => are_digits(word) || is_feature_name(without_sign(word)),
+            Part::Asserted => are_digits(word) || is_one_of(word, &["full", "settled"]),
+            Part::Verdict => is_one_of(word, &["hopeless", "possible", "sure", "unsure"]),
         }
     }
 
@@ -55,12 +63,27 @@ impl Part {
             Part::Table => b"`hopeful` or `dual`",
             Part::Vertex => b"the identifier of a vertex",
             Part::Number => b"a number",
+            Part::Asked => b"a vertex or a feature, with `+` or `-` where it is decided",
+            Part::Asserted => b"a vertex and its verdicts, or `full` or `settled` alone",
+            Part::Verdict => b"`hopeless`, `possible`, `sure` or `unsure`",
         }
     }
 }
 
 fn are_digits(word: &[u8]) -> bool {
     word.iter().all(|b| b.is_ascii_digit())
+}
+
+fn is_one_of(word: &[u8], others: &[&'static str]) -> bool {
+    others.iter().any(|other| other.as_bytes() == word)
+}
+
+/// A word without the sign in front of it.
+fn without_sign(word: &[u8]) -> &[u8] {
+    match word {
+        [b'+' | b'-', rest @ ..] => rest,
+        _ => word,
+    }
 }
 
 /// A kind of line: its first word, how it is written, and what stands behind the first word.
@@ -71,8 +94,8 @@ pub struct Form {
     pub parts: &'static [Part],
     /// How many of the parts may be left out at the end.
     pub optional: usize,
-    /// Whether further names may follow.
-    pub is_list: bool,
+    /// What each further word is, where there may be any.
+    pub rest: Option<Part>,
 }
 
 /// Where a line departs from its form: the place among its words, and what is expected there, or else the line's end.
@@ -98,24 +121,39 @@ impl Form {
                 });
             }
         }
-        self.departure_behind(words)
-    }
-
-    /// The same of the words behind the parts.
-    fn departure_behind(&self, words: &[Word<'_>]) -> Option<Departure> {
-        let expected = if self.is_list {
-            Some(Part::Child)
-        } else {
-            None
-        };
-        for (place, word) in words.iter().enumerate() {
-            let is_fit = place < self.parts.len() || self.is_list && Part::Child.fits(word.bytes);
-            if !is_fit {
-                return Some(Departure { place, expected });
-            }
+        if self.parts.contains(&Part::Asserted) {
+            return departure_of_asserted(words);
         }
-        None
+        departure_behind(words, self.parts.len(), self.rest)
     }
+}
+
+/// The same of the words behind so many, each of which has to be this part, or there may be none.
+fn departure_behind(words: &[Word<'_>], parts: usize, rest: Option<Part>) -> Option<Departure> {
+    for (place, word) in words.iter().enumerate() {
+        let is_fit = place < parts || rest.is_some_and(|part| part.fits(word.bytes));
+        if !is_fit {
+            return Some(Departure {
+                place,
+                expected: rest,
+            });
+        }
+    }
+    None
+}
+
+/// The same of the words of an assertion, of which the first is as it should be. At least one verdict follows a vertex,
+/// and nothing another word.
+fn departure_of_asserted(words: &[Word<'_>]) -> Option<Departure> {
+    let is_vertex = words.first().is_some_and(|word| are_digits(word.bytes));
+    let rest = if is_vertex { Some(Part::Verdict) } else { None };
+    if is_vertex && words.len() == 1 {
+        return Some(Departure {
+            place: 1,
+            expected: rest,
+        });
+    }
+    departure_behind(words, 1, rest)
 }
 
 /// The lines of diagrams.
@@ -125,35 +163,35 @@ pub static LINES: [Form; 8] = [
         written: "root NAME",
         parts: &[Part::Root],
         optional: 0,
-        is_list: false,
+        rest: None,
     },
     Form {
         word: "mandatory",
         written: "mandatory PARENT CHILD",
         parts: &[Part::Parent, Part::Child],
         optional: 0,
-        is_list: false,
+        rest: None,
     },
     Form {
         word: "optional",
         written: "optional PARENT CHILD",
         parts: &[Part::Parent, Part::Child],
         optional: 0,
-        is_list: false,
+        rest: None,
     },
     Form {
         word: "alternative",
         written: "alternative PARENT: CHILD ..",
         parts: &[Part::Parent, Part::Colon, Part::Child],
         optional: 0,
-        is_list: true,
+        rest: Some(Part::Child),
     },
     Form {
         word: "or",
         written: "or PARENT: CHILD ..",
         parts: &[Part::Parent, Part::Colon, Part::Child],
         optional: 0,
-        is_list: true,
+        rest: Some(Part::Child),
     },
     Form {
         word: "group",
@@ -166,137 +204,193 @@ pub static LINES: [Form; 8] = [
             Part::Child,
         ],
         optional: 0,
-        is_list: true,
+        rest: Some(Part::Child),
     },
     Form {
         word: "requires",
         written: "requires FEATURE FEATURE",
         parts: &[Part::First, Part::Second],
         optional: 0,
-        is_list: false,
+        rest: None,
     },
     Form {
         word: "excludes",
         written: "excludes FEATURE FEATURE",
         parts: &[Part::First, Part::Second],
         optional: 0,
-        is_list: false,
+        rest: None,
     },
 ];
 
 /// The commands of scripts.
-pub static COMMANDS: [Form; 16] = [
+pub static COMMANDS: [Form; 24] = [
     Form {
         word: "select",
         written: "select F",
         parts: &[Part::Feature],
         optional: 0,
-        is_list: false,
+        rest: None,
     },
     Form {
         word: "exclude",
         written: "exclude F",
         parts: &[Part::Feature],
         optional: 0,
-        is_list: false,
+        rest: None,
     },
     Form {
         word: "retract",
         written: "retract F",
         parts: &[Part::Feature],
         optional: 0,
-        is_list: false,
+        rest: None,
     },
     Form {
         word: "undo",
         written: "undo [S]",
         parts: &[Part::Serial],
         optional: 1,
-        is_list: false,
+        rest: None,
     },
     Form {
         word: "redo",
         written: "redo [S]",
         parts: &[Part::Serial],
         optional: 1,
-        is_list: false,
+        rest: None,
     },
     Form {
         word: "keep",
         written: "keep S",
         parts: &[Part::Serial],
         optional: 0,
-        is_list: false,
+        rest: None,
     },
     Form {
         word: "forget",
         written: "forget S",
         parts: &[Part::Serial],
         optional: 0,
-        is_list: false,
+        rest: None,
     },
     Form {
         word: "lift",
         written: "lift TABLE V",
         parts: &[Part::Table, Part::Vertex],
         optional: 0,
-        is_list: false,
+        rest: None,
     },
     Form {
         word: "harvest",
         written: "harvest",
         parts: &[],
         optional: 0,
-        is_list: false,
+        rest: None,
     },
     Form {
         word: "commit",
         written: "commit K",
         parts: &[Part::Number],
         optional: 0,
-        is_list: false,
+        rest: None,
     },
     Form {
         word: "settle",
         written: "settle [N]",
         parts: &[Part::Number],
         optional: 1,
-        is_list: false,
+        rest: None,
     },
     Form {
         word: "show",
-        written: "show",
+        written: "show [V ..]",
         parts: &[],
         optional: 0,
-        is_list: false,
+        rest: Some(Part::Vertex),
     },
     Form {
         word: "trail",
         written: "trail",
         parts: &[],
         optional: 0,
-        is_list: false,
+        rest: None,
     },
     Form {
         word: "products",
         written: "products",
         parts: &[],
         optional: 0,
-        is_list: false,
+        rest: None,
     },
     Form {
         word: "plan",
         written: "plan",
         parts: &[],
         optional: 0,
-        is_list: false,
+        rest: None,
     },
     Form {
         word: "count",
         written: "count",
         parts: &[],
         optional: 0,
-        is_list: false,
+        rest: None,
+    },
+    Form {
+        word: "known",
+        written: "known F",
+        parts: &[Part::Feature],
+        optional: 0,
+        rest: None,
+    },
+    Form {
+        word: "assert",
+        written: "assert V WORD .. | full | settled",
+        parts: &[Part::Asserted],
+        optional: 0,
+        rest: Some(Part::Verdict),
+    },
+    Form {
+        word: "why",
+        written: "why V | F | +F | -F",
+        parts: &[Part::Asked],
+        optional: 0,
+        rest: None,
+    },
+    Form {
+        word: "example",
+        written: "example V",
+        parts: &[Part::Vertex],
+        optional: 0,
+        rest: None,
+    },
+    Form {
+        word: "counterexample",
+        written: "counterexample V",
+        parts: &[Part::Vertex],
+        optional: 0,
+        rest: None,
+    },
+    Form {
+        word: "offer",
+        written: "offer V",
+        parts: &[Part::Vertex],
+        optional: 0,
+        rest: None,
+    },
+    Form {
+        word: "needs",
+        written: "needs V",
+        parts: &[Part::Vertex],
+        optional: 0,
+        rest: None,
+    },
+    Form {
+        word: "repair",
+        written: "repair V",
+        parts: &[Part::Vertex],
+        optional: 0,
+        rest: None,
     },
 ];
 

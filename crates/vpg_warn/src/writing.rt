@@ -26,16 +26,16 @@ const SORTS: [Sort; 7] = [
     Sort::Unreached,
 ];
 
-/// What several of a sort are.
-fn said_of_several(sort: Sort) -> &'static [u8] {
+/// What those of a sort are.
+fn called(sort: Sort) -> &'static [u8] {
     match sort {
-        Sort::NoProduct => b"diagrams have no product",
-        Sort::NoneFound => b"diagrams may have no product",
-        Sort::Dead => b"features are in no product",
-        Sort::Unnamed => b"features are named by no guard",
-        Sort::Stuck => b"vertices have no moves",
-        Sort::NoStart => b"starts are no vertices",
-        Sort::Unreached => b"vertices cannot be reached from the start",
+        Sort::NoProduct => b"diagrams without a product",
+        Sort::NoneFound => b"diagrams that may have no product",
+        Sort::Dead => b"features that are in no product",
+        Sort::Unnamed => b"features that no guard names",
+        Sort::Stuck => b"vertices without moves",
+        Sort::NoStart => b"starts that are no vertices",
+        Sort::Unreached => b"vertices that cannot be reached from the start",
     }
 }
 
@@ -108,7 +108,7 @@ fn put_said(
         Sort::Dead => put_feature(features, index, b"is in no product", out),
         Sort::Unnamed => put_feature(features, index, b"is named by no guard", out),
         Sort::Stuck => put_vertex(game, names, index, loss_of(game, index), out),
-        Sort::NoStart => out.extend_from_slice(b"the game starts at a vertex that it has not"),
+        Sort::NoStart => out.extend_from_slice(b"no entry has the identifier of this start"),
         Sort::Unreached => {
             put_vertex(game, names, index, b"cannot be reached from the start", out)
         }
@@ -149,10 +149,10 @@ fn put_warning(
 fn put_more(name: &str, more: usize, sort: Sort, out: &mut Vec<u8>) -> Result<(), AllocError> {
     put_text(name.as_bytes(), out)?;
     out.extend_from_slice(b": warning: ")?;
+    out.extend_from_slice(called(sort))?;
+    out.extend_from_slice(b": ")?;
     put_number(more, out)?;
-    out.extend_from_slice(b" more ")?;
-    out.extend_from_slice(said_of_several(sort))?;
-    out.extend_from_slice(b"\n")
+    out.extend_from_slice(b" more\n")
 }
 
 /// Appends the warnings of a sort.

@@ -50,13 +50,13 @@ harvest's number, N a number):
   N: COMMAND             session N (1 to 64) gives the command
 
 Status: 0; 1 where the input is refused or something fails (an answer
-`refused ..` to a line leaves 0), told by one line on standard error; 2 where
-the words are wrong.
+`refused ..` to a line leaves 0), told by one line on standard error, and with
+--explain by further lines behind it; 2 where the words are wrong.
 
 Examples:
   printf 'exclude f\\nsettle\\nshow\\n' | vpgdesk
   cd examples/elevator
-  vpgdesk check game diagram
+  vpgdesk lint game diagram
   vpgdesk run game diagram script
   vpgdesk project game diagram lift sensor overload
   vpgdesk draw game diagram | dot -Tsvg > game.svg
@@ -81,3 +81,5 @@ pub(crate) const FEATURE_HELP: &str =
     "The features of the product, all of them, the root among them";
 
 pub(crate) const FEATURES_HELP: &str = "Draw the feature diagram in place of the game";
+
+pub(crate) const EXPLAIN_HELP: &str = "Say where and why an input is refused";

@@ -1,9 +1,9 @@
 //! How words are read.
 use crate::help::{
-    ABOUT, AFTER, DIAGRAM_HELP, FEATURE_HELP, FEATURES_HELP, GAME_HELP, LIFTERS_HELP, SCRIPT_HELP,
-    SHORT_AFTER,
+    ABOUT, AFTER, DIAGRAM_HELP, EXPLAIN_HELP, FEATURE_HELP, FEATURES_HELP, GAME_HELP, LIFTERS_HELP,
+    SCRIPT_HELP, SHORT_AFTER,
 };
-use crate::task::Task;
+use crate::task::{Asked, Task};
 use clap::builder::ValueParser;
 use clap::error::ErrorKind;
 use clap::{Arg, ArgAction, ArgMatches, Command, Error};
@@ -35,8 +35,13 @@ fn over_family<'a>(
         .arg(file(alloc, "DIAGRAM", DIAGRAM_HELP))
 }
 
+/// The same of a command that explains faults where it is asked to.
+fn explaining<'a>(alloc: Global, name: &'a str, about: &'a str) -> Result<Command<'a>, AllocError> {
+    over_family(alloc, name, about)?.arg(flag(alloc, "explain", EXPLAIN_HELP))
+}
+
 fn run_command<'a>(alloc: Global) -> Result<Command<'a>, AllocError> {
-    over_family(alloc, "run", "Carries a script out on a family")?
+    explaining(alloc, "run", "Carries a script out on a family")?
         .arg(file(alloc, "SCRIPT", SCRIPT_HELP))?
         .arg(
             Arg::new(alloc, "lifters")
@@ -49,7 +54,7 @@ fn run_command<'a>(alloc: Global) -> Result<Command<'a>, AllocError> {
 }
 
 fn project_command<'a>(alloc: Global) -> Result<Command<'a>, AllocError> {
-    over_family(
+    explaining(
         alloc,
         "project",
         "Writes the plain parity game of one product",
@@ -58,7 +63,7 @@ fn project_command<'a>(alloc: Global) -> Result<Command<'a>, AllocError> {
 }
 
 fn draw_command<'a>(alloc: Global) -> Result<Command<'a>, AllocError> {
-    over_family(alloc, "draw", "Draws the game as a Graphviz text")?.arg(flag(
+    explaining(alloc, "draw", "Draws the game as a Graphviz text")?.arg(flag(
         alloc,
         "features",
         FEATURES_HELP,
@@ -77,11 +82,15 @@ fn with_inner<'a>(
 }
 
 fn check_command<'a>(alloc: Global) -> Result<Command<'a>, AllocError> {
-    over_family(
+    explaining(
         alloc,
         "check",
         "Counts vertices, edges, features and measures",
     )
+}
+
+fn lint_command<'a>(alloc: Global) -> Result<Command<'a>, AllocError> {
+    over_family(alloc, "lint", "Says where a family is, or looks, wrong")
 }
 
 /// All that the program may be called with.
@@ -95,6 +104,7 @@ fn command<'a>(alloc: Global) -> Result<Command<'a>, AllocError> {
     let command = with_inner(command, run_command(alloc))?;
     let command = with_inner(command, project_command(alloc))?;
     let command = with_inner(command, check_command(alloc))?;
+    let command = with_inner(command, lint_command(alloc))?;
     with_inner(command, draw_command(alloc))
 }
 
@@ -184,6 +194,7 @@ fn task_of<'a>(
             features: features(alloc, matches)?,
         })),
         "check" => Ok(Some(Task::Check { paths })),
+        "lint" => Ok(Some(Task::Lint { paths })),
         "draw" => Ok(Some(Task::Draw {
             paths,
             subject: subject(matches),
@@ -192,23 +203,34 @@ fn task_of<'a>(
     }
 }
 
+/// Whether the faults of a command are explained. `lint` always does so.
+fn explains(name: &str, matches: &ArgMatches<'_>) -> bool {
+    name == "lint" || matches.get_flag("explain")
+}
+
 /// What words ask for that the parser accepted.
-fn accepted<'a>(alloc: Global, matches: &ArgMatches<'a>) -> Result<Task<'a>, Error> {
+fn accepted<'a>(alloc: Global, matches: &ArgMatches<'a>) -> Result<Asked<'a>, Error> {
     let Some((name, inner)) = matches.subcommand() else {
-        return Ok(Task::BuiltIn);
+        return Ok(Asked {
+            task: Task::BuiltIn,
+            explains: false,
+        });
     };
     if has_sign(inner) {
         return Err(signed(alloc)?);
     }
     match task_of(alloc, name, inner)? {
-        Some(task) => Ok(task),
+        Some(task) => Ok(Asked {
+            task,
+            explains: explains(name, inner),
+        }),
         None => Err(lacking(alloc)?),
     }
 }
 
 /// What the words ask for, the first of them being the program's name; else what is told of them, help and the version
 /// among it.
-pub fn read<'a>(alloc: Global, words: &'a [String]) -> Result<Task<'a>, Error> {
+pub fn read<'a>(alloc: Global, words: &'a [String]) -> Result<Asked<'a>, Error> {
     let matches = command(alloc)?.try_get_matches_from(words)?;
     accepted(alloc, &matches)
 }

@@ -3,6 +3,14 @@ use vpg_family::{Paths, Subject};
 
 /// What the words ask for.
 #[derive(Drop)]
+pub struct Asked<'a> {
+    pub task: Task<'a>,
+    /// Whether lines are to say where and why an input is refused.
+    pub explains: bool,
+}
+
+/// What is to be done.
+#[derive(Drop)]
 pub enum Task<'a> {
     /// A script from standard input, on the family that is built in.
     BuiltIn,
@@ -22,9 +30,35 @@ pub enum Task<'a> {
     Check {
         paths: Paths<'a>,
     },
+    /// What looks wrong in a family.
+    Lint {
+        paths: Paths<'a>,
+    },
     /// A picture of a family.
     Draw {
         paths: Paths<'a>,
         subject: Subject,
     },
+}
+
+impl<'a> Task<'a> {
+    /// The files of the family that it is about, where they are named.
+    pub fn paths(&self) -> Option<Paths<'a>> {
+        match self {
+            Task::BuiltIn => None,
+            Task::Run { paths, .. } => Some(*paths),
+            Task::Project { paths, .. } => Some(*paths),
+            Task::Check { paths } => Some(*paths),
+            Task::Lint { paths } => Some(*paths),
+            Task::Draw { paths, .. } => Some(*paths),
+        }
+    }
+
+    /// The file of its script, where it has one.
+    pub fn script(&self) -> Option<&'a str> {
+        match self {
+            Task::Run { script, .. } => Some(*script),
+            _ => None,
+        }
+    }
 }

@@ -1,12 +1,14 @@
 //! `vpgdesk` configures product families whose behaviour is a variability parity game.
 //!
-//! Without words it reads a script of commands from standard input, carries it out on a desk over the game and the diagram that
-//! are built in, and writes the answers to standard output. `run` does so with the files of a game, a diagram and a script,
-//! `project` writes the plain game of one product, `check` counts a game and tells its top measures, and `draw` writes a picture.
+//! Without words it reads a script of commands from standard input, carries it out on a desk over the game and the
+//! diagram that are built in, and writes the answers to standard output. `run` does so with the files of a game, a
+//! diagram and a script, `project` writes the plain game of one product, `check` counts a game and tells its top
+//! measures, `lint` warns of what looks wrong in a family, and `draw` writes a picture.
 //!
-//! The status is 0; 1 where the input is refused or something fails, and then one line on standard error, `vpgdesk: ` and the
-//! fault, says what; 2 where the words are wrong. An answer `refused ..` to a line of a script leaves 0. What was written before
-//! stays written. Formats, commands and faults are told in `docs/FORMATS.md`; what a run promises stands on `run` of `vpg_report`.
+//! The status is 0; 1 where the input is refused or something fails, and then one line on standard error, `vpgdesk: `
+//! and the fault, says what, and with `--explain` further lines behind it say where and why; 2 where the words are
+//! wrong. An answer `refused ..` to a line of a script leaves 0. What was written before stays written. Formats,
+//! commands and faults are told in `docs/FORMATS.md`; what a run promises stands on `run` of `vpg_report`.
 #![tactic(auto)]
 
 ghost use Rattle.std.specs.Io.KnownBytes.{Appends};
@@ -27,10 +29,11 @@ use std::sync::Wait;
 use std::thread::Threads;
 use std::{env, io};
 use vpg_family::{
-    Family, Fault, Paths, Subject, drawn, line_of, open_script, read_family, read_texts,
+    Family, Fault, Paths, Subject, drawn, explained, line_of, linted, open_script, read_family,
+    read_texts,
 };
 use vpg_script::{Device, Sink};
-use vpg_words::{Task, not_text, read};
+use vpg_words::{Asked, Task, not_text, read};
 
 /// The diagram that is built in: a root with two features, each of which may be left out.
 const DIAGRAM: &str = "root r\noptional r f\noptional r g\n";
@@ -76,6 +79,13 @@ fn draw(rt: &HostRuntime, alloc: Global, paths: Paths<'_>, subject: Subject) -> 
     put(&mut Device::writer(rt.stdout().lock()), &picture)
 }
 
+/// Writes what looks wrong in a family.
+fn lint(rt: &HostRuntime, alloc: Global, paths: Paths<'_>) -> Result<(), Fault> {
+    let texts = read_texts(rt, alloc, paths)?;
+    let lines = linted(alloc, paths, &texts.diagram, &texts.game)?;
+    put(&mut Device::writer(rt.stdout().lock()), &lines)
+}
+
 /// Does what the words ask for. The runtime is handed in twice: for its files, and for the threads of the lifters.
 fn carry_out<T: Threads + Wait + Sync>(
     rt: &HostRuntime,
@@ -113,12 +123,41 @@ fn carry_out<T: Threads + Wait + Sync>(
             let text = family.counted(alloc)?;
             put(&mut Device::writer(rt.stdout().lock()), &text)
         }
+        Task::Lint { paths } => lint(rt, alloc, *paths),
         Task::Draw { paths, subject } => draw(rt, alloc, *paths, *subject),
     }
 }
 
-/// Tells of a fault, in one line on standard error.
-fn tell(rt: &HostRuntime, alloc: Global, fault: &Fault) {
+/// Lines that say where and why an input is refused. There are none where memory runs out.
+fn explanation_of(rt: &HostRuntime, alloc: Global, task: &Task<'_>, fault: &Fault) -> Vec<u8> {
+    let Some(paths) = task.paths() else {
+        return Vec::new(alloc);
+    };
+    match explained(rt, alloc, paths, task.script(), fault) {
+        Ok(lines) => lines,
+        Err(_) => Vec::new(alloc),
+    }
+}
+
+/// Does what the words ask for. Where it is refused, and they ask for it, the lines are what explains it.
+fn carry_out_asked<T: Threads + Wait + Sync>(
+    rt: &HostRuntime,
+    threads: &T,
+    alloc: Global,
+    asked: &Asked<'_>,
+    lines: &mut Vec<u8>,
+) -> Result<(), Fault> {
+    let ended = carry_out(rt, threads, alloc, &asked.task);
+    if let Err(fault) = &ended {
+        if asked.explains {
+            *lines = explanation_of(rt, alloc, &asked.task, fault);
+        }
+    }
+    ended
+}
+
+/// Tells of a fault, in one line on standard error, and then in the lines that explain it.
+fn tell(rt: &HostRuntime, alloc: Global, fault: &Fault, lines: &[u8]) {
     let mut writer = Device::writer(rt.stderr().lock());
     let told = match line_of(alloc, fault) {
         Ok(line) => writer.put(&line),
@@ -126,6 +165,7 @@ fn tell(rt: &HostRuntime, alloc: Global, fault: &Fault) {
     };
     // Where this fails too, the status is all that tells of the fault.
     let _ = told;
+    let _ = writer.put(lines);
 }
 
 /// Prints what is told of the words: help and the version to standard output, what is wrong with them to standard error.
@@ -149,6 +189,7 @@ fn obey<T: Threads + Wait + Sync>(
     rt: &HostRuntime,
     threads: &T,
     alloc: Global,
+    lines: &mut Vec<u8>,
 ) -> Result<End, Fault> {
     let words: Vec<String> = match env::args(rt) {
         Ok(words) => words.collect(alloc)?,
@@ -156,8 +197,8 @@ fn obey<T: Threads + Wait + Sync>(
         Err(_) => return print(rt, &not_text(alloc)?),
     };
     match read(alloc, &words) {
-        Ok(task) => {
-            carry_out(rt, threads, alloc, &task)?;
+        Ok(asked) => {
+            carry_out_asked(rt, threads, alloc, &asked, lines)?;
             Ok(End::Done)
         }
         Err(told) => print(rt, &told),
@@ -165,9 +206,10 @@ fn obey<T: Threads + Wait + Sync>(
 }
 
 fn main(rt: HostRuntime) -> ExitCode {
-    let ended = obey(&rt, &rt, rt.alloc());
+    let mut lines = Vec::new(rt.alloc());
+    let ended = obey(&rt, &rt, rt.alloc(), &mut lines);
     if let Err(fault) = &ended {
-        tell(&rt, rt.alloc(), fault);
+        tell(&rt, rt.alloc(), fault, &lines);
     }
     status(&ended)
 }

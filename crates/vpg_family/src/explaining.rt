@@ -1,0 +1,195 @@
+//! Lines that say where and why the files of a family, a script over it, or words for its features are refused.
+use crate::family::read_diagram;
+use crate::fault::Fault;
+use crate::files::Paths;
+use std::alloc::{AllocError, Global};
+use std::fs;
+use std::rt::Files;
+use vpg_diagram::DiagramFault;
+use vpg_game::GameFault;
+use vpg_lint::{
+    explain_diagram, explain_game, explain_line, put_message, put_place, put_text, put_unknown,
+};
+use vpg_places::{declared_of, line_at, place_of};
+
+/// The text of a file, where it can be read once more. A pipe gives its bytes once.
+fn text_of<R: Files + AllocGlobal>(rt: &R, path: &str) -> Option<Vec<u8>> {
+    match fs::metadata(rt, path) {
+        Ok(it) if it.is_file() => fs::read(rt, path).ok(),
+        _ => None,
+    }
+}
+
+/// Appends that a file can't be read.
+fn put_unreadable(path: &str, out: &mut Vec<u8>) -> Result<(), AllocError> {
+    put_text(path.as_bytes(), out)?;
+    out.extend_from_slice(b": there is no such file, or it cannot be read\n")
+}
+
+/// Appends why the text of a diagram is refused.
+fn put_diagram(
+    alloc: Global,
+    path: &str,
+    text: &[u8],
+    fault: DiagramFault,
+    out: &mut Vec<u8>,
+) -> Result<(), AllocError> {
+    let message = explain_diagram(alloc, text, fault)?;
+    put_message(path, &message, out)
+}
+
+/// Appends why the text of a game is refused, over the features of a diagram.
+fn put_game(
+    alloc: Global,
+    path: &str,
+    text: &[u8],
+    diagram: &[u8],
+    fault: GameFault,
+    out: &mut Vec<u8>,
+) -> Result<(), AllocError> {
+    let Ok(diagram) = read_diagram(alloc, diagram) else {
+        return Ok(());
+    };
+    let message = explain_game(alloc, text, diagram.names(), fault)?;
+    put_message(path, &message, out)
+}
+
+/// Appends why a line of a script's text is no command.
+fn put_line(
+    alloc: Global,
+    path: &str,
+    text: &[u8],
+    number: usize,
+    out: &mut Vec<u8>,
+) -> Result<(), AllocError> {
+    let message = explain_line(alloc, number, line_at(text, number).bytes)?;
+    put_message(path, &message, out)
+}
+
+/// Appends that the lines of a diagram contradict each other, which stands at its root.
+fn put_conflict(
+    alloc: Global,
+    path: &str,
+    text: &[u8],
+    out: &mut Vec<u8>,
+) -> Result<(), AllocError> {
+    let declared = declared_of(alloc, text)?;
+    let root = declared.first().map_or(0, |it| it.at);
+    put_place(path, place_of(text, root.min(text.len())), out)?;
+    out.extend_from_slice(b"the diagram has no product: its lines contradict each other\n")
+}
+
+/// Appends that a word names no feature of a diagram.
+fn put_word(
+    alloc: Global,
+    diagram: &[u8],
+    word: &[u8],
+    out: &mut Vec<u8>,
+) -> Result<(), AllocError> {
+    match read_diagram(alloc, diagram) {
+        Ok(diagram) => put_unknown(alloc, diagram.names(), word, out),
+        Err(_) => Ok(()),
+    }
+}
+
+/// Appends what a fault means that is told of a diagram, whose text this is.
+fn put_of_diagram(
+    alloc: Global,
+    path: &str,
+    text: &[u8],
+    fault: &Fault,
+    out: &mut Vec<u8>,
+) -> Result<(), AllocError> {
+    match fault {
+        Fault::Diagram { fault } => put_diagram(alloc, path, text, *fault, out),
+        Fault::Conflict { .. } => put_conflict(alloc, path, text, out),
+        Fault::UnknownFeature { name } => put_word(alloc, text, name.as_bytes(), out),
+        _ => Ok(()),
+    }
+}
+
+/// The same, where its file can be read once more.
+fn put_of_diagram_file<R: Files + AllocGlobal>(
+    rt: &R,
+    alloc: Global,
+    path: &str,
+    fault: &Fault,
+    out: &mut Vec<u8>,
+) -> Result<(), AllocError> {
+    match text_of(rt, path) {
+        Some(text) => put_of_diagram(alloc, path, &text, fault, out),
+        None => Ok(()),
+    }
+}
+
+/// Appends why a game is refused, where the files can be read once more.
+fn put_of_game<R: Files + AllocGlobal>(
+    rt: &R,
+    alloc: Global,
+    paths: Paths<'_>,
+    fault: GameFault,
+    out: &mut Vec<u8>,
+) -> Result<(), AllocError> {
+    match (text_of(rt, paths.game), text_of(rt, paths.diagram)) {
+        (Some(game), Some(diagram)) => put_game(alloc, paths.game, &game, &diagram, fault, out),
+        _ => Ok(()),
+    }
+}
+
+/// Appends why a line of a script is no command, where its file can be read once more.
+fn put_of_script<R: Files + AllocGlobal>(
+    rt: &R,
+    alloc: Global,
+    path: &str,
+    number: usize,
+    out: &mut Vec<u8>,
+) -> Result<(), AllocError> {
+    match text_of(rt, path) {
+        Some(text) => put_line(alloc, path, &text, number, out),
+        None => Ok(()),
+    }
+}
+
+/// Appends what a fault means.
+fn put_explained<R: Files + AllocGlobal>(
+    rt: &R,
+    alloc: Global,
+    paths: Paths<'_>,
+    script: Option<&str>,
+    fault: &Fault,
+    out: &mut Vec<u8>,
+) -> Result<(), AllocError> {
+    match (fault, script) {
+        (Fault::DiagramUnreadable, _) => put_unreadable(paths.diagram, out),
+        (Fault::GameUnreadable, _) => put_unreadable(paths.game, out),
+        (Fault::ScriptUnreadable, Some(path)) => put_unreadable(path, out),
+        (Fault::Diagram { .. } | Fault::Conflict { .. } | Fault::UnknownFeature { .. }, _) =>
+            put_of_diagram_file(rt, alloc, paths.diagram, fault, out),
+        (Fault::Game { fault }, _) => put_of_game(rt, alloc, paths, *fault, out),
+        (Fault::Line { line, .. }, Some(path)) => put_of_script(
+            rt,
+            alloc,
+            path,
+            *line as usize,
+            out,
+        ),
+        _ => Ok(()),
+    }
+}
+
+/// Lines that say where and why a file of a family, a line of a script over it, or a word for one of its features is
+/// refused: `FILE:LINE:COLUMN: ..`, and hints. The files are read once more. There are none of other faults, nor where
+/// a file can't be read once more.
+pub fn explained<R: Files + AllocGlobal>(
+    rt: &R,
+    alloc: Global,
+    paths: Paths<'_>,
+    script: Option<&str>,
+    fault: &Fault,
+) -> Result<Vec<u8>, AllocError> {
+    let mut lines = Vec::new(alloc);
+    match put_explained(rt, alloc, paths, script, fault, &mut lines) {
+        Ok(()) => Ok(lines),
+        Err(fault) => Err(fault),
+    }
+}

@@ -1,0 +1,37 @@
+//! A line that has a fault.
+use crate::message::put_found;
+use std::alloc::AllocError;
+use vpg_places::{Line, Word};
+
+/// A line that has a fault, its words, and the text that it stands in.
+#[derive(Drop)]
+pub(crate) struct Faulty<'t> {
+    pub(crate) text: &'t [u8],
+    pub(crate) line: Line<'t>,
+    pub(crate) words: Vec<Word<'t>>,
+}
+
+impl<'t> Faulty<'t> {
+    /// The word at a place, or an empty one at the line's end.
+    pub(crate) fn word(&self, place: usize) -> Word<'t> {
+        match self.words.get(place) {
+            Some(word) => *word,
+            None => Word {
+                at: self.line.bytes.len(),
+                bytes: &[],
+            },
+        }
+    }
+
+    /// Appends what was found at a place, and what was expected. Where it stands in the line.
+    pub(crate) fn put_found(
+        &self,
+        place: usize,
+        expected: &[u8],
+        out: &mut Vec<u8>,
+    ) -> Result<usize, AllocError> {
+        let word = self.word(place);
+        put_found(word.bytes, b"the line", expected, out)?;
+        Ok(word.at)
+    }
+}
