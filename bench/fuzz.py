@@ -4,7 +4,7 @@
     fuzz.py PROGRAM CASES [SEED] [PROCESSES]     e.g. fuzz.py vpgdesk 100000 1 2
 
 Each case begins with a sound family (built in, an example, or a random one), and damages its files, its words or its devices. A run has to end
-within 20 seconds of the processor, and 10 minutes by the clock, with status 0, 1 or 2 and never by a signal:
+within 20 seconds of the processor, and 10 minutes by the clock, with status 0, 1, 2 or 3 and never by a signal:
   0  with nothing on standard error;
   1  with one line there, which is one of the texts that docs/FORMATS.md lists;
   2  with the parser's message about wrong words there, and nothing on standard output.
@@ -79,12 +79,14 @@ TOLD = re.compile(rb"\A(?:Configures|Carries|Counts|Writes|Reads|Print|vpgdesk [
 def kind_of(words, status, out, err):
     """What kind of end this is, or None where it is none of those allowed."""
     task = os.fsencode(words[0]) if words else b""
-    if status == 0 and not err:
+    if status == 0 and not err and not re.search(rb"^fails", out, re.M):
         # a lone `--` is as no word
         forms = {b"": ANSWERS, b"--": ANSWERS, b"run": ANSWERS, b"project": PLAIN, b"check": COUNTS}
         if task in forms and forms[task].match(out):
             return "done"
         return "help or version" if TOLD.match(out) else None
+    if status == 3 and not err and task in (b"", b"--", b"run") and ANSWERS.match(out):
+        return "assertion failed" if re.search(rb"^fails", out, re.M) else None
     if status == 1 and ANSWERS.match(out):
         return next((kind for kind, text in FAULTS.items() if text.match(err)), None)
     if status == 2 and not out and WRONG_WORDS.match(err):

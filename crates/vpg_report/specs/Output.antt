@@ -2,13 +2,16 @@
 use Rattle.std.specs.Prelude.{◌≡◌, ℕ, List, Option, Result, Ok, Err}
 use Rattle.vpg_desk.specs.declared.fault.OpenFault.{OpenFault}
 use Rattle.vpg_script.specs.Output.{Machine, ScriptOutcome}
+use Rattle.vpg_script.specs.Manners.{MannerOutcome}
+use Rattle.vpg_script.specs.declared.serving.Manner.{Manner}
+use Rattle.vpg_script.specs.declared.serving.Ending.{Ending}
 use Rattle.vpg_script.specs.declared.serving.ScriptFault.{ScriptFault}
 use Rattle.vpg_script.specs.declared.serving.ScriptFault.TheVariants as ends
 use Rattle.vpg_report.specs.declared.runs.RunFault.{RunFault}
 use Rattle.vpg_report.specs.declared.runs.RunFault.TheVariants as stops
 
 -- how a run ends that opened an office, and carried its script out to this end
-abbrev pub ended : Result (Unit {0}) ScriptFault → Result (Unit {0}) RunFault
+abbrev pub ended : {A : Type 0} → Result A ScriptFault → Result A RunFault
 ended (Ok done) = Ok done
 ended (Err (ends.Line n fault)) = Err (stops.Line n fault)
 ended (Err ends.Read) = Err stops.Read
@@ -33,4 +36,22 @@ Outcome {S} serves Refuses old input left before after (Err stops.Memory) =
 Outcome {S} serves Refuses old input left before after (Err stops.Stray) =
     ScriptOutcome serves old input left before after (Err ends.Stray)
 Outcome {S} serves Refuses old input left before after (Err (stops.Open fault)) =
+    Refuses fault × (left ≡ input) × (after ≡ before)
+
+-- the same of a run in a manner
+abbrev pub OutcomeAs : {S : Type 0} → Manner → Machine S → (OpenFault → Type 0) → S → Option (List ℕ) →
+    Option (List ℕ) → Option (List ℕ) → Option (List ℕ) → Result Ending RunFault → Type 0
+OutcomeAs {S} manner serves Refuses old input left before after (Ok ending) =
+    MannerOutcome manner serves old input left before after (Ok ending)
+OutcomeAs {S} manner serves Refuses old input left before after (Err (stops.Line n fault)) =
+    MannerOutcome manner serves old input left before after (Err (ends.Line n fault))
+OutcomeAs {S} manner serves Refuses old input left before after (Err stops.Read) =
+    MannerOutcome manner serves old input left before after (Err ends.Read)
+OutcomeAs {S} manner serves Refuses old input left before after (Err stops.Write) =
+    MannerOutcome manner serves old input left before after (Err ends.Write)
+OutcomeAs {S} manner serves Refuses old input left before after (Err stops.Memory) =
+    MannerOutcome manner serves old input left before after (Err ends.Memory)
+OutcomeAs {S} manner serves Refuses old input left before after (Err stops.Stray) =
+    MannerOutcome manner serves old input left before after (Err ends.Stray)
+OutcomeAs {S} manner serves Refuses old input left before after (Err (stops.Open fault)) =
     Refuses fault × (left ≡ input) × (after ≡ before)

@@ -5,7 +5,7 @@ use Rattle.vpg_report.specs.declared.runs.RunFault.TheVariants as stops
 
 -- This holds of a run that opened an office: of each but one that ends in Open, or in Memory, which may have come
 -- before.
-abbrev pub Opens : Result (Unit {0}) RunFault → Type 0 → Type 0
+abbrev pub Opens : {A : Type 0} → Result A RunFault → Type 0 → Type 0
 Opens (Err (stops.Open fault)) P = ⊤
 Opens (Err stops.Memory) P = ⊤
 Opens result P = P
@@ -17,11 +17,11 @@ IsThrough (Err (stops.Line n fault)) = ⊤
 IsThrough _ = ⊥
 
 -- This holds of each run but one that ends in Read.
-abbrev pub UnlessRead : Result (Unit {0}) RunFault → Type 0 → Type 0
+abbrev pub UnlessRead : {A : Type 0} → Result A RunFault → Type 0 → Type 0
 UnlessRead (Err stops.Read) P = ⊤
 UnlessRead result P = P
 
 -- This holds of each run but one that ends in Write.
-abbrev pub UnlessWrite : Result (Unit {0}) RunFault → Type 0 → Type 0
+abbrev pub UnlessWrite : {A : Type 0} → Result A RunFault → Type 0 → Type 0
 UnlessWrite (Err stops.Write) P = ⊤
 UnlessWrite result P = P

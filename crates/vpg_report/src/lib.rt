@@ -1,6 +1,7 @@
 //! Runs: a script is carried out on a desk, and each of its lines answered.
 //!
-//! The program above uses `run`, which opens a desk and carries a script out on it. The texts of a page are `show` (its
+//! The program above uses `run_as`, which opens a desk and carries a script out on it in a manner; `run` does so
+//! without one. The texts of a page are `show` (its
 //! decisions, tables and verdicts), `trail` (its entries), `products` (what is known of each feature), `put_known` (the
 //! same of one), `plan` (what Even does where everything is known and settled) and `count` (how many vertices have
 //! which verdict). How a script is read stands in the crate of scripts, the texts in the crate of texts, those of what
@@ -20,5 +21,5 @@ mod held;
 pub mod laws;
 mod runs;
 
-pub use runs::{RunFault, run};
+pub use runs::{RunFault, run, run_as};
 pub use vpg_texts::{PlanFault, count, plan, products, put_known, show, trail};

@@ -4,7 +4,7 @@ ghost use Rattle.std.specs.Prelude.{◌≡◌, ◌≤◌, ◌⊎◌, true, IsErr
 ghost use Rattle.vpg_diagram.specs.FeatureDiagram.{feature_count};
 ghost use Rattle.vpg_desk.specs.State.{IsOpened};
 ghost use Rattle.vpg_report.specs.Engine.{IsOpenRefusal};
-ghost use Rattle.vpg_report.specs.Output.{Outcome, ended};
+ghost use Rattle.vpg_report.specs.Output.{Outcome, OutcomeAs, ended};
 ghost use Rattle.vpg_report.specs.Results.{Opens, UnlessRead, UnlessWrite};
 ghost use Rattle.vpg_report.specs.Run.{answering, begun};
 ghost use Rattle.vpg_texts.specs.Scene.{scene_of};
@@ -19,7 +19,7 @@ use vpg_desk::OpenFault;
 use vpg_diagram::Diagram;
 use vpg_game::GuardedGame;
 use vpg_office::{Site, Terms};
-use vpg_script::{LineFault, ScriptFault, Sink, Source, answer_script};
+use vpg_script::{Ending, LineFault, Manner, ScriptFault, Sink, Source, answer_script_as};
 
 /// Why a run ends before the script does.
 #[derive(Clone, Copy, Debug, PartialEq, Eq, Error)]
@@ -44,11 +44,11 @@ pub enum RunFault {
 }
 
 /// How the run ends of which the script was carried out to this end.
-fn ended(answered: Result<(), ScriptFault>) -> Result<(), RunFault>
+fn ended(answered: Result<Ending, ScriptFault>) -> Result<Ending, RunFault>
     ensures { result ≡ ended answered }
 {
     match answered {
-        Ok(()) => Ok(()),
+        Ok(ending) => Ok(ending),
         Err(ScriptFault::Line { line, fault }) => Err(RunFault::Line { line, fault }),
         Err(ScriptFault::Read) => Err(RunFault::Read),
         Err(ScriptFault::Write) => Err(RunFault::Write),
@@ -95,10 +95,57 @@ pub fn run<T: Threads + Wait + Sync, R: Source, W: Sink>(
     ensures readable { UnlessRead result (R.has_failed reader.new ≡ R.has_failed reader.old) }
     ensures writable { UnlessWrite result (W.has_failed writer.new ≡ W.has_failed writer.old) }
 {
+    let plain = Manner {
+        is_strict: false,
+        goes_on: false,
+    };
+    match run_as(rt, alloc, game, diagram, reader, writer, lifters, plain) {
+        Ok(_) => Ok(()),
+        Err(fault) => Err(fault),
+    }
+}
+
+/// The same in a manner: a strict run ends at the first refusal, and one that goes on answers a line with a fault.
+/// Where the run comes to the script's end, `Failed` says that an assertion failed.
+///
+/// `Open` comes before any line is read; `Line` only where the run does not go on, `Read` and `Write` as the run meets
+/// them, `Memory` only where a growth was refused, and `Stray` where the office has a call that no line made.
+pub fn run_as<T: Threads + Wait + Sync, R: Source, W: Sink>(
+    rt: &T,
+    alloc: Global,
+    game: Arc<GuardedGame>,
+    diagram: Arc<Diagram>,
+    reader: &mut R,
+    writer: &mut W,
+    lifters: u32,
+    manner: Manner,
+) -> Result<Ending, RunFault>
+    requires unread { R.calls reader.old ≡ 0 }
+    requires lifters { (1 ≤ lifters) × (lifters ≤ 64) }
+    requires features { (arc_value game).features ≡ feature_count (arc_value diagram).lines }
+
+    // What is written are the answers to the lines read, as `run` has them, and the result tells how they end.
+    ensures output { OutcomeAs manner (answering (scene_of (arc_value game) (arc_value diagram)) lifters)
+        (IsOpenRefusal (arc_value game) (arc_value diagram)) begun (R.remaining reader.old) (R.remaining reader.new)
+        (W.contents writer.old) (W.contents writer.new) result }
+
+    // Unless it ends in Open, or in Memory, an office was opened.
+    ensures opened { Opens result (IsOpened (arc_value game) (arc_value diagram)) }
+
+    // Read and Write come only where the device failed, or the reads were used up.
+    ensures read { IsErrOf result RunFault.Read → (R.has_failed reader.new ≡ true) ⊎ (R.calls reader.new ≡ 16777216) }
+    ensures write { IsErrOf result RunFault.Write → W.has_failed writer.new ≡ true }
+
+    // A device that failed is told.
+    ensures readable { UnlessRead result (R.has_failed reader.new ≡ R.has_failed reader.old) }
+    ensures writable { UnlessWrite result (W.has_failed writer.new ≡ W.has_failed writer.old) }
+{
     let Ok(site) = Site::new(alloc) else {
         return Err(RunFault::Memory);
     };
-    run_there::<Brand, T, R, W>(rt, alloc, site, game, diagram, reader, writer, lifters)
+    run_there::<Brand, T, R, W>(
+        rt, alloc, site, game, diagram, reader, writer, lifters, manner,
+    )
 }
 
 /// Runs a script at an office with this row and this ledger. `L` says which they are.
@@ -111,14 +158,15 @@ fn run_there<L: Terms, T: Threads + Wait + Sync, R: Source, W: Sink>(
     reader: &mut R,
     writer: &mut W,
     lifters: u32,
-) -> Result<(), RunFault>
+    manner: Manner,
+) -> Result<Ending, RunFault>
     requires unread { R.calls reader.old ≡ 0 }
     requires lifters { (1 ≤ lifters) × (lifters ≤ 64) }
     requires features { (arc_value game).features ≡ feature_count (arc_value diagram).lines }
     requires site { (site.row ≡ L.shelves) × (site.name ≡ L.name) × (site.parts ≡ L.parts) }
     requires of { (arc_value game ≡ L.game) × (arc_value diagram ≡ L.diagram) }
     requires room { L.limit ≡ 1048576 }
-    ensures output { Outcome (answering (scene_of (arc_value game) (arc_value diagram)) lifters)
+    ensures output { OutcomeAs manner (answering (scene_of (arc_value game) (arc_value diagram)) lifters)
         (IsOpenRefusal (arc_value game) (arc_value diagram)) begun (R.remaining reader.old) (R.remaining reader.new)
         (W.contents writer.old) (W.contents writer.new) result }
     ensures opened { Opens result (IsOpened (arc_value game) (arc_value diagram)) }
@@ -132,7 +180,7 @@ fn run_there<L: Terms, T: Threads + Wait + Sync, R: Source, W: Sink>(
         Err(OpenFault::Memory) => return Err(RunFault::Memory),
         Err(fault) => return Err(RunFault::Open { fault }),
     };
-    let answered = answer_script(rt, alloc, lifters, &mut engine, reader, writer);
+    let answered = answer_script_as(rt, alloc, lifters, manner, &mut engine, reader, writer);
     engine.end(rt);
     ended(answered)
 }

@@ -9,17 +9,17 @@ use Rattle.vpg_script.specs.declared.command.LineFault.TheVariants as faults
 use Rattle.vpg_script.specs.Lines.{ComesKnown}
 use Rattle.vpg_script.specs.Output.{Machine, Speaks, Answered, NextLine, ReadLines, ReadKnown, Wrote, NextKnown, IsEmptyKnown, FaultyKnown}
 
-appends_none : (a : Option (List ℕ)) → Appends a a []
+pub appends_none : (a : Option (List ℕ)) → Appends a a []
 appends_none None = tt
 appends_none (Some x) = sym (append-nil x)
 
-appends_twice : (a b c : Option (List ℕ)) (bs cs : List ℕ) → Appends a b bs → Appends b c cs → Appends a c (bs ++ cs)
+pub appends_twice : (a b c : Option (List ℕ)) (bs cs : List ℕ) → Appends a b bs → Appends b c cs → Appends a c (bs ++ cs)
 appends_twice None b c bs cs p q = tt
 appends_twice (Some x) None c bs cs p q = absurd p
 appends_twice (Some x) (Some y) None bs cs p q = absurd q
 appends_twice (Some x) (Some y) (Some z) bs cs p q = q ∙ ap (λ (l : List ℕ). l ++ cs) p ∙ append_assoc x bs cs
 
-read_more : (text : List ℕ) (lines : List (List ℕ)) (rest line more : List ℕ) → ReadLines text lines rest → NextLine rest line more → ReadLines text (lines ++ line ∷ []) more
+pub read_more : (text : List ℕ) (lines : List (List ℕ)) (rest line more : List ℕ) → ReadLines text lines rest → NextLine rest line more → ReadLines text (lines ++ line ∷ []) more
 read_more text [] rest line more read comes = (more, rw read comes, refl)
 read_more text (first ∷ lines) rest line more read comes = (read.0, read.1, read_more read.0 lines rest line more read.2 comes)
 
@@ -73,14 +73,14 @@ ends_empty (Some text) (Some rest) comes = comes
 pub too_long_faulty : (a b : Option (List ℕ)) → ComesKnown next.TooLong a b → FaultyKnown faults.TooLong a
 too_long_faulty None b comes = tt
 too_long_faulty (Some text) None comes = absurd comes
-too_long_faulty (Some text) (Some rest) comes = inr (refl, comes)
+too_long_faulty (Some text) (Some rest) comes = inr (refl, comes.0)
 
 pub line_faulty : (a b : Option (List ℕ)) (line : Vec ℕ) (fault : LineFault) → ComesKnown (next.Line line) a b → said line.items ≡ Err fault → FaultyKnown fault a
 line_faulty None b line fault comes is = tt
 line_faulty (Some text) None line fault comes is = absurd comes
 line_faulty (Some text) (Some rest) line fault comes is = inl (line.items, rest, (comes, is))
 
-read_kept : (input a b : Option (List ℕ)) (lines : List (List ℕ)) → ReadKnown input lines a → Keeps a b → ReadKnown input lines b
+pub read_kept : (input a b : Option (List ℕ)) (lines : List (List ℕ)) → ReadKnown input lines a → Keeps a b → ReadKnown input lines b
 read_kept None a b lines read kept = tt
 read_kept (Some text) None b lines read kept = absurd read
 read_kept (Some text) (Some rest) None lines read kept = absurd kept

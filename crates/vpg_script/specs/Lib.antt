@@ -1,5 +1,6 @@
 pub mod Devices
 pub mod Lines
+pub mod Manners
 pub mod Output
 pub mod Results
 pub mod Script

@@ -15,6 +15,7 @@
 //! in `specs/Output`. All are this project's own.
 #![tactic(auto)]
 
+mod answering;
 mod command;
 mod device;
 pub mod laws;
@@ -27,4 +28,6 @@ pub use command::{
 };
 pub use device::{Device, Failed, Sink, Source};
 pub use lines::{MOST_READS, Next, NextFault, next_line};
-pub use serving::{ScriptFault, ServeFault, Server, answer_script};
+pub use serving::{
+    Ending, Manner, ScriptFault, ServeFault, Server, answer_script, answer_script_as,
+};

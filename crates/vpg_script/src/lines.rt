@@ -5,7 +5,7 @@ ghost use Rattle.std.specs.Str.Lines.{strip_carriage_return};
 ghost use Rattle.std.specs.Io.KnownBytes.{prepend_known, Keeps, IsAtEnd};
 ghost use Rattle.vpg_script.specs.Output.{IsLine, lines_left};
 ghost use Rattle.vpg_script.specs.Results.{UnlessUnread};
-ghost use Rattle.vpg_script.specs.Lines.{is_within_line, IsUnended, IsEnded, ComesNext, ComesKnown};
+ghost use Rattle.vpg_script.specs.Lines.{is_within_line, IsUnended, IsEnded, ComesNext, ComesKnown, PassedKnown, HeldKnown};
 
 use crate::command::LONGEST_LINE;
 use crate::device::{Failed, Source};
@@ -51,6 +51,17 @@ fn without_return(front: &[u8]) -> &[u8]
 }
 
 /// Takes the first line off, with the line feed that stands at n.
+fn drop_line(held: &mut Vec<u8>, n: usize)
+    requires { n < vec_len held.old }
+    ensures rest { held.new.items ≡ drop (n + 1) held.old.items }
+    ensures len { vec_len held.new < vec_len held.old }
+{
+    let rest = held.len() - (n + 1);
+    held.rotate_left(n + 1);
+    held.truncate(rest);
+}
+
+/// Takes the first line off, with the line feed that stands at n, and gives it.
 fn cut(alloc: Global, held: &mut Vec<u8>, n: usize) -> Result<Vec<u8>, AllocError>
     requires { n < vec_len held.old }
     ensures line { IfOk result (λ line. line.items ≡ strip_carriage_return (take n held.old.items)) }
@@ -59,9 +70,7 @@ fn cut(alloc: Global, held: &mut Vec<u8>, n: usize) -> Result<Vec<u8>, AllocErro
     ensures err { OnErr result (held.new.items ≡ held.old.items) }
 {
     let line = Vec::from_slice(alloc, without_return(&held[..n]))?;
-    let rest = held.len() - (n + 1);
-    held.rotate_left(n + 1);
-    held.truncate(rest);
+    drop_line(held, n);
     Ok(line)
 }
 
@@ -128,6 +137,8 @@ pub fn next_line<R: Source>(
     ensures reads { reads.new ≤ 16777216 }
     ensures fewer { IfOk result
         (λ n. IsLine n → lines_left reads.new (vec_len held.new) < lines_left reads.old (vec_len held.old)) }
+    ensures no_more { OnOk result
+        (lines_left reads.new (vec_len held.new) ≤ lines_left reads.old (vec_len held.old)) }
 {
     'fill: loop {
         let n = line_len(held);
@@ -150,6 +161,47 @@ pub fn next_line<R: Source>(
         };
         if !came {
             return Ok(last(alloc, held));
+        }
+    }
+}
+
+/// Takes what is left of a line off, with its end, and holds nothing of it.
+pub fn pass_line<R: Source>(
+    held: &mut Vec<u8>,
+    reads: &mut u32,
+    reader: &mut R,
+) -> Result<(), NextFault>
+    requires few { reads.old ≤ 16777216 }
+    requires calls { R.calls reader.old ≡ reads.old }
+    ensures calls { R.calls reader.new ≡ reads.new }
+    ensures passed { OnOk result
+        (PassedKnown (prepend_known held.old.items (R.remaining reader.old))
+        (prepend_known held.new.items (R.remaining reader.new))) }
+    ensures read { IsErrOf result NextFault.Read →
+        HeldKnown (prepend_known held.old.items (R.remaining reader.old)) (R.remaining reader.new) }
+    ensures readable { UnlessUnread result (R.has_failed reader.new ≡ R.has_failed reader.old) }
+    ensures cause { IsErrOf result NextFault.Read → (R.has_failed reader.new ≡ true) ⊎ (reads.new ≡ 16777216) }
+    ensures reads { reads.new ≤ 16777216 }
+    ensures fewer { OnOk result
+        (lines_left reads.new (vec_len held.new) < lines_left reads.old (vec_len held.old)) }
+{
+    'pass: loop {
+        let n = line_len(held);
+        if n < held.len() {
+            drop_line(held, n);
+            return Ok(());
+        }
+        held.clear();
+        if *reads >= MOST_READS {
+            return Err(NextFault::Read);
+        }
+        *reads += 1;
+        let came = match more(held, reader) {
+            Ok(came) => came,
+            Err(fault) => return Err(fault),
+        };
+        if !came {
+            return Ok(());
         }
     }
 }

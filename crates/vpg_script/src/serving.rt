@@ -1,17 +1,14 @@
 //! A script is read and answered line by line.
-ghost use Rattle.std.specs.Prelude.{◌≡◌, ℕ, suc, ◌≤◌, List, [], ◌++◌, length, OnOk, OnErr, IfErr, IfOk, IsErrOf, Result, Ok, Err, Some, ◌⊎◌, true};
-ghost use Rattle.std.specs.Io.KnownBytes.{Appends, prepend_known};
+ghost use Rattle.std.specs.Prelude.{◌≡◌, ℕ, ◌≤◌, List, ◌++◌, OnOk, IsErrOf, ◌⊎◌, ◌&&◌, ◌||◌, true};
 ghost use Rattle.std.specs.Thread.{IsSync};
-ghost use Rattle.vpg_script.specs.Devices.{AppendsSome};
-ghost use Rattle.vpg_script.specs.Script.{said};
 ghost use Rattle.vpg_script.specs.View.{request_shown};
-ghost use Rattle.vpg_script.specs.declared.command.LineFault.{LineFault as Fault};
-ghost use Rattle.vpg_script.specs.Results.{UnlessReaderFails, UnlessWriterFails, UnlessUnwritten};
-ghost use Rattle.vpg_script.specs.Output.{Machine, Speaks, Answered, Wrote, FaultyKnown, IsEmptyKnown, ScriptOutcome};
+ghost use Rattle.vpg_script.specs.Results.{UnlessReaderFails, UnlessWriterFails, ended};
+ghost use Rattle.vpg_script.specs.Output.{Machine, ScriptOutcome};
+ghost use Rattle.vpg_script.specs.Manners.{MannerOutcome};
 
-use crate::command::{LineFault, ReadFault, Request, read_line};
+use crate::answering::{LineStop, Tone, answer_next};
+use crate::command::{LineFault, Request};
 use crate::device::{Sink, Source};
-use crate::lines::{Next, NextFault, next_line};
 use std::alloc::{AllocError, Global};
 use std::sync::Wait;
 use std::thread::Threads;
@@ -89,59 +86,119 @@ pub enum ScriptFault {
     Stray,
 }
 
-/// Why a line ends the run.
-#[derive(Clone, Copy)]
-pub enum LineStop {
-    Fault(LineFault),
-    Write,
-    Memory,
-    Stray,
+/// How a script's refusals and its lines with a fault are met.
+#[derive(Clone, Copy, Debug, PartialEq, Eq)]
+pub struct Manner {
+    /// The first refusal ends the script.
+    pub is_strict: bool,
+    /// A line with a fault is answered `refused Word`, `refused Args` or `refused TooLong`, and the script goes on.
+    /// Else it ends there.
+    pub goes_on: bool,
 }
 
-/// Carries a line out, and writes its answer.
-fn answer_line<T: Threads + Wait + Sync, V: Server, W: Sink>(
-    rt: &T,
-    alloc: Global,
-    lifters: u32,
-    server: &mut V,
-    line: &[u8],
-    writer: &mut W,
-) -> Result<(), LineStop>
-    requires lifters { (1 ≤ lifters) × (lifters ≤ 64) }
-    ensures ok { OnOk result
-        ((text : List ℕ) ×
-        (Speaks (V.answering (V.scene server.old) lifters) (V.state server.old) (said line.now) text
-        (V.state server.new) × Appends (W.contents writer.old) (W.contents writer.new) text)) }
-    ensures scene { OnOk result (V.scene server.new ≡ V.scene server.old) }
-    ensures fault { (f : Fault) → IsErrOf result (LineStop.Fault f) → (said line.now ≡ Err f) ×
-        (server.new ≡ server.old) × (writer.new ≡ writer.old) }
-    ensures memory { IsErrOf result LineStop.Memory → writer.new ≡ writer.old }
-    ensures stray { IsErrOf result LineStop.Stray → writer.new ≡ writer.old }
-    ensures write { IsErrOf result LineStop.Write → (text : List ℕ) ×
-        (Speaks (V.answering (V.scene server.old) lifters) (V.state server.old) (said line.now) text
-        (V.state server.new) × AppendsSome (W.contents writer.old) (W.contents writer.new) text) }
-    ensures write_failed { IsErrOf result LineStop.Write → W.has_failed writer.new ≡ true }
-    ensures writable { UnlessUnwritten result (W.has_failed writer.new ≡ W.has_failed writer.old) }
+/// How a script ends whose lines were answered.
+#[derive(Clone, Copy, Debug, PartialEq, Eq)]
+pub enum Ending {
+    /// All lines were answered, and no assertion failed.
+    Whole,
+    /// All lines were answered, and an assertion failed.
+    Failed,
+    /// The script is strict, and the line of this number, from 1, was refused. No line behind it was carried out.
+    Refused { line: u64 },
+}
+
+/// Whether an answer ends the script.
+fn is_last(tone: Tone, manner: Manner) -> bool
+    ensures { result ≡ (tone.refused && manner.is_strict) }
 {
-    let request = match read_line(alloc, line) {
-        Ok(None) => return Ok(()),
-        Ok(Some(request)) => request,
-        Err(ReadFault::Line(fault)) => return Err(LineStop::Fault(fault)),
-        Err(ReadFault::Memory) => return Err(LineStop::Memory),
-    };
-    let mut text = Vec::new(alloc);
-    match server.serve(rt, alloc, lifters, &request, &mut text) {
-        Ok(()) => {}
-        Err(ServeFault::Memory) => return Err(LineStop::Memory),
-        Err(ServeFault::Stray) => return Err(LineStop::Stray),
-    }
-    match writer.put(&text) {
-        Ok(()) => Ok(()),
-        Err(_) => Err(LineStop::Write),
+    tone.refused && manner.is_strict
+}
+
+/// Whether an answer fails, or one before it did.
+fn has_failed(failed: bool, tone: Tone) -> bool
+    ensures { result ≡ (failed || tone.fails) }
+{
+    failed || tone.fails
+}
+
+/// How a script ends that stops so at a line.
+fn ended(stop: LineStop, line: u64, failed: bool) -> Result<Ending, ScriptFault>
+    ensures { result ≡ ended stop line failed }
+{
+    match stop {
+        LineStop::End => Ok(if failed {
+            Ending::Failed
+        } else {
+            Ending::Whole
+        }),
+        LineStop::Fault(fault) => Err(ScriptFault::Line { line, fault }),
+        LineStop::Read => Err(ScriptFault::Read),
+        LineStop::Write => Err(ScriptFault::Write),
+        LineStop::Memory => Err(ScriptFault::Memory),
+        LineStop::Stray => Err(ScriptFault::Stray),
     }
 }
 
 /// Reads a script, and answers its lines in order, each before the next is read.
+///
+/// A strict script ends at the first answer that begins with `refused `. Else it ends behind its last line, and
+/// `Failed` says that an answer began with `fails`, as that of an assertion that fails does. `Line` comes only where a
+/// script ends at a line with a fault, and `Read` and `Write` as the script meets them; `Memory` only where a growth
+/// was refused, and `Stray` where the server answers so.
+pub fn answer_script_as<T: Threads + Wait + Sync, V: Server, R: Source, W: Sink>(
+    rt: &T,
+    alloc: Global,
+    lifters: u32,
+    manner: Manner,
+    server: &mut V,
+    reader: &mut R,
+    writer: &mut W,
+) -> Result<Ending, ScriptFault>
+    requires unread { R.calls reader.old ≡ 0 }
+    requires lifters { (1 ≤ lifters) × (lifters ≤ 64) }
+    // What is written are the answers to the lines that were read, and the result tells how they end.
+    ensures output { MannerOutcome manner (V.answering (V.scene server.old) lifters) (V.state server.old)
+        (R.remaining reader.old) (R.remaining reader.new) (W.contents writer.old) (W.contents writer.new) result }
+    // Read and Write are answered only where the device failed, or the reads were used up.
+    ensures read { IsErrOf result ScriptFault.Read → (R.has_failed reader.new ≡ true) ⊎
+        (R.calls reader.new ≡ 16777216) }
+    ensures write { IsErrOf result ScriptFault.Write → W.has_failed writer.new ≡ true }
+    // A device that failed is told.
+    ensures readable { UnlessReaderFails result (R.has_failed reader.new ≡ R.has_failed reader.old) }
+    ensures writable { UnlessWriterFails result (W.has_failed writer.new ≡ W.has_failed writer.old) }
+{
+    let mut held = Vec::new(alloc);
+    let mut reads = 0;
+    let mut number = 1;
+    let mut failed = false;
+    'lines: loop {
+        match answer_next(
+            rt,
+            alloc,
+            lifters,
+            manner.goes_on,
+            server,
+            &mut held,
+            &mut reads,
+            reader,
+            writer,
+        ) {
+            Ok(tone) => {
+                let last = is_last(tone, manner);
+                if last {
+                    return Ok(Ending::Refused { line: number });
+                }
+                let fails = has_failed(failed, tone);
+                failed = fails;
+            }
+            Err(stop) => return ended(stop, number, failed),
+        }
+        number += 1;
+    }
+}
+
+/// Reads a script, and answers its lines in order, each before the next is read. Refusals and assertions that fail are
+/// answers as others are; a line with a fault ends the script.
 ///
 /// `Line`, `Read` and `Write` come as the script meets them, `Memory` only where a growth was refused, and `Stray`
 /// where the server answers so.
@@ -166,35 +223,12 @@ pub fn answer_script<T: Threads + Wait + Sync, V: Server, R: Source, W: Sink>(
     ensures readable { UnlessReaderFails result (R.has_failed reader.new ≡ R.has_failed reader.old) }
     ensures writable { UnlessWriterFails result (W.has_failed writer.new ≡ W.has_failed writer.old) }
 {
-    let mut held = Vec::new(alloc);
-    let mut reads = 0;
-    let mut number = 1;
-    'lines: loop {
-        let next = match next_line(alloc, &mut held, &mut reads, reader) {
-            Ok(next) => next,
-            Err(NextFault::Read) => return Err(ScriptFault::Read),
-            Err(NextFault::Memory) => return Err(ScriptFault::Memory),
-        };
-        let line = match next {
-            Next::Line(line) => line,
-            Next::End => return Ok(()),
-            Next::TooLong => {
-                return Err(ScriptFault::Line {
-                    line: number,
-                    fault: LineFault::TooLong,
-                });
-            }
-        };
-        match answer_line(rt, alloc, lifters, server, &line, writer) {
-            Ok(()) => {}
-            Err(LineStop::Fault(fault)) => return Err(ScriptFault::Line {
-                line: number,
-                fault,
-            }),
-            Err(LineStop::Write) => return Err(ScriptFault::Write),
-            Err(LineStop::Memory) => return Err(ScriptFault::Memory),
-            Err(LineStop::Stray) => return Err(ScriptFault::Stray),
-        }
-        number += 1;
+    let plain = Manner {
+        is_strict: false,
+        goes_on: false,
+    };
+    match answer_script_as(rt, alloc, lifters, plain, server, reader, writer) {
+        Ok(_) => Ok(()),
+        Err(fault) => Err(fault),
     }
 }

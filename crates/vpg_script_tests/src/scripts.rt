@@ -1,6 +1,7 @@
 //! Lines and devices over a server that refuses, and worked scripts.
 
 mod devices;
+mod manners;
 mod order;
 mod rows;
 

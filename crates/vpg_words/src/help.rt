@@ -51,7 +51,8 @@ harvest's number, N a number):
 
 Status: 0; 1 where the input is refused or something fails (an answer
 `refused ..` to a line leaves 0), told by one line on standard error, and with
---explain by further lines behind it; 2 where the words are wrong.
+--explain by further lines behind it; 2 where the words are wrong; 3 where an
+assertion failed, or under --strict a line was refused.
 
 Examples:
   printf 'exclude f\\nsettle\\nshow\\n' | vpgdesk
@@ -76,6 +77,10 @@ pub(crate) const DIAGRAM_HELP: &str =
 pub(crate) const SCRIPT_HELP: &str = "One command a line, as `select f`, `settle` or `show`";
 
 pub(crate) const LIFTERS_HELP: &str = "How many threads raise the tables, 1 to 64";
+
+pub(crate) const STRICT_HELP: &str = "End at the first line that is refused, with status 3";
+
+pub(crate) const KEEP_GOING_HELP: &str = "Answer a line with a fault `refused ..`, and go on";
 
 pub(crate) const FEATURE_HELP: &str =
     "The features of the product, all of them, the root among them";

@@ -1,7 +1,7 @@
 //! How words are read.
 use crate::help::{
-    ABOUT, AFTER, DIAGRAM_HELP, EXPLAIN_HELP, FEATURE_HELP, FEATURES_HELP, GAME_HELP, LIFTERS_HELP,
-    SCRIPT_HELP, SHORT_AFTER,
+    ABOUT, AFTER, DIAGRAM_HELP, EXPLAIN_HELP, FEATURE_HELP, FEATURES_HELP, GAME_HELP,
+    KEEP_GOING_HELP, LIFTERS_HELP, SCRIPT_HELP, SHORT_AFTER, STRICT_HELP,
 };
 use crate::task::{Asked, Task};
 use clap::builder::ValueParser;
@@ -50,7 +50,9 @@ fn run_command<'a>(alloc: Global) -> Result<Command<'a>, AllocError> {
                 .value_parser(ValueParser::unsigned(1, 64))
                 .default_value("1")
                 .help(LIFTERS_HELP),
-        )
+        )?
+        .arg(flag(alloc, "strict", STRICT_HELP))?
+        .arg(flag(alloc, "keep-going", KEEP_GOING_HELP))
 }
 
 fn project_command<'a>(alloc: Global) -> Result<Command<'a>, AllocError> {
@@ -187,6 +189,8 @@ fn task_of<'a>(
                 paths,
                 script,
                 lifters: matches.get_one("lifters").unwrap_or(1),
+                strict: matches.get_flag("strict"),
+                keep_going: matches.get_flag("keep-going"),
             }),
         ),
         "project" => Ok(Some(Task::Project {

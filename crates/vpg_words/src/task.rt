@@ -20,6 +20,10 @@ pub enum Task<'a> {
         script: &'a str,
         /// From 1 to 64.
         lifters: u32,
+        /// The first refusal ends the script.
+        strict: bool,
+        /// A line with a fault is answered, and the script goes on.
+        keep_going: bool,
     },
     /// The plain game of the product that has just these features.
     Project {

@@ -1,18 +1,35 @@
 //! How the program ends.
-ghost use Rattle.std.specs.Prelude.{◌≡◌};
+ghost use Rattle.std.specs.Prelude.{◌≡◌, IfOk};
 ghost use Rattle.std.specs.Process.{exit_status};
-ghost use Rattle.vpgdesk.specs.Ends.{status_of};
+ghost use Rattle.vpgdesk.specs.Ends.{ended, status_of, refused_text};
 
+use std::alloc::{AllocError, Global};
 use std::process::ExitCode;
 use vpg_family::Fault;
+use vpg_script::Ending;
 
 /// How the program ends where it doesn't fail.
 #[derive(Clone, Copy)]
 pub(crate) enum End {
     /// What the words ask for is done.
     Done,
+    /// A strict script was refused at the line of this number, from 1, and this is told.
+    Refused { line: u64 },
+    /// An assertion of the script failed.
+    Failed,
     /// The words are wrong, and this is told.
     WrongWords,
+}
+
+/// How the program ends behind a script that ended so.
+pub(crate) fn ended(ending: Ending) -> End
+    ensures { result ≡ ended ending }
+{
+    match ending {
+        Ending::Whole => End::Done,
+        Ending::Failed => End::Failed,
+        Ending::Refused { line } => End::Refused { line },
+    }
 }
 
 /// The status of the program.
@@ -21,7 +38,20 @@ pub(crate) fn status(ended: &Result<End, Fault>) -> ExitCode
 {
     match ended {
         Ok(End::Done) => ExitCode::SUCCESS,
+        Ok(End::Refused { line: _ }) | Ok(End::Failed) => ExitCode::from(3),
         Ok(End::WrongWords) => ExitCode::from(2),
         Err(_) => ExitCode::FAILURE,
     }
+}
+
+/// The line that tells where a strict script was refused.
+pub(crate) fn refused_line(alloc: Global, line: u64) -> Result<Vec<u8>, AllocError>
+    ensures { IfOk result (λ text. text.items ≡ refused_text line) }
+{
+    let number = line.to_string(alloc)?;
+    let mut text = Vec::new(alloc);
+    text.extend_from_slice(b"vpgdesk: script Line ")?;
+    text.extend_from_slice(number.as_bytes())?;
+    text.extend_from_slice(b" Refused\n")?;
+    Ok(text)
 }

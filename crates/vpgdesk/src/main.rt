@@ -7,8 +7,9 @@
 //!
 //! The status is 0; 1 where the input is refused or something fails, and then one line on standard error, `vpgdesk: `
 //! and the fault, says what, and with `--explain` further lines behind it say where and why; 2 where the words are
-//! wrong. An answer `refused ..` to a line of a script leaves 0. What was written before stays written. Formats,
-//! commands and faults are told in `docs/FORMATS.md`; what a run promises stands on `run` of `vpg_report`.
+//! wrong; 3 where an assertion of a script failed, or a line of a strict one was refused. Else an answer `refused ..` to
+//! a line of a script leaves 0. What was written before stays written. Formats, commands and faults are told in
+//! `docs/FORMATS.md`; what a run promises stands on `run` of `vpg_report`.
 #![tactic(auto)]
 
 ghost use Rattle.std.specs.Io.KnownBytes.{Appends};
@@ -19,10 +20,10 @@ mod running;
 #[cfg(test)]
 mod tests;
 
-use crate::ending::{End, status};
+use crate::ending::{End, ended, refused_line, status};
 use crate::running::run_script;
 use clap::error::ErrorKind;
-use std::alloc::Global;
+use std::alloc::{AllocError, Global};
 use std::io::IsTerminal;
 use std::process::ExitCode;
 use std::sync::Wait;
@@ -32,7 +33,7 @@ use vpg_family::{
     Family, Fault, Paths, Subject, drawn, explained, line_of, linted, open_script, read_family,
     read_texts,
 };
-use vpg_script::{Device, Sink};
+use vpg_script::{Device, Manner, Sink};
 use vpg_words::{Asked, Task, not_text, read};
 
 /// The diagram that is built in: a root with two features, each of which may be left out.
@@ -61,7 +62,7 @@ fn run_built_in<T: Threads + Wait + Sync>(
     rt: &HostRuntime,
     threads: &T,
     alloc: Global,
-) -> Result<(), Fault> {
+) -> Result<End, Fault> {
     let family = Family::read(alloc, DIAGRAM.as_bytes(), GAME.as_bytes())?;
     if rt.stdin().is_terminal() {
         // Where this fails the answers are still to come.
@@ -69,7 +70,12 @@ fn run_built_in<T: Threads + Wait + Sync>(
     }
     let mut reader = Device::reader(rt.stdin().lock());
     let mut writer = Device::writer(rt.stdout().lock());
-    run_script(threads, alloc, family, &mut reader, &mut writer, 1)
+    let plain = Manner {
+        is_strict: false,
+        goes_on: false,
+    };
+    let ending = run_script(threads, alloc, family, &mut reader, &mut writer, 1, plain)?;
+    Ok(ended(ending))
 }
 
 /// Writes a picture of a family.
@@ -92,39 +98,55 @@ fn carry_out<T: Threads + Wait + Sync>(
     threads: &T,
     alloc: Global,
     task: &Task<'_>,
-) -> Result<(), Fault> {
+) -> Result<End, Fault> {
     match task {
         Task::BuiltIn => run_built_in(rt, threads, alloc),
         Task::Run {
             paths,
             script,
             lifters,
+            strict,
+            keep_going,
         } => {
             let family = read_family(rt, alloc, *paths)?;
             let mut reader = Device::reader(open_script(rt, script)?);
             let mut writer = Device::writer(rt.stdout().lock());
-            // The parser takes no other number.
-            run_script(
+            let manner = Manner {
+                is_strict: *strict,
+                goes_on: *keep_going,
+            };
+            // The parser takes no other number of lifters.
+            let ending = run_script(
                 threads,
                 alloc,
                 family,
                 &mut reader,
                 &mut writer,
                 (*lifters).clamp(1, 64),
-            )
+                manner,
+            )?;
+            Ok(ended(ending))
         }
         Task::Project { paths, features } => {
             let family = read_family(rt, alloc, *paths)?;
             let text = family.projected(alloc, features)?;
-            put(&mut Device::writer(rt.stdout().lock()), &text)
+            put(&mut Device::writer(rt.stdout().lock()), &text)?;
+            Ok(End::Done)
         }
         Task::Check { paths } => {
             let family = read_family(rt, alloc, *paths)?;
             let text = family.counted(alloc)?;
-            put(&mut Device::writer(rt.stdout().lock()), &text)
+            put(&mut Device::writer(rt.stdout().lock()), &text)?;
+            Ok(End::Done)
         }
-        Task::Lint { paths } => lint(rt, alloc, *paths),
-        Task::Draw { paths, subject } => draw(rt, alloc, *paths, *subject),
+        Task::Draw { paths, subject } => {
+            draw(rt, alloc, *paths, *subject)?;
+            Ok(End::Done)
+        }
+        Task::Lint { paths } => {
+            lint(rt, alloc, *paths)?;
+            Ok(End::Done)
+        }
     }
 }
 
@@ -146,7 +168,7 @@ fn carry_out_asked<T: Threads + Wait + Sync>(
     alloc: Global,
     asked: &Asked<'_>,
     lines: &mut Vec<u8>,
-) -> Result<(), Fault> {
+) -> Result<End, Fault> {
     let ended = carry_out(rt, threads, alloc, &asked.task);
     if let Err(fault) = &ended {
         if asked.explains {
@@ -156,10 +178,11 @@ fn carry_out_asked<T: Threads + Wait + Sync>(
     ended
 }
 
-/// Tells of a fault, in one line on standard error, and then in the lines that explain it.
-fn tell(rt: &HostRuntime, alloc: Global, fault: &Fault, lines: &[u8]) {
+/// Tells of a fault, or where a strict script was refused, in one line on standard error, and then in the lines that
+/// explain it.
+fn tell(rt: &HostRuntime, line: Result<Vec<u8>, AllocError>, lines: &[u8]) {
     let mut writer = Device::writer(rt.stderr().lock());
-    let told = match line_of(alloc, fault) {
+    let told = match line {
         Ok(line) => writer.put(&line),
         Err(_) => writer.put(b"vpgdesk: Memory\n"),
     };
@@ -197,10 +220,7 @@ fn obey<T: Threads + Wait + Sync>(
         Err(_) => return print(rt, &not_text(alloc)?),
     };
     match read(alloc, &words) {
-        Ok(asked) => {
-            carry_out_asked(rt, threads, alloc, &asked, lines)?;
-            Ok(End::Done)
-        }
+        Ok(asked) => carry_out_asked(rt, threads, alloc, &asked, lines),
         Err(told) => print(rt, &told),
     }
 }
@@ -208,8 +228,10 @@ fn obey<T: Threads + Wait + Sync>(
 fn main(rt: HostRuntime) -> ExitCode {
     let mut lines = Vec::new(rt.alloc());
     let ended = obey(&rt, &rt, rt.alloc(), &mut lines);
-    if let Err(fault) = &ended {
-        tell(&rt, rt.alloc(), fault, &lines);
+    match &ended {
+        Ok(End::Refused { line }) => tell(&rt, refused_line(rt.alloc(), *line), &lines),
+        Ok(_) => {}
+        Err(fault) => tell(&rt, line_of(rt.alloc(), fault), &lines),
     }
     status(&ended)
 }

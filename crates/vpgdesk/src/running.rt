@@ -10,8 +10,8 @@ use std::thread::Threads;
 use vpg_desk::OpenFault;
 use vpg_diagram::Diagram;
 use vpg_family::{Family, Fault, conflict};
-use vpg_report::{RunFault, run};
-use vpg_script::{Sink, Source};
+use vpg_report::{RunFault, run_as};
+use vpg_script::{Ending, Manner, Sink, Source};
 
 /// What is told of a refused opening. A conflict names the root.
 fn not_opened(alloc: Global, diagram: &Diagram, fault: OpenFault) -> Fault
@@ -25,7 +25,7 @@ fn not_opened(alloc: Global, diagram: &Diagram, fault: OpenFault) -> Fault
     }
 }
 
-/// Carries a script out at an office of the family.
+/// Carries a script out at an office of the family, in a manner.
 pub(crate) fn run_script<T: Threads + Wait + Sync, R: Source, W: Sink>(
     rt: &T,
     alloc: Global,
@@ -33,13 +33,14 @@ pub(crate) fn run_script<T: Threads + Wait + Sync, R: Source, W: Sink>(
     reader: &mut R,
     writer: &mut W,
     lifters: u32,
-) -> Result<(), Fault>
+    manner: Manner,
+) -> Result<Ending, Fault>
     requires unread { R.calls reader.old ≡ 0 }
     requires lifters { (1 ≤ lifters) × (lifters ≤ 64) }
     requires features { (arc_value family.game).features ≡ feature_count (arc_value family.diagram).lines }
 
     // What is written are the answers to the script's lines by an office on the family, and the result tells how they end.
-    ensures output { IsRun (arc_value family.diagram) (arc_value family.game) lifters (R.remaining reader.old) (R.remaining reader.new) (W.contents writer.old) (W.contents writer.new) result }
+    ensures output { IsRun manner (arc_value family.diagram) (arc_value family.game) lifters (R.remaining reader.old) (R.remaining reader.new) (W.contents writer.old) (W.contents writer.new) result }
 
     // Read and Write come only where the device failed, or the script was read 16,777,216 times.
     ensures read { IsErrOf result Fault.Read → (R.has_failed reader.new ≡ true) ⊎ (R.calls reader.new ≡ 16777216) }
@@ -50,7 +51,7 @@ pub(crate) fn run_script<T: Threads + Wait + Sync, R: Source, W: Sink>(
     ensures writable { UnlessOutputFails result (W.has_failed writer.new ≡ W.has_failed writer.old) }
 {
     let diagram = family.diagram.clone()?;
-    match run(
+    match run_as(
         rt,
         alloc,
         family.game,
@@ -58,8 +59,9 @@ pub(crate) fn run_script<T: Threads + Wait + Sync, R: Source, W: Sink>(
         reader,
         writer,
         lifters,
+        manner,
     ) {
-        Ok(()) => Ok(()),
+        Ok(ending) => Ok(ending),
         Err(RunFault::Line { line, fault }) => Err(Fault::Line { line, fault }),
         Err(RunFault::Read) => Err(Fault::Read),
         Err(RunFault::Write) => Err(Fault::Write),

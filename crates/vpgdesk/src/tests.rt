@@ -7,7 +7,13 @@ use std::sync::Wait;
 use std::test::*;
 use std::thread::Threads;
 use vpg_family::{Family, Fault, line_of};
-use vpg_script::Device;
+use vpg_script::{Device, Ending, Manner};
+
+/// Each line is answered, and a fault ends the script.
+const PLAIN: Manner = Manner {
+    is_strict: false,
+    goes_on: false,
+};
 
 /// A family, a script, and what is written to standard output, or else to standard error.
 struct Row {
@@ -50,7 +56,7 @@ fn answer<T: Threads + Wait + Sync>(rt: &T, alloc: Global, row: &Row) -> Result<
     let family = Family::read(alloc, row.diagram.as_bytes(), row.game.as_bytes())?;
     let mut reader = Device::reader(row.script.as_bytes());
     let mut writer = Device::writer(Vec::new(alloc));
-    run_script(rt, alloc, family, &mut reader, &mut writer, 1)?;
+    run_script(rt, alloc, family, &mut reader, &mut writer, 1, PLAIN)?;
     Ok(writer.into_writer())
 }
 
@@ -99,7 +105,11 @@ impl Write for Broken {
 }
 
 /// How a script ends whose answers go to a broken device.
-fn unwritten<T: Threads + Wait + Sync>(rt: &T, alloc: Global, script: &str) -> Result<(), Fault> {
+fn unwritten<T: Threads + Wait + Sync>(
+    rt: &T,
+    alloc: Global,
+    script: &str,
+) -> Result<Ending, Fault> {
     let family = Family::read(alloc, DIAGRAM.as_bytes(), GAME.as_bytes())?;
     let mut reader = Device::reader(script.as_bytes());
     run_script(
@@ -109,11 +119,12 @@ fn unwritten<T: Threads + Wait + Sync>(rt: &T, alloc: Global, script: &str) -> R
         &mut reader,
         &mut Device::writer(Broken),
         1,
+        PLAIN,
     )
 }
 
 /// How a script ends that comes from a broken device.
-fn unread<T: Threads + Wait + Sync>(rt: &T, alloc: Global) -> Result<(), Fault> {
+fn unread<T: Threads + Wait + Sync>(rt: &T, alloc: Global) -> Result<Ending, Fault> {
     let family = Family::read(alloc, DIAGRAM.as_bytes(), GAME.as_bytes())?;
     let mut writer = Device::writer(Vec::new(alloc));
     run_script(
@@ -123,6 +134,7 @@ fn unread<T: Threads + Wait + Sync>(rt: &T, alloc: Global) -> Result<(), Fault> 
         &mut Device::reader(Broken),
         &mut writer,
         1,
+        PLAIN,
     )
 }
 

@@ -1,0 +1,263 @@
+//! Scripts in each manner, with what they answer and how they end.
+use super::ThenFails;
+use super::rows::family;
+use std::alloc::Global;
+use std::io::Read;
+use std::sync::Wait;
+use std::test::*;
+use std::thread::Threads;
+use vpg_report::{RunFault, run_as};
+use vpg_script::{Device, Ending, LineFault, Manner};
+
+/// A manner, a script, what it answers, and how it ends. Lines are separated by ` / `, and the last line of the script
+/// has no end. The line `LONG` stands for 4,097 bytes, `LONGEST` for 4,096, and `HUGE` for 30,000.
+struct Row {
+    manner: Manner,
+    script: &'static str,
+    answers: &'static str,
+    ended: Result<Ending, RunFault>,
+}
+
+const PLAIN: Manner = Manner {
+    is_strict: false,
+    goes_on: false,
+};
+
+const STRICT: Manner = Manner {
+    is_strict: true,
+    goes_on: false,
+};
+
+const GOES_ON: Manner = Manner {
+    is_strict: false,
+    goes_on: true,
+};
+
+const BOTH: Manner = Manner {
+    is_strict: true,
+    goes_on: true,
+};
+
+static ROWS: [Row; 22] = [
+    Row {
+        manner: PLAIN,
+        script: "",
+        answers: "",
+        ended: Ok(Ending::Whole),
+    },
+    Row {
+        manner: PLAIN,
+        script: "undo / exclude f",
+        answers: "refused NoToken / done 1",
+        ended: Ok(Ending::Whole),
+    },
+    Row {
+        manner: PLAIN,
+        script: "assert full / assert settled",
+        answers: "fails full / fails settled",
+        ended: Ok(Ending::Failed),
+    },
+    // A failure is not forgotten.
+    Row {
+        manner: PLAIN,
+        script: "exclude f / assert full / settle / assert settled",
+        answers: "done 1 / fails full / settled 2 / holds",
+        ended: Ok(Ending::Failed),
+    },
+    Row {
+        manner: PLAIN,
+        script: "assert full / frob / exclude f",
+        answers: "fails full",
+        ended: Err(RunFault::Line {
+            line: 2,
+            fault: LineFault::Word,
+        }),
+    },
+    Row {
+        manner: STRICT,
+        script: "",
+        answers: "",
+        ended: Ok(Ending::Whole),
+    },
+    Row {
+        manner: STRICT,
+        script: "undo / exclude f",
+        answers: "refused NoToken",
+        ended: Ok(Ending::Refused { line: 1 }),
+    },
+    // Blank lines and comments count.
+    Row {
+        manner: STRICT,
+        script: "# none /  / exclude f / select f / exclude g",
+        answers: "done 1 / refused AlreadyDecided 1",
+        ended: Ok(Ending::Refused { line: 4 }),
+    },
+    Row {
+        manner: STRICT,
+        script: "exclude f / settle / assert 0 hopeless",
+        answers: "done 1 / settled 2 / holds",
+        ended: Ok(Ending::Whole),
+    },
+    Row {
+        manner: STRICT,
+        script: "exclude f / assert settled / assert 0 hopeless / settle",
+        answers: "done 1 / fails settled / fails hopeless unsettled / settled 2",
+        ended: Ok(Ending::Failed),
+    },
+    Row {
+        manner: STRICT,
+        script: "assert full / assert 9 sure / show",
+        answers: "fails full / refused NoVertex",
+        ended: Ok(Ending::Refused { line: 2 }),
+    },
+    Row {
+        manner: STRICT,
+        script: "exclude f / undo x",
+        answers: "done 1",
+        ended: Err(RunFault::Line {
+            line: 2,
+            fault: LineFault::Args,
+        }),
+    },
+    Row {
+        manner: GOES_ON,
+        script: "frob / exclude f",
+        answers: "refused Word / done 1",
+        ended: Ok(Ending::Whole),
+    },
+    Row {
+        manner: GOES_ON,
+        script: "exclude f / undo x",
+        answers: "done 1 / refused Args",
+        ended: Ok(Ending::Whole),
+    },
+    Row {
+        manner: GOES_ON,
+        script: "assert 0 / assert full / redo 1 / settle -1",
+        answers: "refused Args / fails full / refused NoToken / refused Args",
+        ended: Ok(Ending::Failed),
+    },
+    Row {
+        manner: GOES_ON,
+        script: "exclude f / LONG / undo / LONG",
+        answers: "done 1 / refused TooLong / undone 1 / refused TooLong",
+        ended: Ok(Ending::Whole),
+    },
+    Row {
+        manner: GOES_ON,
+        script: "LONGEST / exclude f",
+        answers: "done 1",
+        ended: Ok(Ending::Whole),
+    },
+    Row {
+        manner: GOES_ON,
+        script: "HUGE / exclude f / HUGE",
+        answers: "refused TooLong / done 1 / refused TooLong",
+        ended: Ok(Ending::Whole),
+    },
+    Row {
+        manner: BOTH,
+        script: "exclude f / frob / exclude g",
+        answers: "done 1 / refused Word",
+        ended: Ok(Ending::Refused { line: 2 }),
+    },
+    Row {
+        manner: BOTH,
+        script: "exclude f / HUGE / exclude g",
+        answers: "done 1 / refused TooLong",
+        ended: Ok(Ending::Refused { line: 2 }),
+    },
+    Row {
+        manner: BOTH,
+        script: "assert full / exclude f",
+        answers: "fails full / done 1",
+        ended: Ok(Ending::Failed),
+    },
+    Row {
+        manner: BOTH,
+        script: "LONG",
+        answers: "refused TooLong",
+        ended: Ok(Ending::Refused { line: 1 }),
+    },
+];
+
+/// Appends a line, or so many `#`.
+fn put_line(alloc: Global, line: &str, out: &mut Vec<u8>) -> Option<()> {
+    let bytes = match line {
+        "LONG" => 4097,
+        "LONGEST" => 4096,
+        "HUGE" => 30_000,
+        _ => return out.extend_from_slice(line.as_bytes()).ok(),
+    };
+    let long = vec![in alloc; b'#'; bytes].ok()?;
+    out.extend_from_slice(&long).ok()
+}
+
+/// The lines of a text, with a line feed between them.
+fn joined(alloc: Global, text: &str) -> Option<Vec<u8>> {
+    let mut out = Vec::new(alloc);
+    for (n, line) in text.split(" / ").enumerate() {
+        if n > 0 {
+            out.push(b'\n').ok()?;
+        }
+        put_line(alloc, line, &mut out)?;
+    }
+    Some(out)
+}
+
+/// What a run over a reader answers.
+fn answers<T: Threads + Wait + Sync, R: Read + Drop>(
+    rt: &T,
+    alloc: Global,
+    manner: Manner,
+    reader: R,
+) -> Option<(Result<Ending, RunFault>, Vec<u8>)> {
+    let (game, diagram) = family(alloc)?;
+    if game.features() != diagram.features() {
+        return None;
+    }
+    let mut reader = Device::reader(reader);
+    let mut writer = Device::writer(Vec::new(alloc));
+    let ended = run_as(
+        rt,
+        alloc,
+        game,
+        diagram,
+        &mut reader,
+        &mut writer,
+        1,
+        manner,
+    );
+    Some((ended, writer.into_writer()))
+}
+
+fn is_answered<T: Threads + Wait + Sync>(rt: &T, alloc: Global, row: &Row) -> Option<bool> {
+    let script = joined(alloc, row.script)?;
+    let mut wanted = joined(alloc, row.answers)?;
+    if !wanted.is_empty() {
+        wanted.push(b'\n').ok()?;
+    }
+    let (ended, got) = answers(rt, alloc, row.manner, script.as_slice())?;
+    Some(ended == row.ended && got.as_slice() == wanted.as_slice())
+}
+
+#[test]
+fn scripts_in_each_manner(rt: HostRuntime) -> Result<(), Fail> {
+    for k in 0..ROWS.len() {
+        assert!(rt;
+            is_answered(&rt, rt.alloc(), &ROWS[k]) == Some(true),
+            "row {k}"
+        );
+    }
+    Ok(())
+}
+
+/// The front of a line that is too long.
+static FRONT: [u8; 5000] = [b'#'; 5000];
+
+#[test]
+fn a_reader_that_fails_in_a_long_line(rt: HostRuntime) -> Result<(), Fail> {
+    let got = answers(&rt, rt.alloc(), GOES_ON, ThenFails { bytes: &FRONT });
+    assert!(rt; got.is_some_and(|(ended, got)| ended == Err(RunFault::Read) && got.is_empty()));
+    Ok(())
+}
