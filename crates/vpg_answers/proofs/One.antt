@@ -24,8 +24,8 @@ use Rattle.vpg_why.proofs.FirstOnes.{first_products_are_one}
 use Rattle.vpg_why.proofs.Next.{explanations_are_one}
 use Rattle.vpg_answers.specs.declared.query.Query.{Query}
 use Rattle.vpg_answers.specs.declared.query.Query.TheVariants as queries
-use Rattle.vpg_answers.specs.Texts.{verdict_word, verdict_line, other_line, known_line, conflict_line, names_in, product_line}
-use Rattle.vpg_answers.specs.Answers.{MakeSo, IsReason, identifier_of, TellsVerdict, TellsVertex, TellsKnownBy, TellsFeature, TellsChoice, TellsExample, TellsOfVertex, Tells, HasDoubt}
+use Rattle.vpg_answers.specs.Texts.{verdict_word, verdict_line, other_line, lost_word, lost_line, known_line, conflict_line, names_in, product_line}
+use Rattle.vpg_answers.specs.Answers.{MakeSo, IsReason, identifier_of, TellsVerdict, TellsVertex, TellsKnownBy, TellsFeature, TellsChoice, TellsProduct, TellsExample, TellsLost, TellsOfVertex, Tells, HasDoubt}
 use Rattle.vpg_answers.specs.Laws.{AnswersAreOne}
 use Rattle.vpg_answers.proofs.OneOffers.{offers_one}
 use Rattle.vpg_answers.proofs.OneRepairs.{needs_one, repair_one}
@@ -45,6 +45,15 @@ no_doubt names which identifier listed false before behind whole is none =
     let head : List ℕ = verdict_word which ++ blank_number identifier in
     let chosen : List ℕ = choices_text names (map literal_of listed) in
     absurd (none (inl (before ++ (head ++ chosen), behind, is ∙ regroup before head chosen (codes " or fewer") (codes "\n") behind)))
+
+-- nor has what is lost or won
+lost_no_doubt : (names : List (List ℕ)) (which : Which) (identifier : ℕ) (listed : List Decision) (exact : Bool) (whole : List ℕ) →
+    whole ≡ lost_line names which identifier listed exact → ¬ (HasDoubt whole) → exact ≡ true
+lost_no_doubt names which identifier listed true whole is none = refl
+lost_no_doubt names which identifier listed false whole is none =
+    let head : List ℕ = lost_word which ++ blank_number identifier in
+    let chosen : List ℕ = choices_text names (map literal_of listed) in
+    absurd (none (inl (head ++ chosen, [], is ∙ sym (append-nil (lost_line names which identifier listed false)) ∙ regroup [] head chosen (codes " or fewer") (codes "\n") [])))
 
 -- ---- one page
 
@@ -147,6 +156,37 @@ module _ (scene : Scene) (limits others : Limits) (decisions : List Decision) (i
     example_one one other (inr (inl a)) (inr (inr b)) sure also = absurd (also (inr (inr (inl b.1))))
     example_one one other (inr (inr a)) b sure also = absurd (sure (inr (inr (inl a.1))))
 
+    abbrev IsProduct : Limits → List ℕ → Type 0
+    IsProduct limits text = TellsProduct scene limits which vertex decisions text
+
+    product_one : (one other : List ℕ) → IsProduct limits one → IsProduct others other → ¬ (HasDoubt one) → ¬ (HasDoubt other) → one ≡ other
+    product_one one other a b sure also = example_one one other (inl a) (inl b) sure also
+
+    abbrev aim : Question
+    aim = asks.Lost (aims.Won which vertex)
+
+    -- what is told without a doubt
+    lost_exactly : (listed : List Decision) (exact : Bool) → exact ≡ true → IsReason scene aim decisions listed exact → IsReason scene aim decisions listed true
+    lost_exactly listed exact sure reason = subst (λ (b : Bool). IsReason scene aim decisions listed b) sure reason
+
+    -- a product shows that none of the page's decisions leave none
+    not_lost : (limits : Limits) (text : List ℕ) (listed : List Decision) (exact : Bool) → IsReason scene aim decisions listed exact → IsProduct limits text → ⊥
+    not_lost limits text listed exact reason p = all_make aim listed exact reason p.0 p.2 p.3
+
+    lost_one : (one other : List ℕ) → TellsLost scene limits which vertex decisions one → TellsLost scene others which vertex decisions other → ¬ (HasDoubt one) → ¬ (HasDoubt other) → one ≡ other
+    lost_one one other (inl a) (inl b) sure also =
+        let first : a.1 ≡ true = lost_no_doubt scene.names which (identifier_of scene vertex) a.0 a.1 one a.3 sure in
+        let second : b.1 ≡ true = lost_no_doubt scene.names which (identifier_of scene vertex) b.0 b.1 other b.3 also in
+        a.3
+        ∙ ap₂ (λ (listed : List Decision) (exact : Bool). lost_line scene.names which (identifier_of scene vertex) listed exact)
+        (reason_one aim a.0 b.0 (lost_exactly a.0 a.1 first a.2) (lost_exactly b.0 b.1 second b.2)) (first ∙ sym second) ∙ sym b.3
+    lost_one one other (inl a) (inr (inl b)) sure also = absurd (not_lost others other a.0 a.1 a.2 b)
+    lost_one one other (inl a) (inr (inr b)) sure also = absurd (also (inr (inr (inl b.1))))
+    lost_one one other (inr (inl a)) (inl b) sure also = absurd (not_lost limits one b.0 b.1 b.2 a)
+    lost_one one other (inr (inl a)) (inr (inl b)) sure also = product_one one other a b sure also
+    lost_one one other (inr (inl a)) (inr (inr b)) sure also = absurd (also (inr (inr (inl b.1))))
+    lost_one one other (inr (inr a)) b sure also = absurd (sure (inr (inr (inl a.1))))
+
   of_vertex_one : (question : VertexQuestion) (vertex : ℕ) (hopeful dual one other : List ℕ) → TellsOfVertex scene limits question vertex decisions hopeful dual one →
       TellsOfVertex scene others question vertex decisions hopeful dual other → ¬ (HasDoubt one) → ¬ (HasDoubt other) → one ≡ other
   of_vertex_one questions.Why vertex hopeful dual one other a b sure also = vertex_one vertex hopeful dual one other a b sure also
@@ -154,6 +194,7 @@ module _ (scene : Scene) (limits others : Limits) (decisions : List Decision) (i
   of_vertex_one questions.Offer vertex hopeful dual one other a b sure also = offers_one scene limits others vertex decisions one other a b sure also
   of_vertex_one questions.Needs vertex hopeful dual one other a b sure also = needs_one scene limits others vertex decisions one other a b sure also
   of_vertex_one questions.Repair vertex hopeful dual one other a b sure also = repair_one scene limits others vertex decisions is named hopeful one other a b sure also
+  of_vertex_one (questions.Lost which) vertex hopeful dual one other a b sure also = lost_one which vertex one other a b sure also
 
   tells_one : (query : Query) (hopeful dual one other : List ℕ) → Tells scene limits query decisions hopeful dual one → Tells scene others query decisions hopeful dual other →
       ¬ (HasDoubt one) → ¬ (HasDoubt other) → one ≡ other

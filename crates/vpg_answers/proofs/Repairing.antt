@@ -10,7 +10,6 @@ use Rattle.vpg_measure.specs.Orders.{OrderView, IsOrder}
 use Rattle.vpg_measure.specs.TwoGames.{top_for}
 use Rattle.vpg_measure.specs.declared.which.Which.{Which}
 use Rattle.vpg_measure.specs.declared.which.Which.TheVariants.{Hopeful}
-use Rattle.vpg_partial.specs.KnownLaws.{HasConflictOf}
 use Rattle.vpg_partial.specs.TableLaws.{AreChoicesOf}
 use Rattle.vpg_partial.specs.declared.decision.Decision.{Decision}
 use Rattle.vpg_texts.specs.Scene.{Scene, scene_of}
@@ -28,14 +27,11 @@ use Rattle.vpg_why.specs.declared.question.Aim.TheVariants as aims
 use Rattle.vpg_why.specs.declared.question.Limits.{Limits}
 use Rattle.vpg_why.specs.declared.question.Question.TheVariants as asks
 use Rattle.vpg_why.specs.declared.question.Shown.{Shown}
-use Rattle.vpg_why.specs.declared.question.Shown.TheVariants as shown
 use Rattle.vpg_why.specs.declared.repairing.Remedy.{Remedy}
 use Rattle.vpg_why.specs.declared.repairing.Remedy.TheVariants as remedies
 use Rattle.vpg_why.specs.declared.repairing.Retraction.{Retraction}
-use Rattle.vpg_why.proofs.Monotone.{no_conflict}
 use Rattle.vpg_why.proofs.Next.{both_hold}
 use Rattle.vpg_answers.specs.Answers.{identifier_of, IsHopelessBy, TellsNeeds, TellsRepair, TellsRetractions, Appends}
-use Rattle.vpg_answers.specs.Offers.{IsVerdictShown}
 use Rattle.vpg_answers.specs.Repairs.{AreSingles}
 use Rattle.vpg_answers.specs.Room.{RoundsSettle, SearchEnds}
 use Rattle.vpg_answers.specs.Texts.{needs_text, none_line, other_line, several_text, singles_text, unsettled_line}
@@ -54,15 +50,6 @@ none_listed n (x ∷ rest) len b e f = let none : n ≡ 0 = eqb-true n 0 (sym e 
 
 pub some_listed : {X : Type 0} (n : ℕ) (listed : List X) → n ≡ length listed → (b : Bool) → b ≡ nat_eq n 0 → b ≡ false → listed ≢ []
 some_listed {X = X} n listed len b e f none = let some : n ≡ 0 → ⊥ = eqb-false n 0 (sym e ∙ f) in some (len ∙ ap (λ (xs : List X). length xs) none)
-
--- a contradiction makes a verdict so
-pub conflict_is_yes : (scene : Scene) (limits : Limits) (vertex : ℕ) (chosen : List Literal) (which : Which) → HasConflictOf scene.lines chosen →
-    IsVerdictShown scene limits vertex chosen which shown.Yes
-conflict_is_yes scene limits vertex chosen which h = record {
-  yes = λ e known t. absurd (no_conflict scene.lines chosen known t h);
-  no = λ e. absurd (cc e);
-  settled = λ s e. cc e;
-}
 
 module _ (order : OrderView) where
   abbrev page : Scene

@@ -12,7 +12,7 @@ use Rattle.vpg_partial.specs.declared.decision.Decision.{Decision}
 use Rattle.vpg_texts.specs.Scene.{Scene, scene_of}
 use Rattle.vpg_texts.proofs.Shown.{named_below}
 use Rattle.vpg_why.specs.Explained.{choices, Explains}
-use Rattle.vpg_why.specs.Found.{IsFoundProduct, IsFound, IsFoundExact}
+use Rattle.vpg_why.specs.Found.{IsFoundProduct, IsFound, IsFoundExact, IsWhyLost, IsWhyLostExact}
 use Rattle.vpg_why.specs.Products.{NoneMeets}
 use Rattle.vpg_why.specs.Suffices.{Suffice, choice}
 use Rattle.vpg_why.specs.declared.explaining.Explanation.{Explanation}
@@ -21,13 +21,15 @@ use Rattle.vpg_why.specs.declared.question.Aim.TheVariants as aims
 use Rattle.vpg_why.specs.declared.searching.Example.{Example}
 use Rattle.vpg_why.specs.declared.searching.Found.{Found}
 use Rattle.vpg_why.specs.declared.searching.Found.TheVariants as founds
+use Rattle.vpg_why.specs.declared.telling.WhyLost.{WhyLost}
+use Rattle.vpg_why.specs.declared.telling.WhyLost.TheVariants as whys
 use Rattle.vpg_why.specs.declared.question.Limits.{Limits}
 use Rattle.vpg_why.specs.declared.question.Question.{Question}
 use Rattle.vpg_why.specs.declared.question.Question.TheVariants as asks
 use Rattle.vpg_why.proofs.Listing.{among_named}
 use Rattle.vpg_answers.specs.declared.query.Query.{Query}
-use Rattle.vpg_answers.specs.Texts.{verdict_line, other_line, known_line, not_known_line, conflict_line, no_conflict_line, product_line, none_line, unsettled_line, offers_text}
-use Rattle.vpg_answers.specs.Answers.{identifier_of, TellsVerdict, TellsVertex, TellsKnownBy, IsNotKnown, TellsFeature, TellsChoice, TellsExample, TellsOffers, Tells, IsAnswer, Appends}
+use Rattle.vpg_answers.specs.Texts.{verdict_line, other_line, lost_line, known_line, not_known_line, conflict_line, no_conflict_line, product_line, none_line, unsettled_line, offers_text}
+use Rattle.vpg_answers.specs.Answers.{identifier_of, TellsVerdict, TellsVertex, TellsKnownBy, IsNotKnown, TellsFeature, TellsChoice, TellsExample, TellsLost, TellsOffers, Tells, IsAnswer, Appends}
 use Rattle.vpg_answers.specs.Offers.{AreOffers}
 use Rattle.vpg_answers.specs.declared.offers.Offered.{Offered}
 use Rattle.vpg_answers.specs.Room.{RoundsSettle, SearchEnds}
@@ -68,6 +70,33 @@ module _ (order : OrderView) (names : List (List ℕ)) (names_is : names ≡ ord
     pub told_other : (limits : Limits) → ¬ (slice_index (order_table which order) vertex ≡ top_for which (graph_of order.game)) → after ≡ before ++ other_line which identifier →
         Appends (TellsVerdict page limits which vertex order.decisions (order_table which order)) before after
     told_other limits low appended = (other_line which (identifier_of page vertex), (inr (low, refl), appended ∙ ap (λ (n : ℕ). before ++ other_line which n) identifier_is))
+
+  -- ---- lost, or won
+
+  module _ (limits : Limits) (which : Which) (vertex : ℕ) (before after : List ℕ) where
+    pub told_lost : (identifier : ℕ) → identifier ≡ slice_index (vertex_ids order.game.vertices) vertex → (listed : List Decision) (exact : Bool) → (SearchEnds page limits which → IsTrue exact) →
+        Explains (Suffice order.game order.diagram (asks.Lost (aims.Won which vertex))) order.decisions listed exact → after ≡ before ++ lost_line names which identifier listed exact →
+        Appends (TellsLost page limits which vertex order.decisions) before after
+    told_lost identifier identifier_is listed exact settled explains appended = (
+      lost_line order.diagram.names which (identifier_of page vertex) listed exact,
+      (
+        inl (listed, exact, explains, refl, settled),
+        appended ∙ ap₂ (λ (ns : List (List ℕ)) (n : ℕ). before ++ lost_line ns which n listed exact) names_is identifier_is,
+      ),
+    )
+
+    pub told_unless : (set : List Bool) (first : Bool) → IsFoundProduct order.game order.diagram (aims.Won which vertex) (choices order.decisions) set first → (SearchEnds page limits which → IsTrue first) →
+        after ≡ before ++ product_line names set first → Appends (TellsLost page limits which vertex order.decisions) before after
+    told_unless set first found settled appended = (
+      product_line order.diagram.names set first,
+      (
+        inr (inl (set, first, found.remaining, found.meets, found.is_first, refl, settled)),
+        appended ∙ ap (λ (ns : List (List ℕ)). before ++ product_line ns set first) names_is,
+      ),
+    )
+
+    pub told_lost_unsettled : (SearchEnds page limits which → ⊥) → after ≡ before ++ unsettled_line → Appends (TellsLost page limits which vertex order.decisions) before after
+    told_lost_unsettled short appended = (unsettled_line, (inr (inr (short, refl)), appended))
 
   pub told_vertex : (limits : Limits) (vertex : ℕ) (before between after : List ℕ) → Appends (TellsVerdict page limits Hopeful vertex order.decisions order.hopeful) before between →
       Appends (TellsVerdict page limits Dual vertex order.decisions order.dual) between after → Appends (TellsVertex page limits vertex order.decisions order.hopeful order.dual) before after
@@ -176,6 +205,28 @@ found_product order aim found e set is same so =
 pub found_nothing : (order : OrderView) (aim : Aim) (found : Found) → found ≡ founds.Nothing → IsFound order.game order.diagram aim (choices order.decisions) found →
     NoneMeets order.game order.diagram aim (choices order.decisions)
 found_nothing order aim found is so = subst (λ (f : Found). IsFound order.game order.diagram aim (choices order.decisions) f) is so
+
+-- why no product meets an aim, or one that does, as the code lends it
+pub because_explains : (order : OrderView) (aim : Aim) (found : WhyLost) (e : Explanation) (listed : List Decision) → found ≡ whys.Because e → listed ≡ e.decisions.items →
+    IsWhyLost order.game order.diagram aim order.decisions found → Explains (Suffice order.game order.diagram (asks.Lost aim)) order.decisions listed e.exact
+because_explains order aim found e listed is same so =
+    subst (λ (ds : List Decision). Explains (Suffice order.game order.diagram (asks.Lost aim)) order.decisions ds e.exact) (sym same)
+    (subst (λ (f : WhyLost). IsWhyLost order.game order.diagram aim order.decisions f) is so)
+
+pub unless_product : (order : OrderView) (aim : Aim) (found : WhyLost) (e : Example) (set : List Bool) → found ≡ whys.Unless e → set ≡ e.features.items →
+    IsWhyLost order.game order.diagram aim order.decisions found → IsFoundProduct order.game order.diagram aim (choices order.decisions) set e.first
+unless_product order aim found e set is same so =
+    subst (λ (s : List Bool). IsFoundProduct order.game order.diagram aim (choices order.decisions) s e.first) (sym same)
+    (subst (λ (f : WhyLost). IsWhyLost order.game order.diagram aim order.decisions f) is so)
+
+pub because_settled : (found : WhyLost) (e : Explanation) (Settles : Type 0) → found ≡ whys.Because e → (Settles → IsWhyLostExact found) → Settles → IsTrue e.exact
+because_settled found e Settles is settled = subst (λ (f : WhyLost). Settles → IsWhyLostExact f) is settled
+
+pub unless_settled : (found : WhyLost) (e : Example) (Settles : Type 0) → found ≡ whys.Unless e → (Settles → IsWhyLostExact found) → Settles → IsTrue e.first
+unless_settled found e Settles is settled = subst (λ (f : WhyLost). Settles → IsWhyLostExact f) is settled
+
+pub lost_short : (found : WhyLost) (Settles : Type 0) → found ≡ whys.Unsettled → (Settles → IsWhyLostExact found) → Settles → ⊥
+lost_short found Settles is settled = subst (λ (f : WhyLost). Settles → IsWhyLostExact f) is settled
 
 pub first_settled : (found : Found) (e : Example) (Settles : Type 0) → found ≡ founds.Product e → (Settles → IsFoundExact found) → Settles → IsTrue e.first
 first_settled found e Settles is settled = subst (λ (f : Found). Settles → IsFoundExact f) is settled

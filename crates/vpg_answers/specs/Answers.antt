@@ -23,7 +23,7 @@ use Rattle.vpg_why.specs.declared.question.Question.TheVariants as asks
 use Rattle.vpg_answers.specs.declared.offers.Offered.{Offered}
 use Rattle.vpg_answers.specs.declared.query.Query.{Query}
 use Rattle.vpg_answers.specs.declared.query.Query.TheVariants as queries
-use Rattle.vpg_answers.specs.Texts.{verdict_line, other_line, known_line, not_known_line, conflict_line, no_conflict_line, product_line, none_line, unsettled_line, offers_text, needs_text, singles_text, several_text}
+use Rattle.vpg_answers.specs.Texts.{verdict_line, other_line, lost_line, known_line, not_known_line, conflict_line, no_conflict_line, product_line, none_line, unsettled_line, offers_text, needs_text, singles_text, several_text}
 use Rattle.vpg_answers.specs.Offers.{AreOffers}
 use Rattle.vpg_answers.specs.Repairs.{AreSingles}
 use Rattle.vpg_answers.specs.Room.{RoundsSettle, SearchEnds}
@@ -89,15 +89,31 @@ TellsChoice scene feature value decisions text =
 -- ---- a product
 
 -- A product that is left and in which the verdict's loser wins from the vertex, the first one where the limits leave
--- room; or there is none; or the limits leave no room.
-abbrev pub TellsExample : Scene → Limits → Which → (vertex : ℕ) → List Decision → (text : List ℕ) → Type 0
-TellsExample scene limits which vertex decisions text =
-    ((set : List Bool) × (first : Bool) × IsRemaining scene.lines (choices decisions) set ×
+-- room.
+abbrev pub TellsProduct : Scene → Limits → Which → (vertex : ℕ) → List Decision → (text : List ℕ) → Type 0
+TellsProduct scene limits which vertex decisions text =
+    (set : List Bool) × (first : Bool) × IsRemaining scene.lines (choices decisions) set ×
     MeetsIn scene.game (aims.Won which vertex) set
     × (IsTrue first → IsFirstIn scene.game scene.lines (aims.Won which vertex) (choices decisions) set) ×
     (text ≡ product_line scene.names set first)
-    × (SearchEnds scene limits which → IsTrue first))
+    × (SearchEnds scene limits which → IsTrue first)
+
+-- there is such a product; or there is none; or the limits leave no room
+abbrev pub TellsExample : Scene → Limits → Which → (vertex : ℕ) → List Decision → (text : List ℕ) → Type 0
+TellsExample scene limits which vertex decisions text =
+    TellsProduct scene limits which vertex decisions text
     ⊎ (NoneMeetsIn scene.game scene.lines (aims.Won which vertex) (choices decisions) × (text ≡ none_line))
+    ⊎ (¬ (SearchEnds scene limits which) × (text ≡ unsettled_line))
+
+-- These decisions of the page alone leave no such product, exactly where the limits leave room; or there is one; or the
+-- limits leave no room.
+abbrev pub TellsLost : Scene → Limits → Which → (vertex : ℕ) → List Decision → (text : List ℕ) → Type 0
+TellsLost scene limits which vertex decisions text =
+    ((listed : List Decision) × (exact : Bool) ×
+    IsReason scene (asks.Lost (aims.Won which vertex)) decisions listed exact ×
+    (text ≡ lost_line scene.names which (identifier_of scene vertex) listed exact)
+    × (SearchEnds scene limits which → IsTrue exact))
+    ⊎ TellsProduct scene limits which vertex decisions text
     ⊎ (¬ (SearchEnds scene limits which) × (text ≡ unsettled_line))
 
 -- ---- offers
@@ -173,6 +189,8 @@ TellsOfVertex scene limits questions.Needs vertex decisions hopeful dual text =
     TellsNeeds scene limits vertex decisions text
 TellsOfVertex scene limits questions.Repair vertex decisions hopeful dual text =
     TellsRepair scene limits vertex decisions hopeful text
+TellsOfVertex scene limits (questions.Lost which) vertex decisions hopeful dual text =
+    TellsLost scene limits which vertex decisions text
 
 abbrev pub Tells : Scene → Limits → Query → List Decision → (hopeful dual text : List ℕ) → Type 0
 Tells scene limits (queries.OfVertex question vertex) decisions hopeful dual text =

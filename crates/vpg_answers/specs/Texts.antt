@@ -40,6 +40,16 @@ verdict_line names which identifier listed exact =
 abbrev pub other_line : Which → (identifier : ℕ) → List ℕ
 other_line which identifier = other_word which ++ blank_number identifier ++ 10 ∷ []
 
+-- what holds of a vertex in fact: Even wins from it in no product, or Odd in none
+abbrev pub lost_word : Which → List ℕ
+lost_word Hopeful = codes "lost"
+lost_word Dual = codes "won"
+
+-- a vertex of which it holds, and the decisions that make it so
+abbrev pub lost_line : List (List ℕ) → Which → (identifier : ℕ) → List Decision → Bool → List ℕ
+lost_line names which identifier listed exact =
+    lost_word which ++ blank_number identifier ++ reason_text names listed exact
+
 -- ---- a feature
 
 -- how it is known

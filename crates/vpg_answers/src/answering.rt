@@ -5,7 +5,7 @@ ghost use Rattle.vpg_diagram.specs.FeatureDiagram.{feature_count};
 ghost use Rattle.vpg_texts.specs.Scene.{scene_of};
 
 use crate::query::Query;
-use crate::{examples, needs, offers, reasons, repairs};
+use crate::{examples, losses, needs, offers, reasons, repairs};
 use std::alloc::{AllocError, Global};
 use vpg_measure::Order;
 use vpg_script::VertexQuestion;
@@ -33,6 +33,7 @@ fn of_vertex(
         VertexQuestion::Offer => offers::offers(alloc, order, vertex, limits, out),
         VertexQuestion::Needs => needs::needs_at(alloc, order, vertex, limits, out),
         VertexQuestion::Repair => repairs::repairs_at(alloc, order, vertex, limits, out),
+        VertexQuestion::Lost(which) => losses::loss(alloc, order, which, vertex, limits, out),
     }
 }
 

@@ -17,7 +17,7 @@ use std::alloc::{AllocError, Global};
 use vpg_guards::Names;
 use vpg_measure::{Order, Which};
 use vpg_partial::Decision;
-use vpg_why::{Limits, Offer, Remedy, Shown, look_back, repair};
+use vpg_why::{Limits, Remedy, Shown, repair, stays_without};
 
 /// Decisions each of which alone, once retracted, leaves a vertex possible.
 #[derive(Drop)]
@@ -49,10 +49,8 @@ fn is_hopeless_without(
     ensures { IfOk result (IsVerdictShown (scene_of order.now.game order.now.diagram) limits vertex
         (choices (take place order.now.decisions ++ drop (place + 1) order.now.decisions)) Which.Hopeful) }
 {
-    match look_back(alloc, order, place, vertex, limits)? {
-        Offer::Conflict => Ok(Shown::Yes),
-        Offer::Verdict { hopeless, .. } => Ok(hopeless),
-    }
+    let shown = stays_without(alloc, order, Which::Hopeful, place, vertex, limits)?;
+    Ok(shown)
 }
 
 fn singles(alloc: Global, order: &Order, vertex: u32, limits: Limits) -> Result<Alone, AllocError>

@@ -115,6 +115,8 @@ verb_of w =
     else if bytes_eq w (codes "offer") then Some verbs.Offer
     else if bytes_eq w (codes "needs") then Some verbs.Needs
     else if bytes_eq w (codes "repair") then Some verbs.Repair
+    else if bytes_eq w (codes "lost") then Some verbs.Lost
+    else if bytes_eq w (codes "won") then Some verbs.Won
     else None
 
 -- a command without arguments
@@ -161,6 +163,8 @@ asked verbs.Counterexample w = of_vertex (questions.Example Dual) w
 asked verbs.Offer w = of_vertex questions.Offer w
 asked verbs.Needs w = of_vertex questions.Needs w
 asked verbs.Repair w = of_vertex questions.Repair w
+asked verbs.Lost w = of_vertex (questions.Lost Hopeful) w
+asked verbs.Won w = of_vertex (questions.Lost Dual) w
 asked _ w = None
 
 -- with one

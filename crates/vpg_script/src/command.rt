@@ -51,6 +51,8 @@ pub enum Verb {
     Offer,
     Needs,
     Repair,
+    Lost,
+    Won,
 }
 
 /// What is asked of a vertex.
@@ -66,6 +68,8 @@ pub enum VertexQuestion {
     Needs,
     /// What to retract so that it is not hopeless any more.
     Repair,
+    /// Why in no product that is left Even wins from it, for the first table, or Odd, for the second.
+    Lost(Which),
 }
 
 /// A verdict that a line asserts of a vertex.
@@ -283,6 +287,10 @@ fn verb_named(word: &[u8]) -> Option<Verb>
         Some(Verb::Needs)
     } else if same(word, b"repair") {
         Some(Verb::Repair)
+    } else if same(word, b"lost") {
+        Some(Verb::Lost)
+    } else if same(word, b"won") {
+        Some(Verb::Won)
     } else {
         None
     }
@@ -316,7 +324,9 @@ fn bare_command<'t>(verb: Verb) -> Option<Command<'t>>
         | Verb::Counterexample
         | Verb::Offer
         | Verb::Needs
-        | Verb::Repair => None,
+        | Verb::Repair
+        | Verb::Lost
+        | Verb::Won => None,
     }
 }
 
@@ -365,6 +375,8 @@ fn asked(verb: Verb, word: &[u8]) -> Option<Inquiry>
         Verb::Offer => of_vertex(VertexQuestion::Offer, word),
         Verb::Needs => of_vertex(VertexQuestion::Needs, word),
         Verb::Repair => of_vertex(VertexQuestion::Repair, word),
+        Verb::Lost => of_vertex(VertexQuestion::Lost(Which::Hopeful), word),
+        Verb::Won => of_vertex(VertexQuestion::Lost(Which::Dual), word),
         _ => None,
     }
 }

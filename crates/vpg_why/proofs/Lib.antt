@@ -15,5 +15,6 @@ pub mod Losing
 pub mod Ordered
 pub mod Rooms
 pub mod Examples
+pub mod Sought
 pub mod Splits
 pub mod Tops

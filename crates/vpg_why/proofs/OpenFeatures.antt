@@ -21,7 +21,7 @@ use Rattle.vpg_why.specs.Suffices.{choice}
 use Rattle.vpg_why.proofs.InOrder.{one_behind}
 
 -- a product has the one value of a feature or the other
-either_value : (set : List Bool) (f : ℕ) (value : Bool) → IsTrueIn set (choice f value) ⊎ IsTrueIn set (choice f (not value))
+pub either_value : (set : List Bool) (f : ℕ) (value : Bool) → IsTrueIn set (choice f value) ⊎ IsTrueIn set (choice f (not value))
 either_value set f value = of value (slice_index_or set f false) refl
   where
     of : (v b : Bool) → slice_index_or set f false ≡ b → IsTrueIn set (choice f v) ⊎ IsTrueIn set (choice f (not v))

@@ -1,5 +1,6 @@
 -- What a search for a product says.
 use Rattle.std.specs.Prelude.{ℕ, ◌≡◌, ◌<◌, ◌≤◌, ◌+◌, ⊤, Bool, List, slice_index_or, IsTrue}
+use Rattle.std.specs.List.{AllByRecursion}
 use Rattle.vpg_guards.specs.declared.tri.Tri.{Tri}
 use Rattle.vpg_guards.specs.declared.tri.Tri.TheVariants.{Unknown}
 use Rattle.vpg_diagram.specs.DiagramText.{NamedDiagram}
@@ -13,6 +14,7 @@ use Rattle.vpg_why.specs.declared.forcing.Demand.{Demand}
 use Rattle.vpg_why.specs.declared.forcing.Demand.TheVariants as demands
 use Rattle.vpg_why.specs.declared.question.Aim.{Aim}
 use Rattle.vpg_why.specs.declared.question.Question.TheVariants as asks
+use Rattle.vpg_why.specs.declared.searching.Example.{Example}
 use Rattle.vpg_why.specs.declared.searching.Found.{Found}
 use Rattle.vpg_why.specs.declared.searching.Found.TheVariants as founds
 use Rattle.vpg_why.specs.declared.searching.Outlook.{Outlook}
@@ -67,6 +69,18 @@ abbrev pub IsFound : NamedGame → NamedDiagram → Aim → List Literal → Fou
 IsFound game diagram aim choices (founds.Product example) = IsFoundProduct game diagram aim choices example.features.items example.first
 IsFound game diagram aim choices founds.Nothing = NoneMeets game diagram aim choices
 IsFound game diagram aim choices founds.Unsettled = ⊤
+
+-- any product that agrees with the choices and meets the aim; or there is none
+abbrev pub IsSought : NamedGame → NamedDiagram → Aim → List Literal → Found → Type 0
+IsSought game diagram aim choices (founds.Product example) =
+    IsRemaining diagram.lines choices example.features.items × Meets game aim example.features.items
+IsSought game diagram aim choices founds.Nothing = NoneMeets game diagram aim choices
+IsSought game diagram aim choices founds.Unsettled = ⊤
+
+-- each of these products agrees with the choices and meets the aim
+abbrev pub AllMeet : NamedGame → NamedDiagram → Aim → List Literal → List Example → Type 0
+AllMeet game diagram aim choices found = AllByRecursion
+    (λ e. IsRemaining diagram.lines choices e.features.items × Meets game aim e.features.items) found
 
 -- no limit was met
 abbrev pub IsFoundExact : Found → Type 0

@@ -8,7 +8,7 @@
 //! Each trial goes over from the order's games to those of its decisions; what is asked of features alone makes no games.
 //!
 //! The layer above uses `why`, `why_lost`, `why_known`, `why_conflict` (explanations), `find` (an example or a counterexample, or that
-//! there is none), `needs` (what all that are won have), `look_ahead`, `look_back` (what one more decision, or one fewer, would do) and
+//! there is none), `needs` (what all that are won have), `look_ahead`, `look_back`, `stays_without` (what one more decision, or one fewer, would do) and
 //! `repair` (what to retract). `Which::Hopeful` asks for Even, `Which::Dual` for Odd. Every answer has `Limits` of work, and says where
 //! it met one: it is then unsettled, never wrong.
 //!
@@ -26,12 +26,13 @@ mod offering;
 mod question;
 mod repairing;
 mod searching;
+mod seeking;
 mod telling;
 
 pub use answering::suffice;
 pub use explaining::{Explanation, explain};
 pub use forcing::{Demand, Forced, needs};
-pub use offering::{Offer, look_ahead, look_back};
+pub use offering::{Offer, look_ahead, look_back, stays_without};
 pub use question::{Aim, Limits, Question, Shown};
 pub use repairing::{Remedy, Retraction, repair};
 pub use searching::{Example, Found, find};

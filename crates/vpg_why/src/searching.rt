@@ -144,7 +144,7 @@ fn look_at_game(
     }
 }
 
-fn look(
+pub(crate) fn look(
     alloc: Global,
     order: &Order,
     aim: Aim,

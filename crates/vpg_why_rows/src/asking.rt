@@ -11,18 +11,22 @@
 //! | `example V`, `counterexample V`, `product` | a product that is left and that Even (Odd) wins; any |
 //! | `needs V`, `fails V`, `forced` | what each product has that is left and that Even (Odd) wins; that is left |
 //! | `offer +F V`, `without N V` | the verdicts of the vertex with one more decision; without the Nth |
+//! | `still N V`, `certain N V` | whether the vertex would be hopeless, or sure, without the Nth |
 //! | `repair V`, `expose V` | what to retract so that it is not hopeless any more; not sure any more |
 ghost use Rattle.std.specs.Prelude.{◌<◌, IfOk, length};
 ghost use Rattle.vpg_diagram.specs.FeatureDiagram.{feature_count};
 ghost use Rattle.vpg_why.specs.Suffices.{IsAim};
 
 use crate::page::{Texts, order_from};
-use crate::putting::{put_demand, put_found, put_offer, put_remedy, put_why, put_why_lost};
+use crate::putting::{
+    put_demand, put_found, put_offer, put_remedy, put_verdict, put_why, put_why_lost,
+};
 use anyhow::{Context, Result, bail};
 use std::alloc::Global;
 use vpg_measure::{Order, Which};
 use vpg_why::{
-    Aim, Limits, find, look_ahead, look_back, needs, repair, why, why_conflict, why_known, why_lost,
+    Aim, Limits, find, look_ahead, look_back, needs, repair, stays_without, why, why_conflict,
+    why_known, why_lost,
 };
 
 /// The vertex of an identifier.
@@ -138,6 +142,32 @@ fn ask_offer(
     put_offer(found, line)
 }
 
+/// The place of the decision that a word numbers, from 1 on.
+fn place_of(order: &Order, word: &str) -> Result<usize>
+    ensures { IfOk result (λ place. place < length order.now.decisions) }
+{
+    let number = word.parse::<usize>()?;
+    if number == 0 || number > order.decisions().len() {
+        bail!("decision");
+    }
+    Ok(number - 1)
+}
+
+fn ask_stays(
+    alloc: Global,
+    order: &Order,
+    which: Which,
+    words: &str,
+    limits: Limits,
+    line: &mut String,
+) -> Result<()> {
+    let (number, vertex) = words.split_once(' ').context("vertex")?;
+    let place = place_of(order, number)?;
+    let vertex = vertex_of(order, vertex)?;
+    let shown = stays_without(alloc, order, which, place, vertex, limits)?;
+    put_verdict(which, shown, line)
+}
+
 fn ask_without(
     alloc: Global,
     order: &Order,
@@ -146,12 +176,9 @@ fn ask_without(
     line: &mut String,
 ) -> Result<()> {
     let (number, vertex) = words.split_once(' ').context("vertex")?;
-    let place = number.parse::<usize>()?;
+    let place = place_of(order, number)?;
     let vertex = vertex_of(order, vertex)?;
-    if place == 0 || place > order.decisions().len() {
-        bail!("decision");
-    }
-    let found = look_back(alloc, order, place - 1, vertex, limits)?;
+    let found = look_back(alloc, order, place, vertex, limits)?;
     put_offer(found, line)
 }
 
@@ -203,6 +230,8 @@ fn ask(alloc: Global, order: &Order, row: &str, limits: Limits, line: &mut Strin
         "forced" => ask_needs(alloc, order, Aim::Any, limits, line),
         "offer" => ask_offer(alloc, order, words, limits, line),
         "without" => ask_without(alloc, order, words, limits, line),
+        "still" => ask_stays(alloc, order, Which::Hopeful, words, limits, line),
+        "certain" => ask_stays(alloc, order, Which::Dual, words, limits, line),
         "repair" => ask_repair(alloc, order, Which::Hopeful, words, limits, line),
         "expose" => ask_repair(alloc, order, Which::Dual, words, limits, line),
         _ => ask_of_products(alloc, order, asked, words, limits, line),

@@ -3,6 +3,7 @@
 use anyhow::Result;
 use std::fmt::Write;
 use vpg_diagram::{Diagram, Literal};
+use vpg_measure::Which;
 use vpg_partial::Decision;
 use vpg_why::{
     Demand, Example, Explanation, Forced, Found, Offer, Remedy, Retraction, Shown, WhyLost,
@@ -110,14 +111,22 @@ fn put_shown(shown: Shown, words: [&str; 2], line: &mut String) -> Result<()> {
     Ok(())
 }
 
+/// Appends the verdict of a table that there would be.
+pub(crate) fn put_verdict(which: Which, shown: Shown, line: &mut String) -> Result<()> {
+    match which {
+        Which::Hopeful => put_shown(shown, ["hopeless", "possible"], line),
+        Which::Dual => put_shown(shown, ["sure", "unsure"], line),
+    }
+}
+
 /// Appends the verdicts that there would be.
 pub(crate) fn put_offer(found: Offer, line: &mut String) -> Result<()> {
     match found {
         Offer::Conflict => line.push_str("conflict")?,
         Offer::Verdict { hopeless, sure } => {
-            put_shown(hopeless, ["hopeless", "possible"], line)?;
+            put_verdict(Which::Hopeful, hopeless, line)?;
             line.push(' ')?;
-            put_shown(sure, ["sure", "unsure"], line)?;
+            put_verdict(Which::Dual, sure, line)?;
         }
     }
     Ok(())

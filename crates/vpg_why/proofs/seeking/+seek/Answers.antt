@@ -1,0 +1,39 @@
+use Rattle.std.proofs.Common.{not, ◌-◌, arith}
+use Rattle.vpg_why.specs.Explained.{choices}
+use Rattle.vpg_why.proofs.Rooms.{one_less, child_room, room_trials, spent}
+use Rattle.vpg_why.proofs.Sought.{not_settled, sought_with, sought_other}
+use Rattle.vpg_why.proofs.seeking.+seek.Goals as goal
+
+pub returns-in-Product-clause-found : goal.returns-in-Product-clause-found
+returns-in-Product-clause-found t c =
+    sought_with c.args.order.now.game c.args.order.now.diagram c.args.aim (choices c.args.decisions.now) c.in-Open.feature (not c.has-value.result) c.in-Product.found
+    (rw (c.in-Product.is, c.deref.ensures.value, c.in_ok-more.ensures) at c.in_ok-one.ensures.found)
+
+pub returns-in-Nothing : goal.returns-in-Nothing
+returns-in-Nothing t c = record {
+  found = sought_other c.args.order.now.game c.args.order.now.diagram c.args.aim (choices c.args.decisions.now) c.in-Open.feature (not c.has-value.result) c.in_ok-other.other
+      (rw (c.in-Nothing.is, c.deref.ensures.value, c.in_ok-more.ensures) at c.in_ok-one.ensures.found)
+      (rw (c.deref-2.ensures.value, c.in_ok-more-2.ensures) at c.in_ok-other.ensures.found);
+  spent = (let s = c.in_ok-one.ensures.spent in let u = c.in_ok-other.ensures.spent in
+      spent c.args.depth (c.args.depth - 1) c.args.trials.now (c.args.trials.now - 1) c.seek-2.new.trials (one_less c.args.depth c.if-depth-eq0.false) (omega arith) (omega (arith, s, u)));
+  settled = λ room settles. (rw (c.deref-2.ensures.value, c.in_ok-more-2.ensures) at c.in_ok-other.ensures.settled)
+      (child_room c.args.order.now.diagram (choices c.args.decisions.now) c.in-Open.feature (not (not c.has-value.result)) (rw c.in-Open.is at c.in_ok-look.ensures.outlook) c.args.depth (c.args.depth - 1) c.args.trials.now c.seek.new.trials (one_less c.args.depth c.if-depth-eq0.false) (let r = room_trials c.args.order.now.diagram (choices c.args.decisions.now) c.args.depth (c.args.depth - 1) c.args.trials.now (one_less c.args.depth c.if-depth-eq0.false) room in let s = c.in_ok-one.ensures.spent in omega (arith, r, s)) room)
+      settles;
+}
+
+pub returns-in-Product-other : goal.returns-in-Product-other
+returns-in-Product-other t c = record {
+  found = sought_with c.args.order.now.game c.args.order.now.diagram c.args.aim (choices c.args.decisions.now) c.in-Open.feature (not (not c.has-value.result)) c.in-Product-other.found
+      (rw (c.in-Product-other.is, c.deref-2.ensures.value, c.in_ok-more-2.ensures) at c.in_ok-other.ensures.found);
+  spent = (let s = c.in_ok-one.ensures.spent in let u = c.in_ok-other.ensures.spent in
+      spent c.args.depth (c.args.depth - 1) c.args.trials.now (c.args.trials.now - 1) c.seek-2.new.trials (one_less c.args.depth c.if-depth-eq0.false) (omega arith) (omega (arith, s, u)));
+  settled = λ room settles e. cc e;
+}
+
+pub returns : goal.returns
+returns t c = record {
+  found = tt;
+  spent = (let s = c.in_ok-one.ensures.spent in let u = c.in_ok-other.ensures.spent in
+      spent c.args.depth (c.args.depth - 1) c.args.trials.now (c.args.trials.now - 1) c.seek-2.new.trials (one_less c.args.depth c.if-depth-eq0.false) (omega arith) (omega (arith, s, u)));
+  settled = λ room settles. absurd (not_settled c.in_ok-one.one ((rw (c.deref.ensures.value, c.in_ok-more.ensures) at c.in_ok-one.ensures.settled) (child_room c.args.order.now.diagram (choices c.args.decisions.now) c.in-Open.feature (not c.has-value.result) (rw c.in-Open.is at c.in_ok-look.ensures.outlook) c.args.depth (c.args.depth - 1) c.args.trials.now (c.args.trials.now - 1) (one_less c.args.depth c.if-depth-eq0.false) (let r = room_trials c.args.order.now.diagram (choices c.args.decisions.now) c.args.depth (c.args.depth - 1) c.args.trials.now (one_less c.args.depth c.if-depth-eq0.false) room in omega (arith, r)) room) settles) c.in_default.not-Product c.in_default-one.not-Nothing);
+}
