@@ -223,7 +223,7 @@ pub static LINES: [Form; 8] = [
 ];
 
 /// The commands of scripts.
-pub static COMMANDS: [Form; 24] = [
+pub static COMMANDS: [Form; 26] = [
     Form {
         word: "select",
         written: "select F",
@@ -367,6 +367,20 @@ pub static COMMANDS: [Form; 24] = [
     Form {
         word: "counterexample",
         written: "counterexample V",
+        parts: &[Part::Vertex],
+        optional: 0,
+        rest: None,
+    },
+    Form {
+        word: "lost",
+        written: "lost V",
+        parts: &[Part::Vertex],
+        optional: 0,
+        rest: None,
+    },
+    Form {
+        word: "won",
+        written: "won V",
         parts: &[Part::Vertex],
         optional: 0,
         rest: None,

@@ -43,6 +43,8 @@ harvest's number, N a number):
   why +F, why -F         decisions that contradict one more
   example V              the first product left in which Even wins at V
   counterexample V       the same of Odd
+  lost V                 decisions because of which Even wins at V in no product
+  won V                  the same of Odd
   offer V                what each further decision would make of V
   needs V                what every product has that is left and won at V
   repair V               what to retract so that V is possible
