@@ -1,0 +1,154 @@
+//! A reader and a writer that fail at one of their calls, and runs over them.
+
+use crate::family::{Family, outcome};
+use std::alloc::Global;
+use std::io;
+use std::io::{Read, Write};
+use std::sync::Wait;
+use std::thread::Threads;
+use vpg_report::RunFault;
+
+/// A script that decides, settles and shows.
+const SCRIPT: &[u8] = b"exclude f\nsettle\nshow\ntrail\n";
+
+/// What it answers.
+const ANSWERS: &[u8] =
+    b"done 1\nsettled 2\ndecisions -f\nfull no\nsettled yes\n0 2 0 hopeless unsure\n1 0 1 possible unsure
+exclude f 1\nhopeful 0 0 2 -f\ndual 1 0 1 -f\nentries 3\n";
+
+/// After how many bytes of the script how many bytes of the answers are written.
+const WRITTEN: [(usize, usize); 5] = [(0, 0), (10, 7), (17, 17), (22, 94), (28, 147)];
+
+/// Gives a byte of a script a call, so often, and then fails or ends.
+#[derive(Drop)]
+pub(crate) struct Gives {
+    pub(crate) script: &'static [u8],
+    pub(crate) calls: usize,
+    pub(crate) fails: bool,
+}
+
+impl Read for Gives {
+    fn read(&mut self, buf: &mut [u8]) -> io::Result<usize> {
+        if self.calls == 0 && self.fails {
+            return Err(io::ErrorKind::Other.into());
+        }
+        if self.calls == 0 || self.script.is_empty() || buf.is_empty() {
+            return Ok(0);
+        }
+        buf[0] = self.script[0];
+        self.script = &self.script[1..];
+        self.calls -= 1;
+        Ok(1)
+    }
+}
+
+/// Takes so many bytes a call, so often, and then fails.
+#[derive(Drop)]
+pub(crate) struct Takes<'t> {
+    pub(crate) got: &'t mut Vec<u8>,
+    pub(crate) bytes: usize,
+    pub(crate) calls: usize,
+}
+
+impl Write for Takes<'_> {
+    fn write(&mut self, buf: &[u8]) -> io::Result<usize> {
+        if self.calls == 0 {
+            return Err(io::ErrorKind::Other.into());
+        }
+        self.calls -= 1;
+        let most = buf.len().min(self.bytes);
+        self.got.extend_from_slice(&buf[..most])?;
+        Ok(most)
+    }
+
+    fn flush(&mut self) -> io::Result<()> {
+        Ok(())
+    }
+}
+
+/// How many bytes are answered to so many bytes of the script.
+fn written_after(bytes: usize) -> usize {
+    let mut written = 0;
+    for (after, answered) in WRITTEN {
+        if after <= bytes {
+            written = answered;
+        }
+    }
+    written
+}
+
+/// Whether a run whose reader fails behind so many bytes ends so, behind the answers of the whole lines read.
+fn reads_so_far<R: Threads + Wait + Sync>(
+    rt: &R,
+    alloc: Global,
+    family: &Family,
+    calls: usize,
+) -> bool {
+    let gives = Gives {
+        script: SCRIPT,
+        calls,
+        fails: true,
+    };
+    let mut got = Vec::new(alloc);
+    let takes = Takes {
+        got: &mut got,
+        bytes: 7,
+        calls: usize::MAX,
+    };
+    let ended = outcome(rt, alloc, family, 1, gives, takes);
+    ended == Some(Err(RunFault::Read))
+        && got.len() == written_after(calls)
+        && ANSWERS.starts_with(&got)
+}
+
+/// Whether a run whose writer takes so many bytes a call, and fails at this call, ends so, behind as many bytes of the
+/// answers as were taken.
+fn writes_so_far<R: Threads + Wait + Sync>(
+    rt: &R,
+    alloc: Global,
+    family: &Family,
+    bytes: usize,
+    calls: usize,
+) -> bool {
+    let gives = Gives {
+        script: SCRIPT,
+        calls: usize::MAX,
+        fails: false,
+    };
+    let mut got = Vec::new(alloc);
+    let takes = Takes {
+        got: &mut got,
+        bytes,
+        calls,
+    };
+    let ended = outcome(rt, alloc, family, 1, gives, takes);
+    if ended == Some(Ok(())) {
+        return got.as_slice() == ANSWERS;
+    }
+    ended == Some(Err(RunFault::Write)) && got.len() < ANSWERS.len() && ANSWERS.starts_with(&got)
+}
+
+/// Whether a reader may fail at each of its calls.
+pub(crate) fn reads<R: Threads + Wait + Sync>(rt: &R, alloc: Global, family: &Family) -> bool {
+    for calls in 0..=SCRIPT.len() {
+        if !reads_so_far(rt, alloc, family, calls) {
+            return false;
+        }
+    }
+    true
+}
+
+/// Whether a writer that takes so many bytes a call may fail at each of its calls.
+pub(crate) fn writes<R: Threads + Wait + Sync>(
+    rt: &R,
+    alloc: Global,
+    family: &Family,
+    bytes: usize,
+) -> bool {
+    for calls in 0..=ANSWERS.len() {
+        if !writes_so_far(rt, alloc, family, bytes, calls) {
+            return false;
+        }
+    }
+    true
+}
