@@ -1,13 +1,15 @@
 //! What no clause says: what is told of the end of a script, with which text. The family of most rows is the one that is built in.
+use crate::ending::{End, ended, refused_line};
 use crate::running::run_script;
 use crate::{DIAGRAM, GAME};
-use std::alloc::Global;
+use std::alloc::{AllocError, Global};
 use std::io::{self, Read, Write};
 use std::sync::Wait;
 use std::test::*;
 use std::thread::Threads;
 use vpg_family::{Family, Fault, line_of};
 use vpg_script::{Device, Ending, Manner};
+use vpg_words::{Task, read};
 
 /// Each line is answered, and a fault ends the script.
 const PLAIN: Manner = Manner {
@@ -149,5 +151,91 @@ fn broken_devices(rt: HostRuntime) -> Result<(), Fail> {
     );
     // Where nothing is written a broken device is no failure.
     assert!(rt; unwritten(&rt, rt.alloc(), "# none\n").is_ok());
+    Ok(())
+}
+
+/// The program's name and the words behind it.
+fn line(alloc: Global, words: &str) -> Result<Vec<String>, AllocError> {
+    let mut line = Vec::new(alloc);
+    line.push(String::from_str(alloc, "vpgdesk")?)?;
+    for word in words.split(' ') {
+        line.push(String::from_str(alloc, word)?)?;
+    }
+    Ok(line)
+}
+
+/// The manner that words of a run ask for: whether it is strict, and whether it goes on.
+fn manner(alloc: Global, words: &str) -> Option<(bool, bool)> {
+    let line = line(alloc, words).ok()?;
+    match read(alloc, &line) {
+        Ok(
+            Task::Run {
+                strict,
+                keep_going,
+                ..
+            },
+        ) => Some((strict, keep_going)),
+        _ => None,
+    }
+}
+
+#[test]
+fn words_of_manners(rt: HostRuntime) -> Result<(), Fail> {
+    for (words, wanted) in [
+        ("run g d s", Some((false, false))),
+        ("run --strict g d s", Some((true, false))),
+        ("run g d s --keep-going", Some((false, true))),
+        (
+            "run g --keep-going d --lifters 2 s --strict",
+            Some((true, true)),
+        ),
+        ("run g d s -- --strict", None),
+        ("run g d s --strict --strict", None),
+        ("run g d s --strict=1", None),
+        ("run g d s --keep", None),
+        ("check g d --strict", None),
+    ] {
+        assert!(rt; manner(rt.alloc(), words) == wanted, "at {words}");
+    }
+    Ok(())
+}
+
+/// What a script ends with in a manner, on the family that is built in.
+fn end_of<T: Threads + Wait + Sync>(
+    rt: &T,
+    alloc: Global,
+    script: &str,
+    manner: Manner,
+) -> Result<End, Fault> {
+    let family = Family::read(alloc, DIAGRAM.as_bytes(), GAME.as_bytes())?;
+    let mut reader = Device::reader(script.as_bytes());
+    let mut writer = Device::writer(Vec::new(alloc));
+    let ending = run_script(rt, alloc, family, &mut reader, &mut writer, 1, manner)?;
+    Ok(ended(ending))
+}
+
+#[test]
+fn ends_of_manners(rt: HostRuntime) -> Result<(), Fail> {
+    let strict = Manner {
+        is_strict: true,
+        goes_on: false,
+    };
+    assert!(rt; matches!(end_of(&rt, rt.alloc(), "show", strict), Ok(End::Done)));
+    assert!(rt;
+        matches!(
+            end_of(&rt, rt.alloc(), "assert full", PLAIN),
+            Ok(End::Failed)
+        )
+    );
+    assert!(rt;
+        matches!(
+            end_of(&rt, rt.alloc(), "show\nundo\nfrob", strict),
+            Ok(End::Refused { line: 2 })
+        )
+    );
+    let told = refused_line(rt.alloc(), 20);
+    assert!(rt;
+        told.is_ok_and(|text| text.as_slice() == b"vpgdesk: script Line 20 Refused\n".as_slice())
+    );
     Ok(())
 }
