@@ -97,7 +97,8 @@ def follow(program):
             if not program and ran.returncode == 9:
                 print(f"left out: {head}")
                 continue
-            if not is_answer(rest, ran.stdout.rstrip("\n").split("\n")):
+            found = ran.stdout.rstrip("\n").split("\n") if ran.stdout else []
+            if not is_answer(rest, found):
                 yield "\n".join([f"$ {head}", "expected:", *rest, "answered:", ran.stdout])
 
 
