@@ -167,14 +167,13 @@ fn line(alloc: Global, words: &str) -> Result<Vec<String>, AllocError> {
 /// The manner that words of a run ask for: whether it is strict, and whether it goes on.
 fn manner(alloc: Global, words: &str) -> Option<(bool, bool)> {
     let line = line(alloc, words).ok()?;
-    match read(alloc, &line) {
-        Ok(
-            Task::Run {
-                strict,
-                keep_going,
-                ..
-            },
-        ) => Some((strict, keep_going)),
+    let asked = read(alloc, &line).ok()?;
+    match &asked.task {
+        Task::Run {
+            strict,
+            keep_going,
+            ..
+        } => Some((*strict, *keep_going)),
         _ => None,
     }
 }
