@@ -85,6 +85,8 @@ pub data Command : Type 0 where
   Commit : (number : ℕ) → Command
   Settle : (sweeps : Option ℕ) → Command
   Look : (lookup : Lookup) → Command
+  -- which verdicts are other than they were at the last of these
+  Changed : Command
   Known : (name : List ℕ) → Command
   Ask : (inquiry : Inquiry) → Command
 
@@ -107,6 +109,7 @@ verb_of w =
     else if bytes_eq w (codes "products") then Some verbs.Products
     else if bytes_eq w (codes "plan") then Some verbs.Plan
     else if bytes_eq w (codes "count") then Some verbs.Count
+    else if bytes_eq w (codes "changed") then Some verbs.Changed
     else if bytes_eq w (codes "known") then Some verbs.Known
     else if bytes_eq w (codes "assert") then Some verbs.Assert
     else if bytes_eq w (codes "why") then Some verbs.Why
@@ -128,6 +131,7 @@ bare_command verbs.Trail = Some (Look Trail)
 bare_command verbs.Products = Some (Look Products)
 bare_command verbs.Plan = Some (Look Plan)
 bare_command verbs.Count = Some (Look Count)
+bare_command verbs.Changed = Some Changed
 bare_command _ = None
 
 abbrev pub if_name : (List ℕ → Command) → List ℕ → Option Command

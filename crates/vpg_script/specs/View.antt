@@ -48,6 +48,7 @@ command_shown commands.Harvest = script.Harvest
 command_shown (commands.Commit k) = script.Commit k
 command_shown (commands.Settle n) = script.Settle n
 command_shown (commands.Look lookup) = script.Look (lookup_shown lookup)
+command_shown commands.Changed = script.Changed
 command_shown (commands.Known f) = script.Known f.now
 command_shown (commands.Ask inquiry) = script.Ask (inquiry_shown inquiry)
 

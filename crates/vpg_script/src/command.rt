@@ -43,6 +43,7 @@ pub enum Verb {
     Products,
     Plan,
     Count,
+    Changed,
     Known,
     Assert,
     Why,
@@ -128,6 +129,8 @@ pub enum Command<'t> {
     Commit(u64),
     Settle(Option<u64>),
     Look(Lookup),
+    /// Which verdicts are other than they were at the last of these.
+    Changed,
     Known(&'t [u8]),
     Ask(Inquiry<'t>),
 }
@@ -267,6 +270,8 @@ fn verb_named(word: &[u8]) -> Option<Verb>
         Some(Verb::Plan)
     } else if same(word, b"count") {
         Some(Verb::Count)
+    } else if same(word, b"changed") {
+        Some(Verb::Changed)
     } else if same(word, b"known") {
         Some(Verb::Known)
     } else if same(word, b"assert") {
@@ -302,6 +307,7 @@ fn bare_command<'t>(verb: Verb) -> Option<Command<'t>>
         Verb::Products => Some(Command::Look(Lookup::Products)),
         Verb::Plan => Some(Command::Look(Lookup::Plan)),
         Verb::Count => Some(Command::Look(Lookup::Count)),
+        Verb::Changed => Some(Command::Changed),
         Verb::Select
         | Verb::Exclude
         | Verb::Retract

@@ -1,3 +1,4 @@
+pub mod Changed
 pub mod Plan
 pub mod Scene
 pub mod Text

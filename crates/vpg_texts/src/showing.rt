@@ -6,6 +6,7 @@ ghost use Rattle.vpg_partial.specs.Known.{literal_of};
 ghost use Rattle.vpg_partial.specs.KnownLaws.{HasConflictOf};
 ghost use Rattle.vpg_partial.specs.TableLaws.{AreChoicesOf};
 
+mod changes;
 mod counts;
 mod entries;
 mod feature;
@@ -14,6 +15,7 @@ mod lookups;
 mod page;
 mod plans;
 
+pub use changes::{put_changed, verdicts_over};
 pub use counts::{count, count_over};
 pub use entries::trail;
 pub use feature::{put_known, put_known_over};
