@@ -133,18 +133,19 @@ module _ (limit : ℕ) (limit_is : limit ≡ room) (old new : EngineState) (sess
           (coe 0 1 (k. IsSeen (scene_of (game_is k) (diagram_is k)) lookup entries (decisions_here k) (table_here Hopeful hopeful hopeful_is k) (table_here Dual dual dual_is k) text) seen, refl, held) appended
 
 -- what changed, with the game and the tables as the code has them
-pub changed_answers : (limit : ℕ) → limit ≡ room → (old new : EngineState) (session : ℕ) (game : NamedGame) (before after : List ℕ) → game ≡ old.client.desk.game →
+pub changed_answers : (limit : ℕ) → limit ≡ room → (old new : EngineState) (session : ℕ) (game shown : NamedGame) (before after : List ℕ) → game ≡ old.client.desk.game → shown ≡ old.client.desk.game →
     (entries : List Entry) → IsLogged limit old.client session AsksPage (PageIs entries) new.client →
     (hopeful dual : List ℕ) → hopeful ≡ table_of Hopeful old.client.desk.book.present (length (graph_of old.client.desk.game)) →
     dual ≡ table_of Dual old.client.desk.book.present (length (graph_of old.client.desk.game)) → (now : List Verdict) → now ≡ verdicts_by (graph_of game) hopeful dual →
-    new.held ≡ with_seen old.held now → after ≡ before ++ changed_text (vertex_ids game.vertices) old.held.seen now →
+    new.held ≡ with_seen old.held now → (seen present : List Verdict) → seen ≡ old.held.seen → present ≡ now →
+    after ≡ before ++ changed_text (vertex_ids shown.vertices) seen present →
     AnswersTo old (record { label = session; command = script.Changed }) before after new
-changed_answers limit limit_is old new session game before after game_is entries logged hopeful dual hopeful_is dual_is now now_is held appended =
+changed_answers limit limit_is old new session game shown before after game_is shown_is entries logged hopeful dual hopeful_is dual_is now now_is held seen present seen_is present_is appended =
     let desk = old.client.desk in
-    let present : entries ≡ desk.book.present = entries_are desk entries logged.step.step.0 in
+    let page : entries ≡ desk.book.present = entries_are desk entries logged.step.step.0 in
     let here : (which : Which) (table : List ℕ) → table ≡ table_of which desk.book.present (length (graph_of desk.game)) → table ≡ table_of which entries (length (graph_of desk.game)) =
-    λ which table is. is ∙ ap (λ (page : List Entry). table_of which page (length (graph_of desk.game))) (sym present) in
+    λ which table is. is ∙ ap (λ (p : List Entry). table_of which p (length (graph_of desk.game))) (sym page) in
     let same : now ≡ verdicts_on (scene_at old) entries =
     now_is ∙ (λ i. verdicts_by (graph_of (game_is i)) (here Hopeful hopeful hopeful_is i) (here Dual dual dual_is i)) in
-    asked limit limit_is session old new script.Changed AsksPage (PageIs entries) (changed_text (vertex_ids game.vertices) old.held.seen now) before after refl logged
-    (refl, (λ i. changed_text (vertex_ids (game_is i).vertices) old.held.seen (same i)), held ∙ ap (with_seen old.held) same) appended
+    asked limit limit_is session old new script.Changed AsksPage (PageIs entries) (changed_text (vertex_ids shown.vertices) seen present) before after refl logged
+    (refl, (λ i. changed_text (vertex_ids (shown_is i).vertices) (seen_is i) ((present_is ∙ same) i)), held ∙ ap (with_seen old.held) same) appended
