@@ -27,7 +27,7 @@ use Rattle.vpg_measure.specs.TwoGames.{levels_for, top_for, arena_for}
 use Rattle.vpg_measure.proofs.NumberGuards.{possible_number}
 use Rattle.vpg_measure.proofs.TwoGames.{arena_length, arena_closed}
 use Rattle.vpg_trail.specs.Page.{Hopeful, Dual, Literal, Decision, literal_of}
-use Rattle.vpg_texts.specs.Scene.{scene_of, AreProgressTables, AreSettledTables}
+use Rattle.vpg_texts.specs.Scene.{scene_of, titled, AreProgressTables, AreSettledTables}
 use Rattle.vpg_texts.specs.Plan.{AreChosen, IsPlanned, IsPlanFault, PlanWins}
 use Rattle.vpg_texts.specs.Text.{plan_text}
 use Rattle.vpg_texts.specs.declared.showing.plans.PlanFault.TheVariants.{NotFull, NotSettled}
@@ -148,9 +148,9 @@ module _ (game : NamedGame) (diagram : NamedDiagram) (decisions : List Decision)
       progress : AreProgressTables games.known (graph_of game) hopeful dual
       progress = all_settled game diagram (map literal_of decisions) games are hopeful dual hopeful_len dual_len hopeful_within dual_within settled
 
-      pub planned : (chosen : List (Option ℕ)) (text : List ℕ) → AreChoices games.hopeful_levels games.hopeful_arena hopeful chosen → text ≡ plan_text (vertex_ids game.vertices) chosen →
-          IsPlanned (scene_of game diagram) decisions hopeful dual text
-      planned chosen text h text_is = (
+      pub planned : (titles : List (List ℕ)) (chosen : List (Option ℕ)) (text : List ℕ) → AreChoices games.hopeful_levels games.hopeful_arena hopeful chosen → text ≡ plan_text (vertex_ids game.vertices) titles chosen →
+          IsPlanned (titled titles (scene_of game diagram)) decisions hopeful dual text
+      planned titles chosen text h text_is = (
         games.known,
         (
           are.known,

@@ -14,7 +14,7 @@ use Rattle.vpg_measure.specs.TwoGames.{arena_for, top_for}
 use Rattle.vpg_script.specs.Script as script
 use Rattle.vpg_trail.specs.Page.{Hopeful, Dual, Decision, Entry, literal_of}
 use Rattle.vpg_texts.specs.Plan.{PlansUnder}
-use Rattle.vpg_texts.specs.Scene.{Scene, UnderKnown, TellsUnder, IsShown, shown_lines, IsCounted, counted_lines, TellsKnown, scene_of}
+use Rattle.vpg_texts.specs.Scene.{Scene, UnderKnown, TellsUnder, IsShown, shown_lines, IsCounted, counted_lines, TellsKnown, scene_of, titled}
 use Rattle.vpg_texts.specs.Sights.{IsAsserted, IsPlanAnswer, IsSeen, asserted_lines, named_lines}
 use Rattle.vpg_texts.specs.Text.{plan_text}
 use Rattle.vpg_texts.proofs.Planned.{known_is_one}
@@ -25,8 +25,8 @@ module _ (scene : Scene) (entries : List Entry) (decisions : List Decision) wher
   under_one P Q k a b =
       k a.0 a.1.1 (subst Q (known_is_one scene.lines (map literal_of decisions) b.0 a.0 b.1.0 a.1.0) b.1.1)
 
-  tells_one : (hopeful dual : List ℕ) (text_of : Bool → Bool → List ℕ) (one other : List ℕ) → UnderKnown scene decisions (λ known. TellsUnder scene known hopeful dual text_of one) →
-      UnderKnown scene decisions (λ known. TellsUnder scene known hopeful dual text_of other) → one ≡ other
+  tells_one : (hopeful dual : List ℕ) (text_of : Bool → Bool → List ℕ) (one other : List ℕ) → UnderKnown scene decisions (λ known. TellsUnder scene.game known hopeful dual text_of one) →
+      UnderKnown scene decisions (λ known. TellsUnder scene.game known hopeful dual text_of other) → one ≡ other
   tells_one hopeful dual text_of one other =
       under_one _ _ (λ known a b.
       a.text_is ∙ ap₂ text_of (one_answer a.full b.full a.full_is b.full_is) (one_answer a.settled b.settled a.settled_is b.settled_is) ∙ sym b.text_is)
@@ -42,7 +42,7 @@ module _ (scene : Scene) (entries : List Entry) (decisions : List Decision) wher
 
   chosen_one : (known : List Tri) (hopeful dual one other : List ℕ) → PlansUnder scene known hopeful dual one → PlansUnder scene known hopeful dual other → one ≡ other
   chosen_one known hopeful dual one other a b =
-      a.text_is ∙ ap (plan_text scene.identifiers) (same_lists a.chosen b.chosen (a.chosen_are.0 ∙ sym b.chosen_are.0) same) ∙ sym b.text_is
+      a.text_is ∙ ap (plan_text scene.identifiers scene.titles) (same_lists a.chosen b.chosen (a.chosen_are.0 ∙ sym b.chosen_are.0) same) ∙ sym b.text_is
     where
       same : (v : ℕ) (d : Option ℕ) → v < length a.chosen → get_or a.chosen v d ≡ get_or b.chosen v d
       same v d l =
@@ -81,11 +81,11 @@ seen_as scene entries decisions hopeful dual r before after one lookup same told
     subst (λ (l : script.Lookup). OnOk r ((text : List ℕ) × (IsSeen scene l entries decisions hopeful dual text × (after ≡ before ++ text)))) same told
 
 pub named_seen : {E : Type 0} (game : NamedGame) (diagram : NamedDiagram) (entries : List Entry) (decisions : List Decision) (hopeful dual : List ℕ) (games : GamesView) → ArePageGames game diagram (map literal_of decisions) games →
-    (r : Result (Unit {0}) E) (before after bytes vs : List ℕ) → bytes ≡ vs →
-    OnOk r (after ≡ before ++ named_lines (top_of games.hopeful_levels) (top_of games.dual_levels) (vertex_ids game.vertices) hopeful dual bytes) →
-    OnOk r ((text : List ℕ) × (IsSeen (scene_of game diagram) (script.Vertices vs) entries decisions hopeful dual text × (after ≡ before ++ text)))
-named_seen game diagram entries decisions hopeful dual games are r before after bytes vs same told =
-    let lines = named_lines (top_of games.hopeful_levels) (top_of games.dual_levels) (vertex_ids game.vertices) hopeful dual bytes in
-    let tops = ap₂ (λ (first second : ℕ). named_lines first second (vertex_ids game.vertices) hopeful dual bytes) (ap top_of (are.levels Hopeful)) (ap top_of (are.levels Dual)) in
-    let all = ap (λ (vs : List ℕ). named_lines (top_for Hopeful (graph_of game)) (top_for Dual (graph_of game)) (vertex_ids game.vertices) hopeful dual vs) same in
+    (titles : List (List ℕ)) (r : Result (Unit {0}) E) (before after bytes vs : List ℕ) → bytes ≡ vs →
+    OnOk r (after ≡ before ++ named_lines (top_of games.hopeful_levels) (top_of games.dual_levels) (vertex_ids game.vertices) titles hopeful dual bytes) →
+    OnOk r ((text : List ℕ) × (IsSeen (titled titles (scene_of game diagram)) (script.Vertices vs) entries decisions hopeful dual text × (after ≡ before ++ text)))
+named_seen game diagram entries decisions hopeful dual games are titles r before after bytes vs same told =
+    let lines = named_lines (top_of games.hopeful_levels) (top_of games.dual_levels) (vertex_ids game.vertices) titles hopeful dual bytes in
+    let tops = ap₂ (λ (first second : ℕ). named_lines first second (vertex_ids game.vertices) titles hopeful dual bytes) (ap top_of (are.levels Hopeful)) (ap top_of (are.levels Dual)) in
+    let all = ap (λ (vs : List ℕ). named_lines (top_for Hopeful (graph_of game)) (top_for Dual (graph_of game)) (vertex_ids game.vertices) titles hopeful dual vs) same in
     on_ok r _ _ (λ appended. (lines, (tops ∙ all, appended))) told

@@ -6,7 +6,7 @@ use Rattle.vpg_game.specs.Guarded.{GuardedGame}
 use Rattle.vpg_measure.specs.TwoGames.{top_for}
 use Rattle.vpg_measure.specs.declared.verdict.Verdict.{Verdict}
 use Rattle.vpg_trail.specs.Page.{Hopeful, Dual}
-use Rattle.vpg_texts.specs.Text.{count_line, hopeless_text}
+use Rattle.vpg_texts.specs.Text.{count_line, hopeless_text, sure_text, title_at, title_text}
 
 -- ---- the verdicts of a page
 
@@ -42,26 +42,25 @@ same_verdicts before now = beq before.hopeless now.hopeless && beq before.sure n
 
 -- ---- the text
 
-abbrev pub sure_word : Bool → List ℕ
-sure_word sure = if sure then codes " sure" else codes " unsure"
-
 abbrev pub verdict_words : Verdict → List ℕ
-verdict_words verdict = hopeless_text verdict.hopeless ++ sure_word verdict.sure
+verdict_words verdict = hopeless_text verdict.hopeless ++ sure_text verdict.sure
 
--- a vertex's identifier, what was seen of it, and its verdicts now
-abbrev pub change_line : ℕ → (before now : Verdict) → List ℕ
-change_line identifier before now = decimal identifier ++ verdict_words before ++ verdict_words now ++ 10 ∷ []
+-- a vertex's identifier, what was seen of it, and its verdicts now; and its name where it has one
+abbrev pub change_line : ℕ → List ℕ → (before now : Verdict) → List ℕ
+change_line identifier title before now =
+    decimal identifier ++ verdict_words before ++ verdict_words now ++ title_text title ++ 10 ∷ []
 
 -- where they are other verdicts
-abbrev pub change_text : ℕ → (before now : Verdict) → List ℕ
-change_text identifier before now = if same_verdicts before now then [] else change_line identifier before now
+abbrev pub change_text : ℕ → List ℕ → (before now : Verdict) → List ℕ
+change_text identifier title before now =
+    if same_verdicts before now then [] else change_line identifier title before now
 
 -- those of the vertices below n
-abbrev pub change_lines : List ℕ → (seen now : List Verdict) → ℕ → List ℕ
-change_lines identifiers seen now zero = []
-change_lines identifiers seen now (suc n) =
-    change_lines identifiers seen now n
-    ++ change_text (slice_index identifiers n) (seen_at seen n) (seen_at now n)
+abbrev pub change_lines : List ℕ → List (List ℕ) → (seen now : List Verdict) → ℕ → List ℕ
+change_lines identifiers titles seen now zero = []
+change_lines identifiers titles seen now (suc n) =
+    change_lines identifiers titles seen now n
+    ++ change_text (slice_index identifiers n) (title_at titles n) (seen_at seen n) (seen_at now n)
 
 -- how many they are
 abbrev pub change_count : (seen now : List Verdict) → ℕ → ℕ
@@ -70,7 +69,7 @@ change_count seen now (suc n) =
     change_count seen now n + (if same_verdicts (seen_at seen n) (seen_at now n) then 0 else 1)
 
 -- a line for each vertex of which the verdicts are other than what was seen, and their number
-abbrev pub changed_text : List ℕ → (seen now : List Verdict) → List ℕ
-changed_text identifiers seen now =
-    change_lines identifiers seen now (length identifiers)
+abbrev pub changed_text : List ℕ → List (List ℕ) → (seen now : List Verdict) → List ℕ
+changed_text identifiers titles seen now =
+    change_lines identifiers titles seen now (length identifiers)
     ++ count_line (codes "changed") (change_count seen now (length identifiers))

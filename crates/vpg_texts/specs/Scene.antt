@@ -1,5 +1,5 @@
 -- A game over the features of a diagram, with the names that texts write.
-use Rattle.std.specs.Prelude.{◌≡◌, ℕ, ◌<◌, Bool, List, length, map, All}
+use Rattle.std.specs.Prelude.{◌≡◌, ℕ, ◌<◌, Bool, List, [], length, map, All}
 use Rattle.std.specs.Bool.{Decides}
 use Rattle.vpg_guards.specs.declared.tri.Tri.{Tri}
 use Rattle.vpg_guards.specs.Formula.{Formula}
@@ -22,6 +22,8 @@ pub record Scene : Type 0 where
   -- of the features, and of the vertices
   pub names : List (List ℕ)
   pub identifiers : List ℕ
+  -- of the vertices, each empty where there is none; no list where no names are shown
+  pub titles : List (List ℕ)
 
 -- what texts need of a game and of the diagram over whose features it is
 abbrev pub scene_of : NamedGame → NamedDiagram → Scene
@@ -31,7 +33,12 @@ scene_of game diagram =
       lines = diagram.lines;
       names = diagram.names;
       identifiers = vertex_ids game.vertices;
+      titles = [];
     }
+
+-- the same, with these names of vertices
+abbrev pub titled : List (List ℕ) → Scene → Scene
+titled titles scene = record scene { titles = titles }
 
 -- it is so of what the decisions make known
 abbrev pub UnderKnown : Scene → List Decision → (List Tri → Type 0) → Type 0
@@ -55,25 +62,25 @@ AreProgressTables known game hopeful dual =
 
 -- Under what is known, the text is made of whether each feature is known, and of whether both tables are progress
 -- tables.
-pub record TellsUnder (scene : Scene) (known : List Tri) (hopeful dual : List ℕ)
+pub record TellsUnder (game : GuardedGame Formula) (known : List Tri) (hopeful dual : List ℕ)
     (text_of : (full settled : Bool) → List ℕ) (text : List ℕ) : Type 0 where
   pub full : Bool
   pub settled : Bool
   pub full_is : Decides full (AreAllKnown (length known) known)
-  pub settled_is : Decides settled (AreProgressTables known scene.game hopeful dual)
+  pub settled_is : Decides settled (AreProgressTables known game hopeful dual)
   pub text_is : text ≡ text_of full settled
 
 -- the lines of these decisions and tables
 abbrev pub shown_lines : Scene → List Decision → (hopeful dual : List ℕ) → (full settled : Bool) → List ℕ
 shown_lines scene decisions hopeful dual full settled =
-    show_text scene.names scene.identifiers (top_for Hopeful scene.game) (top_for Dual scene.game)
+    show_text scene.names scene.identifiers scene.titles (top_for Hopeful scene.game) (top_for Dual scene.game)
     (map literal_of decisions) full settled hopeful dual
 
 -- The text shows these decisions, under what they make known, and these tables.
 abbrev pub IsShown : Scene → List Decision → (hopeful dual text : List ℕ) → Type 0
 IsShown scene decisions hopeful dual text =
     UnderKnown scene decisions
-    (λ known. TellsUnder scene known hopeful dual (shown_lines scene decisions hopeful dual) text)
+    (λ known. TellsUnder scene.game known hopeful dual (shown_lines scene decisions hopeful dual) text)
 
 -- how many vertices have which verdict by these tables
 abbrev pub counted_lines : Scene → (hopeful dual : List ℕ) → (full settled : Bool) → List ℕ
@@ -83,7 +90,7 @@ counted_lines scene hopeful dual full settled =
 -- The text counts the verdicts by these tables, under what the decisions make known.
 abbrev pub IsCounted : Scene → List Decision → (hopeful dual text : List ℕ) → Type 0
 IsCounted scene decisions hopeful dual text =
-    UnderKnown scene decisions (λ known. TellsUnder scene known hopeful dual (counted_lines scene hopeful dual) text)
+    UnderKnown scene decisions (λ known. TellsUnder scene.game known hopeful dual (counted_lines scene hopeful dual) text)
 
 -- The text tells of each feature whether the decisions make it known.
 abbrev pub TellsKnown : Scene → List Decision → List ℕ → Type 0

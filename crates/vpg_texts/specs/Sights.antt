@@ -9,7 +9,7 @@ use Rattle.vpg_trail.specs.Page.{Hopeful, Dual, Decision, Entry}
 use Rattle.vpg_texts.specs.declared.showing.plans.PlanFault.TheVariants.{NotFull, NotSettled}
 use Rattle.vpg_texts.specs.Plan.{IsPlanned, IsPlanFault}
 use Rattle.vpg_texts.specs.Scene.{Scene, UnderKnown, TellsUnder, IsShown, IsCounted, TellsKnown}
-use Rattle.vpg_texts.specs.Text.{trail_text, vertex_line}
+use Rattle.vpg_texts.specs.Text.{title_at, trail_text, vertex_line}
 
 -- ---- vertices by their identifiers
 
@@ -37,15 +37,16 @@ has_vertices identifiers script.Plan = true
 has_vertices identifiers script.Count = true
 
 -- the line of the vertex at a place
-abbrev pub line_at : ℕ → ℕ → List ℕ → (hopeful dual : List ℕ) → Option ℕ → List ℕ
-line_at hopeful_top dual_top identifiers hopeful dual None = []
-line_at hopeful_top dual_top identifiers hopeful dual (Some v) =
-    vertex_line hopeful_top dual_top (slice_index identifiers v) (slice_index hopeful v) (slice_index dual v)
+abbrev pub line_at : ℕ → ℕ → List ℕ → List (List ℕ) → (hopeful dual : List ℕ) → Option ℕ → List ℕ
+line_at hopeful_top dual_top identifiers titles hopeful dual None = []
+line_at hopeful_top dual_top identifiers titles hopeful dual (Some v) =
+    vertex_line hopeful_top dual_top (slice_index identifiers v) (title_at titles v) (slice_index hopeful v)
+    (slice_index dual v)
 
 -- the lines of the vertices with these identifiers
-abbrev pub named_lines : ℕ → ℕ → List ℕ → (hopeful dual : List ℕ) → List ℕ → List ℕ
-named_lines hopeful_top dual_top identifiers hopeful dual vs =
-    flat_map (λ v. line_at hopeful_top dual_top identifiers hopeful dual (vertex_of identifiers v)) vs
+abbrev pub named_lines : ℕ → ℕ → List ℕ → List (List ℕ) → (hopeful dual : List ℕ) → List ℕ → List ℕ
+named_lines hopeful_top dual_top identifiers titles hopeful dual vs =
+    flat_map (λ v. line_at hopeful_top dual_top identifiers titles hopeful dual (vertex_of identifiers v)) vs
 
 -- ---- assertions
 
@@ -114,7 +115,7 @@ asserted_lines scene hopeful dual assertion full settled =
 abbrev pub IsAsserted : Scene → script.Assertion → List Decision → (hopeful dual text : List ℕ) → Type 0
 IsAsserted scene assertion decisions hopeful dual text =
     UnderKnown scene decisions
-    (λ known. TellsUnder scene known hopeful dual (asserted_lines scene hopeful dual assertion) text)
+    (λ known. TellsUnder scene.game known hopeful dual (asserted_lines scene hopeful dual assertion) text)
 
 -- ---- all that is looked at
 
@@ -129,7 +130,8 @@ IsPlanAnswer scene decisions hopeful dual text =
 abbrev pub IsSeen : Scene → script.Lookup → List Entry → List Decision → (hopeful dual text : List ℕ) → Type 0
 IsSeen scene script.Show entries decisions hopeful dual text = IsShown scene decisions hopeful dual text
 IsSeen scene (script.Vertices vs) entries decisions hopeful dual text =
-    text ≡ named_lines (top_for Hopeful scene.game) (top_for Dual scene.game) scene.identifiers hopeful dual vs
+    text
+    ≡ named_lines (top_for Hopeful scene.game) (top_for Dual scene.game) scene.identifiers scene.titles hopeful dual vs
 IsSeen scene script.Trail entries decisions hopeful dual text = text ≡ trail_text scene.names scene.identifiers entries
 IsSeen scene script.Products entries decisions hopeful dual text = TellsKnown scene decisions text
 IsSeen scene script.Plan entries decisions hopeful dual text = IsPlanAnswer scene decisions hopeful dual text

@@ -1,5 +1,5 @@
 -- The texts of a page.
-use Rattle.std.specs.Prelude.{ℕ, zero, suc, Bool, true, false, not, ◌==◌, if◌then◌else◌, List, [], ◌∷◌, ◌++◌, length, Option, Some, None, flat_map, count_by, is_some, slice_index, slice_index_or, codes, decimal}
+use Rattle.std.specs.Prelude.{ℕ, zero, suc, Bool, true, false, not, nat_lt, ◌&&◌, ◌||◌, ◌==◌, if◌then◌else◌, List, [], ◌∷◌, ◌++◌, length, map, Option, Some, None, flat_map, count_by, is_some, slice_index, slice_index_or, codes, decimal}
 use Rattle.vpg_diagram.specs.declared.clause.Literal.{Literal}
 use Rattle.vpg_guards.specs.declared.tri.Tri.{Tri}
 use Rattle.vpg_guards.specs.declared.tri.Tri.TheVariants.{No, Unknown, Yes}
@@ -24,6 +24,33 @@ choice_text names c = 32 ∷ (if c.value then 43 else 45) ∷ name_of names c.fe
 abbrev pub choices_text : List (List ℕ) → List Literal → List ℕ
 choices_text names choices = flat_map (choice_text names) choices
 
+-- ---- names of vertices
+
+-- a byte of a name: `?` where it is a control character
+abbrev pub shown_byte : ℕ → ℕ
+shown_byte byte = if nat_lt byte 32 || (byte == 127) then 63 else byte
+
+-- a blank, and a name between quotes
+abbrev pub quoted_text : List ℕ → List ℕ
+quoted_text title = 32 ∷ 34 ∷ map shown_byte title ++ 34 ∷ []
+
+abbrev pub is_bare : List ℕ → Bool
+is_bare [] = true
+is_bare (b ∷ title) = false
+
+-- the name of a vertex, empty where it has none, or where no names are shown
+abbrev pub title_at : List (List ℕ) → ℕ → List ℕ
+title_at titles v = slice_index_or titles v []
+
+-- where there is one
+abbrev pub title_text : List ℕ → List ℕ
+title_text title = if is_bare title then [] else quoted_text title
+
+-- those of two vertices, where one of them has one
+abbrev pub two_titles : List ℕ → List ℕ → List ℕ
+two_titles first second =
+    if is_bare first && is_bare second then [] else quoted_text first ++ quoted_text second
+
 -- ---- show
 
 abbrev pub decisions_line : List (List ℕ) → List Literal → List ℕ
@@ -36,27 +63,29 @@ abbrev pub hopeless_text : Bool → List ℕ
 hopeless_text hopeless = if hopeless then codes " hopeless" else codes " possible"
 
 abbrev pub sure_text : Bool → List ℕ
-sure_text sure = if sure then codes " sure\n" else codes " unsure\n"
+sure_text sure = if sure then codes " sure" else codes " unsure"
 
--- a vertex's identifier, its two measures and its verdict
-abbrev pub vertex_line : ℕ → ℕ → ℕ → ℕ → ℕ → List ℕ
-vertex_line hopeful_top dual_top identifier hopeful dual =
+-- a vertex's identifier, its two measures and its verdict, and its name where it has one
+abbrev pub vertex_line : ℕ → ℕ → ℕ → List ℕ → ℕ → ℕ → List ℕ
+vertex_line hopeful_top dual_top identifier title hopeful dual =
     decimal identifier ++ blank_number hopeful ++ blank_number dual ++ hopeless_text (hopeful == hopeful_top)
-    ++ sure_text (dual == dual_top)
+    ++ sure_text (dual == dual_top) ++ title_text title ++ 10 ∷ []
 
 -- those of the vertices below n
-abbrev pub vertex_lines : ℕ → ℕ → List ℕ → List ℕ → List ℕ → ℕ → List ℕ
-vertex_lines hopeful_top dual_top identifiers hopeful dual zero = []
-vertex_lines hopeful_top dual_top identifiers hopeful dual (suc n) =
-    vertex_lines hopeful_top dual_top identifiers hopeful dual n
-    ++ vertex_line hopeful_top dual_top (slice_index identifiers n) (slice_index hopeful n) (slice_index dual n)
+abbrev pub vertex_lines : ℕ → ℕ → List ℕ → List (List ℕ) → List ℕ → List ℕ → ℕ → List ℕ
+vertex_lines hopeful_top dual_top identifiers titles hopeful dual zero = []
+vertex_lines hopeful_top dual_top identifiers titles hopeful dual (suc n) =
+    vertex_lines hopeful_top dual_top identifiers titles hopeful dual n
+    ++ vertex_line hopeful_top dual_top (slice_index identifiers n) (title_at titles n) (slice_index hopeful n)
+    (slice_index dual n)
 
-abbrev pub show_text : List (List ℕ) → List ℕ → ℕ → ℕ → List Literal → Bool → Bool → List ℕ → List ℕ → List ℕ
-show_text names identifiers hopeful_top dual_top choices full settled hopeful dual =
+abbrev pub show_text : List (List ℕ) → List ℕ → List (List ℕ) → ℕ → ℕ → List Literal → Bool → Bool → List ℕ →
+    List ℕ → List ℕ
+show_text names identifiers titles hopeful_top dual_top choices full settled hopeful dual =
     decisions_line names choices
     ++ codes "full" ++ answer_line full
     ++ codes "settled" ++ answer_line settled
-    ++ vertex_lines hopeful_top dual_top identifiers hopeful dual (length identifiers)
+    ++ vertex_lines hopeful_top dual_top identifiers titles hopeful dual (length identifiers)
 
 -- ---- count
 
@@ -142,19 +171,20 @@ known_text names known f = known_word (slice_index_or known f Unknown) ++ blank_
 
 -- ---- plan
 
--- a vertex's identifier and that of its chosen successor
-abbrev pub plan_line : List ℕ → ℕ → Option ℕ → List ℕ
-plan_line identifiers v None = []
-plan_line identifiers v (Some w) =
-    codes "plan" ++ blank_number (slice_index identifiers v) ++ blank_number (slice_index identifiers w) ++ 10 ∷ []
+-- a vertex's identifier and that of its chosen successor, and their names where one has one
+abbrev pub plan_line : List ℕ → List (List ℕ) → ℕ → Option ℕ → List ℕ
+plan_line identifiers titles v None = []
+plan_line identifiers titles v (Some w) =
+    codes "plan" ++ blank_number (slice_index identifiers v) ++ blank_number (slice_index identifiers w)
+    ++ two_titles (title_at titles v) (title_at titles w) ++ 10 ∷ []
 
 -- those of the vertices below n
-abbrev pub plan_lines : List ℕ → List (Option ℕ) → ℕ → List ℕ
-plan_lines identifiers chosen zero = []
-plan_lines identifiers chosen (suc n) =
-    plan_lines identifiers chosen n ++ plan_line identifiers n (slice_index_or chosen n None)
+abbrev pub plan_lines : List ℕ → List (List ℕ) → List (Option ℕ) → ℕ → List ℕ
+plan_lines identifiers titles chosen zero = []
+plan_lines identifiers titles chosen (suc n) =
+    plan_lines identifiers titles chosen n ++ plan_line identifiers titles n (slice_index_or chosen n None)
 
-abbrev pub plan_text : List ℕ → List (Option ℕ) → List ℕ
-plan_text identifiers chosen =
-    plan_lines identifiers chosen (length identifiers) ++ codes "plans" ++ blank_number (count_by is_some chosen)
+abbrev pub plan_text : List ℕ → List (List ℕ) → List (Option ℕ) → List ℕ
+plan_text identifiers titles chosen =
+    plan_lines identifiers titles chosen (length identifiers) ++ codes "plans" ++ blank_number (count_by is_some chosen)
     ++ 10 ∷ []

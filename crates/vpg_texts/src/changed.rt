@@ -2,12 +2,14 @@
 ghost use Rattle.std.specs.Prelude.{◌≡◌, ◌++◌, ◌<◌, length, slice_index, IfOk, OnOk};
 ghost use Rattle.vpg_game.specs.Game.{vertex_ids};
 ghost use Rattle.vpg_game.specs.Levels.{top_of};
-ghost use Rattle.vpg_texts.specs.Changed.{change_count, change_line, change_lines, changed_text, same_verdicts, seen_at, sure_word, verdict_of, verdict_words, verdicts_below};
+ghost use Rattle.vpg_texts.specs.Text.{title_at};
+ghost use Rattle.vpg_texts.specs.Changed.{change_count, change_line, change_lines, changed_text, same_verdicts, seen_at, verdict_of, verdict_words, verdicts_below};
 
-use crate::text::{count_line, hopeless, identifier, number};
+use crate::text::{count_line, hopeless, identifier, number, sure, title};
 use std::alloc::{AllocError, Global};
 use vpg_game::GuardedGame;
 use vpg_measure::{PageGames, Table, Verdict, Which};
+use vpg_names::VertexNames;
 
 /// Each vertex of the opening page is possible and unsure.
 const UNSEEN: Verdict = Verdict {
@@ -66,30 +68,30 @@ fn same(before: Verdict, now: Verdict) -> bool
     before.hopeless == now.hopeless && before.sure == now.sure
 }
 
-fn sure_word(sure: bool, out: &mut Vec<u8>) -> Result<(), AllocError>
-    ensures { OnOk result (out.new.items ≡ out.old.items ++ sure_word sure) }
-{
-    if sure {
-        out.extend_from_slice(b" sure")
-    } else {
-        out.extend_from_slice(b" unsure")
-    }
-}
-
 fn words(verdict: Verdict, out: &mut Vec<u8>) -> Result<(), AllocError>
     ensures { OnOk result (out.new.items ≡ out.old.items ++ verdict_words verdict) }
 {
     hopeless(verdict.hopeless, out)?;
-    sure_word(verdict.sure, out)
+    sure(verdict.sure, out)
 }
 
-/// The line of a vertex: its identifier, what was seen of it, and its verdicts now.
-fn change(id: u32, before: Verdict, now: Verdict, out: &mut Vec<u8>) -> Result<(), AllocError>
-    ensures { OnOk result (out.new.items ≡ out.old.items ++ change_line id before now) }
+/// The line of a vertex: its identifier, what was seen of it, its verdicts now, and its name where it has one.
+fn change(
+    game: &GuardedGame,
+    titles: &VertexNames,
+    v: u32,
+    before: Verdict,
+    now: Verdict,
+    out: &mut Vec<u8>,
+) -> Result<(), AllocError>
+    requires { v < length game.now.vertices }
+    ensures { OnOk result (out.new.items ≡ out.old.items
+        ++ change_line (slice_index (vertex_ids game.now.vertices) v) (title_at titles.now.names v) before now) }
 {
-    number(id as u64, out)?;
+    number(identifier(game, v) as u64, out)?;
     words(before, out)?;
     words(now, out)?;
+    title(titles, v, out)?;
     out.push(b'\n')?;
     Ok(())
 }
@@ -97,13 +99,14 @@ fn change(id: u32, before: Verdict, now: Verdict, out: &mut Vec<u8>) -> Result<(
 /// The lines of the vertices whose verdicts are other than what was seen; how many they are.
 fn changes(
     game: &GuardedGame,
+    titles: &VertexNames,
     seen: &[Verdict],
     present: &[Verdict],
     out: &mut Vec<u8>,
 ) -> Result<usize, AllocError>
     ensures count { IfOk result (λ n. n ≡ change_count seen.now present.now (length game.now.vertices)) }
     ensures lines { IfOk result (λ _. out.new.items ≡ out.old.items
-        ++ change_lines (vertex_ids game.now.vertices) seen.now present.now (length game.now.vertices)) }
+        ++ change_lines (vertex_ids game.now.vertices) titles.now.names seen.now present.now (length game.now.vertices)) }
 {
     let count = game.vertices() as u32;
     let mut changed = 0;
@@ -111,7 +114,7 @@ fn changes(
         let before = seen_at(seen, v);
         let verdict = seen_at(present, v);
         if !same(before, verdict) {
-            change(identifier(game, v), before, verdict, out)?;
+            change(game, titles, v, before, verdict, out)?;
             changed += 1;
         }
     }
@@ -121,13 +124,14 @@ fn changes(
 /// A line for each vertex whose verdicts are other than what was seen, and their number.
 pub(crate) fn changed(
     game: &GuardedGame,
+    titles: &VertexNames,
     seen: &[Verdict],
     present: &[Verdict],
     out: &mut Vec<u8>,
 ) -> Result<(), AllocError>
     ensures { OnOk result (out.new.items ≡ out.old.items
-        ++ changed_text (vertex_ids game.now.vertices) seen.now present.now) }
+        ++ changed_text (vertex_ids game.now.vertices) titles.now.names seen.now present.now) }
 {
-    let count = changes(game, seen, present, out)?;
+    let count = changes(game, titles, seen, present, out)?;
     count_line(b"changed", count, out)
 }

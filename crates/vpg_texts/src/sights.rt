@@ -10,6 +10,7 @@ use crate::text::vertex;
 use std::alloc::AllocError;
 use vpg_game::GuardedGame;
 use vpg_measure::{PageGames, Table, Which};
+use vpg_names::VertexNames;
 use vpg_script::{Assertion, Claim, Lookup};
 
 fn vertex_at(game: &GuardedGame, identifier: u32) -> Option<u32>
@@ -67,6 +68,7 @@ fn place(game: &GuardedGame, identifier: u32) -> u32
 pub(crate) fn named(
     games: &PageGames,
     game: &GuardedGame,
+    titles: &VertexNames,
     hopeful: &Table,
     dual: &Table,
     identifiers: &[u32],
@@ -77,10 +79,18 @@ pub(crate) fn named(
     requires dual { length dual.now ≡ length game.now.vertices }
     ensures { OnOk result (out.new.items ≡ out.old.items
         ++ named_lines (top_of games.now.hopeful_levels) (top_of games.now.dual_levels)
-        (vertex_ids game.now.vertices) hopeful.now dual.now identifiers.now) }
+        (vertex_ids game.now.vertices) titles.now.names hopeful.now dual.now identifiers.now) }
 {
     for identifier in identifiers {
-        vertex(games, game, hopeful, dual, place(game, *identifier), out)?;
+        vertex(
+            games,
+            game,
+            titles,
+            hopeful,
+            dual,
+            place(game, *identifier),
+            out,
+        )?;
     }
     Ok(())
 }

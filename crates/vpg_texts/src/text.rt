@@ -2,6 +2,7 @@
 ghost use Rattle.std.specs.Prelude.{◌≡◌, ◌<◌, ◌≤◌, Some, ◌==◌, ◌++◌, ◌∷◌, [], codes, count_by, decimal, is_some, length, not, map, IfSome, OnOk, OnErr, All, slice_index, suc};
 ghost use Rattle.vpg_texts.specs.Scene.{EntryIsWithin};
 ghost use Rattle.vpg_texts.specs.Text.{blank_number, name_of, blank_name, choice_text, choices_text, decisions_line, answer_line, hopeless_text, sure_text, vertex_line, vertex_lines, show_text};
+ghost use Rattle.vpg_texts.specs.Text.{is_bare, quoted_text, shown_byte, title_at, title_text, two_titles};
 ghost use Rattle.vpg_texts.specs.Text.{count_line, count_lines, state_lines, count_text, deciding_text, table_text, entry_line, trail_text, names_known, products_line, products_text, known_word, known_text, plan_line, plan_text};
 ghost use Rattle.vpg_trail.specs.Page.{literal_of};
 ghost use Rattle.vpg_trail.specs.Shown.{entry_of};
@@ -14,6 +15,7 @@ use vpg_diagram::Literal;
 use vpg_game::GuardedGame;
 use vpg_guards::{Names, Tri};
 use vpg_measure::{PageGames, Table, Which};
+use vpg_names::VertexNames;
 use vpg_partial::{Decision, Partial};
 use vpg_trail::Entry;
 
@@ -114,26 +116,73 @@ pub(crate) fn hopeless(hopeless: bool, out: &mut Vec<u8>) -> Result<(), AllocErr
     Ok(())
 }
 
-fn sure(sure: bool, out: &mut Vec<u8>) -> Result<(), AllocError>
+pub(crate) fn sure(sure: bool, out: &mut Vec<u8>) -> Result<(), AllocError>
     ensures { OnOk result (out.new.items ≡ out.old.items ++ sure_text sure) }
 {
     if sure {
-        out.extend_from_slice(b" sure\n")?;
+        out.extend_from_slice(b" sure")?;
     } else {
-        out.extend_from_slice(b" unsure\n")?;
+        out.extend_from_slice(b" unsure")?;
     }
     Ok(())
 }
 
-fn measures(games: &PageGames, id: u32, h: u64, d: u64, out: &mut Vec<u8>) -> Result<(), AllocError>
-    ensures { OnOk result (out.new.items ≡ out.old.items
-        ++ vertex_line (top_of games.now.hopeful_levels) (top_of games.now.dual_levels) id h d) }
+fn shown_byte(byte: u8) -> u8
+    ensures { result ≡ shown_byte byte }
 {
-    number(id as u64, out)?;
-    blank_number(h, out)?;
-    blank_number(d, out)?;
-    hopeless(h == games.shape(Which::Hopeful).top(), out)?;
-    sure(d == games.shape(Which::Dual).top(), out)
+    if byte < 32 || byte == 127 { b'?' } else { byte }
+}
+
+/// A blank, and a name between quotes; a control character is shown as `?`.
+fn quoted(title: &[u8], out: &mut Vec<u8>) -> Result<(), AllocError>
+    ensures { OnOk result (out.new.items ≡ out.old.items ++ quoted_text title.now) }
+{
+    out.extend_from_slice(b" \"")?;
+    for byte in title {
+        out.push(shown_byte(*byte))?;
+    }
+    out.push(b'"')?;
+    Ok(())
+}
+
+fn is_bare(title: &[u8]) -> bool
+    ensures { result ≡ is_bare title.now }
+{
+    match title {
+        [] => true,
+        [_, ..] => false,
+    }
+}
+
+fn title_at(titles: &VertexNames, v: u32) -> &[u8]
+    ensures { result.now ≡ title_at titles.now.names v }
+{
+    titles.name(v)
+}
+
+/// The name of a vertex, where it has one.
+pub(crate) fn title(titles: &VertexNames, v: u32, out: &mut Vec<u8>) -> Result<(), AllocError>
+    ensures { OnOk result (out.new.items ≡ out.old.items ++ title_text (title_at titles.now.names v)) }
+{
+    let title = title_at(titles, v);
+    if is_bare(title) {
+        return Ok(());
+    }
+    quoted(title, out)
+}
+
+/// The names of two vertices, where one of them has one.
+fn two_titles(titles: &VertexNames, v: u32, w: u32, out: &mut Vec<u8>) -> Result<(), AllocError>
+    ensures { OnOk result (out.new.items ≡ out.old.items
+        ++ two_titles (title_at titles.now.names v) (title_at titles.now.names w)) }
+{
+    let first = title_at(titles, v);
+    let second = title_at(titles, w);
+    if is_bare(first) && is_bare(second) {
+        return Ok(());
+    }
+    quoted(first, out)?;
+    quoted(second, out)
 }
 
 pub(crate) fn identifier(game: &GuardedGame, v: u32) -> u32
@@ -147,6 +196,7 @@ pub(crate) fn identifier(game: &GuardedGame, v: u32) -> u32
 pub(crate) fn vertex(
     games: &PageGames,
     game: &GuardedGame,
+    titles: &VertexNames,
     hopeful: &Table,
     dual: &Table,
     v: u32,
@@ -157,15 +207,26 @@ pub(crate) fn vertex(
     requires dual { v < length dual.now }
     ensures { OnOk result (out.new.items ≡ out.old.items
         ++ vertex_line (top_of games.now.hopeful_levels) (top_of games.now.dual_levels)
-        (slice_index (vertex_ids game.now.vertices) v) (slice_index hopeful.now v) (slice_index dual.now v)) }
+        (slice_index (vertex_ids game.now.vertices) v) (title_at titles.now.names v)
+        (slice_index hopeful.now v) (slice_index dual.now v)) }
 {
-    measures(games, identifier(game, v), hopeful.get(v), dual.get(v), out)
+    let h = hopeful.get(v);
+    let d = dual.get(v);
+    number(identifier(game, v) as u64, out)?;
+    blank_number(h, out)?;
+    blank_number(d, out)?;
+    hopeless(h == games.shape(Which::Hopeful).top(), out)?;
+    sure(d == games.shape(Which::Dual).top(), out)?;
+    title(titles, v, out)?;
+    out.push(b'\n')?;
+    Ok(())
 }
 
 /// The lines of all vertices.
 fn vertices(
     games: &PageGames,
     game: &GuardedGame,
+    titles: &VertexNames,
     hopeful: &Table,
     dual: &Table,
     out: &mut Vec<u8>,
@@ -174,11 +235,11 @@ fn vertices(
     requires dual { length dual.now ≡ length game.now.vertices }
     ensures { OnOk result (out.new.items ≡ out.old.items
         ++ vertex_lines (top_of games.now.hopeful_levels) (top_of games.now.dual_levels)
-        (vertex_ids game.now.vertices) hopeful.now dual.now (length game.now.vertices)) }
+        (vertex_ids game.now.vertices) titles.now.names hopeful.now dual.now (length game.now.vertices)) }
 {
     let count = game.vertices() as u32;
     for v in 0..count {
-        vertex(games, game, hopeful, dual, v, out)?;
+        vertex(games, game, titles, hopeful, dual, v, out)?;
     }
     Ok(())
 }
@@ -187,6 +248,7 @@ fn vertices(
 pub(crate) fn page(
     names: &Names,
     game: &GuardedGame,
+    titles: &VertexNames,
     games: &PageGames,
     ds: &[Decision],
     full: bool,
@@ -199,7 +261,7 @@ pub(crate) fn page(
     requires hopeful { length hopeful.now ≡ length game.now.vertices }
     requires dual { length dual.now ≡ length game.now.vertices }
     ensures { OnOk result (out.new.items ≡ out.old.items
-        ++ show_text names.now (vertex_ids game.now.vertices) (top_of games.now.hopeful_levels)
+        ++ show_text names.now (vertex_ids game.now.vertices) titles.now.names (top_of games.now.hopeful_levels)
         (top_of games.now.dual_levels) (map literal_of ds.now) full settled hopeful.now dual.now) }
 {
     out.extend_from_slice(b"decisions")?;
@@ -209,7 +271,7 @@ pub(crate) fn page(
     answer(full, out)?;
     out.extend_from_slice(b"settled")?;
     answer(settled, out)?;
-    vertices(games, game, hopeful, dual, out)
+    vertices(games, game, titles, hopeful, dual, out)
 }
 
 pub(crate) fn count_line(word: &[u8], n: usize, out: &mut Vec<u8>) -> Result<(), AllocError>
@@ -427,13 +489,14 @@ pub(crate) fn known(
 /// The line of a vertex that has a chosen successor.
 fn plan_line(
     game: &GuardedGame,
+    titles: &VertexNames,
     v: u32,
     chosen: Option<u32>,
     out: &mut Vec<u8>,
 ) -> Result<(), AllocError>
     requires v { v < length game.now.vertices }
     requires w { IfSome chosen (λ w. w < length game.now.vertices) }
-    ensures { OnOk result (out.new.items ≡ out.old.items ++ plan_line (vertex_ids game.now.vertices) v chosen) }
+    ensures { OnOk result (out.new.items ≡ out.old.items ++ plan_line (vertex_ids game.now.vertices) titles.now.names v chosen) }
 {
     match chosen {
         None => Ok(()),
@@ -441,6 +504,7 @@ fn plan_line(
             out.extend_from_slice(b"plan")?;
             blank_number(identifier(game, v) as u64, out)?;
             blank_number(identifier(game, w) as u64, out)?;
+            two_titles(titles, v, w, out)?;
             out.push(b'\n')?;
             Ok(())
         }
@@ -456,16 +520,17 @@ fn chosen_count(chosen: &[Option<u32>]) -> usize
 /// The chosen successors, and their number.
 pub(crate) fn plan(
     game: &GuardedGame,
+    titles: &VertexNames,
     chosen: &[Option<u32>],
     out: &mut Vec<u8>,
 ) -> Result<(), AllocError>
     requires len { length chosen.now ≡ length game.now.vertices }
     requires below { All (λ w. IfSome w (λ v. v < length game.now.vertices)) chosen.now }
-    ensures { OnOk result (out.new.items ≡ out.old.items ++ plan_text (vertex_ids game.now.vertices) chosen.now) }
+    ensures { OnOk result (out.new.items ≡ out.old.items ++ plan_text (vertex_ids game.now.vertices) titles.now.names chosen.now) }
 {
     let count = game.vertices() as u32;
     for v in 0..count {
-        plan_line(game, v, chosen[v as usize], out)?;
+        plan_line(game, titles, v, chosen[v as usize], out)?;
     }
     out.extend_from_slice(b"plans")?;
     blank_number(chosen_count(chosen) as u64, out)?;

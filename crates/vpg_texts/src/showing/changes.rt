@@ -9,6 +9,7 @@ use crate::changed;
 use std::alloc::{AllocError, Global};
 use vpg_game::GuardedGame;
 use vpg_measure::{PageGames, Verdict, Which};
+use vpg_names::VertexNames;
 use vpg_trail::Page;
 
 /// What a page's tables say of each vertex, in file order. The tables have one number for each vertex, and the games
@@ -34,15 +35,16 @@ pub fn verdicts_over(
 pub fn put_changed(
     alloc: Global,
     game: &GuardedGame,
+    titles: &VertexNames,
     seen: &[Verdict],
     present: &[Verdict],
     out: &mut Vec<u8>,
 ) -> Result<(), AllocError>
     ensures changed { OnOk result
-        (out.new.items ≡ out.old.items ++ changed_text (vertex_ids game.now.vertices) seen.now present.now) }
+        (out.new.items ≡ out.old.items ++ changed_text (vertex_ids game.now.vertices) titles.now.names seen.now present.now) }
     ensures unchanged { OnErr result (out.new.items ≡ out.old.items) }
 {
     let mut text = Vec::new(alloc);
-    changed::changed(game, seen, present, &mut text)?;
+    changed::changed(game, titles, seen, present, &mut text)?;
     out.extend_from_slice(&text)
 }

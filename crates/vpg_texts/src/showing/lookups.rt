@@ -9,7 +9,7 @@ ghost use Rattle.vpg_measure.specs.TwoGames.{top_for};
 ghost use Rattle.vpg_partial.specs.Known.{literal_of};
 ghost use Rattle.vpg_partial.specs.TableLaws.{AreChoicesOf};
 ghost use Rattle.vpg_script.specs.View.{assertion_shown, lookup_shown};
-ghost use Rattle.vpg_texts.specs.Scene.{EntryIsWithin, scene_of};
+ghost use Rattle.vpg_texts.specs.Scene.{EntryIsWithin, scene_of, titled};
 ghost use Rattle.vpg_texts.specs.Sights.{IsAsserted, IsPlanAnswer, IsSeen, has_asserted, has_vertices, is_vertex, named_lines};
 
 use crate::showing::counts::count_over;
@@ -22,6 +22,7 @@ use std::alloc::{AllocError, Global};
 use vpg_diagram::Diagram;
 use vpg_game::GuardedGame;
 use vpg_measure::{PageGames, Which};
+use vpg_names::VertexNames;
 use vpg_script::{Assertion, Lookup};
 use vpg_trail::Page;
 
@@ -31,6 +32,7 @@ fn vertices_over(
     games: &PageGames,
     page: &Page,
     game: &GuardedGame,
+    titles: &VertexNames,
     identifiers: &[u32],
     out: &mut Vec<u8>,
 ) -> Result<(), AllocError>
@@ -39,13 +41,14 @@ fn vertices_over(
     requires dual { length page.now.dual ≡ length game.now.vertices }
     ensures named { OnOk result (out.new.items ≡ out.old.items
         ++ named_lines (top_of games.now.hopeful_levels) (top_of games.now.dual_levels)
-        (vertex_ids game.now.vertices) page.now.hopeful page.now.dual identifiers.now) }
+        (vertex_ids game.now.vertices) titles.now.names page.now.hopeful page.now.dual identifiers.now) }
     ensures unchanged { OnErr result (out.new.items ≡ out.old.items) }
 {
     let mut text = Vec::new(alloc);
     sights::named(
         games,
         game,
+        titles,
         &page.hopeful,
         &page.dual,
         identifiers,
@@ -61,6 +64,7 @@ fn plan_answer(
     page: &Page,
     game: &GuardedGame,
     diagram: &Diagram,
+    titles: &VertexNames,
     out: &mut Vec<u8>,
 ) -> Result<(), AllocError>
     requires features { game.now.features ≡ feature_count diagram.now.lines }
@@ -72,11 +76,12 @@ fn plan_answer(
     requires dual_within { All (λ n. n ≤ top_for Which.Dual (graph_of game.now)) page.now.dual }
     ensures planned { OnOk result
         ((text : List ℕ) ×
-        (IsPlanAnswer (scene_of game.now diagram.now) page.now.decisions page.now.hopeful page.now.dual text ×
+        (IsPlanAnswer (titled titles.now.names (scene_of game.now diagram.now)) page.now.decisions page.now.hopeful
+        page.now.dual text ×
         (out.new.items ≡ out.old.items ++ text))) }
     ensures unchanged { OnErr result (out.new.items ≡ out.old.items) }
 {
-    match plan_over(alloc, games, page, game, diagram, out) {
+    match plan_over(alloc, games, page, game, diagram, titles, out) {
         Ok(()) => Ok(()),
         Err(PlanFault::NotFull) => out.extend_from_slice(b"refused NotFull\n"),
         Err(PlanFault::NotSettled) => out.extend_from_slice(b"refused NotSettled\n"),
@@ -130,6 +135,7 @@ pub fn look_over(
     page: &Page,
     game: &GuardedGame,
     diagram: &Diagram,
+    titles: &VertexNames,
     lookup: &Lookup,
     out: &mut Vec<u8>,
 ) -> Result<(), AllocError>
@@ -145,16 +151,16 @@ pub fn look_over(
     requires dual_within { All (λ n. n ≤ top_for Which.Dual (graph_of game.now)) page.now.dual }
     ensures seen { OnOk result
         ((text : List ℕ) ×
-        (IsSeen (scene_of game.now diagram.now) (lookup_shown lookup.now) page.now.entries page.now.decisions
-        page.now.hopeful page.now.dual text × (out.new.items ≡ out.old.items ++ text))) }
+        (IsSeen (titled titles.now.names (scene_of game.now diagram.now)) (lookup_shown lookup.now) page.now.entries
+        page.now.decisions page.now.hopeful page.now.dual text × (out.new.items ≡ out.old.items ++ text))) }
     ensures unchanged { OnErr result (out.new.items ≡ out.old.items) }
 {
     match lookup {
-        Lookup::Show => show_over(alloc, games, page, game, diagram, out),
-        Lookup::Vertices(vs) => vertices_over(alloc, games, page, game, vs, out),
+        Lookup::Show => show_over(alloc, games, page, game, diagram, titles, out),
+        Lookup::Vertices(vs) => vertices_over(alloc, games, page, game, titles, vs, out),
         Lookup::Trail => trail(alloc, page, game, diagram, out),
         Lookup::Products => products_over(alloc, games, diagram, out),
-        Lookup::Plan => plan_answer(alloc, games, page, game, diagram, out),
+        Lookup::Plan => plan_answer(alloc, games, page, game, diagram, titles, out),
         Lookup::Count => count_over(alloc, games, page, game, diagram, out),
         Lookup::Assert(assertion) => {
             assertion_over(alloc, games, page, game, diagram, assertion, out)

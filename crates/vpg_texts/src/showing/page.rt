@@ -9,7 +9,7 @@ ghost use Rattle.vpg_measure.specs.TwoGames.{top_for};
 ghost use Rattle.vpg_partial.specs.Known.{literal_of};
 ghost use Rattle.vpg_partial.specs.KnownLaws.{HasConflictOf};
 ghost use Rattle.vpg_partial.specs.TableLaws.{AreChoicesOf};
-ghost use Rattle.vpg_texts.specs.Scene.{AreSettledTables, IsShown, TellsUnder, scene_of, shown_lines};
+ghost use Rattle.vpg_texts.specs.Scene.{AreSettledTables, IsShown, TellsUnder, scene_of, shown_lines, titled};
 
 use crate::showing::games_of;
 use crate::text;
@@ -17,6 +17,7 @@ use std::alloc::{AllocError, Global};
 use vpg_diagram::Diagram;
 use vpg_game::GuardedGame;
 use vpg_measure::{PageGames, Table, Which, is_progress};
+use vpg_names::VertexNames;
 use vpg_partial::Decision;
 use vpg_trail::Page;
 
@@ -46,6 +47,7 @@ fn shown(
     games: &PageGames,
     game: &GuardedGame,
     diagram: &Diagram,
+    titles: &VertexNames,
     decisions: &[Decision],
     hopeful: &Table,
     dual: &Table,
@@ -57,8 +59,9 @@ fn shown(
     requires hopeful_within { All (λ n. n ≤ top_for Which.Hopeful (graph_of game.now)) hopeful.now }
     requires dual_within { All (λ n. n ≤ top_for Which.Dual (graph_of game.now)) dual.now }
     ensures { IfOk result (λ text.
-        TellsUnder (scene_of game.now diagram.now) games.now.known hopeful.now dual.now
-        (shown_lines (scene_of game.now diagram.now) decisions.now hopeful.now dual.now) text.items) }
+        TellsUnder (graph_of game.now) games.now.known hopeful.now dual.now
+        (shown_lines (titled titles.now.names (scene_of game.now diagram.now)) decisions.now hopeful.now dual.now)
+        text.items) }
 {
     let full = games.known().is_full();
     let settled = is_settled(games, hopeful, dual);
@@ -66,6 +69,7 @@ fn shown(
     text::page(
         diagram.names(),
         game,
+        titles,
         games,
         decisions,
         full,
@@ -84,6 +88,7 @@ pub fn show_over(
     page: &Page,
     game: &GuardedGame,
     diagram: &Diagram,
+    titles: &VertexNames,
     out: &mut Vec<u8>,
 ) -> Result<(), AllocError>
     requires games { ArePageGames game.now diagram.now (map literal_of page.now.decisions) games.now }
@@ -94,7 +99,8 @@ pub fn show_over(
     requires dual_within { All (λ n. n ≤ top_for Which.Dual (graph_of game.now)) page.now.dual }
     ensures shown { OnOk result
         ((text : List ℕ) ×
-        (IsShown (scene_of game.now diagram.now) page.now.decisions page.now.hopeful page.now.dual text ×
+        (IsShown (titled titles.now.names (scene_of game.now diagram.now)) page.now.decisions page.now.hopeful
+        page.now.dual text ×
         (out.new.items ≡ out.old.items ++ text))) }
     ensures unchanged { OnErr result (out.new.items ≡ out.old.items) }
 {
@@ -103,6 +109,7 @@ pub fn show_over(
         games,
         game,
         diagram,
+        titles,
         page.decisions.as_slice(),
         &page.hopeful,
         &page.dual,
@@ -134,5 +141,13 @@ pub fn show(
     ensures unchanged { OnErr result (out.new.items ≡ out.old.items) }
 {
     let games = games_of(alloc, game, diagram, page.decisions.as_slice())?;
-    show_over(alloc, &games, page, game, diagram, out)
+    show_over(
+        alloc,
+        &games,
+        page,
+        game,
+        diagram,
+        &VertexNames::none(alloc),
+        out,
+    )
 }

@@ -9,7 +9,7 @@ ghost use Rattle.vpg_measure.specs.Games.{ArePageGames};
 ghost use Rattle.vpg_measure.specs.Lifts.{IsTableOf, AreChoices};
 ghost use Rattle.vpg_measure.specs.TwoGames.{top_for};
 ghost use Rattle.vpg_texts.specs.Plan.{IsPlanned, IsPlanFault, PlanWins};
-ghost use Rattle.vpg_texts.specs.Scene.{AreSettledTables, scene_of};
+ghost use Rattle.vpg_texts.specs.Scene.{AreSettledTables, scene_of, titled};
 
 use crate::showing::games_of;
 use crate::showing::page::is_settled_table;
@@ -19,6 +19,7 @@ use thiserror::Error;
 use vpg_diagram::Diagram;
 use vpg_game::GuardedGame;
 use vpg_measure::{PageGames, StrategyFault, Table, Which, strategy};
+use vpg_names::VertexNames;
 use vpg_trail::Page;
 
 /// Why a page has no plan.
@@ -81,6 +82,7 @@ pub fn plan_over(
     page: &Page,
     game: &GuardedGame,
     diagram: &Diagram,
+    titles: &VertexNames,
     out: &mut Vec<u8>,
 ) -> Result<(), PlanFault>
     requires features { game.now.features ≡ feature_count diagram.now.lines }
@@ -92,7 +94,8 @@ pub fn plan_over(
     requires dual_within { All (λ n. n ≤ top_for Which.Dual (graph_of game.now)) page.now.dual }
     ensures planned { OnOk result
         ((text : List ℕ) ×
-        (IsPlanned (scene_of game.now diagram.now) page.now.decisions page.now.hopeful page.now.dual text ×
+        (IsPlanned (titled titles.now.names (scene_of game.now diagram.now)) page.now.decisions page.now.hopeful
+        page.now.dual text ×
         (out.new.items ≡ out.old.items ++ text))) }
     ensures refused { IfErr result
         (IsPlanFault (scene_of game.now diagram.now) page.now.decisions page.now.hopeful page.now.dual) }
@@ -108,7 +111,7 @@ pub fn plan_over(
         return Err(PlanFault::NotSettled);
     };
     let mut text = Vec::new(alloc);
-    text::plan(game, &chosen, &mut text)?;
+    text::plan(game, titles, &chosen, &mut text)?;
     out.extend_from_slice(&text)?;
     Ok(())
 }
@@ -145,5 +148,13 @@ pub fn plan(
     ensures unchanged { OnErr result (out.new.items ≡ out.old.items) }
 {
     let games = games_of(alloc, game, diagram, page.decisions.as_slice())?;
-    plan_over(alloc, &games, page, game, diagram, out)
+    plan_over(
+        alloc,
+        &games,
+        page,
+        game,
+        diagram,
+        &VertexNames::none(alloc),
+        out,
+    )
 }

@@ -1,5 +1,5 @@
 use Rattle.std.proofs.Common.{◌++◌, ℕ, List, ap, ◌∙◌}
-use Rattle.vpg_texts.specs.Scene.{IsShown, scene_of}
+use Rattle.vpg_texts.specs.Scene.{IsShown, scene_of, titled}
 use Rattle.vpg_texts.proofs.Shown.{on_ok, appended}
 use Rattle.vpg_texts.proofs.showing.page.show_over.Goals as goal
 
@@ -7,6 +7,6 @@ pub returns-clause-shown : goal.returns-clause-shown
 returns-clause-shown c =
     let page = c.args.page.now in
     let text = c.in_ok-text.text.items in
-    let shown : IsShown (scene_of c.args.game.now c.args.diagram.now) page.decisions page.hopeful page.dual text =
+    let shown : IsShown (titled c.args.titles.now.names (scene_of c.args.game.now c.args.diagram.now)) page.decisions page.hopeful page.dual text =
     (c.args.games.now.known, (c.requires.games.known, rw c.as_slice.ensures at c.in_ok-text.ensures)) in
     on_ok c.extend_from_slice.result _ _ (λ items. (text, (shown, items ∙ ap (λ (bytes : List ℕ). c.args.out.now.items ++ bytes) c.deref.ensures.value))) (appended c.extend_from_slice.result _ _ _ c.extend_from_slice.ensures.items)

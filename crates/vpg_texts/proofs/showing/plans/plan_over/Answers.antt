@@ -37,7 +37,7 @@ returns-clause-planned c =
       c.plan.new.out.items,
       (
         planned c.args.game.now c.args.diagram.now page.decisions c.args.games.now c.requires.games page.hopeful page.dual c.requires.hopeful c.requires.dual c.requires.hopeful_within c.requires.dual_within
-            (rw c.known.ensures at (c.is_full.ensures.known.0 c.if-not-is_full.false)) (rw c.in-Some.is at c.in_ok-chosen.ensures.settled) c.in-Some.chosen.items c.plan.new.out.items
+            (rw c.known.ensures at (c.is_full.ensures.known.0 c.if-not-is_full.false)) (rw c.in-Some.is at c.in_ok-chosen.ensures.settled) c.args.titles.now.names c.in-Some.chosen.items c.plan.new.out.items
             (rw c.in-Some.is at c.in_ok-chosen.ensures.chosen) (rw (c.new-text.ensures.items, c.deref.ensures.value) at c.in_ok-plan.ensures),
         rw c.deref-2.ensures.value at c.in_ok-extend_from_slice.ensures.items,
       ),
