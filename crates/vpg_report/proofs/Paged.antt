@@ -145,7 +145,8 @@ changed_answers limit limit_is old new session game shown before after game_is s
     let page : entries ≡ desk.book.present = entries_are desk entries logged.step.step.0 in
     let here : (which : Which) (table : List ℕ) → table ≡ table_of which desk.book.present (length (graph_of desk.game)) → table ≡ table_of which entries (length (graph_of desk.game)) =
     λ which table is. is ∙ ap (λ (p : List Entry). table_of which p (length (graph_of desk.game))) (sym page) in
-    let same : now ≡ verdicts_on (scene_at old) entries =
-    now_is ∙ (λ i. verdicts_by (graph_of (game_is i)) (here Hopeful hopeful hopeful_is i) (here Dual dual dual_is i)) in
+    let told : verdicts_by (graph_of game) hopeful dual ≡ verdicts_on (scene_at old) entries =
+    λ i. verdicts_by (graph_of (game_is i)) (here Hopeful hopeful hopeful_is i) (here Dual dual dual_is i) in
+    let same : now ≡ verdicts_on (scene_at old) entries = now_is ∙ told in
     asked limit limit_is session old new script.Changed AsksPage (PageIs entries) (changed_text (vertex_ids shown.vertices) seen present) before after refl logged
     (refl, (λ i. changed_text (vertex_ids (shown_is i).vertices) (seen_is i) ((present_is ∙ same) i)), held ∙ ap (with_seen old.held) same) appended

@@ -398,9 +398,9 @@ impl<L: Terms> Engine<L> {
             Ok(both) => both,
             Err(fault) => return answer::unanswered(fault, out),
         };
-        let now = verdicts_over(alloc, &games, &page, &self.game)?;
-        put_changed(alloc, &self.game, &self.seen, &now, out)?;
-        self.seen = now;
+        let verdicts = verdicts_over(alloc, &games, &page, &self.game)?;
+        put_changed(alloc, &self.game, &self.seen, &verdicts, out)?;
+        self.seen = verdicts;
         Ok(())
     }
 

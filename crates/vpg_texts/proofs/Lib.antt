@@ -1,5 +1,6 @@
 pub mod Settled
 pub mod Shown
+pub mod Differing
 pub mod Counted
 pub mod Planned
 pub mod Reading

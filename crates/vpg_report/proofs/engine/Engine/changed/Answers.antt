@@ -28,7 +28,7 @@ returns g c =
     let old = engine_in e.client e.undos.items e.redos.items e.harvests.items e.seen.items in
     on_view {E = ServeFault} (Ok tt) _ old _ _ _ _ _ c.self.view_is
     (λ told. changed_answers g.L.Terms.limit c.self.invariant.room_is old _ c.args.session c.deref-2.result.now c.deref-3.result.now c.args.out.now.items _ (c.deref-2.ensures ∙ c.self.invariant.game) (c.deref-3.ensures ∙ c.self.invariant.game)
-    c.in-Ok.both.0.entries c.in-Ok.ensures.accepted c.in-Ok.both.0.hopeful c.in-Ok.both.0.dual c.in-Ok.ensures.hopeful c.in-Ok.ensures.dual _ c.in_ok-verdicts_over.ensures refl _ _ c.deref-4.ensures.value c.deref-5.ensures.value told) c.in_ok-put_changed.ensures.changed
+    c.in-Ok.both.0.entries c.in-Ok.ensures.accepted c.in-Ok.both.0.hopeful c.in-Ok.both.0.dual c.in-Ok.ensures.hopeful c.in-Ok.ensures.dual _ c.in_ok-verdicts.ensures refl _ _ c.deref-4.ensures.value c.deref-5.ensures.value told) c.in_ok-put_changed.ensures.changed
 
 pub returns-in-Err : goal.returns-in-Err
 returns-in-Err g c =
