@@ -90,7 +90,8 @@ counted_lines scene hopeful dual full settled =
 -- The text counts the verdicts by these tables, under what the decisions make known.
 abbrev pub IsCounted : Scene → List Decision → (hopeful dual text : List ℕ) → Type 0
 IsCounted scene decisions hopeful dual text =
-    UnderKnown scene decisions (λ known. TellsUnder scene.game known hopeful dual (counted_lines scene hopeful dual) text)
+    UnderKnown scene decisions
+    (λ known. TellsUnder scene.game known hopeful dual (counted_lines scene hopeful dual) text)
 
 -- The text tells of each feature whether the decisions make it known.
 abbrev pub TellsKnown : Scene → List Decision → List ℕ → Type 0

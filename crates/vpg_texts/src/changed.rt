@@ -106,7 +106,8 @@ fn changes(
 ) -> Result<usize, AllocError>
     ensures count { IfOk result (λ n. n ≡ change_count seen.now present.now (length game.now.vertices)) }
     ensures lines { IfOk result (λ _. out.new.items ≡ out.old.items
-        ++ change_lines (vertex_ids game.now.vertices) titles.now.names seen.now present.now (length game.now.vertices)) }
+        ++ change_lines (vertex_ids game.now.vertices) titles.now.names seen.now present.now
+        (length game.now.vertices)) }
 {
     let count = game.vertices() as u32;
     let mut changed = 0;

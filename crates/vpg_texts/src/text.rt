@@ -496,7 +496,8 @@ fn plan_line(
 ) -> Result<(), AllocError>
     requires v { v < length game.now.vertices }
     requires w { IfSome chosen (λ w. w < length game.now.vertices) }
-    ensures { OnOk result (out.new.items ≡ out.old.items ++ plan_line (vertex_ids game.now.vertices) titles.now.names v chosen) }
+    ensures { OnOk result (out.new.items ≡ out.old.items
+        ++ plan_line (vertex_ids game.now.vertices) titles.now.names v chosen) }
 {
     match chosen {
         None => Ok(()),
@@ -526,7 +527,8 @@ pub(crate) fn plan(
 ) -> Result<(), AllocError>
     requires len { length chosen.now ≡ length game.now.vertices }
     requires below { All (λ w. IfSome w (λ v. v < length game.now.vertices)) chosen.now }
-    ensures { OnOk result (out.new.items ≡ out.old.items ++ plan_text (vertex_ids game.now.vertices) titles.now.names chosen.now) }
+    ensures { OnOk result (out.new.items ≡ out.old.items
+        ++ plan_text (vertex_ids game.now.vertices) titles.now.names chosen.now) }
 {
     let count = game.vertices() as u32;
     for v in 0..count {

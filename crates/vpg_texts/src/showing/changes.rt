@@ -41,7 +41,8 @@ pub fn put_changed(
     out: &mut Vec<u8>,
 ) -> Result<(), AllocError>
     ensures changed { OnOk result
-        (out.new.items ≡ out.old.items ++ changed_text (vertex_ids game.now.vertices) titles.now.names seen.now present.now) }
+        (out.new.items ≡ out.old.items
+        ++ changed_text (vertex_ids game.now.vertices) titles.now.names seen.now present.now) }
     ensures unchanged { OnErr result (out.new.items ≡ out.old.items) }
 {
     let mut text = Vec::new(alloc);
