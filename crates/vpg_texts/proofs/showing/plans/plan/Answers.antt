@@ -1,4 +1,15 @@
+use Rattle.std.proofs.Common.{◌≡◌, ◌++◌, ℕ, List, subst}
+use Rattle.std.specs.Prelude.{OnOk}
+use Rattle.vpg_texts.specs.Plan.{IsPlanned}
+use Rattle.vpg_texts.specs.Scene.{scene_of, titled}
 use Rattle.vpg_texts.proofs.showing.plans.plan.Goals as goal
 
 pub games_of-requires-clause-consistent : goal.games_of-requires-clause-consistent
 games_of-requires-clause-consistent c = rw c.as_slice.ensures c.requires.consistent
+
+pub returns-clause-planned : goal.returns-clause-planned
+returns-clause-planned c =
+    let page = c.args.page.now in
+    let scene = scene_of c.args.game.now c.args.diagram.now in
+    subst (λ (titles : List (List ℕ)). OnOk c.plan_over.result ((text : List ℕ) × (IsPlanned (titled titles scene) page.decisions page.hopeful page.dual text × (c.plan_over.new.out.items ≡ c.args.out.now.items ++ text))))
+    c.none.ensures.names c.plan_over.ensures.planned
