@@ -141,13 +141,6 @@ pub fn show(
     ensures unchanged { OnErr result (out.new.items ≡ out.old.items) }
 {
     let games = games_of(alloc, game, diagram, page.decisions.as_slice())?;
-    show_over(
-        alloc,
-        &games,
-        page,
-        game,
-        diagram,
-        &VertexNames::none(alloc),
-        out,
-    )
+    let titles = VertexNames::none(alloc);
+    show_over(alloc, &games, page, game, diagram, &titles, out)
 }

@@ -148,13 +148,6 @@ pub fn plan(
     ensures unchanged { OnErr result (out.new.items ≡ out.old.items) }
 {
     let games = games_of(alloc, game, diagram, page.decisions.as_slice())?;
-    plan_over(
-        alloc,
-        &games,
-        page,
-        game,
-        diagram,
-        &VertexNames::none(alloc),
-        out,
-    )
+    let titles = VertexNames::none(alloc);
+    plan_over(alloc, &games, page, game, diagram, &titles, out)
 }
