@@ -59,6 +59,7 @@ Examples:
   cd examples/elevator
   vpgdesk check game diagram
   vpgdesk run game diagram script
+  vpgdesk desk game diagram
   vpgdesk project game diagram lift sensor overload
   vpgdesk draw game diagram | dot -Tsvg > game.svg
 

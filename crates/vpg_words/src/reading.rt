@@ -35,17 +35,28 @@ fn over_family<'a>(
         .arg(file(alloc, "DIAGRAM", DIAGRAM_HELP))
 }
 
+fn lifters<'a>(alloc: Global) -> Arg<'a> {
+    Arg::new(alloc, "lifters")
+        .long("lifters")
+        .value_name("N")
+        .value_parser(ValueParser::unsigned(1, 64))
+        .default_value("1")
+        .help(LIFTERS_HELP)
+}
+
+fn desk_command<'a>(alloc: Global) -> Result<Command<'a>, AllocError> {
+    over_family(
+        alloc,
+        "desk",
+        "Answers lines as they are typed, on a family",
+    )?
+    .arg(lifters(alloc))
+}
+
 fn run_command<'a>(alloc: Global) -> Result<Command<'a>, AllocError> {
     over_family(alloc, "run", "Carries a script out on a family")?
         .arg(file(alloc, "SCRIPT", SCRIPT_HELP))?
-        .arg(
-            Arg::new(alloc, "lifters")
-                .long("lifters")
-                .value_name("N")
-                .value_parser(ValueParser::unsigned(1, 64))
-                .default_value("1")
-                .help(LIFTERS_HELP),
-        )?
+        .arg(lifters(alloc))?
         .arg(flag(alloc, "strict", STRICT_HELP))?
         .arg(flag(alloc, "keep-going", KEEP_GOING_HELP))
 }
@@ -95,6 +106,7 @@ fn command<'a>(alloc: Global) -> Result<Command<'a>, AllocError> {
         .after_help(SHORT_AFTER)
         .after_long_help(AFTER);
     let command = with_inner(command, run_command(alloc))?;
+    let command = with_inner(command, desk_command(alloc))?;
     let command = with_inner(command, project_command(alloc))?;
     let command = with_inner(command, check_command(alloc))?;
     with_inner(command, draw_command(alloc))
@@ -183,6 +195,10 @@ fn task_of<'a>(
                 keep_going: matches.get_flag("keep-going"),
             }),
         ),
+        "desk" => Ok(Some(Task::Desk {
+            paths,
+            lifters: matches.get_one("lifters").unwrap_or(1),
+        })),
         "project" => Ok(Some(Task::Project {
             paths,
             features: features(alloc, matches)?,

@@ -10,15 +10,17 @@
 #![tactic(auto)]
 
 ghost use Rattle.std.specs.Io.KnownBytes.{Appends};
-ghost use Rattle.std.specs.Prelude.{◌≡◌, true, Err, OnOk, OnErr};
+ghost use Rattle.std.specs.Prelude.{◌≡◌, ◌≤◌, true, Err, OnOk, OnErr};
 
 mod ending;
 mod running;
+mod session;
 #[cfg(test)]
 mod tests;
 
 use crate::ending::{End, ended, refused_line, status};
 use crate::running::run_script;
+use crate::session::Typed;
 use clap::error::ErrorKind;
 use std::alloc::{AllocError, Global};
 use std::io::IsTerminal;
@@ -74,6 +76,44 @@ fn run_built_in<T: Threads + Wait + Sync>(
     Ok(ended(ending))
 }
 
+/// What is said before the first line is read.
+const GREETING: &[u8] = b"one command a line; `help` lists commands, `quit` ends\n";
+
+/// Answers lines from standard input as they are typed, on a family.
+fn sit<T: Threads + Wait + Sync>(
+    rt: &HostRuntime,
+    threads: &T,
+    alloc: Global,
+    paths: Paths<'_>,
+    lifters: u32,
+) -> Result<End, Fault>
+    requires { (1 ≤ lifters) × (lifters ≤ 64) }
+{
+    let family = read_family(rt, alloc, paths)?;
+    let counts = family.counted(alloc)?;
+    let mut talk = Device::writer(rt.stderr().lock());
+    // Where these fail the answers are still to come.
+    let _ = talk.put(&counts);
+    let _ = talk.put(GREETING);
+    let reader = Device::reader(rt.stdin().lock());
+    let mut reader = Typed::new(alloc, reader, talk, rt.stdin().is_terminal());
+    let mut writer = Device::writer(rt.stdout().lock());
+    let manner = Manner {
+        is_strict: false,
+        goes_on: true,
+    };
+    let ending = run_script(
+        threads,
+        alloc,
+        family,
+        &mut reader,
+        &mut writer,
+        lifters,
+        manner,
+    )?;
+    Ok(ended(ending))
+}
+
 /// Writes a picture of a family.
 fn draw(rt: &HostRuntime, alloc: Global, paths: Paths<'_>, subject: Subject) -> Result<(), Fault> {
     let texts = read_texts(rt, alloc, paths)?;
@@ -115,6 +155,9 @@ fn carry_out<T: Threads + Wait + Sync>(
                 manner,
             )?;
             Ok(ended(ending))
+        }
+        Task::Desk { paths, lifters } => {
+            sit(rt, threads, alloc, *paths, (*lifters).clamp(1, 64))
         }
         Task::Project { paths, features } => {
             let family = read_family(rt, alloc, *paths)?;

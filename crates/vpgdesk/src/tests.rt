@@ -1,6 +1,7 @@
 //! What no clause says: what is told of the end of a script, with which text. The family of most rows is the one that is built in.
 use crate::ending::{End, ended, refused_line};
 use crate::running::run_script;
+use crate::session::Typed;
 use crate::{DIAGRAM, GAME};
 use std::alloc::{AllocError, Global};
 use std::io::{self, Read, Write};
@@ -8,7 +9,7 @@ use std::sync::Wait;
 use std::test::*;
 use std::thread::Threads;
 use vpg_family::{Family, Fault, line_of};
-use vpg_script::{Device, Ending, Manner};
+use vpg_script::{Device, Ending, Manner, Source};
 use vpg_words::{Task, read};
 
 /// Each line is answered, and a fault ends the script.
@@ -237,5 +238,110 @@ fn ends_of_manners(rt: HostRuntime) -> Result<(), Fail> {
     assert!(rt;
         told.is_ok_and(|text| text.as_slice() == b"vpgdesk: script Line 20 Refused\n".as_slice())
     );
+    Ok(())
+}
+
+/// What is typed, what of it is handed on as a script, and what is said beside the answers.
+struct Typing {
+    typed: &'static str,
+    is_prompted: bool,
+    handed: &'static str,
+    said: &'static str,
+}
+
+static TYPINGS: [Typing; 8] = [
+    Typing {
+        typed: "",
+        is_prompted: false,
+        handed: "",
+        said: "",
+    },
+    Typing {
+        typed: "exclude f\r\nundo",
+        is_prompted: false,
+        handed: "exclude f\nundo\n",
+        said: "",
+    },
+    Typing {
+        typed: "exclude f\n\nundo\n",
+        is_prompted: true,
+        handed: "exclude f\n\nundo\n",
+        said: "> > > > ",
+    },
+    Typing {
+        typed: "exclude f\n quit\t\nundo\n",
+        is_prompted: false,
+        handed: "exclude f\n",
+        said: "",
+    },
+    Typing {
+        typed: "quit now\nquit",
+        is_prompted: false,
+        handed: "quit now\n",
+        said: "",
+    },
+    Typing {
+        typed: "help undo\nexclude f\nhelp frob\nquit\n",
+        is_prompted: false,
+        handed: "\nexclude f\n\n",
+        said: "undo [S]\nno such command; `help` lists them\n",
+    },
+    Typing {
+        typed: "help select f\n",
+        is_prompted: false,
+        handed: "help select f\n",
+        said: "",
+    },
+    Typing {
+        typed: "# help\nhelp: select f\n",
+        is_prompted: false,
+        handed: "# help\nhelp: select f\n",
+        said: "",
+    },
+];
+
+/// What is handed on of these bytes, and what is said, with so many bytes a read.
+fn typed(
+    alloc: Global,
+    bytes: &[u8],
+    is_prompted: bool,
+    most: usize,
+) -> Option<(Vec<u8>, Vec<u8>)> {
+    let talk = Device::writer(Vec::new(alloc));
+    let mut lines = Typed::new(alloc, Device::reader(bytes), talk, is_prompted);
+    let mut handed = Vec::new(alloc);
+    let mut buf = [0u8; 64];
+    for _ in 0..100_000 {
+        let n = lines.fill(&mut buf[..most.min(64)]).ok()?;
+        if n == 0 {
+            return Some((handed, lines.into_talk().into_writer()));
+        }
+        handed.extend_from_slice(&buf[..n]).ok()?;
+    }
+    None
+}
+
+#[test]
+fn lines_that_are_typed(rt: HostRuntime) -> Result<(), Fail> {
+    for k in 0..TYPINGS.len() {
+        let row = &TYPINGS[k];
+        for most in [1, 3, 64] {
+            let got = typed(rt.alloc(), row.typed.as_bytes(), row.is_prompted, most);
+            assert!(rt;
+                got.is_some_and(|(handed, said)| handed.as_slice() == row.handed.as_bytes()
+                    && said.as_slice() == row.said.as_bytes()),
+                "row {k}"
+            );
+        }
+    }
+    Ok(())
+}
+
+#[test]
+fn a_long_line_is_handed_on(rt: HostRuntime) -> Result<(), Fail> {
+    let mut text = vec![in rt.alloc(); b'#'; 20_000]?;
+    text.extend_from_slice(b"\nquit\nshow\n")?;
+    let got = typed(rt.alloc(), &text, false, 64);
+    assert!(rt; got.is_some_and(|(handed, _)| handed.as_slice() == &text[..20_001]));
     Ok(())
 }
