@@ -123,6 +123,7 @@ module _ (d : Inside) (i : IsDesk d) (harvest : HarvestView) (is_harvest : IsHar
     pub committed_desk : (is_noted : Bool) → (IsTrue is_noted → IsSettledPage (family_of (setting_in d)) trail.entries) → IsDesk (record d { trail = trail; is_noted = is_noted })
     committed_desk is_noted noted = record {
       opened = i.opened;
+      recent = i.recent;
       reached = subst (IsReached (setting_in d)) (sym stands.same) (reached_step (setting_in d) (book_in d) 0 (Commit (handed_in true harvest)) (Added n) i.reached (accepted n added) (λ _. lawful));
       games = subst (λ (l : List Literal). ArePageGames (arc_value d.game) (arc_value d.diagram) l (arc_value d.games)) (sym (ap (λ (t : Track). choices_of t.entries) trail_is ∙ raised_choices harvest d.trail)) i.games;
       vertices = ap (λ (t : Track). t.vertices) trail_is ∙ i.vertices;

@@ -106,7 +106,7 @@ module _ (d : Inside) (i : IsDesk d) (session f : ℕ) (value : Bool) (games : A
   made = Decided (record { serial = d.changes + 1; session = session; feature = f; value = value })
 
   left : Inside
-  left = record { game = d.game; diagram = d.diagram; games = games; trail = trail; past = later; future = future; changes = d.changes + 1; tokens = d.tokens + 1; is_noted = note }
+  left = record { game = d.game; diagram = d.diagram; games = games; recent = d.recent; trail = trail; past = later; future = future; changes = d.changes + 1; tokens = d.tokens + 1; is_noted = note }
 
   stands : StandsFor (cut_book later.items trail.entries future.items (d.changes + 1) (d.tokens + 1)) (changed (book_in d) (d.trail.entries ++ Decided (record { serial = d.changes + 1; session = session; feature = f; value = value }) ∷ []))
   stands = coe 0 1 (k. StandsFor (record { past = cuts_of later.items; entries = (sym trail_is k).entries; future = cuts_of (sym emptied k); changes = d.changes + 1; tokens = d.tokens + 1 }) (changed (book_in d) (d.trail.entries ++ Decided (record { serial = d.changes + 1; session = session; feature = f; value = value }) ∷ [])))
@@ -115,9 +115,10 @@ module _ (d : Inside) (i : IsDesk d) (session f : ℕ) (value : Bool) (games : A
   pub decided_step : IsStep (desk_of d) session (Decide f value) (Changed (d.changes + 1)) (record { game = arc_value d.game; diagram = arc_value d.diagram; book = book_of (cut_book later.items trail.entries future.items (d.changes + 1) (d.tokens + 1)) })
   decided_step = record { step = (accepted, stands.same); game = refl; diagram = refl }
 
-  pub decided_desk : IsDesk (record { game = d.game; diagram = d.diagram; games = games; trail = trail; past = later; future = future; changes = d.changes + 1; tokens = d.tokens + 1; is_noted = note })
+  pub decided_desk : IsDesk (record { game = d.game; diagram = d.diagram; games = games; recent = d.recent; trail = trail; past = later; future = future; changes = d.changes + 1; tokens = d.tokens + 1; is_noted = note })
   decided_desk = record {
     opened = i.opened;
+    recent = i.recent;
     reached = subst (IsReached (setting_in d)) (sym stands.same) (reached_step (setting_in d) (book_in d) session (Decide f value) (Changed (d.changes + 1)) i.reached accepted tt);
     games = subst (λ (t : Track). ArePageGames (arc_value d.game) (arc_value d.diagram) (choices_of t.entries) (arc_value games)) (sym trail_is) games_are;
     vertices = ap (λ (t : Track). t.vertices) trail_is ∙ i.vertices;

@@ -75,9 +75,10 @@ module _ (d : Inside) (i : IsDesk d) (f : ℕ) (accepted : Replies (desk_of d) (
     pub retracted_step : IsStep (desk_of d) session (Retract f) (Changed (d.changes + 1)) (record { game = arc_value d.game; diagram = arc_value d.diagram; book = book_of (cut_book later.items trail.entries future.items (d.changes + 1) (d.tokens + 1)) })
     retracted_step = record { step = (accepted, stands.same); game = refl; diagram = refl }
 
-    pub retracted_desk : IsDesk (record { game = d.game; diagram = d.diagram; games = games; trail = trail; past = later; future = future; changes = d.changes + 1; tokens = d.tokens + 1; is_noted = false })
+    pub retracted_desk : IsDesk (record { game = d.game; diagram = d.diagram; games = games; recent = d.recent; trail = trail; past = later; future = future; changes = d.changes + 1; tokens = d.tokens + 1; is_noted = false })
     retracted_desk = record {
       opened = i.opened;
+      recent = i.recent;
       reached = subst (IsReached (setting_in d)) (sym stands.same) reached;
       games = subst (λ (l : List Step). ArePageGames (arc_value d.game) (arc_value d.diagram) (choices_of l) (arc_value games)) (sym (ap (λ (t : Track). t.entries) trail_is ∙ page_is)) games_are;
       vertices = ap (λ (t : Track). t.vertices) trail_is ∙ i.vertices;

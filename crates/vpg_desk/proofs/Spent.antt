@@ -34,6 +34,7 @@ module _ (d : Inside) (i : IsDesk d) (s : ℕ) where
     pub kept_desk : notes_of past.items ≡ take (length past.items) (notes_of d.past.items) → SuffixesBelow d.trail.vertices past.items → IsDesk (record d { past = past; tokens = d.tokens - 1 })
     kept_desk notes below = record {
       opened = i.opened;
+      recent = i.recent;
       reached = subst (IsReached (setting_in d)) (sym kept_stands.same) (reached_step (setting_in d) (book_in d) 0 (Keep s) Spent i.reached keep_accepted tt);
       games = i.games;
       vertices = i.vertices;
@@ -55,6 +56,7 @@ module _ (d : Inside) (i : IsDesk d) (s : ℕ) where
     pub forgotten_desk : notes_of future.items ≡ take (length future.items) (notes_of d.future.items) → SuffixesBelow d.trail.vertices future.items → IsDesk (record d { future = future; tokens = d.tokens - 1 })
     forgotten_desk notes below = record {
       opened = i.opened;
+      recent = i.recent;
       reached = subst (IsReached (setting_in d)) (sym forgotten_stands.same) (reached_step (setting_in d) (book_in d) 0 (Forget s) Spent i.reached forget_accepted tt);
       games = i.games;
       vertices = i.vertices;

@@ -100,6 +100,7 @@ module _ (d : Inside) (i : IsDesk d) where
         IsDesk (record d { games = games; trail = trail; past = past; future = future; is_noted = is_noted })
     nearest_desk book stands reached known notes = record {
       opened = i.opened;
+      recent = i.recent;
       reached = subst (IsReached (setting_in d)) (sym stands.same) reached;
       games = known;
       vertices = vertices ∙ i.vertices;

@@ -21,6 +21,7 @@ pub still_desk : (d : Inside) → IsDesk d → (trail : Track) (past future : Ve
     SuffixesBelow d.trail.vertices past.items → SuffixesBelow d.trail.vertices future.items → IsDesk (record d { trail = trail; past = past; future = future })
 still_desk d i trail past future t p f past_notes future_notes past_below future_below = record {
   opened = i.opened;
+  recent = i.recent;
   reached = coe 0 1 (k. IsReached (setting_in d) (book_of (record { past = sym p k; entries = (sym t k).entries; future = sym f k; changes = d.changes; tokens = d.tokens }))) i.reached;
   games = subst (λ (x : Track). ArePageGames (arc_value d.game) (arc_value d.diagram) (choices_of x.entries) (arc_value d.games)) (sym t) i.games;
   noted = coe 0 1 (k. NotesHold (IsSettledPage (family_of (setting_in d))) (record { present = d.is_noted; past = sym past_notes k; future = sym future_notes k })

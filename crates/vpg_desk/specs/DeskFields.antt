@@ -8,6 +8,7 @@ use Rattle.vpg_desk.specs.Book.{Book, IsSettledPage}
 use Rattle.vpg_desk.specs.Cuts.{cut_book, cuts_of, notes_of, SuffixesBelow}
 use Rattle.vpg_desk.specs.Desk.{family_of}
 use Rattle.vpg_desk.specs.Notes.{Notes, NotesHold}
+use Rattle.vpg_desk.specs.Recent.{AreRecent}
 use Rattle.vpg_desk.specs.Setting.{Setting}
 use Rattle.vpg_desk.specs.State.{DeskState, setting_between, IsOpened, IsReached}
 use Rattle.vpg_desk.specs.Trail.{book_of, FitOver}
@@ -32,6 +33,8 @@ pub record IsDesk (d : Inside) : Type 0 where
   pub reached : IsReached (setting_in d) (book_in d)
   -- what is kept beside the trail
   pub games : ArePageGames (arc_value d.game) (arc_value d.diagram) (choices_of d.trail.entries) (arc_value d.games)
+  -- what is kept of pages that were present is what their decisions make of the game
+  pub recent : AreRecent (arc_value d.game) (arc_value d.diagram) d.recent.items
   -- each page, present, past or future, that is known to be settled is so
   pub noted : NotesHold (IsSettledPage (family_of (setting_in d))) (notes_in d) (book_in d)
   -- the trail is over the game's vertices, and each cut fits over the nearer page

@@ -11,10 +11,12 @@ ghost use Rattle.vpg_trail.specs.Page.{Decided, Which as Side, choices_of, decis
 ghost use Rattle.vpg_trail.specs.Shown.{entry_of};
 ghost use Rattle.vpg_desk.specs.Cuts.{cuts_of, notes_of, SuffixesBelow};
 ghost use Rattle.vpg_desk.specs.Faults.{ClosesWith};
+ghost use Rattle.vpg_desk.specs.Recent.{AreRecent};
 
 use crate::cuts::Cut;
 use crate::desk::{Desk, MOST_CHANGES};
 use crate::fault::DecideFault;
+use crate::recent::{Recent, games_for};
 use crate::undo_token::Undo;
 use std::alloc::{AllocError, Global};
 use std::sync::Arc;
@@ -24,9 +26,10 @@ use vpg_measure::{OrderFault, PageGames};
 use vpg_partial::Decision;
 use vpg_trail::{Entry, Trail, decided, decisions_among};
 
-/// The games with one decision more, from those at present.
+/// The games with one decision more: as they are kept, or from those at present.
 fn games_with(
     alloc: Global,
+    recents: &mut Vec<Recent>,
     game: &GuardedGame,
     diagram: &Diagram,
     entries: &[Entry],
@@ -38,17 +41,19 @@ fn games_with(
     requires not_at_limit { ¬ IsAtLimit game.now }
     requires inside { AllByRecursion (λ d. d.feature < feature_count diagram.now.lines)
         (decisions_of (map entry_of entries.now) ++ decision ∷ []) }
+    requires recents { AreRecent game.now diagram.now recents.old.items }
     ensures games { IfOk result
         (λ games. ArePageGames game.now diagram.now (choices_of (map entry_of entries.now ++ Decided decision ∷ []))
         (arc_value games)) }
     ensures fault { IfErr result
         (ClosesWith diagram.now.lines
         (choices_of (map entry_of entries.now ++ Decided decision ∷ [])) decision.feature) }
+    ensures left { AreRecent game.now diagram.now recents.new.items }
 {
     let mut decisions = decisions_among(alloc, entries)?;
     decisions.push(decision)?;
-    match present.updated(alloc, game, diagram, &decisions) {
-        Ok(games) => Ok(games.share(alloc)?),
+    match games_for(alloc, recents, game, diagram, decisions, present) {
+        Ok(games) => Ok(games),
         Err(OrderFault::AtLimit) => unreachable!(),
         Err(OrderFault::Conflict { .. }) => Err(DecideFault::Conflict {
             feature: decision.feature,
@@ -135,6 +140,7 @@ impl Desk {
         let entries = self.trail.entries();
         let games = games_with(
             alloc,
+            &mut self.recent,
             &self.game,
             &self.diagram,
             entries,

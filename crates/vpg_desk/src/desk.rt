@@ -17,6 +17,7 @@ ghost use Rattle.vpg_desk.specs.State.{IsOpened, IsReached, Replies, setting_of}
 use crate::cuts::Cut;
 use crate::fault::{OpenFault, OpenRefused};
 use crate::opening::first_page;
+use crate::recent::Recent;
 use std::alloc::{AllocError, Global};
 use std::marker::Model;
 use std::sync::Arc;
@@ -43,6 +44,8 @@ pub struct Desk {
     pub(crate) diagram: Arc<Diagram>,
     // those of the present decisions
     pub(crate) games: Arc<PageGames>,
+    // those of the pages that were present last
+    pub(crate) recent: Vec<Recent>,
     pub(crate) trail: Trail,
     // the newest past page and the nearest future page are last
     pub(crate) past: Vec<Cut>,
@@ -94,6 +97,7 @@ impl Desk {
                 game,
                 diagram,
                 games,
+                recent: Vec::new(alloc),
                 trail,
                 past: Vec::new(alloc),
                 future: Vec::new(alloc),

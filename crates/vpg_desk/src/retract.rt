@@ -84,7 +84,15 @@ impl Desk {
         }
         let kept = kept_after(alloc, entries, place, feature, self.trail.vertices())?;
         let before = &entries[..place];
-        let games = games_of_page(alloc, &self.game, &self.diagram, before, &kept, &self.games)?;
+        let games = games_of_page(
+            alloc,
+            &mut self.recent,
+            &self.game,
+            &self.diagram,
+            before,
+            &kept,
+            &self.games,
+        )?;
         let serial = self.changes + 1;
         let was = self.is_noted;
         cut_out(&mut self.past, &mut self.trail, serial, place, kept, was)?;

@@ -10,6 +10,7 @@ ghost use Rattle.vpg_trail.specs.WellFormed.{IsWellFormed};
 ghost use Rattle.vpg_desk.specs.Book.{refuses_redo, refuses_undo};
 ghost use Rattle.vpg_desk.specs.Cuts.{IsSwung, SuffixesBelow, cuts_of, notes_of, pages_of, serials_from_top};
 ghost use Rattle.vpg_desk.specs.Faults.{redo_refusal, undo_refusal};
+ghost use Rattle.vpg_desk.specs.Recent.{AreRecent};
 ghost use Rattle.vpg_desk.specs.Setting.{HasConflict};
 ghost use Rattle.vpg_desk.specs.State.{setting_between};
 ghost use Rattle.vpg_desk.specs.Trail.{FitOver, spliced, Cut as Saved};
@@ -17,6 +18,7 @@ ghost use Rattle.vpg_desk.specs.Trail.{FitOver, spliced, Cut as Saved};
 use crate::cuts::Cut;
 use crate::fault::{RedoFault, UndoFault};
 use crate::games::games_of_page;
+use crate::recent::Recent;
 use std::alloc::{AllocError, Global};
 use std::sync::Arc;
 use vpg_diagram::Diagram;
@@ -68,9 +70,10 @@ pub(crate) fn redo_fault(future: &[Cut], serial: u64) -> Option<RedoFault>
     Some(RedoFault::Overtaken)
 }
 
-/// What the decisions of the nearest page make of the game, from what those of the present page make of it.
+/// What the decisions of the nearest page make of the game: as it is kept, or from what those of the present page make.
 pub(crate) fn games_over(
     alloc: Global,
+    recents: &mut Vec<Recent>,
     game: &GuardedGame,
     diagram: &Diagram,
     trail: &Trail,
@@ -85,13 +88,15 @@ pub(crate) fn games_over(
     requires consistent { AllByRecursion
         (λ k. ¬ (HasConflict (setting_between game.now diagram.now) (choices_of k.page)))
         (pages_of trail.now.entries cuts.now) }
-    ensures { IfOk result (λ games. (cut : Saved) (further : List Saved) → cuts_of cuts.now ≡ cut ∷ further →
+    requires recents { AreRecent game.now diagram.now recents.old.items }
+    ensures games { IfOk result (λ games. (cut : Saved) (further : List Saved) → cuts_of cuts.now ≡ cut ∷ further →
         ArePageGames game.now diagram.now (choices_of (spliced trail.now.entries cut.place cut.suffix))
         (arc_value games)) }
+    ensures left { AreRecent game.now diagram.now recents.new.items }
 {
     let cut = cuts.last().unwrap();
     let before = &trail.entries()[..cut.place];
-    games_of_page(alloc, game, diagram, before, &cut.suffix, present)
+    games_of_page(alloc, recents, game, diagram, before, &cut.suffix, present)
 }
 
 /// Takes the nearest page of the one side in place of the present one, which was known to be settled or not, and

@@ -74,6 +74,7 @@ impl Desk {
         }
         let games = games_over(
             alloc,
+            &mut self.recent,
             &self.game,
             &self.diagram,
             &self.trail,
@@ -103,6 +104,7 @@ impl Desk {
         }
         let games = games_over(
             alloc,
+            &mut self.recent,
             &self.game,
             &self.diagram,
             &self.trail,

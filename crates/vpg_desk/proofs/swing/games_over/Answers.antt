@@ -37,8 +37,8 @@ games_of_page-requires-clause-consistent c =
     subst (λ (l : List Step). ¬ (HasConflict (setting_between c.args.game.now c.args.diagram.now) (choices_of l))) (page at)
     (nearest_page c.args.trail.now.entries c.args.cuts.now c.unwrap-cut.result.now (cuts_of (take (length c.args.cuts.now - 1) c.args.cuts.now)) (top at) (λ l. ¬ (HasConflict (setting_between c.args.game.now c.args.diagram.now) (choices_of l))) c.requires.consistent)
 
-pub returns : goal.returns
-returns c =
-    let at = (goal.at.returns c).After-deref in
+pub returns-clause-games : goal.returns-clause-games
+returns-clause-games c =
+    let at = (goal.at.returns-clause-games c).After-deref in
     are_if_ok (λ l. ArePageGames c.args.game.now c.args.diagram.now (choices_of l)) c.args.trail.now.entries c.args.cuts.now c.unwrap-cut.result.now (cuts_of (take (length c.args.cuts.now - 1) c.args.cuts.now)) (top at) (map entry_of (take c.unwrap-cut.result.now.place c.entries.result.now) ++ map entry_of c.deref.result.now) (page at) c.games_of_page.result
-    c.games_of_page.ensures
+    c.games_of_page.ensures.games

@@ -12,7 +12,7 @@ use Rattle.vpg_trail.specs.Page.{Which, Decided, decisions_of, choices_of, decis
 use Rattle.vpg_trail.specs.Shown.{entry_of}
 use Rattle.vpg_desk.specs.Book.{Decide, Changed, Refused, UnknownFeature, AlreadyDecided, TooManyChanges, IsSettledPage}
 use Rattle.vpg_desk.specs.Desk.{family_of}
-use Rattle.vpg_desk.specs.DeskFields.{desk_of, setting_in}
+use Rattle.vpg_desk.specs.DeskFields.{desk_of, setting_in, IsDesk}
 use Rattle.vpg_desk.specs.Faults.{decide_refusal, ClosesWith}
 use Rattle.vpg_desk.specs.State.{DeskState, Replies, IsStep}
 use Rattle.vpg_desk.specs.declared.fault.DecideFault.TheVariants.{Memory}
@@ -20,7 +20,7 @@ use Rattle.vpg_desk.specs.Cuts.{cuts_of, notes_of, cut_book, SuffixesBelow}
 use Rattle.vpg_desk.specs.Trail.{book_of}
 use Rattle.vpg_desk.specs.declared.cuts.Cut.{Cut}
 use Rattle.vpg_desk.proofs.Unchanged.{still_desk, on_err}
-use Rattle.vpg_desk.proofs.Shared.{held_at, features_at, limit_at}
+use Rattle.vpg_desk.proofs.Shared.{held_at, features_at, limit_at, recent_at, keeping, keeping_desk}
 use Rattle.vpg_desk.proofs.Decided.{decide_unknown, decide_already, decide_too_many, decide_accepted, closes_refuses, decisions_inside, limits, decided_step, decided_desk}
 use Rattle.vpg_desk.proofs.StillSettled.{settled_with}
 use Rattle.vpg_desk.proofs.desk.Desk.decide.Goals as goal
@@ -72,7 +72,7 @@ games_are : (c : After-clear) → ArePageGames (arc_value c.self.inside.game) (a
 games_are c = coe 0 1 (k. ArePageGames (c.deref-2.ensures k) (c.deref-3.ensures k) (choices_of (c.entries-entries.ensures.entries k ++ Decided (record { serial = c.self.inside.changes + 1; session = c.args.session; feature = c.args.feature; value = c.args.value }) ∷ [])) (arc_value c.in_ok-games.games)) c.in_ok-games.ensures.games
 
 pub stays_settled-is_noted-requires : goal.stays_settled-is_noted-requires
-stays_settled-is_noted-requires c = subst (λ (s : DeskState). AreGamesOf s.game s.diagram c.deref-5.result.now) c.self.view_is (
+stays_settled-is_noted-requires c = (
   choices_of (c.self.inside.trail.entries ++ Decided (record { serial = c.self.inside.changes + 1; session = c.args.session; feature = c.args.feature; value = c.args.value }) ∷ []),
   coe 0 1 (k. ArePageGames (c.deref-2.ensures k) (c.deref-3.ensures k) (choices_of (c.entries-entries.ensures.entries k ++ Decided (record { serial = c.self.inside.changes + 1; session = c.args.session; feature = c.args.feature; value = c.args.value }) ∷ [])) (sym c.deref-5.ensures k)) c.in_ok-games.ensures.games,
 )
@@ -81,7 +81,23 @@ stays_settled-is_noted-requires c = subst (λ (s : DeskState). AreGamesOf s.game
 settled : (c : After-clear) → IsTrue c.stays_settled-is_noted.result → IsSettledPage (family_of (setting_in c.self.inside)) (c.self.inside.trail.entries ++ Decided (record { serial = c.self.inside.changes + 1; session = c.args.session; feature = c.args.feature; value = c.args.value }) ∷ [])
 settled c t = settled_with c.self.inside c.self.invariant (arc_value c.in_ok-games.games) (record { serial = c.self.inside.changes + 1; session = c.args.session; feature = c.args.feature; value = c.args.value }) (games_are c)
     (coe 0 1 (k. (which : Which) → IsProgressOf (kleene (c.deref-5.ensures k).known) which (graph_of (arc_value c.self.inside.game)) (table_of which c.self.inside.trail.entries (length (graph_of (arc_value c.self.inside.game)))))
-    (subst (λ (s : DeskState). (which : Which) → IsProgressOf (kleene c.deref-5.result.now.known) which (graph_of s.game) (table_of which s.book.present (length (graph_of s.game)))) (sym c.self.view_is) (c.stays_settled-is_noted.ensures t)))
+    (c.stays_settled-is_noted.ensures t))
+
+-- the desk that keeps the games
+keeps : (c : After-games_with) → IsDesk (keeping c.self.inside c.games_with.new.recents)
+keeps c = keeping_desk c.self.inside c.self.invariant c.games_with.new.recents c.deref-2.result.now c.deref-3.result.now c.deref-2.ensures c.deref-3.ensures c.games_with.ensures.left
+
+pub games_with-requires-clause-recents : goal.games_with-requires-clause-recents
+games_with-requires-clause-recents c = recent_at c.self.inside c.self.invariant c.deref-2.result.now c.deref-3.result.now c.deref-2.ensures c.deref-3.ensures
+
+pub invariant_of-self : goal.invariant_of-self
+invariant_of-self c = keeps (goal.at.invariant_of-self c).After-games_with
+
+pub invariant_of-self-2 : goal.invariant_of-self-2
+invariant_of-self-2 c = keeps (goal.at.invariant_of-self-2 c).After-games_with
+
+pub invariant_of-self-3 : goal.invariant_of-self-3
+invariant_of-self-3 c = keeps (goal.at.invariant_of-self-3 c).After-games_with
 
 accepted : (c : After-clear) → Replies (desk_of c.self.inside) (Decide c.args.feature c.args.value) (Changed (c.self.inside.changes + 1))
 accepted c =
@@ -89,17 +105,17 @@ accepted c =
     (subst (λ (n : ℕ). c.args.feature < n) (c.features.ensures.count ∙ ap (λ (x : NamedDiagram). feature_count x.lines) c.deref.ensures) c.if-feature-features.false)
     (sym (c.in_default.ensures ∙ ap (decision_on c.args.feature) c.entries.ensures.entries)) (record { serial = c.self.inside.changes + 1; session = c.args.session; feature = c.args.feature; value = c.args.value }) refl refl (arc_value c.in_ok-games.games).known (games_are c).known c.if-self-eq-MOST_CHANGES.false
 
-pub invariant_of-self-2 : goal.invariant_of-self-2
-invariant_of-self-2 c =
-    let at = (goal.at.invariant_of-self-2 c).After-clear in
-    decided_desk c.self.inside c.self.invariant c.args.session c.args.feature c.args.value c.in_ok-games.games c.push_decision.new.past c.push_decision.new.trail c.clear.new.self
+pub invariant_of-self-5 : goal.invariant_of-self-5
+invariant_of-self-5 c =
+    let at = (goal.at.invariant_of-self-5 c).After-clear in
+    decided_desk (keeping c.self.inside c.games_with.new.recents) (keeps (goal.at.invariant_of-self-5 c).After-games_with) c.args.session c.args.feature c.args.value c.in_ok-games.games c.push_decision.new.past c.push_decision.new.trail c.clear.new.self
     c.in_ok-push_decision.ensures.past c.in_ok-push_decision.ensures.notes c.in_ok-push_decision.ensures.below c.in_ok-push_decision.ensures.trail c.clear.ensures.items (accepted at) c.stays_settled-is_noted.result (settled at) (games_are at)
 
 pub returns-clause-accepted : goal.returns-clause-accepted
 returns-clause-accepted c =
     let at = (goal.at.returns-clause-accepted c).After-clear in
-    subst (λ (n : ℕ). IsStep c.args.self.now c.args.session (Decide c.args.feature c.args.value) (Changed n) (desk_of (record { game = c.self.inside.game; diagram = c.self.inside.diagram; games = c.in_ok-games.games; trail = c.push_decision.new.trail; past = c.push_decision.new.past; future = c.clear.new.self; changes = c.self.inside.changes + 1; tokens = c.self.inside.tokens + 1; is_noted = c.stays_settled-is_noted.result }))) (sym c.of.ensures)
-    (subst (λ (s : DeskState). IsStep s c.args.session (Decide c.args.feature c.args.value) (Changed (c.self.inside.changes + 1)) (desk_of (record { game = c.self.inside.game; diagram = c.self.inside.diagram; games = c.in_ok-games.games; trail = c.push_decision.new.trail; past = c.push_decision.new.past; future = c.clear.new.self; changes = c.self.inside.changes + 1; tokens = c.self.inside.tokens + 1; is_noted = c.stays_settled-is_noted.result }))) c.self.view_is
+    subst (λ (n : ℕ). IsStep c.args.self.now c.args.session (Decide c.args.feature c.args.value) (Changed n) (desk_of (record { game = c.self.inside.game; diagram = c.self.inside.diagram; games = c.in_ok-games.games; recent = c.games_with.new.recents; trail = c.push_decision.new.trail; past = c.push_decision.new.past; future = c.clear.new.self; changes = c.self.inside.changes + 1; tokens = c.self.inside.tokens + 1; is_noted = c.stays_settled-is_noted.result }))) (sym c.of.ensures)
+    (subst (λ (s : DeskState). IsStep s c.args.session (Decide c.args.feature c.args.value) (Changed (c.self.inside.changes + 1)) (desk_of (record { game = c.self.inside.game; diagram = c.self.inside.diagram; games = c.in_ok-games.games; recent = c.games_with.new.recents; trail = c.push_decision.new.trail; past = c.push_decision.new.past; future = c.clear.new.self; changes = c.self.inside.changes + 1; tokens = c.self.inside.tokens + 1; is_noted = c.stays_settled-is_noted.result }))) c.self.view_is
     (decided_step c.self.inside c.self.invariant c.args.session c.args.feature c.args.value c.in_ok-games.games c.push_decision.new.past c.push_decision.new.trail c.clear.new.self
     c.in_ok-push_decision.ensures.past c.in_ok-push_decision.ensures.notes c.in_ok-push_decision.ensures.below c.in_ok-push_decision.ensures.trail c.clear.ensures.items (accepted at) c.stays_settled-is_noted.result (settled at) (games_are at)))
 
@@ -125,10 +141,10 @@ pub games_with-requires-clause-held : goal.games_with-requires-clause-held
 games_with-requires-clause-held c =
     held_at c.self.inside c.self.invariant c.deref-2.result.now c.deref-3.result.now c.deref-4.result.now c.deref-2.ensures c.deref-3.ensures c.deref-4.ensures
 
-pub invariant_of-self : goal.invariant_of-self
-invariant_of-self c =
+pub invariant_of-self-4 : goal.invariant_of-self-4
+invariant_of-self-4 c =
     let same = c.in_err-push_decision.ensures.err_past in
-    still_desk c.self.inside c.self.invariant c.push_decision.new.trail c.push_decision.new.past c.self.inside.future c.in_err-push_decision.ensures.err_trail (ap cuts_of same) refl (ap notes_of same) refl
+    still_desk (keeping c.self.inside c.games_with.new.recents) (keeps (goal.at.invariant_of-self-4 c).After-games_with) c.push_decision.new.trail c.push_decision.new.past c.self.inside.future c.in_err-push_decision.ensures.err_trail (ap cuts_of same) refl (ap notes_of same) refl
     (subst (λ (l : List Cut). SuffixesBelow c.self.inside.trail.vertices l) (sym same) c.self.invariant.past_below) c.self.invariant.future_below
 
 pub games_with-requires-clause-features : goal.games_with-requires-clause-features

@@ -8,7 +8,7 @@ use Rattle.vpg_trail.specs.Page.{Entry as Step, choices_of, has_decided, assumes
 use Rattle.vpg_trail.specs.Shown.{entry_of, VertexBelow}
 use Rattle.vpg_trail.specs.WellFormed.{LiftsStandAfter}
 use Rattle.vpg_desk.specs.Book.{Retract, Changed, Refused, UnknownFeature, NotDecided, TooManyChanges}
-use Rattle.vpg_desk.specs.DeskFields.{desk_of}
+use Rattle.vpg_desk.specs.DeskFields.{desk_of, IsDesk}
 use Rattle.vpg_desk.specs.Setting.{HasConflict}
 use Rattle.vpg_desk.specs.State.{DeskState, Replies, IsStep, setting_between}
 use Rattle.vpg_desk.specs.declared.fault.RetractFault.TheVariants.{Memory}
@@ -16,11 +16,11 @@ use Rattle.vpg_desk.specs.Cuts.{cuts_of, notes_of, cut_book, SuffixesBelow}
 use Rattle.vpg_desk.specs.Trail.{book_of}
 use Rattle.vpg_desk.specs.declared.cuts.Cut.{Cut}
 use Rattle.vpg_desk.proofs.Unchanged.{still_desk, on_err}
-use Rattle.vpg_desk.proofs.Shared.{held_at, features_at, limit_at}
+use Rattle.vpg_desk.proofs.Shared.{held_at, features_at, limit_at, recent_at, keeping, keeping_desk}
 use Rattle.vpg_desk.proofs.Decided.{limits}
 use Rattle.vpg_desk.proofs.Retracted.{retract_unknown, retract_not_decided, retract_too_many, retracted_parts, retract_accepted, retracted_consistent, retracted_step, retracted_desk}
 use Rattle.vpg_desk.proofs.desk.Desk.retract.Goals as goal
-use Rattle.vpg_desk.proofs.desk.Desk.retract.Goals.{After-features, After-vertices, After-deref-4}
+use Rattle.vpg_desk.proofs.desk.Desk.retract.Goals.{After-features, After-vertices, After-deref-4, After-games_of_page}
 
 accepted : (c : After-vertices) → Replies (desk_of c.self.inside) (Retract c.args.feature) (Changed (c.self.inside.changes + 1))
 accepted c =
@@ -68,21 +68,31 @@ overflow_add-serial c = omega (arith, (limits c.self.inside c.self.invariant).1)
 pub overflow_add-self : goal.overflow_add-self
 overflow_add-self c = omega (arith, (limits c.self.inside c.self.invariant).0, (limits c.self.inside c.self.invariant).1)
 
-pub invariant_of-self-2 : goal.invariant_of-self-2
-invariant_of-self-2 c =
-    let at = (goal.at.invariant_of-self-2 c).After-deref-4 in
-    retracted_desk c.self.inside c.self.invariant c.args.feature (accepted (goal.at.invariant_of-self-2 c).After-vertices) c.args.session c.in-Some.place (map entry_of c.in_ok-kept.kept.items) c.in_ok-games.games c.cut_out.new.past c.cut_out.new.trail c.clear.new.self
+-- the desk that keeps the games
+kept_by : (c : After-games_of_page) → IsDesk (keeping c.self.inside c.games_of_page.new.recents)
+kept_by c = keeping_desk c.self.inside c.self.invariant c.games_of_page.new.recents c.deref-2.result.now c.deref-3.result.now c.deref-2.ensures c.deref-3.ensures c.games_of_page.ensures.left
+
+pub games_of_page-requires-clause-recents : goal.games_of_page-requires-clause-recents
+games_of_page-requires-clause-recents c = recent_at c.self.inside c.self.invariant c.deref-2.result.now c.deref-3.result.now c.deref-2.ensures c.deref-3.ensures
+
+pub invariant_of-self : goal.invariant_of-self
+invariant_of-self c = kept_by (goal.at.invariant_of-self c).After-games_of_page
+
+pub invariant_of-self-3 : goal.invariant_of-self-3
+invariant_of-self-3 c =
+    let at = (goal.at.invariant_of-self-3 c).After-deref-4 in
+    retracted_desk (keeping c.self.inside c.games_of_page.new.recents) (kept_by (goal.at.invariant_of-self-3 c).After-games_of_page) c.args.feature (accepted (goal.at.invariant_of-self-3 c).After-vertices) c.args.session c.in-Some.place (map entry_of c.in_ok-kept.kept.items) c.in_ok-games.games c.cut_out.new.past c.cut_out.new.trail c.clear.new.self
     (omega (arith, c.in-Some.ensures.place, length-map c.entries-entries.result.now entry_of, ap length c.entries-entries.ensures.entries)) (left at c.in_ok-kept.ensures.kept) c.in_ok-cut_out.ensures.past c.in_ok-cut_out.ensures.notes c.in_ok-cut_out.ensures.below c.in_ok-cut_out.ensures.trail c.clear.ensures.items
-    (coe 0 1 (k. ArePageGames (c.deref-2.ensures k) (c.deref-3.ensures k) (choices_of (shown at c.in_ok-kept.ensures.kept k)) (arc_value c.in_ok-games.games)) c.in_ok-games.ensures)
+    (coe 0 1 (k. ArePageGames (c.deref-2.ensures k) (c.deref-3.ensures k) (choices_of (shown at c.in_ok-kept.ensures.kept k)) (arc_value c.in_ok-games.games)) c.in_ok-games.ensures.games)
 
 pub returns-clause-accepted : goal.returns-clause-accepted
 returns-clause-accepted c =
     let at = (goal.at.returns-clause-accepted c).After-deref-4 in
-    subst (λ (n : ℕ). IsStep c.args.self.now c.args.session (Retract c.args.feature) (Changed n) (desk_of (record { game = c.self.inside.game; diagram = c.self.inside.diagram; games = c.in_ok-games.games; trail = c.cut_out.new.trail; past = c.cut_out.new.past; future = c.clear.new.self; changes = c.self.inside.changes + 1; tokens = c.self.inside.tokens + 1; is_noted = false }))) (sym c.of.ensures)
-    (subst (λ (s : DeskState). IsStep s c.args.session (Retract c.args.feature) (Changed (c.self.inside.changes + 1)) (desk_of (record { game = c.self.inside.game; diagram = c.self.inside.diagram; games = c.in_ok-games.games; trail = c.cut_out.new.trail; past = c.cut_out.new.past; future = c.clear.new.self; changes = c.self.inside.changes + 1; tokens = c.self.inside.tokens + 1; is_noted = false }))) c.self.view_is
+    subst (λ (n : ℕ). IsStep c.args.self.now c.args.session (Retract c.args.feature) (Changed n) (desk_of (record { game = c.self.inside.game; diagram = c.self.inside.diagram; games = c.in_ok-games.games; recent = c.games_of_page.new.recents; trail = c.cut_out.new.trail; past = c.cut_out.new.past; future = c.clear.new.self; changes = c.self.inside.changes + 1; tokens = c.self.inside.tokens + 1; is_noted = false }))) (sym c.of.ensures)
+    (subst (λ (s : DeskState). IsStep s c.args.session (Retract c.args.feature) (Changed (c.self.inside.changes + 1)) (desk_of (record { game = c.self.inside.game; diagram = c.self.inside.diagram; games = c.in_ok-games.games; recent = c.games_of_page.new.recents; trail = c.cut_out.new.trail; past = c.cut_out.new.past; future = c.clear.new.self; changes = c.self.inside.changes + 1; tokens = c.self.inside.tokens + 1; is_noted = false }))) c.self.view_is
     (retracted_step c.self.inside c.self.invariant c.args.feature (accepted (goal.at.returns-clause-accepted c).After-vertices) c.args.session c.in-Some.place (map entry_of c.in_ok-kept.kept.items) c.in_ok-games.games c.cut_out.new.past c.cut_out.new.trail c.clear.new.self
     (omega (arith, c.in-Some.ensures.place, length-map c.entries-entries.result.now entry_of, ap length c.entries-entries.ensures.entries)) (left at c.in_ok-kept.ensures.kept) c.in_ok-cut_out.ensures.past c.in_ok-cut_out.ensures.notes c.in_ok-cut_out.ensures.below c.in_ok-cut_out.ensures.trail c.clear.ensures.items
-    (coe 0 1 (k. ArePageGames (c.deref-2.ensures k) (c.deref-3.ensures k) (choices_of (shown at c.in_ok-kept.ensures.kept k)) (arc_value c.in_ok-games.games)) c.in_ok-games.ensures)))
+    (coe 0 1 (k. ArePageGames (c.deref-2.ensures k) (c.deref-3.ensures k) (choices_of (shown at c.in_ok-kept.ensures.kept k)) (arc_value c.in_ok-games.games)) c.in_ok-games.ensures.games)))
 
 -- want of memory comes where nothing else refuses
 unrefused : {T E X : Type 0} (fault : E) (r : Result T E) → X → IfErr r (λ f. f ≡ fault → X)
@@ -105,10 +115,10 @@ pub games_of_page-requires-clause-held : goal.games_of_page-requires-clause-held
 games_of_page-requires-clause-held c =
     held_at c.self.inside c.self.invariant c.deref-2.result.now c.deref-3.result.now c.deref-5.result.now c.deref-2.ensures c.deref-3.ensures c.deref-5.ensures
 
-pub invariant_of-self : goal.invariant_of-self
-invariant_of-self c =
+pub invariant_of-self-2 : goal.invariant_of-self-2
+invariant_of-self-2 c =
     let same = c.in_err-cut_out.ensures.err_past in
-    still_desk c.self.inside c.self.invariant c.cut_out.new.trail c.cut_out.new.past c.self.inside.future c.in_err-cut_out.ensures.err_trail (ap cuts_of same) refl (ap notes_of same) refl
+    still_desk (keeping c.self.inside c.games_of_page.new.recents) (kept_by (goal.at.invariant_of-self-2 c).After-games_of_page) c.cut_out.new.trail c.cut_out.new.past c.self.inside.future c.in_err-cut_out.ensures.err_trail (ap cuts_of same) refl (ap notes_of same) refl
     (subst (λ (l : List Cut). SuffixesBelow c.self.inside.trail.vertices l) (sym same) c.self.invariant.past_below) c.self.invariant.future_below
 
 pub games_of_page-requires-clause-features : goal.games_of_page-requires-clause-features

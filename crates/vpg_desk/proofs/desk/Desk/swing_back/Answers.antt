@@ -5,7 +5,7 @@ use Rattle.vpg_measure.specs.Games.{ArePageGames}
 use Rattle.vpg_trail.specs.Page.{choices_of}
 use Rattle.vpg_desk.specs.Book.{Undo, Undone, Refused, refuses_undo}
 use Rattle.vpg_desk.specs.Cuts.{cuts_of, notes_of, pages_of, serials_from_top}
-use Rattle.vpg_desk.specs.DeskFields.{desk_of}
+use Rattle.vpg_desk.specs.DeskFields.{desk_of, IsDesk}
 use Rattle.vpg_desk.specs.Faults.{undo_refusal}
 use Rattle.vpg_desk.specs.Setting.{HasConflict}
 use Rattle.vpg_desk.specs.State.{DeskState, IsStep, Replies, setting_between}
@@ -13,11 +13,11 @@ use Rattle.vpg_desk.specs.Trail.{Cut as Saved, spliced}
 use Rattle.vpg_desk.specs.declared.cuts.Cut.{Cut}
 use Rattle.vpg_desk.specs.declared.fault.UndoFault.TheVariants.{Memory}
 use Rattle.vpg_desk.proofs.Unchanged.{still_desk}
-use Rattle.vpg_desk.proofs.Shared.{held_at, features_at, limit_at}
+use Rattle.vpg_desk.proofs.Shared.{held_at, features_at, limit_at, recent_at, keeping, keeping_desk}
 use Rattle.vpg_desk.proofs.Nearest.{some_past}
 use Rattle.vpg_desk.proofs.Swung.{undo_refused, undo_accepted, newest_above, past_consistent, past_well_formed, undone_step, undone_desk}
 use Rattle.vpg_desk.proofs.desk.Desk.swing_back.Goals as goal
-use Rattle.vpg_desk.proofs.desk.Desk.swing_back.Goals.{After-swing}
+use Rattle.vpg_desk.proofs.desk.Desk.swing_back.Goals.{After-games_over, After-swing}
 
 pub returns-in-Some-clause-refused : goal.returns-in-Some-clause-refused
 returns-in-Some-clause-refused c =
@@ -37,17 +37,27 @@ accepted c = ap (λ (l : List Cut). refuses_undo c.args.serial (serials_from_top
 known : (c : After-swing) (cut : Saved) (further : List Saved) → cuts_of c.self.inside.past.items ≡ cut ∷ further → ArePageGames (arc_value c.self.inside.game) (arc_value c.self.inside.diagram) (choices_of (spliced c.self.inside.trail.entries cut.place cut.suffix)) (arc_value c.in_ok-games.games)
 known c cut further e =
     coe 0 1 (k. ArePageGames (c.deref-2.ensures k) (c.deref-3.ensures k) (choices_of (spliced c.self.inside.trail.entries cut.place cut.suffix)) (arc_value c.in_ok-games.games))
-    (c.in_ok-games.ensures cut further (ap cuts_of c.deref-4.ensures.value ∙ e))
+    (c.in_ok-games.ensures.games cut further (ap cuts_of c.deref-4.ensures.value ∙ e))
 
-pub invariant_of-self-2 : goal.invariant_of-self-2
-invariant_of-self-2 c =
-    let at = (goal.at.invariant_of-self-2 c).After-swing in
-    undone_desk c.self.inside c.self.invariant c.args.serial c.in_ok-games.games c.in_ok-is_noted.is_noted c.swing.new.from c.swing.new.to c.swing.new.trail c.swing.ensures.vertices c.swing.ensures.from_below (c.swing.ensures.to_below c.self.invariant.future_below) (accepted at) c.in_ok-is_noted.ensures.swung (known at) c.in_ok-is_noted.ensures.note c.in_ok-is_noted.ensures.left
+-- the desk that keeps the games
+kept : (c : After-games_over) → IsDesk (keeping c.self.inside c.games_over.new.recents)
+kept c = keeping_desk c.self.inside c.self.invariant c.games_over.new.recents c.deref-2.result.now c.deref-3.result.now c.deref-2.ensures c.deref-3.ensures c.games_over.ensures.left
+
+pub games_over-requires-clause-recents : goal.games_over-requires-clause-recents
+games_over-requires-clause-recents c = recent_at c.self.inside c.self.invariant c.deref-2.result.now c.deref-3.result.now c.deref-2.ensures c.deref-3.ensures
+
+pub invariant_of-self : goal.invariant_of-self
+invariant_of-self c = kept (goal.at.invariant_of-self c).After-games_over
+
+pub invariant_of-self-3 : goal.invariant_of-self-3
+invariant_of-self-3 c =
+    let at = (goal.at.invariant_of-self-3 c).After-swing in
+    undone_desk (keeping c.self.inside c.games_over.new.recents) (kept (goal.at.invariant_of-self-3 c).After-games_over) c.args.serial c.in_ok-games.games c.in_ok-is_noted.is_noted c.swing.new.from c.swing.new.to c.swing.new.trail c.swing.ensures.vertices c.swing.ensures.from_below (c.swing.ensures.to_below c.self.invariant.future_below) (accepted at) c.in_ok-is_noted.ensures.swung (known at) c.in_ok-is_noted.ensures.note c.in_ok-is_noted.ensures.left
 
 pub returns-clause-accepted : goal.returns-clause-accepted
 returns-clause-accepted c session =
     let at = (goal.at.returns-clause-accepted c).After-swing in
-    subst (λ (s : DeskState). IsStep s session (Undo c.args.serial) (Undone c.args.serial) (desk_of (record c.self.inside { games = c.in_ok-games.games; trail = c.swing.new.trail; past = c.swing.new.from; future = c.swing.new.to; is_noted = c.in_ok-is_noted.is_noted }))) c.self.view_is
+    subst (λ (s : DeskState). IsStep s session (Undo c.args.serial) (Undone c.args.serial) (desk_of (record c.self.inside { games = c.in_ok-games.games; recent = c.games_over.new.recents; trail = c.swing.new.trail; past = c.swing.new.from; future = c.swing.new.to; is_noted = c.in_ok-is_noted.is_noted }))) c.self.view_is
     (undone_step c.self.inside c.self.invariant c.args.serial c.in_ok-games.games c.in_ok-is_noted.is_noted c.swing.new.from c.swing.new.to c.swing.new.trail c.swing.ensures.vertices c.swing.ensures.from_below (c.swing.ensures.to_below c.self.invariant.future_below) (accepted at) c.in_ok-is_noted.ensures.swung (known at) session)
 
 pub returns-in-Some-clause-last : goal.returns-in-Some-clause-last
@@ -79,9 +89,9 @@ pub games_over-requires-clause-held : goal.games_over-requires-clause-held
 games_over-requires-clause-held c =
     held_at c.self.inside c.self.invariant c.deref-2.result.now c.deref-3.result.now c.deref-5.result.now c.deref-2.ensures c.deref-3.ensures c.deref-5.ensures
 
-pub invariant_of-self : goal.invariant_of-self
-invariant_of-self c =
-    still_desk c.self.inside c.self.invariant c.swing.new.trail c.swing.new.from c.swing.new.to c.in_err-is_noted.ensures.err_trail c.in_err-is_noted.ensures.err_from (ap cuts_of c.in_err-is_noted.ensures.err_to)
+pub invariant_of-self-2 : goal.invariant_of-self-2
+invariant_of-self-2 c =
+    still_desk (keeping c.self.inside c.games_over.new.recents) (kept (goal.at.invariant_of-self-2 c).After-games_over) c.swing.new.trail c.swing.new.from c.swing.new.to c.in_err-is_noted.ensures.err_trail c.in_err-is_noted.ensures.err_from (ap cuts_of c.in_err-is_noted.ensures.err_to)
     c.in_err-is_noted.ensures.err_notes (ap notes_of c.in_err-is_noted.ensures.err_to)
     c.swing.ensures.from_below (c.swing.ensures.to_below c.self.invariant.future_below)
 
