@@ -96,8 +96,8 @@ invariant_of-self c = keeps (goal.at.invariant_of-self c).After-games_with
 pub invariant_of-self-2 : goal.invariant_of-self-2
 invariant_of-self-2 c = keeps (goal.at.invariant_of-self-2 c).After-games_with
 
-pub invariant_of-self-3 : goal.invariant_of-self-3
-invariant_of-self-3 c = keeps (goal.at.invariant_of-self-3 c).After-games_with
+pub invariant_of-self-then-self-eq-MOST_CHANGES : goal.invariant_of-self-then-self-eq-MOST_CHANGES
+invariant_of-self-then-self-eq-MOST_CHANGES c = keeps (goal.at.invariant_of-self-then-self-eq-MOST_CHANGES c).After-games_with
 
 accepted : (c : After-clear) → Replies (desk_of c.self.inside) (Decide c.args.feature c.args.value) (Changed (c.self.inside.changes + 1))
 accepted c =
@@ -105,10 +105,10 @@ accepted c =
     (subst (λ (n : ℕ). c.args.feature < n) (c.features.ensures.count ∙ ap (λ (x : NamedDiagram). feature_count x.lines) c.deref.ensures) c.if-feature-features.false)
     (sym (c.in_default.ensures ∙ ap (decision_on c.args.feature) c.entries.ensures.entries)) (record { serial = c.self.inside.changes + 1; session = c.args.session; feature = c.args.feature; value = c.args.value }) refl refl (arc_value c.in_ok-games.games).known (games_are c).known c.if-self-eq-MOST_CHANGES.false
 
-pub invariant_of-self-5 : goal.invariant_of-self-5
-invariant_of-self-5 c =
-    let at = (goal.at.invariant_of-self-5 c).After-clear in
-    decided_desk (keeping c.self.inside c.games_with.new.recents) (keeps (goal.at.invariant_of-self-5 c).After-games_with) c.args.session c.args.feature c.args.value c.in_ok-games.games c.push_decision.new.past c.push_decision.new.trail c.clear.new.self
+pub invariant_of-self-3 : goal.invariant_of-self-3
+invariant_of-self-3 c =
+    let at = (goal.at.invariant_of-self-3 c).After-clear in
+    decided_desk (keeping c.self.inside c.games_with.new.recents) (keeps (goal.at.invariant_of-self-3 c).After-games_with) c.args.session c.args.feature c.args.value c.in_ok-games.games c.push_decision.new.past c.push_decision.new.trail c.clear.new.self
     c.in_ok-push_decision.ensures.past c.in_ok-push_decision.ensures.notes c.in_ok-push_decision.ensures.below c.in_ok-push_decision.ensures.trail c.clear.ensures.items (accepted at) c.stays_settled-is_noted.result (settled at) (games_are at)
 
 pub returns-clause-accepted : goal.returns-clause-accepted
@@ -141,10 +141,10 @@ pub games_with-requires-clause-held : goal.games_with-requires-clause-held
 games_with-requires-clause-held c =
     held_at c.self.inside c.self.invariant c.deref-2.result.now c.deref-3.result.now c.deref-4.result.now c.deref-2.ensures c.deref-3.ensures c.deref-4.ensures
 
-pub invariant_of-self-4 : goal.invariant_of-self-4
-invariant_of-self-4 c =
+pub invariant_of-self-in_err-push_decision : goal.invariant_of-self-in_err-push_decision
+invariant_of-self-in_err-push_decision c =
     let same = c.in_err-push_decision.ensures.err_past in
-    still_desk (keeping c.self.inside c.games_with.new.recents) (keeps (goal.at.invariant_of-self-4 c).After-games_with) c.push_decision.new.trail c.push_decision.new.past c.self.inside.future c.in_err-push_decision.ensures.err_trail (ap cuts_of same) refl (ap notes_of same) refl
+    still_desk (keeping c.self.inside c.games_with.new.recents) (keeps (goal.at.invariant_of-self-in_err-push_decision c).After-games_with) c.push_decision.new.trail c.push_decision.new.past c.self.inside.future c.in_err-push_decision.ensures.err_trail (ap cuts_of same) refl (ap notes_of same) refl
     (subst (λ (l : List Cut). SuffixesBelow c.self.inside.trail.vertices l) (sym same) c.self.invariant.past_below) c.self.invariant.future_below
 
 pub games_with-requires-clause-features : goal.games_with-requires-clause-features

@@ -78,10 +78,10 @@ games_of_page-requires-clause-recents c = recent_at c.self.inside c.self.invaria
 pub invariant_of-self : goal.invariant_of-self
 invariant_of-self c = kept_by (goal.at.invariant_of-self c).After-games_of_page
 
-pub invariant_of-self-3 : goal.invariant_of-self-3
-invariant_of-self-3 c =
-    let at = (goal.at.invariant_of-self-3 c).After-deref-4 in
-    retracted_desk (keeping c.self.inside c.games_of_page.new.recents) (kept_by (goal.at.invariant_of-self-3 c).After-games_of_page) c.args.feature (accepted (goal.at.invariant_of-self-3 c).After-vertices) c.args.session c.in-Some.place (map entry_of c.in_ok-kept.kept.items) c.in_ok-games.games c.cut_out.new.past c.cut_out.new.trail c.clear.new.self
+pub invariant_of-self-2 : goal.invariant_of-self-2
+invariant_of-self-2 c =
+    let at = (goal.at.invariant_of-self-2 c).After-deref-4 in
+    retracted_desk (keeping c.self.inside c.games_of_page.new.recents) (kept_by (goal.at.invariant_of-self-2 c).After-games_of_page) c.args.feature (accepted (goal.at.invariant_of-self-2 c).After-vertices) c.args.session c.in-Some.place (map entry_of c.in_ok-kept.kept.items) c.in_ok-games.games c.cut_out.new.past c.cut_out.new.trail c.clear.new.self
     (omega (arith, c.in-Some.ensures.place, length-map c.entries-entries.result.now entry_of, ap length c.entries-entries.ensures.entries)) (left at c.in_ok-kept.ensures.kept) c.in_ok-cut_out.ensures.past c.in_ok-cut_out.ensures.notes c.in_ok-cut_out.ensures.below c.in_ok-cut_out.ensures.trail c.clear.ensures.items
     (coe 0 1 (k. ArePageGames (c.deref-2.ensures k) (c.deref-3.ensures k) (choices_of (shown at c.in_ok-kept.ensures.kept k)) (arc_value c.in_ok-games.games)) c.in_ok-games.ensures.games)
 
@@ -115,10 +115,10 @@ pub games_of_page-requires-clause-held : goal.games_of_page-requires-clause-held
 games_of_page-requires-clause-held c =
     held_at c.self.inside c.self.invariant c.deref-2.result.now c.deref-3.result.now c.deref-5.result.now c.deref-2.ensures c.deref-3.ensures c.deref-5.ensures
 
-pub invariant_of-self-2 : goal.invariant_of-self-2
-invariant_of-self-2 c =
+pub invariant_of-self-in_err-cut_out : goal.invariant_of-self-in_err-cut_out
+invariant_of-self-in_err-cut_out c =
     let same = c.in_err-cut_out.ensures.err_past in
-    still_desk (keeping c.self.inside c.games_of_page.new.recents) (kept_by (goal.at.invariant_of-self-2 c).After-games_of_page) c.cut_out.new.trail c.cut_out.new.past c.self.inside.future c.in_err-cut_out.ensures.err_trail (ap cuts_of same) refl (ap notes_of same) refl
+    still_desk (keeping c.self.inside c.games_of_page.new.recents) (kept_by (goal.at.invariant_of-self-in_err-cut_out c).After-games_of_page) c.cut_out.new.trail c.cut_out.new.past c.self.inside.future c.in_err-cut_out.ensures.err_trail (ap cuts_of same) refl (ap notes_of same) refl
     (subst (λ (l : List Cut). SuffixesBelow c.self.inside.trail.vertices l) (sym same) c.self.invariant.past_below) c.self.invariant.future_below
 
 pub games_of_page-requires-clause-features : goal.games_of_page-requires-clause-features

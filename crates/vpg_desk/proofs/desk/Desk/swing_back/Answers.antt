@@ -49,10 +49,10 @@ games_over-requires-clause-recents c = recent_at c.self.inside c.self.invariant 
 pub invariant_of-self : goal.invariant_of-self
 invariant_of-self c = kept (goal.at.invariant_of-self c).After-games_over
 
-pub invariant_of-self-3 : goal.invariant_of-self-3
-invariant_of-self-3 c =
-    let at = (goal.at.invariant_of-self-3 c).After-swing in
-    undone_desk (keeping c.self.inside c.games_over.new.recents) (kept (goal.at.invariant_of-self-3 c).After-games_over) c.args.serial c.in_ok-games.games c.in_ok-is_noted.is_noted c.swing.new.from c.swing.new.to c.swing.new.trail c.swing.ensures.vertices c.swing.ensures.from_below (c.swing.ensures.to_below c.self.invariant.future_below) (accepted at) c.in_ok-is_noted.ensures.swung (known at) c.in_ok-is_noted.ensures.note c.in_ok-is_noted.ensures.left
+pub invariant_of-self-2 : goal.invariant_of-self-2
+invariant_of-self-2 c =
+    let at = (goal.at.invariant_of-self-2 c).After-swing in
+    undone_desk (keeping c.self.inside c.games_over.new.recents) (kept (goal.at.invariant_of-self-2 c).After-games_over) c.args.serial c.in_ok-games.games c.in_ok-is_noted.is_noted c.swing.new.from c.swing.new.to c.swing.new.trail c.swing.ensures.vertices c.swing.ensures.from_below (c.swing.ensures.to_below c.self.invariant.future_below) (accepted at) c.in_ok-is_noted.ensures.swung (known at) c.in_ok-is_noted.ensures.note c.in_ok-is_noted.ensures.left
 
 pub returns-clause-accepted : goal.returns-clause-accepted
 returns-clause-accepted c session =
@@ -89,9 +89,9 @@ pub games_over-requires-clause-held : goal.games_over-requires-clause-held
 games_over-requires-clause-held c =
     held_at c.self.inside c.self.invariant c.deref-2.result.now c.deref-3.result.now c.deref-5.result.now c.deref-2.ensures c.deref-3.ensures c.deref-5.ensures
 
-pub invariant_of-self-2 : goal.invariant_of-self-2
-invariant_of-self-2 c =
-    still_desk (keeping c.self.inside c.games_over.new.recents) (kept (goal.at.invariant_of-self-2 c).After-games_over) c.swing.new.trail c.swing.new.from c.swing.new.to c.in_err-is_noted.ensures.err_trail c.in_err-is_noted.ensures.err_from (ap cuts_of c.in_err-is_noted.ensures.err_to)
+pub invariant_of-self-in_err-is_noted : goal.invariant_of-self-in_err-is_noted
+invariant_of-self-in_err-is_noted c =
+    still_desk (keeping c.self.inside c.games_over.new.recents) (kept (goal.at.invariant_of-self-in_err-is_noted c).After-games_over) c.swing.new.trail c.swing.new.from c.swing.new.to c.in_err-is_noted.ensures.err_trail c.in_err-is_noted.ensures.err_from (ap cuts_of c.in_err-is_noted.ensures.err_to)
     c.in_err-is_noted.ensures.err_notes (ap notes_of c.in_err-is_noted.ensures.err_to)
     c.swing.ensures.from_below (c.swing.ensures.to_below c.self.invariant.future_below)
 
