@@ -5,7 +5,7 @@
 
 The family has VERTICES vertices (65,536 if left out) of sixteen edges each and FEATURES optional features (200), of which each is named by about one
 edge in a thousand. For each kind of line: the processor time of a script of 100 such lines, less that of the same script without them, over 100; the
-least of three runs; and the peak memory. With GAME, DIAGRAM, a VERTEX and FEATUREs these are measured in its place: each FEATURE may be decided in by itself,
+least of three runs; and the peak memory. Such a difference may be a millisecond off: the rows marked long have 1,000 lines. With GAME, DIAGRAM, a VERTEX and FEATUREs these are measured in its place: each FEATURE may be decided in by itself,
 out by itself, and together with the others. Several programs, as one before a change and one after it, take turns, so that they share the machine's load;
 each has a column.
 """
@@ -82,6 +82,9 @@ def cases(vertex, features):
         yield "retract", selected, cycled(features, "retract {}")
         yield "undo", selected, ["undo"] * LINES
         yield "redo", selected + ["undo"] * LINES, ["redo"] * LINES
+        retracted = cycled(features, "retract {}")
+        yield "undo, redo (long)", selected, (["undo"] * LINES + ["redo"] * LINES) * 5
+        yield "select, retr. (long)", [], (selected + retracted) * 5
     yield "undo and redo", [f"select {features[0]}"], ["undo", "redo"] * (LINES // 2)
     yield "settle, settled", ["settle"], ["settle"] * LINES
     yield "lift, settled", ["settle"], [f"lift hopeful {vertex}"] * LINES
