@@ -63,7 +63,7 @@ ANSWERS = re.compile(
     rb"(?:(?:(?:(?:done|undone|redone|kept|forgotten|added|harvest|settled|unsettled|entries|plans|offers|hopeless|possible|sure|unsure) " + N + rb"|" + REFUSED
     + rb"|decisions" + SIGNED + rb"|(?:full|settled) (?:yes|no)|" + N + rb" " + N + rb" " + N + rb" (?:hopeless|possible) (?:sure|unsure)"
     + rb"|(?:select|exclude) " + NAME + rb" " + N + rb"|(?:hopeful|dual) " + N + rb" " + N + rb" " + N + SIGNED
-    + rb"|(?:possible|unsure) " + N + rb"|(?:hopeless|sure) " + N + SIGNED + rb"(?: or fewer)?|(?:in|out) " + NAME + SIGNED
+    + rb"|(?:possible|unsure) " + N + rb"|(?:hopeless|sure|lost|won) " + N + SIGNED + rb"(?: or fewer)?|(?:in|out) " + NAME + SIGNED
     + rb"|holds|fails(?: full| settled|(?: (?:hopeless|possible|sure|unsure))+(?: unsettled)?)"
     + rb"|conflict [+-]" + NAME + SIGNED + rb"|(?:some )?product(?: " + NAME + rb")*|none|unsettled"
     + rb"|offer [+-]" + NAME + rb" (?:conflict|(?:hopeless|possible|unsettled) (?:sure|unsure|unsettled))"
