@@ -1,4 +1,5 @@
 pub mod Both
+pub mod Drafts
 pub mod Dual
 pub mod Edges
 pub mod Finite

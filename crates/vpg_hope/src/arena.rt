@@ -49,6 +49,15 @@ impl Model for Arena {
     ghost invariant = { λ a. AreRows a.rows.items (arc_slice_items a.shared) a.own.items };
 }
 
+/// A list of the same numbers, with room for this many.
+fn copy_with_room(alloc: Global, numbers: &[u32], room: usize) -> Result<Vec<u32>, AllocError>
+    ensures { IfOk result (λ copy. copy.items ≡ numbers.now) }
+{
+    let mut copy = Vec::with_capacity(alloc, room)?;
+    copy.extend_from_slice(numbers)?;
+    Ok(copy)
+}
+
 /// Adds the kept successors of a vertex to an arena's own list, and gives its row.
 fn push_row(
     own: &mut Vec<u32>,
@@ -106,75 +115,80 @@ impl Arena {
         Arena::selected(alloc, game, Selection::HopefulOfDual(known.values()))
     }
 
-    /// The hopeful game under what is known now, from this one, which is that under what was known before. Guards are
-    /// looked at only at the vertices that a feature names of which something else is known now; all else is copied.
-    /// More may be known than before, or less.
-    pub fn updated(
+    /// Both hopeful games under what is known now, that of the game and that of its dual, from these, which are those
+    /// under what was known before. Guards are looked at only at the vertices that a feature names of which something
+    /// else is known now; all else is copied. More may be known than before, or less.
+    pub fn both_updated(
         &self,
+        of_dual: &Arena,
         alloc: Global,
         game: &GuardedGame,
         before: &Partial,
         known: &Partial,
-    ) -> Result<Arena, AllocError>
+    ) -> Result<(Arena, Arena), AllocError>
         requires before { length before.now ≡ game.now.features }
         requires known { length known.now ≡ game.now.features }
         requires held { self.now ≡ hopeful_game (kleene before.now) (graph_of game.now) }
-        ensures { IfOk result (λ arena. arena ≡ hopeful_game (kleene known.now) (graph_of game.now)) }
+        requires dual_held { of_dual.now ≡ hopeful_game (kleene before.now) (dual (graph_of game.now)) }
+        ensures hopeful { IfOk result (λ both. both.0 ≡ hopeful_game (kleene known.now) (graph_of game.now)) }
+        ensures dual { IfOk result (λ both. both.1 ≡ hopeful_game (kleene known.now) (dual (graph_of game.now))) }
     {
         let marks = concerned(alloc, game, before.values(), known.values())?;
-        self.reselected(alloc, game, Selection::Hopeful(known.values()), &marks)
+        let first = Selection::Hopeful(known.values());
+        let second = Selection::HopefulOfDual(known.values());
+        self.reselected(of_dual, alloc, game, first, second, &marks)
     }
 
-    /// The same of the dual: its hopeful game under what is known now, from that under what was known before.
-    pub fn updated_of_dual(
-        &self,
-        alloc: Global,
-        game: &GuardedGame,
-        before: &Partial,
-        known: &Partial,
-    ) -> Result<Arena, AllocError>
-        requires before { length before.now ≡ game.now.features }
-        requires known { length known.now ≡ game.now.features }
-        requires held { self.now ≡ hopeful_game (kleene before.now) (dual (graph_of game.now)) }
-        ensures { IfOk result (λ arena. arena ≡ hopeful_game (kleene known.now) (dual (graph_of game.now))) }
-    {
-        let marks = concerned(alloc, game, before.values(), known.values())?;
-        self.reselected(
-            alloc,
-            game,
-            Selection::HopefulOfDual(known.values()),
-            &marks,
-        )
-    }
-
-    /// What is selected of a game, where only marked vertices are looked at: the others keep what they have here. What
-    /// marked vertices keep stands behind the arena's own list; once that is long, one new list is made.
+    /// What is selected twice of a game, where only marked vertices are looked at, each once for both: the others keep
+    /// what they have in these. What marked vertices keep stands behind an arena's own list; once one of these is long,
+    /// new lists are made.
     fn reselected(
         &self,
+        other: &Arena,
         alloc: Global,
         game: &GuardedGame,
-        selection: Selection<'_>,
+        first: Selection<'_>,
+        second: Selection<'_>,
         marks: &[bool],
-    ) -> Result<Arena, AllocError>
-        requires features { features_under selection ≡ game.now.features }
+    ) -> Result<(Arena, Arena), AllocError>
+        requires features { features_under first ≡ game.now.features }
+        requires second_features { features_under second ≡ game.now.features }
         requires count { length self.now ≡ length (graph_of game.now) }
+        requires other_count { length other.now ≡ length (graph_of game.now) }
         requires marks { length marks.now ≡ length (graph_of game.now) }
-        requires held { IsHeldUnmarked selection marks.now (graph_of game.now) self.now }
-        ensures { IfOk result (λ arena. arena ≡ map (vertex_under selection.entry) (graph_of game.now)) }
+        requires held { IsHeldUnmarked first marks.now (graph_of game.now) self.now }
+        requires other_held { IsHeldUnmarked second marks.now (graph_of game.now) other.now }
+        ensures first { IfOk result (λ both. both.0 ≡ map (vertex_under first.entry) (graph_of game.now)) }
+        ensures second { IfOk result (λ both. both.1 ≡ map (vertex_under second.entry) (graph_of game.now)) }
     {
-        if self.own.len() > self.shared.len() / 4 {
-            return self.gathered(alloc, game, selection, marks);
+        if self.own.len() > self.shared.len() / 4 || other.own.len() > other.shared.len() / 4 {
+            let one = self.gathered(alloc, game, first, marks)?;
+            let two = other.gathered(alloc, game, second, marks)?;
+            return Ok((one, two));
         }
         let shared = self.shared.clone()?;
         let mut rows = Vec::from_slice(alloc, &self.rows)?;
-        let mut own = Vec::with_capacity(alloc, self.own.len() + self.shared.len() / 16)?;
-        own.extend_from_slice(&self.own)?;
+        let mut own = copy_with_room(alloc, &self.own, self.own.len() + self.shared.len() / 16)?;
+        let others_shared = other.shared.clone()?;
+        let mut others_rows = Vec::from_slice(alloc, &other.rows)?;
+        let mut others_own = copy_with_room(
+            alloc,
+            &other.own,
+            other.own.len() + other.shared.len() / 16,
+        )?;
         for v in 0..game.vertices() as u32 {
             if marks[v as usize] {
-                rows[v as usize] = push_row(&mut own, game, selection, v)?;
+                rows[v as usize] = push_row(&mut own, game, first, v)?;
+                others_rows[v as usize] = push_row(&mut others_own, game, second, v)?;
             }
         }
-        Ok(Arena { rows, shared, own })
+        let one = Arena { rows, shared, own };
+        let two = Arena {
+            rows: others_rows,
+            shared: others_shared,
+            own: others_own,
+        };
+        Ok((one, two))
     }
 
     /// The same, with the successors of all vertices in one new list.
