@@ -50,28 +50,6 @@ impl SideGame {
             }),
         }
     }
-
-    /// The same under what is known now, from this one, which is that under what was known before.
-    fn updated(
-        &self,
-        alloc: Global,
-        which: Which,
-        game: &GuardedGame,
-        before: &Partial,
-        known: &Partial,
-    ) -> Result<SideGame, AllocError>
-        requires before { length before.now ≡ game.now.features }
-        requires known { length known.now ≡ game.now.features }
-        requires held { IsSideGame before.now which game.now self.now }
-        ensures { IfOk result (IsSideGame known.now which game.now) }
-    {
-        let shape = self.shape.copy(alloc)?;
-        let arena = match which {
-            Which::Hopeful => self.arena.updated(alloc, game, before, known)?,
-            Which::Dual => self.arena.updated_of_dual(alloc, game, before, known)?,
-        };
-        Ok(SideGame { shape, arena })
-    }
 }
 
 /// What decisions on features of the diagram make known: all that questions of features alone ask for. They need no
@@ -178,15 +156,25 @@ impl PageGames {
             NamesConflict (clauses_of diagram.now.lines) (counts_of diagram.now.lines)
             (map literal_of decisions.now) f }
     {
-        let known = known_for(alloc, game, diagram, decisions)?;
+        let known = known_under(alloc, diagram, decisions)?;
         // What every game and every diagram keeps, for the proof.
         let _features = (game.vertices(), diagram.features());
-        let hopeful = self
-            .hopeful
-            .updated(alloc, Which::Hopeful, game, &self.known, &known)?;
-        let dual = self
-            .dual
-            .updated(alloc, Which::Dual, game, &self.known, &known)?;
+        let arena = &self.hopeful.arena;
+        let (kept, kept_of_dual) = arena.both_updated(
+            &self.dual.arena,
+            alloc,
+            game,
+            &self.known,
+            &known,
+        )?;
+        let hopeful = SideGame {
+            shape: self.hopeful.shape.copy(alloc)?,
+            arena: kept,
+        };
+        let dual = SideGame {
+            shape: self.dual.shape.copy(alloc)?,
+            arena: kept_of_dual,
+        };
         Ok(PageGames {
             known,
             hopeful,
