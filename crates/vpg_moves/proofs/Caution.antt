@@ -1,5 +1,5 @@
 -- Moves that win the cautious game win in each product that is left.
-use Rattle.std.proofs.Common.{◌≡◌, ℕ, ◌<◌, Bool, List, Option, length, slice_index, sym, ap, ◌∙◌, subst}
+use Rattle.std.proofs.Common.{◌≡◌, ℕ, ◌<◌, Bool, List, Option, length, slice_index, refl, sym, ap, ◌∙◌, subst}
 use Rattle.std.proofs.lemmas.List.{length-map}
 use Rattle.vpg_guards.specs.declared.tri.Tri.{Tri}
 use Rattle.vpg_guards.specs.Formula.{Formula, truth}
@@ -14,7 +14,6 @@ use Rattle.vpg_game.specs.Levels.{levels_of, top_of}
 use Rattle.vpg_game.proofs.Graphs.{games_have_graphs, same_count as graph_count}
 use Rattle.vpg_hope.specs.Games.{Game, IsClosed, priorities}
 use Rattle.vpg_hope.specs.Hope.{product_game, cautious_game, keeps_in_hope}
-use Rattle.vpg_hope.specs.Comparison.{dual_game}
 use Rattle.vpg_hope.specs.Strategies.{Strategy, Wins}
 use Rattle.vpg_hope.proofs.Dual.{wins_from_dual}
 use Rattle.vpg_hope.proofs.Edges.{AreEdgesInside}
@@ -25,12 +24,15 @@ use Rattle.vpg_partial.specs.TableLaws.{IsKnownTable}
 use Rattle.vpg_measure.specs.declared.which.Which.{Which}
 use Rattle.vpg_measure.specs.declared.which.Which.TheVariants.{Hopeful, Dual}
 use Rattle.vpg_measure.specs.Least.{IsLeastTable, IsBelowProgressTables}
-use Rattle.vpg_measure.specs.Lifts.{IsTableOf}
+use Rattle.vpg_measure.specs.Lifts.{IsTableOf, AreChoices}
+use Rattle.vpg_measure.specs.Views.{strategy_of}
+use Rattle.vpg_game.specs.declared.levels.Level.{Level}
 use Rattle.vpg_measure.specs.TwoGames.{game_for, levels_for, top_for}
 use Rattle.vpg_measure.proofs.Easier.{wins_easier}
 use Rattle.vpg_measure.proofs.NumberVerdicts.{top_number_refutes}
 use Rattle.vpg_measure.proofs.TwoGames.{closed_from_edges}
-use Rattle.vpg_moves.specs.Moves.{caution_for, WinsInEach, NoneWins}
+use Rattle.vpg_moves.specs.Moves.{caution_for, WinsInEach, NoneWins, AreWinning, AreFound}
+use Rattle.vpg_moves.specs.declared.winning.Moves.TheVariants.{Nothing}
 use Rattle.vpg_why.specs.Products.{loser}
 
 module _ (game : NamedGame) (is : IsGame game) (which : Which) (known : List Tri) where
@@ -46,9 +48,11 @@ module _ (game : NamedGame) (is : IsGame game) (which : Which) (known : List Tri
   count_for Dual = simp length-map
 
   pub caution_count : length (caution_for known which game) ≡ length game.vertices
+  unfolding cautious
   caution_count = same_count Formula cautious (game_for which (graph_of game)) ∙ count_for which ∙ graph_count game
 
   pub caution_closed : IsClosed (caution_for known which game)
+  unfolding cautious
   caution_closed = closed_from_edges (caution_for known which game)
       (restrict_closed Formula cautious (game_for which (graph_of game)) (closed_for which))
 
@@ -56,6 +60,7 @@ module _ (game : NamedGame) (is : IsGame game) (which : Which) (known : List Tri
   pub none_wins : (table : List ℕ) (vertex : ℕ) → vertex < length game.vertices →
       IsLeastTable (levels_for which (graph_of game)) (caution_for known which game) table →
       slice_index table vertex ≡ top_for which (graph_of game) → NoneWins game which known vertex
+  unfolding cautious
   none_wins table vertex inside least high =
       top_number_refutes (caution_for known which game) table caution_closed
       (subst (λ ps. IsTableOf (levels_of ps) (caution_for known which game) table) same least.is_table)
@@ -93,3 +98,34 @@ module _ (game : NamedGame) (is : IsGame game) (diagram : NamedDiagram) (ok : Is
       wins_from_dual (product_game (truth set) (graph_of game)) Player.Odd strategy vertex (edges set) (there set)
       (subst (λ (g : Game). Wins g Player.Even strategy vertex) (product_dual Formula (truth set) (graph_of game))
       (easier (dual (graph_of game)) set left wins))
+
+-- the same of the levels and the arena of a page's games
+module _ (game : NamedGame) (is : IsGame game) (diagram : NamedDiagram) (ok : IsNamedDiagram diagram)
+    (choices : List Literal) (known : List Tri) (is_known : IsKnownTable diagram.lines choices known) (which : Which)
+    (vertex : ℕ) (inside : vertex < length game.vertices) where
+  pub vertex_there : (arena : Game) → arena ≡ caution_for known which game → vertex < length arena
+  vertex_there arena of_arena =
+      subst (λ n. vertex < n) (sym (ap length of_arena ∙ caution_count game is which known)) inside
+
+  pub are_winning : (levels : List Level) (arena : Game) (table : List ℕ) (moves : List (Option ℕ)) →
+      levels ≡ levels_for which (graph_of game) → arena ≡ caution_for known which game → IsLeastTable levels arena table →
+      AreChoices levels arena table moves → slice_index table vertex < top_of levels →
+      Wins arena Player.Even (strategy_of moves) vertex → AreWinning game diagram choices which vertex moves
+  are_winning levels arena table moves of_levels of_arena least chosen low wins = record {
+    wins = wins_in_each game is diagram ok choices known is_known (strategy_of moves) vertex inside which
+        (subst (λ (g : Game). Wins g Player.Even (strategy_of moves) vertex) of_arena wins);
+    known = known;
+    is_known = is_known;
+    least = record {
+      table = table;
+      least = rw (of_levels, of_arena) at least;
+      low = rw of_levels at low;
+      chosen = rw (of_levels, of_arena) at chosen;
+    };
+  }
+
+  pub nothing_found : (levels : List Level) (arena : Game) (table : List ℕ) →
+      levels ≡ levels_for which (graph_of game) → arena ≡ caution_for known which game → IsLeastTable levels arena table →
+      slice_index table vertex ≡ top_of levels → AreFound game diagram choices which vertex Nothing
+  nothing_found levels arena table of_levels of_arena least high =
+      (known, is_known, none_wins game is which known table vertex inside (rw (of_levels, of_arena) at least) (rw of_levels at high))

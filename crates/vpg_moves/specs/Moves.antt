@@ -1,12 +1,11 @@
 -- Moves that win in every product that is left, whatever is still open. This project's own; winning is the standard of
 -- parity games, progress tables are those of Jurdzinski 2000.
-use Rattle.std.specs.Prelude.{◌≡◌, ℕ, ◌<◌, ⊤, Bool, Option, List, length, replicate, slice_index}
+use Rattle.std.specs.Prelude.{ℕ, ◌<◌, ⊤, Bool, Option, List, length, replicate, slice_index}
 use Rattle.vpg_guards.specs.declared.tri.Tri.{Tri}
 use Rattle.vpg_guards.specs.Formula.{truth}
 use Rattle.vpg_guards.specs.Known.{kleene}
 use Rattle.vpg_diagram.specs.DiagramText.{NamedDiagram}
 use Rattle.vpg_diagram.specs.declared.clause.Literal.{Literal}
-use Rattle.vpg_game.specs.declared.levels.Level.{Level}
 use Rattle.vpg_game.specs.declared.player.Player.{Player}
 use Rattle.vpg_game.specs.Game.{NamedGame, graph_of}
 use Rattle.vpg_hope.specs.Games.{Game}

@@ -55,11 +55,7 @@ pub(crate) fn least_table(
 {
     let mut table = Table::zero(alloc, arena.vertices())?;
     let settled = raise(alloc, shape, dual_shape, arena, &mut table, limits)?;
-    if settled {
-        Ok(Some(table))
-    } else {
-        Ok(None)
-    }
+    if settled { Ok(Some(table)) } else { Ok(None) }
 }
 
 // The moves of Even that the least progress table gives; nothing where the vertex is at the top there.

@@ -67,6 +67,57 @@ fn table_of(
     Ok(found)
 }
 
+// The moves that the least progress table of the cautious game gives.
+fn moves_at(
+    alloc: Global,
+    order: &Order,
+    games: &PageGames,
+    which: Which,
+    vertex: u32,
+    arena: &Arena,
+    table: &Table,
+) -> Result<Moves, AllocError>
+    requires vertex { vertex < length order.now.game.vertices }
+    requires games { ArePageGames order.now.game order.now.diagram (choices order.now.decisions) games.now }
+    requires arena { arena.now ≡ caution_for games.now.known which order.now.game }
+    requires least { IsLeastTable (games_levels which games.now) arena.now table.now }
+    ensures found { IfOk result
+        (AreFound order.now.game order.now.diagram (choices order.now.decisions) which vertex) }
+    ensures settled { IfOk result (λ found. found ≢ Moves.Unsettled) }
+{
+    match moves_by(alloc, games.shape(which), arena, table, vertex)? {
+        Some(moves) => Ok(Moves::Winning(moves)),
+        None => Ok(Moves::Nothing),
+    }
+}
+
+// The moves in the cautious game.
+fn moves_in(
+    alloc: Global,
+    order: &Order,
+    games: &PageGames,
+    which: Which,
+    vertex: u32,
+    arena: &Arena,
+    limits: Limits,
+) -> Result<Moves, AllocError>
+    requires vertex { vertex < length order.now.game.vertices }
+    requires games { ArePageGames order.now.game order.now.diagram (choices order.now.decisions) games.now }
+    requires arena { arena.now ≡ caution_for games.now.known which order.now.game }
+    ensures found { IfOk result
+        (AreFound order.now.game order.now.diagram (choices order.now.decisions) which vertex) }
+    ensures settled { IfOk result (λ found.
+        SettlesInCaution limits.rounds order.now.game which games.now.known → found ≢ Moves.Unsettled) }
+{
+    match table_of(alloc, order.game(), games, which, arena, limits)? {
+        Some(table) => {
+            let found = moves_at(alloc, order, games, which, vertex, arena, &table)?;
+            Ok(found)
+        }
+        None => Ok(Moves::Unsettled),
+    }
+}
+
 // The moves under what the decisions of the page make known.
 fn moves_under(
     alloc: Global,
@@ -83,16 +134,8 @@ fn moves_under(
     ensures settled { IfOk result (λ found.
         SettlesInCaution limits.rounds order.now.game which games.now.known → found ≢ Moves.Unsettled) }
 {
-    let game = order.game();
-    let arena = caution(alloc, game, games.known(), which)?;
-    let table = match table_of(alloc, game, games, which, &arena, limits)? {
-        Some(table) => table,
-        None => return Ok(Moves::Unsettled),
-    };
-    match moves_by(alloc, games.shape(which), &arena, &table, vertex)? {
-        Some(moves) => Ok(Moves::Winning(moves)),
-        None => Ok(Moves::Nothing),
-    }
+    let arena = caution(alloc, order.game(), games.known(), which)?;
+    moves_in(alloc, order, games, which, vertex, &arena, limits)
 }
 
 /// Moves by which a player wins from the vertex in every product that is left, whatever is still open: Even for the
