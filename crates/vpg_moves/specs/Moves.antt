@@ -43,7 +43,8 @@ pub record AreLeastMoves (game : NamedGame) (which : Which) (known : List Tri) (
 
 -- No strategy wins from the vertex in the cautious game: against all that may still be there.
 abbrev pub NoneWins : NamedGame → Which → List Tri → ℕ → Type 0
-NoneWins game which known vertex = (strategy : Strategy) → Wins (caution_for known which game) Player.Even strategy vertex → ⊥
+NoneWins game which known vertex =
+    (strategy : Strategy) → Wins (caution_for known which game) Player.Even strategy vertex → ⊥
 
 -- the moves win in each product that agrees with the choices, and are those of the cautious game under what is known
 pub record AreWinning (game : NamedGame) (diagram : NamedDiagram) (choices : List Literal) (which : Which) (vertex : ℕ)
