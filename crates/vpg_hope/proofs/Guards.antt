@@ -9,7 +9,7 @@ use Rattle.vpg_guards.specs.declared.tri.Tri.TheVariants.{No, Unknown, Yes}
 use Rattle.vpg_game.specs.Players.{opponent}
 use Rattle.vpg_hope.specs.Games.{HasEdge, owner_of, priority_of, priorities}
 use Rattle.vpg_game.specs.Guarded.{GuardedEdge, GuardedGame, guarded_priorities, IsClosedGuarded, AllGuards, dual}
-use Rattle.vpg_hope.specs.Hope.{restrict, product_game, hopeful_game, keeps_in_hope, AgreesWithTruth, Extends, IsFullOf}
+use Rattle.vpg_hope.specs.Hope.{restrict, product_game, hopeful_game, cautious_game, keeps_in_hope, AgreesWithTruth, Extends, IsFullOf}
 use Rattle.vpg_hope.specs.Comparison.{IsEasier, dual_game}
 use Rattle.vpg_hope.proofs.Edges.{AreEdgesInside, Contains-cases, Contains-first, Contains-later, not_in_nil}
 
@@ -146,6 +146,30 @@ module _ (Guard : Type 0) where
       where
         hope : Player → Guard → Bool
         hope mover guard = keeps_in_hope mover (value guard)
+
+        holds : Player → Guard → Bool
+        holds mover guard = truth guard
+
+        may : {guard : Guard} → (value guard ≡ Yes → truth guard ≡ true) × (value guard ≡ No → truth guard ≡ false) → truth guard ≡ true → keeps_in_hope Even (value guard) ≡ true
+        may {guard} h t = hope_even (value guard) (λ n. clash (h.1 n))
+          where
+            clash : truth guard ≡ false → ⊥
+            clash f = cc (t, f)
+
+        must : {guard : Guard} → (value guard ≡ Yes → truth guard ≡ true) × (value guard ≡ No → truth guard ≡ false) → keeps_in_hope Odd (value guard) ≡ true → truth guard ≡ true
+        must {guard} h k = h.0 (hope_odd (value guard) k)
+
+    pub cautious_harder : (truth : Guard → Bool) (game : GuardedGame Guard) → AgreesWithTruth value truth game → IsEasier (product_game truth game) (cautious_game value game)
+    cautious_harder truth game agrees = record {
+      same_count = same_count holds game ∙ sym (same_count cautious game);
+      same_owner = same_owner holds cautious game;
+      same_priority = same_priority holds cautious game;
+      even = λ v w mover c. edge_more cautious holds Even game (λ i d l j e k. must (agrees i d l j e k)) v w mover c;
+      odd = λ v w mover c. edge_more holds cautious Odd game (λ i d l j e k. may (agrees i d l j e k)) v w (same_owner holds cautious game v ∙ mover) c;
+    }
+      where
+        cautious : Player → Guard → Bool
+        cautious mover guard = keeps_in_hope (opponent mover) (value guard)
 
         holds : Player → Guard → Bool
         holds mover guard = truth guard

@@ -12,9 +12,9 @@ use Rattle.vpg_partial.proofs.Tables.{tables_refine, remaining_products_complete
 use Rattle.vpg_game.specs.Guarded.{GuardedGame, AllGuards, dual}
 use Rattle.vpg_hope.specs.Games.{Game}
 use Rattle.vpg_hope.specs.Comparison.{IsEasier, dual_game}
-use Rattle.vpg_hope.specs.Hope.{product_game, hopeful_game, IsFullOf}
-use Rattle.vpg_hope.specs.PageLaws.{RemainingProductsAreHarder, DualsOfRemainingProductsAreHarder, MoreChoicesAreHarder, FullPagesHaveTheProductsGame}
-use Rattle.vpg_hope.proofs.Guards.{hopeful_easier, earlier_easier, full_same, product_dual, dual_guards}
+use Rattle.vpg_hope.specs.Hope.{product_game, hopeful_game, cautious_game, IsFullOf}
+use Rattle.vpg_hope.specs.PageLaws.{RemainingProductsAreHarder, DualsOfRemainingProductsAreHarder, RemainingProductsAreEasier, MoreChoicesAreHarder, FullPagesHaveTheProductsGame}
+use Rattle.vpg_hope.proofs.Guards.{hopeful_easier, cautious_harder, earlier_easier, full_same, product_dual, dual_guards}
 
 known_parts : (t : Tri) (b : Bool) → Agrees t b → (t ≡ Yes → b ≡ true) × (t ≡ No → b ≡ false)
 known_parts No b h = ((λ e. cc), λ e. h)
@@ -42,6 +42,12 @@ pub duals_of_remaining_products_are_harder : DualsOfRemainingProductsAreHarder
 duals_of_remaining_products_are_harder lines choices known set game ok table remains =
     subst (λ (hard : Game). IsEasier (hopeful_game (kleene known) (dual game)) hard) (product_dual Formula (truth set) game)
     (remaining_products_are_harder lines choices known set (dual game) ok table remains)
+
+pub remaining_products_are_easier : RemainingProductsAreEasier
+remaining_products_are_easier lines choices known set game ok table remains =
+    let complete = remaining_products_complete lines choices known set ok table remains in
+    cautious_harder Formula (kleene known) (truth set) game (each_guard (λ g. (kleene known g ≡ Yes → truth set g ≡ true) × (kleene known g ≡ No → truth set g ≡ false)) game
+    (λ g. known_parts (kleene known g) (truth set g) (known_values_hold known set g complete)))
 
 pub more_choices_are_harder : MoreChoicesAreHarder
 more_choices_are_harder lines few many known more game among table later =

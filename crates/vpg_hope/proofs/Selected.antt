@@ -15,9 +15,9 @@ use Rattle.vpg_hope.specs.Arena.{row_vertices, InLists}
 use Rattle.vpg_hope.specs.Selection.{owner_under, priority_under, is_kept, kept_under, vertex_under}
 use Rattle.vpg_hope.specs.declared.arena.Row.{Row}
 use Rattle.vpg_hope.proofs.Rows.{shared_row, own_row, row_added, row_replaced, next_replaced, next_kept, all_replaced}
-use Rattle.vpg_hope.specs.Hope.{hopeful_game, product_game}
+use Rattle.vpg_hope.specs.Hope.{hopeful_game, cautious_game, product_game}
 use Rattle.vpg_hope.specs.declared.selection.Selection.{Selection}
-use Rattle.vpg_hope.specs.declared.selection.Selection.TheVariants.{Hopeful, HopefulOfDual, Product}
+use Rattle.vpg_hope.specs.declared.selection.Selection.TheVariants.{Hopeful, HopefulOfDual, Cautious, CautiousOfDual, Product}
 
 -- ---- what a game's edges and priorities keep
 
@@ -134,6 +134,16 @@ hopeful_of_dual_is known values graph is = vertices graph ∙ ap (λ (vs : List 
     vertices : (vertices : GuardedGame Formula) → map (vertex_under (HopefulOfDual known)) vertices ≡ hopeful_game (kleene known.now) (dual vertices)
     vertices [] = refl
     vertices (vertex ∷ rest) = ap (λ (xs : List Vertex). vertex_under (HopefulOfDual known) vertex ∷ xs) (vertices rest)
+
+pub cautious_is : (known : Bor (List Tri)) (values : List Tri) (graph : GuardedGame Formula) → known.now ≡ values → map (vertex_under (Cautious known)) graph ≡ cautious_game (kleene values) graph
+cautious_is known values graph is = ap (λ (vs : List Tri). cautious_game (kleene vs) graph) is
+
+pub cautious_of_dual_is : (known : Bor (List Tri)) (values : List Tri) (graph : GuardedGame Formula) → known.now ≡ values → map (vertex_under (CautiousOfDual known)) graph ≡ cautious_game (kleene values) (dual graph)
+cautious_of_dual_is known values graph is = vertices graph ∙ ap (λ (vs : List Tri). cautious_game (kleene vs) (dual graph)) is
+  where
+    vertices : (vertices : GuardedGame Formula) → map (vertex_under (CautiousOfDual known)) vertices ≡ cautious_game (kleene known.now) (dual vertices)
+    vertices [] = refl
+    vertices (vertex ∷ rest) = ap (λ (xs : List Vertex). vertex_under (CautiousOfDual known) vertex ∷ xs) (vertices rest)
 
 pub product_is : (set : Bor (List Bool)) (graph : GuardedGame Formula) → map (vertex_under (Product set)) graph ≡ product_game (truth set.now) graph
 product_is set graph = refl

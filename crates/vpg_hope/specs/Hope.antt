@@ -1,11 +1,12 @@
--- The game of a product, and the hopeful game. The game of a product is that of FASE 2020; the hopeful game is this
--- project's own.
+-- The game of a product, and the hopeful game. The game of a product is that of FASE 2020; the hopeful and the cautious
+-- game are this project's own.
 use Rattle.vpg_game.specs.Guarded.{GuardedGame, AllGuards}
 use Rattle.std.specs.Prelude.{◌≡◌, Bool, true, false, map, filter, if◌then◌else◌}
 use Rattle.vpg_game.specs.declared.player.Player.{Player}
 use Rattle.vpg_game.specs.declared.player.Player.TheVariants.{Even, Odd}
 use Rattle.vpg_guards.specs.declared.tri.Tri.{Tri}
 use Rattle.vpg_guards.specs.declared.tri.Tri.TheVariants.{No, Unknown, Yes}
+use Rattle.vpg_game.specs.Players.{opponent}
 use Rattle.vpg_hope.specs.Games.{Game}
 
 -- the plain game with the edges whose guard a test keeps; the test may depend on who moves
@@ -32,6 +33,11 @@ keeps_in_hope Odd Yes = true
 -- Even's vertices keep the edges whose value is not `No`, Odd's those whose value is `Yes`
 abbrev pub hopeful_game : {Guard : Type 0} → (Guard → Tri) → GuardedGame Guard → Game
 hopeful_game value game = restrict (λ mover guard. keeps_in_hope mover (value guard)) game
+
+-- The cautious game: each player keeps what the opponent would in hope, Even the edges that must be there, Odd those
+-- that may.
+abbrev pub cautious_game : {Guard : Type 0} → (Guard → Tri) → GuardedGame Guard → Game
+cautious_game value game = restrict (λ mover guard. keeps_in_hope (opponent mover) (value guard)) game
 
 -- what is known of a guard of the game is true of it
 abbrev pub AgreesWithTruth : {Guard : Type 0} → (Guard → Tri) → (Guard → Bool) → GuardedGame Guard → Type 0

@@ -9,7 +9,7 @@ use Rattle.vpg_partial.specs.KnownLaws.{IsRemaining}
 use Rattle.vpg_partial.specs.TableLaws.{IsKnownTable, AreAmong, AreChoicesOf}
 use Rattle.vpg_game.specs.Guarded.{GuardedGame, AllGuards, dual}
 use Rattle.vpg_hope.specs.Comparison.{IsEasier, dual_game}
-use Rattle.vpg_hope.specs.Hope.{product_game, hopeful_game}
+use Rattle.vpg_hope.specs.Hope.{product_game, hopeful_game, cautious_game}
 
 -- the hopeful game favours Even at least as much as the game of each product that agrees with the choices
 abbrev pub RemainingProductsAreHarder : Type 0
@@ -24,6 +24,13 @@ DualsOfRemainingProductsAreHarder =
     (lines : List Line) (choices : List Literal) (known : List Tri) (set : List Bool) (game : GuardedGame Formula) →
     IsDiagram lines → IsKnownTable lines choices known → IsRemaining lines choices set →
     IsEasier (hopeful_game (kleene known) (dual game)) (dual_game (product_game (truth set) game))
+
+-- the cautious game favours Even at most as much as the game of each product that agrees with the choices
+abbrev pub RemainingProductsAreEasier : Type 0
+RemainingProductsAreEasier =
+    (lines : List Line) (choices : List Literal) (known : List Tri) (set : List Bool) (game : GuardedGame Formula) →
+    IsDiagram lines → IsKnownTable lines choices known → IsRemaining lines choices set →
+    IsEasier (product_game (truth set) game) (cautious_game (kleene known) game)
 
 -- the hopeful game favours Even at least as much as the one after further choices
 abbrev pub MoreChoicesAreHarder : Type 0

@@ -4,7 +4,7 @@ ghost use Rattle.vpg_guards.specs.Known.{kleene};
 ghost use Rattle.vpg_game.specs.Game.{IsGame, graph_of, vertex_in};
 ghost use Rattle.vpg_game.specs.Guarded.{dual};
 ghost use Rattle.vpg_hope.specs.Arena.{vertex_at, row_vertices, AreRows};
-ghost use Rattle.vpg_hope.specs.Hope.{hopeful_game};
+ghost use Rattle.vpg_hope.specs.Hope.{hopeful_game, cautious_game};
 ghost use Rattle.vpg_hope.specs.Selection.{features_under, owner_under, priority_under, vertex_under, kept_under, IsHeldUnmarked};
 
 use crate::changes::concerned;
@@ -113,6 +113,27 @@ impl Arena {
         ensures { IfOk result (λ arena. arena ≡ hopeful_game (kleene known.now) (dual (graph_of game.now))) }
     {
         Arena::selected(alloc, game, Selection::HopefulOfDual(known.values()))
+    }
+
+    /// The cautious game: Even's vertices keep the edges whose guard is known true, Odd's keep those whose guard isn't
+    /// known false. What Even wins there by some moves, these moves win in each product that agrees with what is known.
+    pub fn cautious(alloc: Global, game: &GuardedGame, known: &Partial) -> Result<Arena, AllocError>
+        requires { length known.now ≡ game.now.features }
+        ensures { IfOk result (λ arena. arena ≡ cautious_game (kleene known.now) (graph_of game.now)) }
+    {
+        Arena::selected(alloc, game, Selection::Cautious(known.values()))
+    }
+
+    /// The cautious game of the dual, made from the game itself: no dual is built.
+    pub fn cautious_of_dual(
+        alloc: Global,
+        game: &GuardedGame,
+        known: &Partial,
+    ) -> Result<Arena, AllocError>
+        requires { length known.now ≡ game.now.features }
+        ensures { IfOk result (λ arena. arena ≡ cautious_game (kleene known.now) (dual (graph_of game.now))) }
+    {
+        Arena::selected(alloc, game, Selection::CautiousOfDual(known.values()))
     }
 
     /// Both hopeful games under what is known now, that of the game and that of its dual, from these, which are those

@@ -17,6 +17,10 @@ pub(crate) enum Selection<'a> {
     Hopeful(&'a [Tri]),
     /// The hopeful game of the dual, by what is known.
     HopefulOfDual(&'a [Tri]),
+    /// The cautious game, by what is known.
+    Cautious(&'a [Tri]),
+    /// The cautious game of the dual, by what is known.
+    CautiousOfDual(&'a [Tri]),
     /// The game of a product.
     Product(&'a [bool]),
 }
@@ -49,8 +53,8 @@ impl Selection<'_> {
         ensures { result ≡ owner_under self.entry owner }
     {
         match self {
-            Selection::Hopeful(_) | Selection::Product(_) => owner,
-            Selection::HopefulOfDual(_) => owner.opponent(),
+            Selection::Hopeful(_) | Selection::Cautious(_) | Selection::Product(_) => owner,
+            Selection::HopefulOfDual(_) | Selection::CautiousOfDual(_) => owner.opponent(),
         }
     }
 
@@ -60,8 +64,8 @@ impl Selection<'_> {
         ensures { result ≡ priority_under self.entry priority }
     {
         match self {
-            Selection::Hopeful(_) | Selection::Product(_) => priority,
-            Selection::HopefulOfDual(_) => priority + 1,
+            Selection::Hopeful(_) | Selection::Cautious(_) | Selection::Product(_) => priority,
+            Selection::HopefulOfDual(_) | Selection::CautiousOfDual(_) => priority + 1,
         }
     }
 
@@ -71,8 +75,12 @@ impl Selection<'_> {
         ensures { result ≡ is_kept self.entry owner (formula_of guard.now) }
     {
         match self {
-            Selection::Hopeful(known) => keeps_in_hope(owner, value(guard, known)),
-            Selection::HopefulOfDual(known) => keeps_in_hope(owner.opponent(), value(guard, known)),
+            Selection::Hopeful(known) | Selection::CautiousOfDual(known) => {
+                keeps_in_hope(owner, value(guard, known))
+            }
+            Selection::HopefulOfDual(known) | Selection::Cautious(known) => {
+                keeps_in_hope(owner.opponent(), value(guard, known))
+            }
             Selection::Product(set) => guard.eval(set),
         }
     }

@@ -1,0 +1,8 @@
+use Rattle.std.proofs.Common.{◌∙◌}
+use Rattle.std.proofs.lemmas.Result.{IfOk-weaker}
+use Rattle.vpg_game.specs.Game.{graph_of}
+use Rattle.vpg_hope.proofs.Selected.{cautious_is}
+use Rattle.vpg_hope.proofs.arena.Arena.cautious.Goals as goal
+
+pub returns : goal.returns
+returns c = IfOk-weaker c.selected.result _ _ (λ arena is. is ∙ cautious_is c.values.result c.args.known.now (graph_of c.args.game.now) c.values.ensures) c.selected.ensures
