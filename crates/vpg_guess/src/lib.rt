@@ -7,10 +7,12 @@
 //! says is taken over only as far as certificates show it (`vpg_measure::raise_to_bounds`). So the raised table stays
 //! below every progress table that it was below.
 //!
-//! The layer above uses `raise_by_bounds` for one table and `harvest_by_bounds` for both tables of an order.
+//! The layer above uses `raise_by_bounds` for one table, `harvest_by_bounds` for both tables of an order, and
+//! `harvest_by_bounds_at_once` for both with a thread for each.
 //! Definitions: those of `vpg_measure` (`specs/Bounds`, `specs/Lifts`, `specs/Orders`).
 #![tactic(auto)]
 
+mod at_once;
 mod certificates;
 mod even_cycles;
 mod ground;
@@ -22,4 +24,5 @@ mod scale;
 mod subgame;
 mod values;
 
+pub use at_once::harvest_by_bounds_at_once;
 pub use raising::{harvest_by_bounds, raise_by_bounds};
