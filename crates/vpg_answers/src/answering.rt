@@ -7,9 +7,9 @@ ghost use Rattle.vpg_texts.specs.Scene.{scene_of};
 use crate::query::Query;
 use crate::{examples, losses, needs, offers, reasons, repairs};
 use std::alloc::{AllocError, Global};
-use vpg_measure::Order;
+use vpg_measure::{Order, Which};
 use vpg_script::VertexQuestion;
-use vpg_why::Limits;
+use vpg_why::{Aim, Limits};
 
 /// The text of an answer about a vertex.
 fn of_vertex(
@@ -28,12 +28,17 @@ fn of_vertex(
     match question {
         VertexQuestion::Why => reasons::vertex(alloc, order, vertex, limits, out),
         VertexQuestion::Example(which) => {
-            examples::example(alloc, order, which, vertex, limits, out)
+            examples::example(alloc, order, Aim::Won { which, vertex }, limits, out)
         }
         VertexQuestion::Offer => offers::offers(alloc, order, vertex, limits, out),
-        VertexQuestion::Needs => needs::needs_at(alloc, order, vertex, limits, out),
+        VertexQuestion::Needs => {
+            let which = Which::Hopeful;
+            needs::forced(alloc, order, Aim::Won { which, vertex }, limits, out)
+        }
         VertexQuestion::Repair => repairs::repairs_at(alloc, order, vertex, limits, out),
-        VertexQuestion::Lost(which) => losses::loss(alloc, order, which, vertex, limits, out),
+        VertexQuestion::Lost(which) => {
+            losses::loss(alloc, order, Aim::Won { which, vertex }, limits, out)
+        }
     }
 }
 
