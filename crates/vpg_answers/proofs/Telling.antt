@@ -35,8 +35,7 @@ use Rattle.vpg_answers.specs.Texts.{verdict_line, other_line, lost_line, known_l
 use Rattle.vpg_answers.specs.Answers.{identifier_of, TellsVerdict, TellsVertex, TellsKnownBy, IsNotKnown, TellsFeature, TellsChoice, TellsExample, TellsLost, TellsForced, TellsOffers, Tells, lost_for, forced_word, IsAnswer, Appends}
 use Rattle.vpg_answers.specs.Offers.{AreOffers}
 use Rattle.vpg_answers.specs.declared.offers.Offered.{Offered}
-use Rattle.vpg_answers.specs.Room.{RoundsSettle, SearchEnds}
-use Rattle.vpg_answers.specs.Room.AimSettles as AimSettlesIn
+use Rattle.vpg_answers.specs.Room.{RoundsSettle, RoundsSettleFor, SearchEnds}
 
 module _ (order : OrderView) (is : IsOrder order) where
   abbrev scene : Scene
@@ -77,8 +76,8 @@ module _ (order : OrderView) (names : List (List ℕ)) (names_is : names ≡ ord
 
   -- ---- products that meet an aim
 
-  aim_settles : (rounds : ℕ) (aim : Aim) → AimSettlesIn page rounds aim → AimSettles rounds order.game order.diagram aim
-  aim_settles rounds aims.Any settles choices known is = tt
+  aim_settles : (rounds : ℕ) (aim : Aim) → RoundsSettleFor page rounds aim → AimSettles rounds order.game order.diagram aim
+  aim_settles rounds aims.Any settles = λ cs known is. tt
   aim_settles rounds (aims.Won which vertex) settles = settles
 
   module _ (limits : Limits) (aim : Aim) (before after : List ℕ) where

@@ -22,11 +22,11 @@ RoundsSettle scene rounds which = (choices : List Literal) (known : List Tri) �
     (replicate (length (arena_for (kleene known) which scene.game)) 0))
 
 -- the tables that a search for such a product asks for are settled: none, where any product does
-abbrev pub AimSettles : Scene → (rounds : ℕ) → Aim → Type 0
-AimSettles scene rounds aims.Any = ⊤
-AimSettles scene rounds (aims.Won which vertex) = RoundsSettle scene rounds which
+abbrev pub RoundsSettleFor : Scene → (rounds : ℕ) → Aim → Type 0
+RoundsSettleFor scene rounds aims.Any = ⊤
+RoundsSettleFor scene rounds (aims.Won which vertex) = RoundsSettle scene rounds which
 
 -- and the trials suffice for each case that it may come to
 abbrev pub SearchEnds : Scene → Limits → Aim → Type 0
 SearchEnds scene limits aim =
-    AimSettles scene limits.rounds aim × (most_trials (feature_count scene.lines + 1) ≤ limits.trials)
+    RoundsSettleFor scene limits.rounds aim × (most_trials (feature_count scene.lines + 1) ≤ limits.trials)
