@@ -1,5 +1,5 @@
 -- What answers say of a page. This project's own.
-use Rattle.std.specs.Prelude.{◌≡◌, ◌≢◌, ℕ, ◌<◌, ◌⊎◌, Bool, true, false, List, [], ◌++◌, codes, length, slice_index, IsTrue}
+use Rattle.std.specs.Prelude.{◌≡◌, ◌≢◌, ℕ, ◌<◌, ⊤, ◌⊎◌, Bool, true, false, List, [], ◌++◌, codes, length, slice_index, IsTrue}
 use Rattle.vpg_guards.specs.declared.tri.Tri.{Tri}
 use Rattle.vpg_diagram.specs.FeatureDiagram.{IsDiagram}
 use Rattle.vpg_diagram.specs.declared.clause.Literal.{Literal}
@@ -9,6 +9,8 @@ use Rattle.vpg_measure.specs.declared.which.Which.TheVariants.{Hopeful, Dual}
 use Rattle.vpg_partial.specs.KnownLaws.{IsRemaining}
 use Rattle.vpg_partial.specs.TableLaws.{AreChoicesOf, IsKnownTable}
 use Rattle.vpg_partial.specs.declared.decision.Decision.{Decision}
+use Rattle.vpg_script.specs.declared.command.PageQuestion.{PageQuestion}
+use Rattle.vpg_script.specs.declared.command.PageQuestion.TheVariants as whole
 use Rattle.vpg_script.specs.declared.command.VertexQuestion.{VertexQuestion}
 use Rattle.vpg_script.specs.declared.command.VertexQuestion.TheVariants as questions
 use Rattle.vpg_texts.specs.Scene.{Scene}
@@ -199,12 +201,19 @@ TellsOfVertex scene limits questions.Repair vertex decisions hopeful dual text =
 TellsOfVertex scene limits (questions.Lost which) vertex decisions hopeful dual text =
     TellsLost scene limits (aims.Won which vertex) decisions text
 
+-- what is asked of the page as a whole: what each product has that is left, or which decisions leave none
+abbrev pub TellsOfPage : Scene → Limits → PageQuestion → List Decision → (text : List ℕ) → Type 0
+TellsOfPage scene limits whole.Forced decisions text = TellsForced scene limits aims.Any decisions text
+TellsOfPage scene limits whole.Empty decisions text = TellsLost scene limits aims.Any decisions text
+
 abbrev pub Tells : Scene → Limits → Query → List Decision → (hopeful dual text : List ℕ) → Type 0
 Tells scene limits (queries.OfVertex question vertex) decisions hopeful dual text =
     TellsOfVertex scene limits question vertex decisions hopeful dual text
 Tells scene limits (queries.OfFeature feature) decisions hopeful dual text = TellsFeature scene feature decisions text
 Tells scene limits (queries.OfChoice feature value) decisions hopeful dual text =
     TellsChoice scene feature value decisions text
+Tells scene limits (queries.OfPage question) decisions hopeful dual text =
+    TellsOfPage scene limits question decisions text
 
 -- The text answers what is asked within these limits, of the page with these decisions and tables: decisions of a
 -- diagram's features.
@@ -223,6 +232,7 @@ abbrev pub IsWithin : (vertices features : ℕ) → Query → Type 0
 IsWithin vertices features (queries.OfVertex question vertex) = vertex < vertices
 IsWithin vertices features (queries.OfFeature feature) = feature < features
 IsWithin vertices features (queries.OfChoice feature value) = feature < features
+IsWithin vertices features (queries.OfPage question) = ⊤
 
 -- A limit was met: somewhere in the text a line says that fewer decisions may do, or at its end that there may be more
 -- lines; or it tells of some product, or of none but that it is unsettled; or it is unsettled what some decision would
