@@ -42,8 +42,8 @@ fn tell(
     lines::reason(names, listed, exact, out)
 }
 
-/// Which decisions leave no product that meets the aim (in which Even wins from the vertex, for the first table, or Odd,
-/// for the second; or any); or a product that is left and meets it.
+/// Which decisions leave no product that meets the aim: one in which Even wins from the vertex, for the first table, or
+/// Odd, for the second; or any. Or a product that is left and meets it.
 pub(crate) fn loss(
     alloc: Global,
     order: &Order,
