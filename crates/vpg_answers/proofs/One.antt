@@ -8,12 +8,15 @@ use Rattle.vpg_measure.specs.declared.which.Which.TheVariants.{Hopeful, Dual}
 use Rattle.vpg_partial.specs.Known.{literal_of}
 use Rattle.vpg_partial.specs.TableLaws.{AreChoicesOf}
 use Rattle.vpg_partial.specs.declared.decision.Decision.{Decision}
+use Rattle.vpg_script.specs.declared.command.PageQuestion.{PageQuestion}
+use Rattle.vpg_script.specs.declared.command.PageQuestion.TheVariants as whole
 use Rattle.vpg_script.specs.declared.command.VertexQuestion.{VertexQuestion}
 use Rattle.vpg_script.specs.declared.command.VertexQuestion.TheVariants as questions
 use Rattle.vpg_texts.specs.Scene.{Scene}
 use Rattle.vpg_texts.specs.Text.{blank_number, choices_text}
 use Rattle.vpg_why.specs.Explained.{choices}
 use Rattle.vpg_why.specs.Suffices.{choice}
+use Rattle.vpg_why.specs.declared.question.Aim.{Aim}
 use Rattle.vpg_why.specs.declared.question.Aim.TheVariants as aims
 use Rattle.vpg_why.specs.declared.question.Limits.{Limits}
 use Rattle.vpg_why.specs.declared.question.Question.{Question}
@@ -24,11 +27,11 @@ use Rattle.vpg_why.proofs.FirstOnes.{first_products_are_one}
 use Rattle.vpg_why.proofs.Next.{explanations_are_one}
 use Rattle.vpg_answers.specs.declared.query.Query.{Query}
 use Rattle.vpg_answers.specs.declared.query.Query.TheVariants as queries
-use Rattle.vpg_answers.specs.Texts.{verdict_word, verdict_line, other_line, lost_word, lost_line, known_line, conflict_line, names_in, product_line}
-use Rattle.vpg_answers.specs.Answers.{MakeSo, IsReason, identifier_of, TellsVerdict, TellsVertex, TellsKnownBy, TellsFeature, TellsChoice, TellsProduct, TellsExample, TellsLost, TellsOfVertex, Tells, HasDoubt}
+use Rattle.vpg_answers.specs.Texts.{verdict_word, verdict_line, other_line, lost_line, known_line, conflict_line, names_in, product_line}
+use Rattle.vpg_answers.specs.Answers.{MakeSo, IsReason, identifier_of, TellsVerdict, TellsVertex, TellsKnownBy, TellsFeature, TellsChoice, TellsProduct, TellsExample, TellsLost, TellsOfPage, TellsOfVertex, Tells, HasDoubt, lost_for}
 use Rattle.vpg_answers.specs.Laws.{AnswersAreOne}
 use Rattle.vpg_answers.proofs.OneOffers.{offers_one}
-use Rattle.vpg_answers.proofs.OneRepairs.{needs_one, repair_one}
+use Rattle.vpg_answers.proofs.OneRepairs.{forced_one, repair_one}
 
 -- ---- doubts
 
@@ -47,13 +50,12 @@ no_doubt names which identifier listed false before behind whole is none =
     absurd (none (inl (before ++ (head ++ chosen), behind, is ∙ regroup before head chosen (codes " or fewer") (codes "\n") behind)))
 
 -- nor has what is lost or won
-lost_no_doubt : (names : List (List ℕ)) (which : Which) (identifier : ℕ) (listed : List Decision) (exact : Bool) (whole : List ℕ) →
-    whole ≡ lost_line names which identifier listed exact → ¬ (HasDoubt whole) → exact ≡ true
-lost_no_doubt names which identifier listed true whole is none = refl
-lost_no_doubt names which identifier listed false whole is none =
-    let head : List ℕ = lost_word which ++ blank_number identifier in
+lost_no_doubt : (head : List ℕ) (names : List (List ℕ)) (listed : List Decision) (exact : Bool) (whole : List ℕ) →
+    whole ≡ lost_line head names listed exact → ¬ (HasDoubt whole) → exact ≡ true
+lost_no_doubt head names listed true whole is none = refl
+lost_no_doubt head names listed false whole is none =
     let chosen : List ℕ = choices_text names (map literal_of listed) in
-    absurd (none (inl (head ++ chosen, [], is ∙ sym (append-nil (lost_line names which identifier listed false)) ∙ regroup [] head chosen (codes " or fewer") (codes "\n") [])))
+    absurd (none (inl (head ++ chosen, [], is ∙ sym (append-nil (lost_line head names listed false)) ∙ regroup [] head chosen (codes " or fewer") (codes "\n") [])))
 
 -- ---- one page
 
@@ -137,18 +139,18 @@ module _ (scene : Scene) (limits others : Limits) (decisions : List Decision) (i
   choice_one feature value one other (inr a) (inl b) = absurd (a.0 (all_make (asks.Conflict feature value) b.0 true b.1))
   choice_one feature value one other (inr a) (inr b) = a.1 ∙ sym b.1
 
-  module _ (which : Which) (vertex : ℕ) where
+  module _ (aim : Aim) where
     is_first : (text : List ℕ) (set : List Bool) (first : Bool) → text ≡ product_line scene.names set first → ¬ (HasDoubt text) → first ≡ true
     is_first text set true is sure = refl
     is_first text set false is sure = absurd (sure (inr (inl (names_in scene.names set (length scene.names) ++ codes "\n", is ∙ append_assoc (codes "some product") (names_in scene.names set (length scene.names)) (codes "\n")))))
 
-    example_one : (one other : List ℕ) → TellsExample scene limits which vertex decisions one → TellsExample scene others which vertex decisions other → ¬ (HasDoubt one) → ¬ (HasDoubt other) → one ≡ other
+    example_one : (one other : List ℕ) → TellsExample scene limits aim decisions one → TellsExample scene others aim decisions other → ¬ (HasDoubt one) → ¬ (HasDoubt other) → one ≡ other
     example_one one other (inl a) (inl b) sure also =
         let first : a.1 ≡ true = is_first one a.0 a.1 a.5 sure in
         let second : b.1 ≡ true = is_first other b.0 b.1 b.5 also in
         a.5
         ∙ ap₂ (λ (set : List Bool) (is : Bool). product_line scene.names set is)
-        (first_products_are_one scene.game scene.lines (aims.Won which vertex) (choices decisions) a.0 b.0 a.2 a.3 (a.4 first) b.2 b.3 (b.4 second)) (first ∙ sym second) ∙ sym b.5
+        (first_products_are_one scene.game scene.lines aim (choices decisions) a.0 b.0 a.2 a.3 (a.4 first) b.2 b.3 (b.4 second)) (first ∙ sym second) ∙ sym b.5
     example_one one other (inl a) (inr (inl b)) sure also = absurd (b.0 a.0 a.2 a.3)
     example_one one other (inl a) (inr (inr b)) sure also = absurd (also (inr (inr (inl b.1))))
     example_one one other (inr (inl a)) (inl b) sure also = absurd (a.0 b.0 b.2 b.3)
@@ -157,29 +159,26 @@ module _ (scene : Scene) (limits others : Limits) (decisions : List Decision) (i
     example_one one other (inr (inr a)) b sure also = absurd (sure (inr (inr (inl a.1))))
 
     abbrev IsProduct : Limits → List ℕ → Type 0
-    IsProduct limits text = TellsProduct scene limits which vertex decisions text
+    IsProduct limits text = TellsProduct scene limits aim decisions text
 
     product_one : (one other : List ℕ) → IsProduct limits one → IsProduct others other → ¬ (HasDoubt one) → ¬ (HasDoubt other) → one ≡ other
     product_one one other a b sure also = example_one one other (inl a) (inl b) sure also
 
-    abbrev aim : Question
-    aim = asks.Lost (aims.Won which vertex)
-
     -- what is told without a doubt
-    lost_exactly : (listed : List Decision) (exact : Bool) → exact ≡ true → IsReason scene aim decisions listed exact → IsReason scene aim decisions listed true
-    lost_exactly listed exact sure reason = subst (λ (b : Bool). IsReason scene aim decisions listed b) sure reason
+    lost_exactly : (listed : List Decision) (exact : Bool) → exact ≡ true → IsReason scene (asks.Lost aim) decisions listed exact → IsReason scene (asks.Lost aim) decisions listed true
+    lost_exactly listed exact sure reason = subst (λ (b : Bool). IsReason scene (asks.Lost aim) decisions listed b) sure reason
 
     -- a product shows that none of the page's decisions leave none
-    not_lost : (limits : Limits) (text : List ℕ) (listed : List Decision) (exact : Bool) → IsReason scene aim decisions listed exact → IsProduct limits text → ⊥
-    not_lost limits text listed exact reason p = all_make aim listed exact reason p.0 p.2 p.3
+    not_lost : (limits : Limits) (text : List ℕ) (listed : List Decision) (exact : Bool) → IsReason scene (asks.Lost aim) decisions listed exact → IsProduct limits text → ⊥
+    not_lost limits text listed exact reason p = all_make (asks.Lost aim) listed exact reason p.0 p.2 p.3
 
-    lost_one : (one other : List ℕ) → TellsLost scene limits which vertex decisions one → TellsLost scene others which vertex decisions other → ¬ (HasDoubt one) → ¬ (HasDoubt other) → one ≡ other
+    lost_one : (one other : List ℕ) → TellsLost scene limits aim decisions one → TellsLost scene others aim decisions other → ¬ (HasDoubt one) → ¬ (HasDoubt other) → one ≡ other
     lost_one one other (inl a) (inl b) sure also =
-        let first : a.1 ≡ true = lost_no_doubt scene.names which (identifier_of scene vertex) a.0 a.1 one a.3 sure in
-        let second : b.1 ≡ true = lost_no_doubt scene.names which (identifier_of scene vertex) b.0 b.1 other b.3 also in
+        let first : a.1 ≡ true = lost_no_doubt (lost_for scene aim) scene.names a.0 a.1 one a.3 sure in
+        let second : b.1 ≡ true = lost_no_doubt (lost_for scene aim) scene.names b.0 b.1 other b.3 also in
         a.3
-        ∙ ap₂ (λ (listed : List Decision) (exact : Bool). lost_line scene.names which (identifier_of scene vertex) listed exact)
-        (reason_one aim a.0 b.0 (lost_exactly a.0 a.1 first a.2) (lost_exactly b.0 b.1 second b.2)) (first ∙ sym second) ∙ sym b.3
+        ∙ ap₂ (λ (listed : List Decision) (exact : Bool). lost_line (lost_for scene aim) scene.names listed exact)
+        (reason_one (asks.Lost aim) a.0 b.0 (lost_exactly a.0 a.1 first a.2) (lost_exactly b.0 b.1 second b.2)) (first ∙ sym second) ∙ sym b.3
     lost_one one other (inl a) (inr (inl b)) sure also = absurd (not_lost others other a.0 a.1 a.2 b)
     lost_one one other (inl a) (inr (inr b)) sure also = absurd (also (inr (inr (inl b.1))))
     lost_one one other (inr (inl a)) (inl b) sure also = absurd (not_lost limits one b.0 b.1 b.2 a)
@@ -190,17 +189,22 @@ module _ (scene : Scene) (limits others : Limits) (decisions : List Decision) (i
   of_vertex_one : (question : VertexQuestion) (vertex : ℕ) (hopeful dual one other : List ℕ) → TellsOfVertex scene limits question vertex decisions hopeful dual one →
       TellsOfVertex scene others question vertex decisions hopeful dual other → ¬ (HasDoubt one) → ¬ (HasDoubt other) → one ≡ other
   of_vertex_one questions.Why vertex hopeful dual one other a b sure also = vertex_one vertex hopeful dual one other a b sure also
-  of_vertex_one (questions.Example which) vertex hopeful dual one other a b sure also = example_one which vertex one other a b sure also
+  of_vertex_one (questions.Example which) vertex hopeful dual one other a b sure also = example_one (aims.Won which vertex) one other a b sure also
   of_vertex_one questions.Offer vertex hopeful dual one other a b sure also = offers_one scene limits others vertex decisions one other a b sure also
-  of_vertex_one questions.Needs vertex hopeful dual one other a b sure also = needs_one scene limits others vertex decisions one other a b sure also
+  of_vertex_one questions.Needs vertex hopeful dual one other a b sure also = forced_one scene limits others (aims.Won Hopeful vertex) decisions one other a b sure also
   of_vertex_one questions.Repair vertex hopeful dual one other a b sure also = repair_one scene limits others vertex decisions is named hopeful one other a b sure also
-  of_vertex_one (questions.Lost which) vertex hopeful dual one other a b sure also = lost_one which vertex one other a b sure also
+  of_vertex_one (questions.Lost which) vertex hopeful dual one other a b sure also = lost_one (aims.Won which vertex) one other a b sure also
+
+  of_page_one : (question : PageQuestion) (one other : List ℕ) → TellsOfPage scene limits question decisions one → TellsOfPage scene others question decisions other → ¬ (HasDoubt one) → ¬ (HasDoubt other) → one ≡ other
+  of_page_one whole.Forced one other a b sure also = forced_one scene limits others aims.Any decisions one other a b sure also
+  of_page_one whole.Empty one other a b sure also = lost_one aims.Any one other a b sure also
 
   tells_one : (query : Query) (hopeful dual one other : List ℕ) → Tells scene limits query decisions hopeful dual one → Tells scene others query decisions hopeful dual other →
       ¬ (HasDoubt one) → ¬ (HasDoubt other) → one ≡ other
   tells_one (queries.OfVertex question vertex) hopeful dual one other a b sure also = of_vertex_one question vertex hopeful dual one other a b sure also
   tells_one (queries.OfFeature feature) hopeful dual one other a b sure also = feature_one feature one other a b
   tells_one (queries.OfChoice feature value) hopeful dual one other a b sure also = choice_one feature value one other a b
+  tells_one (queries.OfPage question) hopeful dual one other a b sure also = of_page_one question one other a b sure also
 
 pub answers_are_one : AnswersAreOne
 answers_are_one scene limits others query decisions hopeful dual one other a b sure also =

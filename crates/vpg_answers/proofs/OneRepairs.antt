@@ -1,4 +1,4 @@
--- Two lists of needs, and two repairs, are one text.
+-- Two lists of what is forced, and two repairs, are one text.
 use Rattle.std.proofs.Common.{◌≡◌, ◌≢◌, ℕ, Bool, true, false, List, [], ◌∷◌, ◌++◌, length, map, refl, sym, ap, ap₂, ◌∙◌, subst, inl, inr, append_assoc}
 use Rattle.std.specs.Prelude.{◌⊎◌, codes, flat_map}
 use Rattle.vpg_diagram.specs.FeatureDiagram.{IsDiagram}
@@ -13,15 +13,15 @@ use Rattle.vpg_texts.specs.Text.{blank_number, choices_text}
 use Rattle.vpg_why.specs.Explained.{choices}
 use Rattle.vpg_why.specs.Products.{AreNeedsIn}
 use Rattle.vpg_why.specs.Repaired.{IsRepair}
-use Rattle.vpg_why.specs.declared.question.Aim.TheVariants as aims
+use Rattle.vpg_why.specs.declared.question.Aim.{Aim}
 use Rattle.vpg_why.specs.declared.question.Limits.{Limits}
 use Rattle.vpg_why.specs.declared.question.Question.TheVariants as asks
 use Rattle.vpg_why.proofs.InOrder.{needs_are_one}
 use Rattle.vpg_why.proofs.Monotone.{more_choices_suffice}
 use Rattle.vpg_why.proofs.OneRepair.{repairs_are_one}
-use Rattle.vpg_answers.specs.Answers.{HasDoubt, IsHopelessBy, TellsNeeds, TellsRepair, TellsRetractions}
+use Rattle.vpg_answers.specs.Answers.{HasDoubt, IsHopelessBy, TellsForced, TellsRepair, TellsRetractions, forced_word}
 use Rattle.vpg_answers.specs.Repairs.{AreSingles, ends, frees, stays}
-use Rattle.vpg_answers.specs.Texts.{choice_line, needs_text, none_line, several_text, singles_text, total_line}
+use Rattle.vpg_answers.specs.Texts.{choice_line, forced_text, none_line, several_text, singles_text, total_line}
 
 -- ---- doubts
 
@@ -43,30 +43,30 @@ no_fewer names given false text is sure =
     let chosen : List ℕ = choices_text names (map literal_of given) in
     absurd (sure (inl (codes "repair" ++ chosen, codes "repairs 1\n", is ∙ fewer_in (codes "repair") chosen (codes " or fewer") (codes "\n") (codes "repairs 1\n"))))
 
--- ---- needs
+-- ---- what is forced
 
-module _ (scene : Scene) (limits others : Limits) (vertex : ℕ) (decisions : List Decision) where
+module _ (scene : Scene) (limits others : Limits) (aim : Aim) (decisions : List Decision) where
   abbrev AreAll : List Literal → Bool → Type 0
-  AreAll listed exact = AreNeedsIn scene.game scene.lines (aims.Won Hopeful vertex) (choices decisions) listed exact
+  AreAll listed exact = AreNeedsIn scene.game scene.lines aim (choices decisions) listed exact
 
   abbrev lines_of : List Literal → List ℕ
-  lines_of listed = flat_map (choice_line (codes "needs") scene.names) listed
+  lines_of listed = flat_map (choice_line (forced_word aim) scene.names) listed
 
-  pub needs_one : (one other : List ℕ) → TellsNeeds scene limits vertex decisions one → TellsNeeds scene others vertex decisions other → ¬ (HasDoubt one) → ¬ (HasDoubt other) → one ≡ other
-  needs_one one other (inl a) (inl b) sure also =
-      let x : a.1 ≡ true = no_more (lines_of a.0) (codes "needs") (length a.0) a.1 one a.6 sure in
-      let y : b.1 ≡ true = no_more (lines_of b.0) (codes "needs") (length b.0) b.1 other b.6 also in
+  pub forced_one : (one other : List ℕ) → TellsForced scene limits aim decisions one → TellsForced scene others aim decisions other → ¬ (HasDoubt one) → ¬ (HasDoubt other) → one ≡ other
+  forced_one one other (inl a) (inl b) sure also =
+      let x : a.1 ≡ true = no_more (lines_of a.0) (forced_word aim) (length a.0) a.1 one a.6 sure in
+      let y : b.1 ≡ true = no_more (lines_of b.0) (forced_word aim) (length b.0) b.1 other b.6 also in
       a.6
-      ∙ ap₂ (λ (listed : List Literal) (exact : Bool). needs_text scene.names listed exact)
-      (needs_are_one scene.game scene.lines (aims.Won Hopeful vertex) (choices decisions) a.0 b.0
+      ∙ ap₂ (λ (listed : List Literal) (exact : Bool). forced_text (forced_word aim) scene.names listed exact)
+      (needs_are_one scene.game scene.lines aim (choices decisions) a.0 b.0
       (subst (λ (e : Bool). AreAll a.0 e) x a.5) (subst (λ (e : Bool). AreAll b.0 e) y b.5)) (x ∙ sym y)
       ∙ sym b.6
-  needs_one one other (inl a) (inr (inl b)) sure also = absurd (b.0 a.2 a.3 a.4)
-  needs_one one other (inl a) (inr (inr b)) sure also = absurd (also (inr (inr (inl b.1))))
-  needs_one one other (inr (inl a)) (inl b) sure also = absurd (a.0 b.2 b.3 b.4)
-  needs_one one other (inr (inl a)) (inr (inl b)) sure also = a.1 ∙ sym b.1
-  needs_one one other (inr (inl a)) (inr (inr b)) sure also = absurd (also (inr (inr (inl b.1))))
-  needs_one one other (inr (inr a)) b sure also = absurd (sure (inr (inr (inl a.1))))
+  forced_one one other (inl a) (inr (inl b)) sure also = absurd (b.0 a.2 a.3 a.4)
+  forced_one one other (inl a) (inr (inr b)) sure also = absurd (also (inr (inr (inl b.1))))
+  forced_one one other (inr (inl a)) (inl b) sure also = absurd (a.0 b.2 b.3 b.4)
+  forced_one one other (inr (inl a)) (inr (inl b)) sure also = a.1 ∙ sym b.1
+  forced_one one other (inr (inl a)) (inr (inr b)) sure also = absurd (also (inr (inr (inl b.1))))
+  forced_one one other (inr (inr a)) b sure also = absurd (sure (inr (inr (inl a.1))))
 
 -- ---- decisions to be retracted alone
 

@@ -23,7 +23,6 @@ use Rattle.vpg_why.specs.declared.forcing.Demand.{Demand}
 use Rattle.vpg_why.specs.declared.forcing.Demand.TheVariants as demands
 use Rattle.vpg_why.specs.declared.forcing.Forced.{Forced}
 use Rattle.vpg_why.specs.declared.question.Aim.{Aim}
-use Rattle.vpg_why.specs.declared.question.Aim.TheVariants as aims
 use Rattle.vpg_why.specs.declared.question.Limits.{Limits}
 use Rattle.vpg_why.specs.declared.question.Question.TheVariants as asks
 use Rattle.vpg_why.specs.declared.question.Shown.{Shown}
@@ -31,10 +30,10 @@ use Rattle.vpg_why.specs.declared.repairing.Remedy.{Remedy}
 use Rattle.vpg_why.specs.declared.repairing.Remedy.TheVariants as remedies
 use Rattle.vpg_why.specs.declared.repairing.Retraction.{Retraction}
 use Rattle.vpg_why.proofs.Next.{both_hold}
-use Rattle.vpg_answers.specs.Answers.{identifier_of, IsHopelessBy, TellsNeeds, TellsRepair, TellsRetractions, Appends}
+use Rattle.vpg_answers.specs.Answers.{identifier_of, IsHopelessBy, TellsRepair, TellsRetractions, Appends}
 use Rattle.vpg_answers.specs.Repairs.{AreSingles}
-use Rattle.vpg_answers.specs.Room.{RoundsSettle, SearchEnds}
-use Rattle.vpg_answers.specs.Texts.{needs_text, none_line, other_line, several_text, singles_text, unsettled_line}
+use Rattle.vpg_answers.specs.Room.{RoundsSettle}
+use Rattle.vpg_answers.specs.Texts.{none_line, other_line, several_text, singles_text, unsettled_line}
 use Rattle.vpg_answers.proofs.Trying.{given_named, repair_weaker, singles_named, singles_weaker}
 
 -- literals of the diagram's features name some
@@ -110,23 +109,6 @@ module _ (order : OrderView) where
 
       as_named : (text : List (List ℕ) → List ℕ) → renamed text → after ≡ before ++ text order.diagram.names
       as_named text appended = appended ∙ ap (λ (ns : List (List ℕ)). before ++ text ns) names_is
-
-      pub told_needs : (f : Forced) (listed : List Literal) → listed ≡ f.literals.items → AreFoundNeeds order.game order.diagram (aims.Won Hopeful vertex) (choices order.decisions) (demands.These f) →
-          (SearchEnds page limits Hopeful → IsTrue f.exact) → after ≡ before ++ needs_text names listed f.exact → Appends (TellsNeeds page limits vertex order.decisions) before after
-      told_needs f listed same found settled appended = (
-        needs_text order.diagram.names f.literals.items f.exact,
-        (
-          inl (f.literals.items, f.exact, found.0.0, found.0.1, found.0.2, found.1, refl, settled),
-          as_named (λ ns. needs_text ns f.literals.items f.exact) (subst (λ (ls : List Literal). after ≡ before ++ needs_text names ls f.exact) same appended),
-        ),
-      )
-
-      pub told_no_needs : NoneMeets order.game order.diagram (aims.Won Hopeful vertex) (choices order.decisions) → after ≡ before ++ none_line →
-          Appends (TellsNeeds page limits vertex order.decisions) before after
-      told_no_needs none appended = (none_line, (inr (inl (none, refl)), appended))
-
-      pub told_needs_unsettled : (SearchEnds page limits Hopeful → ⊥) → after ≡ before ++ unsettled_line → Appends (TellsNeeds page limits vertex order.decisions) before after
-      told_needs_unsettled short appended = (unsettled_line, (inr (inr (short, refl)), appended))
 
       pub told_singles : (items listed : List Decision) (exact : Bool) → listed ≡ items → items ≢ [] → AreSingles (IsHopelessBy page vertex) exact [] order.decisions items →
           (RoundsSettle page limits.rounds Hopeful → IsTrue exact) → after ≡ before ++ singles_text names listed exact → Appends (TellsRetractions page limits vertex order.decisions) before after

@@ -2,6 +2,7 @@
 use Rattle.std.proofs.Common.{◌≡◌, ℕ, ◌<◌, Bool, true, false, List, ◌++◌, length, refl, sym, ap, ap₂, ◌∙◌, subst, inl, inr, append_assoc}
 use Rattle.std.specs.Prelude.{◌↔◌, All, IfSome, IsSome, IsTrue, Option, Some, None, is_some, slice_index}
 use Rattle.vpg_guards.specs.declared.tri.Tri.{Tri}
+use Rattle.vpg_diagram.specs.declared.clause.Literal.{Literal}
 use Rattle.vpg_game.specs.Game.{graph_of, vertex_ids}
 use Rattle.vpg_measure.specs.Orders.{OrderView, IsOrder, order_table}
 use Rattle.vpg_measure.specs.TwoGames.{top_for}
@@ -12,10 +13,12 @@ use Rattle.vpg_partial.specs.declared.decision.Decision.{Decision}
 use Rattle.vpg_texts.specs.Scene.{Scene, scene_of}
 use Rattle.vpg_texts.proofs.Shown.{named_below}
 use Rattle.vpg_why.specs.Explained.{choices, Explains}
-use Rattle.vpg_why.specs.Found.{IsFoundProduct, IsFound, IsFoundExact, IsWhyLost, IsWhyLostExact}
+use Rattle.vpg_why.specs.Found.{AreFoundNeeds, IsFoundProduct, IsFound, IsFoundExact, IsWhyLost, IsWhyLostExact}
 use Rattle.vpg_why.specs.Products.{NoneMeets}
-use Rattle.vpg_why.specs.Suffices.{Suffice, choice}
+use Rattle.vpg_why.specs.Suffices.{AimSettles, IsSettled, Suffice, choice}
 use Rattle.vpg_why.specs.declared.explaining.Explanation.{Explanation}
+use Rattle.vpg_why.specs.declared.forcing.Demand.TheVariants as demands
+use Rattle.vpg_why.specs.declared.forcing.Forced.{Forced}
 use Rattle.vpg_why.specs.declared.question.Aim.{Aim}
 use Rattle.vpg_why.specs.declared.question.Aim.TheVariants as aims
 use Rattle.vpg_why.specs.declared.searching.Example.{Example}
@@ -28,11 +31,11 @@ use Rattle.vpg_why.specs.declared.question.Question.{Question}
 use Rattle.vpg_why.specs.declared.question.Question.TheVariants as asks
 use Rattle.vpg_why.proofs.Listing.{among_named}
 use Rattle.vpg_answers.specs.declared.query.Query.{Query}
-use Rattle.vpg_answers.specs.Texts.{verdict_line, other_line, lost_line, known_line, not_known_line, conflict_line, no_conflict_line, product_line, none_line, unsettled_line, offers_text}
-use Rattle.vpg_answers.specs.Answers.{identifier_of, TellsVerdict, TellsVertex, TellsKnownBy, IsNotKnown, TellsFeature, TellsChoice, TellsExample, TellsLost, TellsOffers, Tells, IsAnswer, Appends}
+use Rattle.vpg_answers.specs.Texts.{verdict_line, other_line, lost_line, known_line, not_known_line, conflict_line, no_conflict_line, product_line, none_line, unsettled_line, offers_text, forced_text}
+use Rattle.vpg_answers.specs.Answers.{identifier_of, TellsVerdict, TellsVertex, TellsKnownBy, IsNotKnown, TellsFeature, TellsChoice, TellsExample, TellsLost, TellsForced, TellsOffers, Tells, lost_for, forced_word, IsAnswer, Appends}
 use Rattle.vpg_answers.specs.Offers.{AreOffers}
 use Rattle.vpg_answers.specs.declared.offers.Offered.{Offered}
-use Rattle.vpg_answers.specs.Room.{RoundsSettle, SearchEnds}
+use Rattle.vpg_answers.specs.Room.{RoundsSettle, RoundsSettleFor, SearchEnds}
 
 module _ (order : OrderView) (is : IsOrder order) where
   abbrev scene : Scene
@@ -71,55 +74,78 @@ module _ (order : OrderView) (names : List (List ℕ)) (names_is : names ≡ ord
         Appends (TellsVerdict page limits which vertex order.decisions (order_table which order)) before after
     told_other limits low appended = (other_line which (identifier_of page vertex), (inr (low, refl), appended ∙ ap (λ (n : ℕ). before ++ other_line which n) identifier_is))
 
-  -- ---- lost, or won
+  -- ---- products that meet an aim
 
-  module _ (limits : Limits) (which : Which) (vertex : ℕ) (before after : List ℕ) where
-    pub told_lost : (identifier : ℕ) → identifier ≡ slice_index (vertex_ids order.game.vertices) vertex → (listed : List Decision) (exact : Bool) → (SearchEnds page limits which → IsTrue exact) →
-        Explains (Suffice order.game order.diagram (asks.Lost (aims.Won which vertex))) order.decisions listed exact → after ≡ before ++ lost_line names which identifier listed exact →
-        Appends (TellsLost page limits which vertex order.decisions) before after
-    told_lost identifier identifier_is listed exact settled explains appended = (
-      lost_line order.diagram.names which (identifier_of page vertex) listed exact,
+  aim_settles : (rounds : ℕ) (aim : Aim) → RoundsSettleFor page rounds aim → AimSettles rounds order.game order.diagram aim
+  aim_settles rounds aims.Any settles = λ cs known is. tt
+  aim_settles rounds (aims.Won which vertex) settles = settles
+
+  module _ (limits : Limits) (aim : Aim) (before after : List ℕ) where
+    -- where the limits leave room, the question is settled
+    room : SearchEnds page limits aim → IsSettled order.game order.diagram limits (asks.Lost aim)
+    room (settles, enough) = (aim_settles limits.rounds aim settles, enough)
+
+    pub told_lost : (listed : List Decision) (exact : Bool) → (IsSettled order.game order.diagram limits (asks.Lost aim) → IsTrue exact) →
+        Explains (Suffice order.game order.diagram (asks.Lost aim)) order.decisions listed exact → after ≡ before ++ lost_line (lost_for page aim) names listed exact →
+        Appends (TellsLost page limits aim order.decisions) before after
+    told_lost listed exact settled explains appended = (
+      lost_line (lost_for page aim) order.diagram.names listed exact,
       (
-        inl (listed, exact, explains, refl, settled),
-        appended ∙ ap₂ (λ (ns : List (List ℕ)) (n : ℕ). before ++ lost_line ns which n listed exact) names_is identifier_is,
+        inl (listed, exact, explains, refl, λ ends. settled (room ends)),
+        appended ∙ ap (λ (ns : List (List ℕ)). before ++ lost_line (lost_for page aim) ns listed exact) names_is,
       ),
     )
 
-    pub told_unless : (set : List Bool) (first : Bool) → IsFoundProduct order.game order.diagram (aims.Won which vertex) (choices order.decisions) set first → (SearchEnds page limits which → IsTrue first) →
-        after ≡ before ++ product_line names set first → Appends (TellsLost page limits which vertex order.decisions) before after
+    pub told_unless : (set : List Bool) (first : Bool) → IsFoundProduct order.game order.diagram aim (choices order.decisions) set first →
+        (IsSettled order.game order.diagram limits (asks.Lost aim) → IsTrue first) → after ≡ before ++ product_line names set first → Appends (TellsLost page limits aim order.decisions) before after
     told_unless set first found settled appended = (
       product_line order.diagram.names set first,
       (
-        inr (inl (set, first, found.remaining, found.meets, found.is_first, refl, settled)),
+        inr (inl (set, first, found.remaining, found.meets, found.is_first, refl, λ ends. settled (room ends))),
         appended ∙ ap (λ (ns : List (List ℕ)). before ++ product_line ns set first) names_is,
       ),
     )
 
-    pub told_lost_unsettled : (SearchEnds page limits which → ⊥) → after ≡ before ++ unsettled_line → Appends (TellsLost page limits which vertex order.decisions) before after
-    told_lost_unsettled short appended = (unsettled_line, (inr (inr (short, refl)), appended))
+    pub told_lost_unsettled : (IsSettled order.game order.diagram limits (asks.Lost aim) → ⊥) → after ≡ before ++ unsettled_line → Appends (TellsLost page limits aim order.decisions) before after
+    told_lost_unsettled short appended = (unsettled_line, (inr (inr (λ ends. short (room ends), refl)), appended))
+
+    pub told_product : (set : List Bool) (first : Bool) → IsFoundProduct order.game order.diagram aim (choices order.decisions) set first →
+        (IsSettled order.game order.diagram limits (asks.Lost aim) → IsTrue first) → after ≡ before ++ product_line names set first → Appends (TellsExample page limits aim order.decisions) before after
+    told_product set first found settled appended = (
+      product_line order.diagram.names set first,
+      (
+        inl (set, first, found.remaining, found.meets, found.is_first, refl, λ ends. settled (room ends)),
+        appended ∙ ap (λ (ns : List (List ℕ)). before ++ product_line ns set first) names_is,
+      ),
+    )
+
+    pub told_nothing : NoneMeets order.game order.diagram aim (choices order.decisions) → after ≡ before ++ none_line → Appends (TellsExample page limits aim order.decisions) before after
+    told_nothing none appended = (none_line, (inr (inl (none, refl)), appended))
+
+    pub told_unsettled : (IsSettled order.game order.diagram limits (asks.Lost aim) → ⊥) → after ≡ before ++ unsettled_line → Appends (TellsExample page limits aim order.decisions) before after
+    told_unsettled short appended = (unsettled_line, (inr (inr (λ ends. short (room ends), refl)), appended))
+
+    pub told_forced : (f : Forced) (listed : List Literal) (word : List ℕ) → listed ≡ f.literals.items → word ≡ forced_word aim → AreFoundNeeds order.game order.diagram aim (choices order.decisions) (demands.These f) →
+        (IsSettled order.game order.diagram limits (asks.Lost aim) → IsTrue f.exact) → after ≡ before ++ forced_text word names listed f.exact → Appends (TellsForced page limits aim order.decisions) before after
+    told_forced f listed word same word_is found settled appended = (
+      forced_text (forced_word aim) order.diagram.names f.literals.items f.exact,
+      (
+        inl (f.literals.items, f.exact, found.0.0, found.0.1, found.0.2, found.1, refl, λ ends. settled (room ends)),
+        appended ∙ ap (λ (ns : List (List ℕ)). before ++ forced_text word ns listed f.exact) names_is
+            ∙ ap₂ (λ (w : List ℕ) (ls : List Literal). before ++ forced_text w order.diagram.names ls f.exact) word_is same,
+      ),
+    )
+
+    pub told_none_forced : NoneMeets order.game order.diagram aim (choices order.decisions) → after ≡ before ++ none_line → Appends (TellsForced page limits aim order.decisions) before after
+    told_none_forced none appended = (none_line, (inr (inl (none, refl)), appended))
+
+    pub told_forced_unsettled : (IsSettled order.game order.diagram limits (asks.Lost aim) → ⊥) → after ≡ before ++ unsettled_line → Appends (TellsForced page limits aim order.decisions) before after
+    told_forced_unsettled short appended = (unsettled_line, (inr (inr (λ ends. short (room ends), refl)), appended))
 
   pub told_vertex : (limits : Limits) (vertex : ℕ) (before between after : List ℕ) → Appends (TellsVerdict page limits Hopeful vertex order.decisions order.hopeful) before between →
       Appends (TellsVerdict page limits Dual vertex order.decisions order.dual) between after → Appends (TellsVertex page limits vertex order.decisions order.hopeful order.dual) before after
   told_vertex limits vertex before between after (first, (a, one)) (second, (b, two)) =
       (first ++ second, ((first, second, a, b, refl), two ∙ ap (λ (bytes : List ℕ). bytes ++ second) one ∙ append_assoc before first second))
-
-  module _ (limits : Limits) (which : Which) (vertex : ℕ) (before after : List ℕ) where
-    pub told_product : (set : List Bool) (first : Bool) → IsFoundProduct order.game order.diagram (aims.Won which vertex) (choices order.decisions) set first → (SearchEnds page limits which → IsTrue first) →
-        after ≡ before ++ product_line names set first → Appends (TellsExample page limits which vertex order.decisions) before after
-    told_product set first found settled appended = (
-      product_line order.diagram.names set first,
-      (
-        inl (set, first, found.remaining, found.meets, found.is_first, refl, settled),
-        appended ∙ ap (λ (ns : List (List ℕ)). before ++ product_line ns set first) names_is,
-      ),
-    )
-
-    pub told_nothing : NoneMeets order.game order.diagram (aims.Won which vertex) (choices order.decisions) → after ≡ before ++ none_line →
-        Appends (TellsExample page limits which vertex order.decisions) before after
-    told_nothing none appended = (none_line, (inr (inl (none, refl)), appended))
-
-    pub told_unsettled : (SearchEnds page limits which → ⊥) → after ≡ before ++ unsettled_line → Appends (TellsExample page limits which vertex order.decisions) before after
-    told_unsettled short appended = (unsettled_line, (inr (inr (short, refl)), appended))
 
   pub told_offers : (limits : Limits) (vertex : ℕ) (before after : List ℕ) (known : List Tri) (listed : List Offered) → IsKnownTable order.diagram.lines (choices order.decisions) known →
       AreOffers page limits vertex order.decisions known (length known) listed → after ≡ before ++ offers_text names listed → Appends (TellsOffers page limits vertex order.decisions) before after

@@ -1,5 +1,5 @@
 -- What answers say of a page. This project's own.
-use Rattle.std.specs.Prelude.{◌≡◌, ◌≢◌, ℕ, ◌<◌, ◌⊎◌, Bool, true, false, List, [], ◌++◌, codes, length, slice_index, IsTrue}
+use Rattle.std.specs.Prelude.{◌≡◌, ◌≢◌, ℕ, ◌<◌, ⊤, ◌⊎◌, Bool, true, false, List, [], ◌++◌, codes, length, slice_index, IsTrue}
 use Rattle.vpg_guards.specs.declared.tri.Tri.{Tri}
 use Rattle.vpg_diagram.specs.FeatureDiagram.{IsDiagram}
 use Rattle.vpg_diagram.specs.declared.clause.Literal.{Literal}
@@ -9,6 +9,8 @@ use Rattle.vpg_measure.specs.declared.which.Which.TheVariants.{Hopeful, Dual}
 use Rattle.vpg_partial.specs.KnownLaws.{IsRemaining}
 use Rattle.vpg_partial.specs.TableLaws.{AreChoicesOf, IsKnownTable}
 use Rattle.vpg_partial.specs.declared.decision.Decision.{Decision}
+use Rattle.vpg_script.specs.declared.command.PageQuestion.{PageQuestion}
+use Rattle.vpg_script.specs.declared.command.PageQuestion.TheVariants as whole
 use Rattle.vpg_script.specs.declared.command.VertexQuestion.{VertexQuestion}
 use Rattle.vpg_script.specs.declared.command.VertexQuestion.TheVariants as questions
 use Rattle.vpg_texts.specs.Scene.{Scene}
@@ -16,6 +18,7 @@ use Rattle.vpg_why.specs.Explained.{choices, Explains}
 use Rattle.vpg_why.specs.Products.{MeetsIn, NoneMeetsIn, IsFirstIn, AreNeedsIn}
 use Rattle.vpg_why.specs.Repaired.{IsRepair}
 use Rattle.vpg_why.specs.Suffices.{SufficeIn, choice}
+use Rattle.vpg_why.specs.declared.question.Aim.{Aim}
 use Rattle.vpg_why.specs.declared.question.Aim.TheVariants as aims
 use Rattle.vpg_why.specs.declared.question.Limits.{Limits}
 use Rattle.vpg_why.specs.declared.question.Question.{Question}
@@ -23,7 +26,7 @@ use Rattle.vpg_why.specs.declared.question.Question.TheVariants as asks
 use Rattle.vpg_answers.specs.declared.offers.Offered.{Offered}
 use Rattle.vpg_answers.specs.declared.query.Query.{Query}
 use Rattle.vpg_answers.specs.declared.query.Query.TheVariants as queries
-use Rattle.vpg_answers.specs.Texts.{verdict_line, other_line, lost_line, known_line, not_known_line, conflict_line, no_conflict_line, product_line, none_line, unsettled_line, offers_text, needs_text, singles_text, several_text}
+use Rattle.vpg_answers.specs.Texts.{verdict_line, other_line, lost_head, lost_line, known_line, not_known_line, conflict_line, no_conflict_line, product_line, none_line, unsettled_line, offers_text, forced_text, singles_text, several_text}
 use Rattle.vpg_answers.specs.Offers.{AreOffers}
 use Rattle.vpg_answers.specs.Repairs.{AreSingles}
 use Rattle.vpg_answers.specs.Room.{RoundsSettle, SearchEnds}
@@ -88,33 +91,36 @@ TellsChoice scene feature value decisions text =
 
 -- ---- a product
 
--- A product that is left and in which the verdict's loser wins from the vertex, the first one where the limits leave
--- room.
-abbrev pub TellsProduct : Scene → Limits → Which → (vertex : ℕ) → List Decision → (text : List ℕ) → Type 0
-TellsProduct scene limits which vertex decisions text =
-    (set : List Bool) × (first : Bool) × IsRemaining scene.lines (choices decisions) set ×
-    MeetsIn scene.game (aims.Won which vertex) set
-    × (IsTrue first → IsFirstIn scene.game scene.lines (aims.Won which vertex) (choices decisions) set) ×
+-- A product that is left and meets the aim (any one, or one in which the verdict's loser wins from the vertex), the
+-- first one where the limits leave room.
+abbrev pub TellsProduct : Scene → Limits → Aim → List Decision → (text : List ℕ) → Type 0
+TellsProduct scene limits aim decisions text =
+    (set : List Bool) × (first : Bool) × IsRemaining scene.lines (choices decisions) set × MeetsIn scene.game aim set
+    × (IsTrue first → IsFirstIn scene.game scene.lines aim (choices decisions) set) ×
     (text ≡ product_line scene.names set first)
-    × (SearchEnds scene limits which → IsTrue first)
+    × (SearchEnds scene limits aim → IsTrue first)
 
 -- there is such a product; or there is none; or the limits leave no room
-abbrev pub TellsExample : Scene → Limits → Which → (vertex : ℕ) → List Decision → (text : List ℕ) → Type 0
-TellsExample scene limits which vertex decisions text =
-    TellsProduct scene limits which vertex decisions text
-    ⊎ (NoneMeetsIn scene.game scene.lines (aims.Won which vertex) (choices decisions) × (text ≡ none_line))
-    ⊎ (¬ (SearchEnds scene limits which) × (text ≡ unsettled_line))
+abbrev pub TellsExample : Scene → Limits → Aim → List Decision → (text : List ℕ) → Type 0
+TellsExample scene limits aim decisions text =
+    TellsProduct scene limits aim decisions text
+    ⊎ (NoneMeetsIn scene.game scene.lines aim (choices decisions) × (text ≡ none_line))
+    ⊎ (¬ (SearchEnds scene limits aim) × (text ≡ unsettled_line))
+
+-- what holds where no product that is left meets the aim: there is none at all, or the vertex is lost, or won
+abbrev pub lost_for : Scene → Aim → List ℕ
+lost_for scene aims.Any = codes "empty"
+lost_for scene (aims.Won which vertex) = lost_head which (identifier_of scene vertex)
 
 -- These decisions of the page alone leave no such product, exactly where the limits leave room; or there is one; or the
 -- limits leave no room.
-abbrev pub TellsLost : Scene → Limits → Which → (vertex : ℕ) → List Decision → (text : List ℕ) → Type 0
-TellsLost scene limits which vertex decisions text =
-    ((listed : List Decision) × (exact : Bool) ×
-    IsReason scene (asks.Lost (aims.Won which vertex)) decisions listed exact ×
-    (text ≡ lost_line scene.names which (identifier_of scene vertex) listed exact)
-    × (SearchEnds scene limits which → IsTrue exact))
-    ⊎ TellsProduct scene limits which vertex decisions text
-    ⊎ (¬ (SearchEnds scene limits which) × (text ≡ unsettled_line))
+abbrev pub TellsLost : Scene → Limits → Aim → List Decision → (text : List ℕ) → Type 0
+TellsLost scene limits aim decisions text =
+    ((listed : List Decision) × (exact : Bool) × IsReason scene (asks.Lost aim) decisions listed exact ×
+    (text ≡ lost_line (lost_for scene aim) scene.names listed exact)
+    × (SearchEnds scene limits aim → IsTrue exact))
+    ⊎ TellsProduct scene limits aim decisions text
+    ⊎ (¬ (SearchEnds scene limits aim) × (text ≡ unsettled_line))
 
 -- ---- offers
 
@@ -125,19 +131,22 @@ TellsOffers scene limits vertex decisions text =
     AreOffers scene limits vertex decisions known (length known) listed
     × (text ≡ offers_text scene.names listed)
 
--- ---- what is needed
+-- ---- what is forced, or needed
 
--- What every product has that is left and in which Even wins from the vertex, where there is one; or there is none; or
--- the limits leave no room.
-abbrev pub TellsNeeds : Scene → Limits → (vertex : ℕ) → List Decision → (text : List ℕ) → Type 0
-TellsNeeds scene limits vertex decisions text =
+abbrev pub forced_word : Aim → List ℕ
+forced_word aims.Any = codes "forced"
+forced_word (aims.Won which vertex) = codes "needs"
+
+-- What every product has that is left and meets the aim, where there is one; or there is none; or the limits leave no
+-- room.
+abbrev pub TellsForced : Scene → Limits → Aim → List Decision → (text : List ℕ) → Type 0
+TellsForced scene limits aim decisions text =
     ((listed : List Literal) × (exact : Bool) × (set : List Bool) × IsRemaining scene.lines (choices decisions) set ×
-    MeetsIn scene.game (aims.Won Hopeful vertex) set ×
-    AreNeedsIn scene.game scene.lines (aims.Won Hopeful vertex) (choices decisions) listed exact ×
-    (text ≡ needs_text scene.names listed exact)
-    × (SearchEnds scene limits Hopeful → IsTrue exact))
-    ⊎ (NoneMeetsIn scene.game scene.lines (aims.Won Hopeful vertex) (choices decisions) × (text ≡ none_line))
-    ⊎ (¬ (SearchEnds scene limits Hopeful) × (text ≡ unsettled_line))
+    MeetsIn scene.game aim set × AreNeedsIn scene.game scene.lines aim (choices decisions) listed exact ×
+    (text ≡ forced_text (forced_word aim) scene.names listed exact)
+    × (SearchEnds scene limits aim → IsTrue exact))
+    ⊎ (NoneMeetsIn scene.game scene.lines aim (choices decisions) × (text ≡ none_line))
+    ⊎ (¬ (SearchEnds scene limits aim) × (text ≡ unsettled_line))
 
 -- ---- what to retract
 
@@ -182,15 +191,20 @@ abbrev pub TellsOfVertex : Scene → Limits → VertexQuestion → (vertex : ℕ
 TellsOfVertex scene limits questions.Why vertex decisions hopeful dual text =
     TellsVertex scene limits vertex decisions hopeful dual text
 TellsOfVertex scene limits (questions.Example which) vertex decisions hopeful dual text =
-    TellsExample scene limits which vertex decisions text
+    TellsExample scene limits (aims.Won which vertex) decisions text
 TellsOfVertex scene limits questions.Offer vertex decisions hopeful dual text =
     TellsOffers scene limits vertex decisions text
 TellsOfVertex scene limits questions.Needs vertex decisions hopeful dual text =
-    TellsNeeds scene limits vertex decisions text
+    TellsForced scene limits (aims.Won Hopeful vertex) decisions text
 TellsOfVertex scene limits questions.Repair vertex decisions hopeful dual text =
     TellsRepair scene limits vertex decisions hopeful text
 TellsOfVertex scene limits (questions.Lost which) vertex decisions hopeful dual text =
-    TellsLost scene limits which vertex decisions text
+    TellsLost scene limits (aims.Won which vertex) decisions text
+
+-- what is asked of the page as a whole: what each product has that is left, or which decisions leave none
+abbrev pub TellsOfPage : Scene → Limits → PageQuestion → List Decision → (text : List ℕ) → Type 0
+TellsOfPage scene limits whole.Forced decisions text = TellsForced scene limits aims.Any decisions text
+TellsOfPage scene limits whole.Empty decisions text = TellsLost scene limits aims.Any decisions text
 
 abbrev pub Tells : Scene → Limits → Query → List Decision → (hopeful dual text : List ℕ) → Type 0
 Tells scene limits (queries.OfVertex question vertex) decisions hopeful dual text =
@@ -198,6 +212,8 @@ Tells scene limits (queries.OfVertex question vertex) decisions hopeful dual tex
 Tells scene limits (queries.OfFeature feature) decisions hopeful dual text = TellsFeature scene feature decisions text
 Tells scene limits (queries.OfChoice feature value) decisions hopeful dual text =
     TellsChoice scene feature value decisions text
+Tells scene limits (queries.OfPage question) decisions hopeful dual text =
+    TellsOfPage scene limits question decisions text
 
 -- The text answers what is asked within these limits, of the page with these decisions and tables: decisions of a
 -- diagram's features.
@@ -216,6 +232,7 @@ abbrev pub IsWithin : (vertices features : ℕ) → Query → Type 0
 IsWithin vertices features (queries.OfVertex question vertex) = vertex < vertices
 IsWithin vertices features (queries.OfFeature feature) = feature < features
 IsWithin vertices features (queries.OfChoice feature value) = feature < features
+IsWithin vertices features (queries.OfPage question) = ⊤
 
 -- A limit was met: somewhere in the text a line says that fewer decisions may do, or at its end that there may be more
 -- lines; or it tells of some product, or of none but that it is unsettled; or it is unsettled what some decision would

@@ -1,5 +1,5 @@
 -- When limits leave room for an exact answer. This project's own.
-use Rattle.std.specs.Prelude.{ℕ, ◌+◌, ◌≤◌, List, length, replicate}
+use Rattle.std.specs.Prelude.{ℕ, ◌+◌, ◌≤◌, ⊤, List, length, replicate}
 use Rattle.vpg_guards.specs.declared.tri.Tri.{Tri}
 use Rattle.vpg_guards.specs.Known.{kleene}
 use Rattle.vpg_diagram.specs.FeatureDiagram.{feature_count}
@@ -10,6 +10,8 @@ use Rattle.vpg_measure.specs.declared.which.Which.{Which}
 use Rattle.vpg_partial.specs.TableLaws.{IsKnownTable}
 use Rattle.vpg_texts.specs.Scene.{Scene}
 use Rattle.vpg_why.specs.Suffices.{most_trials}
+use Rattle.vpg_why.specs.declared.question.Aim.{Aim}
+use Rattle.vpg_why.specs.declared.question.Aim.TheVariants as aims
 use Rattle.vpg_why.specs.declared.question.Limits.{Limits}
 
 -- whatever was chosen, so many rounds of lifts from zeros leave a progress table
@@ -19,7 +21,12 @@ RoundsSettle scene rounds which = (choices : List Literal) (known : List Tri) �
     (after_rounds (levels_for which scene.game) (arena_for (kleene known) which scene.game) rounds
     (replicate (length (arena_for (kleene known) which scene.game)) 0))
 
--- and the trials suffice for each case that a search for a product may come to
-abbrev pub SearchEnds : Scene → Limits → Which → Type 0
-SearchEnds scene limits which =
-    RoundsSettle scene limits.rounds which × (most_trials (feature_count scene.lines + 1) ≤ limits.trials)
+-- the tables that a search for such a product asks for are settled: none, where any product does
+abbrev pub RoundsSettleFor : Scene → (rounds : ℕ) → Aim → Type 0
+RoundsSettleFor scene rounds aims.Any = ⊤
+RoundsSettleFor scene rounds (aims.Won which vertex) = RoundsSettle scene rounds which
+
+-- and the trials suffice for each case that it may come to
+abbrev pub SearchEnds : Scene → Limits → Aim → Type 0
+SearchEnds scene limits aim =
+    RoundsSettleFor scene limits.rounds aim × (most_trials (feature_count scene.lines + 1) ≤ limits.trials)

@@ -45,10 +45,12 @@ abbrev pub lost_word : Which → List ℕ
 lost_word Hopeful = codes "lost"
 lost_word Dual = codes "won"
 
--- a vertex of which it holds, and the decisions that make it so
-abbrev pub lost_line : List (List ℕ) → Which → (identifier : ℕ) → List Decision → Bool → List ℕ
-lost_line names which identifier listed exact =
-    lost_word which ++ blank_number identifier ++ reason_text names listed exact
+abbrev pub lost_head : Which → (identifier : ℕ) → List ℕ
+lost_head which identifier = lost_word which ++ blank_number identifier
+
+-- what holds, and the decisions that make it so
+abbrev pub lost_line : (head : List ℕ) → List (List ℕ) → List Decision → Bool → List ℕ
+lost_line head names listed exact = head ++ reason_text names listed exact
 
 -- ---- a feature
 
@@ -125,9 +127,9 @@ more_text exact = if exact then [] else codes " or more"
 abbrev pub total_line : (word : List ℕ) → (lines : ℕ) → Bool → List ℕ
 total_line word lines exact = word ++ blank_number lines ++ more_text exact ++ 10 ∷ []
 
-abbrev pub needs_text : List (List ℕ) → List Literal → Bool → List ℕ
-needs_text names listed exact =
-    flat_map (choice_line (codes "needs") names) listed ++ total_line (codes "needs") (length listed) exact
+abbrev pub forced_text : (word : List ℕ) → List (List ℕ) → List Literal → Bool → List ℕ
+forced_text word names listed exact =
+    flat_map (choice_line word names) listed ++ total_line word (length listed) exact
 
 -- decisions of which each can be retracted alone
 abbrev pub singles_text : List (List ℕ) → List Decision → Bool → List ℕ

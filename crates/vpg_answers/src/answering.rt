@@ -1,15 +1,15 @@
 //! Answering a query.
 ghost use Rattle.std.specs.Prelude.{◌<◌, length, OnOk};
-ghost use Rattle.vpg_answers.specs.Answers.{Appends, IsAnswer, IsWithin, TellsOfVertex};
+ghost use Rattle.vpg_answers.specs.Answers.{Appends, IsAnswer, IsWithin, TellsOfPage, TellsOfVertex};
 ghost use Rattle.vpg_diagram.specs.FeatureDiagram.{feature_count};
 ghost use Rattle.vpg_texts.specs.Scene.{scene_of};
 
 use crate::query::Query;
 use crate::{examples, losses, needs, offers, reasons, repairs};
 use std::alloc::{AllocError, Global};
-use vpg_measure::Order;
-use vpg_script::VertexQuestion;
-use vpg_why::Limits;
+use vpg_measure::{Order, Which};
+use vpg_script::{PageQuestion, VertexQuestion};
+use vpg_why::{Aim, Limits};
 
 /// The text of an answer about a vertex.
 fn of_vertex(
@@ -28,12 +28,35 @@ fn of_vertex(
     match question {
         VertexQuestion::Why => reasons::vertex(alloc, order, vertex, limits, out),
         VertexQuestion::Example(which) => {
-            examples::example(alloc, order, which, vertex, limits, out)
+            examples::example(alloc, order, Aim::Won { which, vertex }, limits, out)
         }
         VertexQuestion::Offer => offers::offers(alloc, order, vertex, limits, out),
-        VertexQuestion::Needs => needs::needs_at(alloc, order, vertex, limits, out),
+        VertexQuestion::Needs => {
+            let which = Which::Hopeful;
+            needs::forced(alloc, order, Aim::Won { which, vertex }, limits, out)
+        }
         VertexQuestion::Repair => repairs::repairs_at(alloc, order, vertex, limits, out),
-        VertexQuestion::Lost(which) => losses::loss(alloc, order, which, vertex, limits, out),
+        VertexQuestion::Lost(which) => {
+            losses::loss(alloc, order, Aim::Won { which, vertex }, limits, out)
+        }
+    }
+}
+
+/// The text of an answer about the page as a whole.
+fn of_page(
+    alloc: Global,
+    order: &Order,
+    question: PageQuestion,
+    limits: Limits,
+    out: &mut Vec<u8>,
+) -> Result<(), AllocError>
+    ensures { OnOk result (Appends
+        (TellsOfPage (scene_of order.now.game order.now.diagram) limits question order.now.decisions)
+        out.old.items out.new.items) }
+{
+    match question {
+        PageQuestion::Forced => needs::forced(alloc, order, Aim::Any, limits, out),
+        PageQuestion::Empty => losses::loss(alloc, order, Aim::Any, limits, out),
     }
 }
 
@@ -58,6 +81,7 @@ fn told(
         }
         Query::OfFeature { feature } => reasons::feature(alloc, order, feature, out),
         Query::OfChoice { feature, value } => reasons::choice(alloc, order, feature, value, out),
+        Query::OfPage { question } => of_page(alloc, order, question, limits, out),
     }
 }
 

@@ -1,31 +1,31 @@
 //! Products that are won, or lost, at a vertex.
-ghost use Rattle.std.specs.Prelude.{◌<◌, length, OnOk};
+ghost use Rattle.std.specs.Prelude.{OnOk};
 ghost use Rattle.vpg_answers.specs.Answers.{Appends, TellsExample};
 ghost use Rattle.vpg_texts.specs.Scene.{scene_of};
+ghost use Rattle.vpg_why.specs.Suffices.{IsAim};
 
 use crate::lines;
 use crate::reasons::names;
 use std::alloc::{AllocError, Global};
-use vpg_measure::{Order, Which};
+use vpg_measure::Order;
 use vpg_why::{Aim, Found, Limits, find};
 
-/// A product that is left in which Even wins from the vertex, for the first table, or Odd, for the second; or that
-/// there is none.
+/// A product that is left and meets the aim: in which Even wins from the vertex, for the first table, or Odd, for the
+/// second; or that there is none.
 pub(crate) fn example(
     alloc: Global,
     order: &Order,
-    which: Which,
-    vertex: u32,
+    aim: Aim,
     limits: Limits,
     out: &mut Vec<u8>,
 ) -> Result<(), AllocError>
-    requires { vertex < length order.now.game.vertices }
+    requires { IsAim order.now.game aim }
     ensures { OnOk result (Appends
-        (TellsExample (scene_of order.now.game order.now.diagram) limits which vertex order.now.decisions)
+        (TellsExample (scene_of order.now.game order.now.diagram) limits aim order.now.decisions)
         out.old.items out.new.items) }
 {
     let names = names(order);
-    match find(alloc, order, Aim::Won { which, vertex }, limits)? {
+    match find(alloc, order, aim, limits)? {
         Found::Product(found) => lines::product(names, &found.features, found.first, out),
         Found::Nothing => lines::none(out),
         Found::Unsettled => lines::unsettled(out),

@@ -3,8 +3,9 @@
 //! `answer` takes the order of a page and a `Query`: why a feature is known, why one more decision contradicts the
 //! page, or a `VertexQuestion`. Those are: why the vertex has its verdicts, which product is left and won or lost at
 //! it, what each further decision would make of it, what every product has that is left and won at it, what to retract
-//! so that it is possible, why it is lost (or won) in every product that is left. The crate of scripts has these
-//! questions, since its lines spell them. This one asks the crate of reasons below, and appends the lines. The layer
+//! so that it is possible, why it is lost (or won) in every product that is left. Or it is a `PageQuestion`: what every
+//! product has that is left, and which decisions leave none. The crate of scripts has these questions, since its lines
+//! spell them. This one asks the crate of reasons below, and appends the lines. The layer
 //! above answers lines of scripts by it; it changes nothing.
 //!
 //! An answer is a function of the page where no limit was met (`laws::answers_are_one`), and none is met where the
@@ -29,5 +30,5 @@ mod repairs;
 
 pub use answering::answer;
 pub use query::Query;
-pub use vpg_script::VertexQuestion;
+pub use vpg_script::{PageQuestion, VertexQuestion};
 pub use vpg_why::Limits;

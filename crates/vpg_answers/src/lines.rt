@@ -2,7 +2,7 @@
 ghost use Rattle.std.specs.Prelude.{◌≡◌, ◌<◌, ◌++◌, All, OnOk, false, length, map, slice_index_or};
 ghost use Rattle.vpg_partial.specs.Known.{literal_of};
 ghost use Rattle.vpg_texts.specs.Text.{choice_text, choices_text, name_of};
-ghost use Rattle.vpg_answers.specs.Texts.{choice_line, conflict_line, doubt_text, known_line, known_word, lost_line, lost_word, more_text, names_in, no_conflict_line, none_line, not_known_line, other_line, other_word, product_line, product_word, reason_text, total_line, unsettled_line, verdict_line, verdict_word};
+ghost use Rattle.vpg_answers.specs.Texts.{choice_line, conflict_line, doubt_text, known_line, known_word, lost_head, lost_word, more_text, names_in, no_conflict_line, none_line, not_known_line, other_line, other_word, product_line, product_word, reason_text, total_line, unsettled_line, verdict_line, verdict_word};
 
 use std::alloc::AllocError;
 use vpg_diagram::Literal;
@@ -133,21 +133,12 @@ fn lost_word(which: Which, out: &mut Vec<u8>) -> Result<(), AllocError>
     Ok(())
 }
 
-/// A vertex that is lost in every product, or won, and the decisions that make it so.
-pub(crate) fn lost(
-    names: &Names,
-    which: Which,
-    identifier: u32,
-    listed: &[Decision],
-    exact: bool,
-    out: &mut Vec<u8>,
-) -> Result<(), AllocError>
-    requires { All (λ d. d.feature < length names.now) listed.now }
-    ensures { OnOk result (out.new.items ≡ out.old.items ++ lost_line names.now which identifier listed.now exact) }
+/// A vertex that is lost in every product, or won.
+pub(crate) fn lost_head(which: Which, identifier: u32, out: &mut Vec<u8>) -> Result<(), AllocError>
+    ensures { OnOk result (out.new.items ≡ out.old.items ++ lost_head which identifier) }
 {
     lost_word(which, out)?;
-    blank_number(identifier as u64, out)?;
-    reason(names, listed, exact, out)
+    blank_number(identifier as u64, out)
 }
 
 fn known_word(value: bool, out: &mut Vec<u8>) -> Result<(), AllocError>

@@ -1,35 +1,64 @@
-//! Why a vertex is lost, or won, in every product that is left.
-ghost use Rattle.std.specs.Prelude.{◌<◌, length, OnOk};
-ghost use Rattle.vpg_answers.specs.Answers.{Appends, TellsLost};
+//! Why no product that is left meets an aim: why a vertex is lost, or won, in each of them, or why none is left.
+ghost use Rattle.std.specs.Prelude.{◌≡◌, ◌<◌, ◌++◌, All, OnOk, length};
+ghost use Rattle.vpg_answers.specs.Answers.{Appends, TellsLost, lost_for};
+ghost use Rattle.vpg_answers.specs.Texts.{lost_line};
 ghost use Rattle.vpg_texts.specs.Scene.{scene_of};
+ghost use Rattle.vpg_why.specs.Suffices.{IsAim};
 
 use crate::lines;
 use crate::reasons::{identifier, names};
 use std::alloc::{AllocError, Global};
-use vpg_measure::{Order, Which};
+use vpg_guards::Names;
+use vpg_measure::Order;
+use vpg_partial::Decision;
 use vpg_why::{Aim, Limits, WhyLost, why_lost};
 
-/// Which decisions leave no product in which Even wins from the vertex, for the first table, or Odd, for the second; or
-/// a product that is left in which they do.
+/// What holds then.
+fn head(order: &Order, aim: Aim, out: &mut Vec<u8>) -> Result<(), AllocError>
+    requires { IsAim order.now.game aim }
+    ensures { OnOk result
+        (out.new.items ≡ out.old.items ++ lost_for (scene_of order.now.game order.now.diagram) aim) }
+{
+    match aim {
+        Aim::Any => out.extend_from_slice(b"empty"),
+        Aim::Won { which, vertex } => lines::lost_head(which, identifier(order, vertex), out),
+    }
+}
+
+fn tell(
+    order: &Order,
+    names: &Names,
+    aim: Aim,
+    listed: &[Decision],
+    exact: bool,
+    out: &mut Vec<u8>,
+) -> Result<(), AllocError>
+    requires aim { IsAim order.now.game aim }
+    requires listed { All (λ d. d.feature < length names.now) listed.now }
+    ensures { OnOk result (out.new.items ≡ out.old.items ++
+        lost_line (lost_for (scene_of order.now.game order.now.diagram) aim) names.now listed.now exact) }
+{
+    head(order, aim, out)?;
+    lines::reason(names, listed, exact, out)
+}
+
+/// Which decisions leave no product that meets the aim: one in which Even wins from the vertex, for the first table, or
+/// Odd, for the second; or any. Or a product that is left and meets it.
 pub(crate) fn loss(
     alloc: Global,
     order: &Order,
-    which: Which,
-    vertex: u32,
+    aim: Aim,
     limits: Limits,
     out: &mut Vec<u8>,
 ) -> Result<(), AllocError>
-    requires { vertex < length order.now.game.vertices }
+    requires { IsAim order.now.game aim }
     ensures { OnOk result (Appends
-        (TellsLost (scene_of order.now.game order.now.diagram) limits which vertex order.now.decisions)
+        (TellsLost (scene_of order.now.game order.now.diagram) limits aim order.now.decisions)
         out.old.items out.new.items) }
 {
     let names = names(order);
-    let identifier = identifier(order, vertex);
-    match why_lost(alloc, order, Aim::Won { which, vertex }, limits)? {
-        WhyLost::Because(found) => {
-            lines::lost(names, which, identifier, &found.decisions, found.exact, out)
-        }
+    match why_lost(alloc, order, aim, limits)? {
+        WhyLost::Because(found) => tell(order, names, aim, &found.decisions, found.exact, out),
         WhyLost::Unless(example) => lines::product(names, &example.features, example.first, out),
         WhyLost::Unsettled => lines::unsettled(out),
     }

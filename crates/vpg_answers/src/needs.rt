@@ -1,53 +1,69 @@
-//! What every product has that is left and won at a vertex.
-ghost use Rattle.std.specs.Prelude.{◌≡◌, ◌<◌, ◌++◌, All, OnOk, codes, flat_map, length};
-ghost use Rattle.vpg_answers.specs.Answers.{Appends, TellsNeeds};
-ghost use Rattle.vpg_answers.specs.Texts.{choice_line, needs_text};
+//! What every product has that is left and meets an aim: that is won at a vertex, or just any.
+ghost use Rattle.std.specs.Prelude.{◌≡◌, ◌<◌, ◌++◌, All, OnOk, flat_map, length};
+ghost use Rattle.vpg_answers.specs.Answers.{Appends, TellsForced, forced_word};
+ghost use Rattle.vpg_answers.specs.Texts.{choice_line, forced_text};
 ghost use Rattle.vpg_texts.specs.Scene.{scene_of};
+ghost use Rattle.vpg_why.specs.Suffices.{IsAim};
 
 use crate::lines;
 use crate::reasons::names;
 use std::alloc::{AllocError, Global};
 use vpg_diagram::Literal;
 use vpg_guards::Names;
-use vpg_measure::{Order, Which};
+use vpg_measure::Order;
 use vpg_why::{Aim, Demand, Limits, needs};
 
-fn each(names: &Names, listed: &[Literal], out: &mut Vec<u8>) -> Result<(), AllocError>
+/// The word that its lines begin with.
+fn word_of(aim: Aim) -> &'static [u8]
+    ensures { result.now ≡ forced_word aim }
+{
+    match aim {
+        Aim::Any => b"forced",
+        Aim::Won { .. } => b"needs",
+    }
+}
+
+fn each(word: &[u8], names: &Names, listed: &[Literal], out: &mut Vec<u8>) -> Result<(), AllocError>
     requires { All (λ l. l.feature < length names.now) listed.now }
     ensures { OnOk result
-        (out.new.items ≡ out.old.items ++ flat_map (choice_line (codes "needs") names.now) listed.now) }
+        (out.new.items ≡ out.old.items ++ flat_map (choice_line word.now names.now) listed.now) }
 {
     for l in listed {
-        lines::choice_line(b"needs", names, *l, out)?;
+        lines::choice_line(word, names, *l, out)?;
     }
     Ok(())
 }
 
-fn tell(names: &Names, listed: &[Literal], exact: bool, out: &mut Vec<u8>) -> Result<(), AllocError>
+fn tell(
+    word: &[u8],
+    names: &Names,
+    listed: &[Literal],
+    exact: bool,
+    out: &mut Vec<u8>,
+) -> Result<(), AllocError>
     requires { All (λ l. l.feature < length names.now) listed.now }
-    ensures { OnOk result (out.new.items ≡ out.old.items ++ needs_text names.now listed.now exact) }
+    ensures { OnOk result (out.new.items ≡ out.old.items ++ forced_text word.now names.now listed.now exact) }
 {
-    each(names, listed, out)?;
-    lines::total(b"needs", listed.len(), exact, out)
+    each(word, names, listed, out)?;
+    lines::total(word, listed.len(), exact, out)
 }
 
-/// What every product has that is left and in which Even wins from the vertex; or that there is no such product.
-pub(crate) fn needs_at(
+/// What every product has that is left and meets the aim, beyond what is known; or that there is no such product.
+pub(crate) fn forced(
     alloc: Global,
     order: &Order,
-    vertex: u32,
+    aim: Aim,
     limits: Limits,
     out: &mut Vec<u8>,
 ) -> Result<(), AllocError>
-    requires { vertex < length order.now.game.vertices }
+    requires { IsAim order.now.game aim }
     ensures { OnOk result (Appends
-        (TellsNeeds (scene_of order.now.game order.now.diagram) limits vertex order.now.decisions)
+        (TellsForced (scene_of order.now.game order.now.diagram) limits aim order.now.decisions)
         out.old.items out.new.items) }
 {
     let names = names(order);
-    let which = Which::Hopeful;
-    match needs(alloc, order, Aim::Won { which, vertex }, limits)? {
-        Demand::These(found) => tell(names, &found.literals, found.exact, out),
+    match needs(alloc, order, aim, limits)? {
+        Demand::These(found) => tell(word_of(aim), names, &found.literals, found.exact, out),
         Demand::Nothing => lines::none(out),
         Demand::Unsettled => lines::unsettled(out),
     }

@@ -1,6 +1,6 @@
 //! What is asked of a page.
 
-use vpg_script::VertexQuestion;
+use vpg_script::{PageQuestion, VertexQuestion};
 
 /// What is asked of a page. Vertices and features stand by their places in the game and in the diagram.
 #[derive(Clone, Copy)]
@@ -18,5 +18,9 @@ pub enum Query {
     OfChoice {
         feature: u16,
         value: bool,
+    },
+    /// Something of the page as a whole.
+    OfPage {
+        question: PageQuestion,
     },
 }

@@ -223,7 +223,7 @@ pub static LINES: [Form; 8] = [
 ];
 
 /// The commands of scripts.
-pub static COMMANDS: [Form; 26] = [
+pub static COMMANDS: [Form; 30] = [
     Form {
         word: "select",
         written: "select F",
@@ -337,6 +337,20 @@ pub static COMMANDS: [Form; 26] = [
         rest: None,
     },
     Form {
+        word: "draw",
+        written: "draw",
+        parts: &[],
+        optional: 0,
+        rest: None,
+    },
+    Form {
+        word: "changed",
+        written: "changed",
+        parts: &[],
+        optional: 0,
+        rest: None,
+    },
+    Form {
         word: "known",
         written: "known F",
         parts: &[Part::Feature],
@@ -403,6 +417,20 @@ pub static COMMANDS: [Form; 26] = [
         word: "repair",
         written: "repair V",
         parts: &[Part::Vertex],
+        optional: 0,
+        rest: None,
+    },
+    Form {
+        word: "forced",
+        written: "forced",
+        parts: &[],
+        optional: 0,
+        rest: None,
+    },
+    Form {
+        word: "empty",
+        written: "empty",
+        parts: &[],
         optional: 0,
         rest: None,
     },

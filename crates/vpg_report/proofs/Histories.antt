@@ -11,10 +11,10 @@ use Rattle.vpg_desk.specs.Lawful.{IsLawful, HandsIn, AllHandIn}
 use Rattle.vpg_script.specs.Script as script
 use Rattle.vpg_script.specs.Script.{Said, Request, said}
 use Rattle.vpg_script.specs.Output.{Speaks, Answered}
-use Rattle.vpg_report.specs.Held.{Held, undo_meant, redo_meant, harvest_kept, after_change, after_undo, after_redo, after_keep, after_forget, with_harvest, without_harvest}
+use Rattle.vpg_report.specs.Held.{Held, undo_meant, redo_meant, harvest_kept, after_change, after_undo, after_redo, after_keep, after_forget, with_harvest, without_harvest, with_seen}
 use Rattle.vpg_texts.specs.Scene.{Scene}
 use Rattle.vpg_texts.specs.Sights.{has_vertices}
-use Rattle.vpg_report.specs.Answers.{Own, NoFeature, NoToken, NoHarvest, NoVertex, vertex_of, query_of, call_or, order_or, page_if, first_call, full_line, Rest, Ends, Follows, Makes, Asks, TellsSettled, AsksSettled, TellsAdded, Sweeps, Keeps, Lifts, TellsChanged, TellsUndone, TellsRedone, TellsSpent, Sees, TellsNamed, TellsPage, TellsAnswer, Continues, Begins, Serves}
+use Rattle.vpg_report.specs.Answers.{Own, NoFeature, NoToken, NoHarvest, NoVertex, vertex_of, query_of, call_or, order_or, page_if, first_call, full_line, Rest, Ends, Follows, Makes, Asks, TellsSettled, AsksSettled, TellsAdded, Sweeps, Keeps, Lifts, TellsChanged, TellsUndone, TellsRedone, TellsSpent, Sees, TellsNamed, TellsPage, verdicts_on, TellsVerdicts, TellsAnswer, Continues, Begins, Serves}
 use Rattle.vpg_answers.specs.declared.query.Query.{Query}
 use Rattle.vpg_report.specs.Run.{Between, begun, calling, answering, Asked, asking, AnswersAreHistories}
 use Rattle.vpg_report.specs.Setting.{setting_in}
@@ -113,6 +113,10 @@ module _ (L : Harvest → Type 0) where
     tells_page Tells (PageIs page) calls text new so = ends text held all calls text new (so.1, refl, so.2)
     tells_page Tells _ calls text new so = absurd so
 
+    tells_verdicts : (scene : Scene) (reply : Reply) → IsFine (TellsVerdicts scene held reply)
+    tells_verdicts scene (PageIs page) calls text new so = ends _ (with_seen held (verdicts_on scene page)) all calls text new so
+    tells_verdicts scene _ calls text new so = absurd so
+
     tells_answer : (scene : Scene) (inquiry : script.Inquiry) (reply : Reply) → IsFine (TellsAnswer scene held inquiry reply)
     tells_answer scene inquiry (Ordered d h u) calls text new so = ends text held all calls text new (so.1, refl, so.2)
     tells_answer scene inquiry _ calls text new so = absurd so
@@ -154,6 +158,7 @@ module _ (scene : Scene) (held : Held) where
     continues made label (script.Commit k) reply calls text new so = tells_added L (without_harvest held k) (gone_lawful L held.harvests (k - 1) all) reply calls text new so
     continues made label (script.Settle n) reply calls text new so = sweeps made label _ reply calls text new so
     continues made label (script.Look lookup) reply calls text new so = tells_page L held all (Sees scene lookup) reply calls text new so
+    continues made label script.Changed reply calls text new so = tells_verdicts L held all scene reply calls text new so
     continues made label (script.Known name) reply calls text new so = tells_page L held all (TellsNamed scene name) reply calls text new so
     continues made label (script.Ask inquiry) reply calls text new so = tells_answer L held all scene inquiry reply calls text new so
 
@@ -186,6 +191,7 @@ module _ (scene : Scene) (held : Held) where
     serves made label (script.Commit k) = begins_or made label (script.Commit k) NoHarvest Commit (harvest_kept held.harvests k) (λ made is _. kept_lawful L held.harvests k made all is)
     serves made label (script.Settle n) = begins made label (script.Settle n) Order tt
     serves made label (script.Look lookup) = begins_page made label lookup (has_vertices scene.identifiers lookup)
+    serves made label script.Changed = begins made label script.Changed Page tt
     serves made label (script.Known name) = begins_or made label (script.Known name) NoFeature (λ f. Page) (index_of scene.names name) (λ _ _. tt)
     serves made label (script.Ask inquiry) = begins_order made label inquiry (query_of scene inquiry)
 

@@ -16,10 +16,10 @@ use Rattle.vpg_desk.specs.Lawful.{harvested}
 use Rattle.vpg_script.specs.Script as script
 use Rattle.vpg_script.specs.Script.{Said, Request, said}
 use Rattle.vpg_script.specs.Output.{Speaks, Answered}
-use Rattle.vpg_report.specs.Held.{Held, undo_meant, redo_meant, harvest_kept, after_change, after_undo, after_redo, after_keep, after_forget, with_harvest, without_harvest}
+use Rattle.vpg_report.specs.Held.{Held, undo_meant, redo_meant, harvest_kept, after_change, after_undo, after_redo, after_keep, after_forget, with_harvest, without_harvest, with_seen}
 use Rattle.vpg_texts.specs.Scene.{Scene, UnderKnown, TellsFeature, table_in}
 use Rattle.vpg_texts.specs.Sights.{has_vertices}
-use Rattle.vpg_report.specs.Answers.{Own, NoFeature, NoToken, NoHarvest, NoVertex, Checks, IsOf, IsLifted, vertex_of, query_of, answer_limits, call_or, order_or, page_if, first_call, full_line, settled_text, Rest, Ends, Follows, Makes, Asks, TellsSettled, AsksSettled, TellsAdded, Sweeps, Keeps, Lifts, TellsChanged, TellsUndone, TellsRedone, TellsSpent, Sees, TellsNamed, TellsPage, TellsAnswer, Continues, Begins}
+use Rattle.vpg_report.specs.Answers.{Own, NoFeature, NoToken, NoHarvest, NoVertex, Checks, IsOf, IsLifted, vertex_of, query_of, answer_limits, call_or, order_or, page_if, first_call, full_line, settled_text, Rest, Ends, Follows, Makes, Asks, TellsSettled, AsksSettled, TellsAdded, Sweeps, Keeps, Lifts, TellsChanged, TellsUndone, TellsRedone, TellsSpent, Sees, TellsNamed, TellsPage, verdicts_on, TellsVerdicts, TellsAnswer, Continues, Begins}
 use Rattle.vpg_answers.specs.Answers.{IsAnswer, HasDoubt}
 use Rattle.vpg_answers.specs.declared.query.Query.{Query}
 use Rattle.vpg_answers.proofs.One.{answers_are_one}
@@ -187,6 +187,10 @@ module _ (scene : Scene) (held : Held) (Told : List ℕ → Type 0) where
     tells_page Tells one (PageIs page) = λ calls more text other new newer a b fit fits. (a.1 ∙ sym b.1, one page text other a.0 b.0, a.2 ∙ sym b.2)
     tells_page Tells one _ = λ calls more text other new newer a. absurd a
 
+    tells_verdicts : (reply : Reply) → IsOne book (TellsVerdicts scene held reply)
+    tells_verdicts (PageIs page) = ends book _ (with_seen held (verdicts_on scene page))
+    tells_verdicts _ = λ calls more text other new newer a. absurd a
+
   asks_settled : (book : Book) (made label : ℕ) (reply : Reply) → IsOne book (AsksSettled scene held made label reply)
   asks_settled book made label (Added n) = asks book made label Settled (TellsSettled held n) (λ reply told. tells_settled (next all book label Settled reply) n reply)
   asks_settled book made label _ = λ calls more text other new newer a. absurd a
@@ -334,6 +338,7 @@ module _ (scene : Scene) (held : Held) (Told : List ℕ → Type 0) where
     serves (script.Commit k) is = begins_or (script.Commit k) NoHarvest Commit (harvest_kept held.harvests k) (λ made reply told. tells_added _ (without_harvest held k) reply)
     serves (script.Settle n) is = begins (script.Settle n) Order (sweeps _ is)
     serves (script.Look lookup) is = begins_page lookup (has_vertices scene.identifiers lookup)
+    serves script.Changed is = begins script.Changed Page (λ reply told. tells_verdicts _ reply)
     serves (script.Known name) is = begins_or (script.Known name) NoFeature (λ f. Page) (index_of scene.names name) (λ f reply told. tells_page _ (TellsNamed scene name) (λ page one other. named_one scene (decisions_of page) (index_of scene.names name) one other) reply)
     serves (script.Ask inquiry) is = begins_order inquiry is (query_of scene inquiry)
 
@@ -353,6 +358,7 @@ settle_is_told scene held book made label (script.Lift table identifier) = tt
 settle_is_told scene held book made label script.Harvest = tt
 settle_is_told scene held book made label (script.Commit k) = tt
 settle_is_told scene held book made label (script.Look lookup) = tt
+settle_is_told scene held book made label script.Changed = tt
 settle_is_told scene held book made label (script.Known name) = tt
 
 module _ (scene : Scene) where

@@ -11,6 +11,7 @@ use Rattle.vpg_game.specs.Game.{NamedGame, unnamed, graph_of, vertex_ids}
 use Rattle.vpg_diagram.specs.FeatureDiagram.{feature_count}
 use Rattle.vpg_partial.specs.TableLaws.{AreChoicesOf, IsKnownTable}
 use Rattle.vpg_partial.proofs.Closing.{table_exists}
+use Rattle.vpg_measure.specs.declared.verdict.Verdict.{Verdict}
 use Rattle.vpg_measure.specs.Games.{GamesView, ArePageGames}
 use Rattle.vpg_measure.specs.TwoGames.{top_for, IsTableBelow}
 use Rattle.vpg_measure.proofs.TwoGames.{arena_length}
@@ -26,10 +27,12 @@ use Rattle.vpg_desk.proofs.Reaching.{reached_well_formed}
 use Rattle.vpg_script.specs.Script as script
 use Rattle.vpg_texts.specs.Scene.{EntryIsWithin, TellsFeature, scene_of}
 use Rattle.vpg_texts.specs.Text.{known_text}
+use Rattle.vpg_texts.specs.Changed.{changed_text, verdicts_by}
 use Rattle.vpg_texts.specs.Sights.{IsSeen, has_vertices}
-use Rattle.vpg_report.specs.Answers.{NoFeature, NoVertex, call_or, first_call, page_if, refused_line, room}
+use Rattle.vpg_report.specs.Answers.{NoFeature, NoVertex, call_or, first_call, page_if, refused_line, room, verdicts_on}
+use Rattle.vpg_report.specs.Held.{with_seen}
 use Rattle.vpg_report.specs.Engine.{EngineState, scene_at, AnswersTo}
-use Rattle.vpg_report.proofs.Asked.{page_told, unasked}
+use Rattle.vpg_report.proofs.Asked.{asked, page_told, unasked}
 use Rattle.vpg_report.proofs.Within.{entries_within}
 
 -- the entries are those of the page
@@ -128,3 +131,22 @@ module _ (limit : ℕ) (limit_is : limit ≡ room) (old new : EngineState) (sess
       look_answers lookup has (text, (seen, appended)) =
           page_told limit limit_is session old new (script.Look lookup) entries text before after (looks old lookup game game_is has) logged
           (coe 0 1 (k. IsSeen (scene_of (game_is k) (diagram_is k)) lookup entries (decisions_here k) (table_here Hopeful hopeful hopeful_is k) (table_here Dual dual dual_is k) text) seen, refl, held) appended
+
+-- what changed, with the game and the tables as the code has them
+pub changed_answers : (limit : ℕ) → limit ≡ room → (old new : EngineState) (session : ℕ) (game shown : NamedGame) (before after : List ℕ) → game ≡ old.client.desk.game → shown ≡ old.client.desk.game →
+    (entries : List Entry) → IsLogged limit old.client session AsksPage (PageIs entries) new.client →
+    (hopeful dual : List ℕ) → hopeful ≡ table_of Hopeful old.client.desk.book.present (length (graph_of old.client.desk.game)) →
+    dual ≡ table_of Dual old.client.desk.book.present (length (graph_of old.client.desk.game)) → (now : List Verdict) → now ≡ verdicts_by (graph_of game) hopeful dual →
+    new.held ≡ with_seen old.held now → (seen present : List Verdict) → seen ≡ old.held.seen → present ≡ now →
+    after ≡ before ++ changed_text (vertex_ids shown.vertices) seen present →
+    AnswersTo old (record { label = session; command = script.Changed }) before after new
+changed_answers limit limit_is old new session game shown before after game_is shown_is entries logged hopeful dual hopeful_is dual_is now now_is held seen present seen_is present_is appended =
+    let desk = old.client.desk in
+    let page : entries ≡ desk.book.present = entries_are desk entries logged.step.step.0 in
+    let here : (which : Which) (table : List ℕ) → table ≡ table_of which desk.book.present (length (graph_of desk.game)) → table ≡ table_of which entries (length (graph_of desk.game)) =
+    λ which table is. is ∙ ap (λ (p : List Entry). table_of which p (length (graph_of desk.game))) (sym page) in
+    let told : verdicts_by (graph_of game) hopeful dual ≡ verdicts_on (scene_at old) entries =
+    λ i. verdicts_by (graph_of (game_is i)) (here Hopeful hopeful hopeful_is i) (here Dual dual dual_is i) in
+    let same : now ≡ verdicts_on (scene_at old) entries = now_is ∙ told in
+    asked limit limit_is session old new script.Changed AsksPage (PageIs entries) (changed_text (vertex_ids shown.vertices) seen present) before after refl logged
+    (refl, (λ i. changed_text (vertex_ids (shown_is i).vertices) (seen_is i) ((present_is ∙ same) i)), held ∙ ap (with_seen old.held) same) appended

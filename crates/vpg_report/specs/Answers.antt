@@ -4,6 +4,7 @@ use Rattle.vpg_guards.specs.declared.tri.Tri.{Tri}
 use Rattle.vpg_guards.specs.Names.{index_of}
 use Rattle.vpg_guards.specs.Known.{kleene}
 use Rattle.vpg_partial.specs.TableLaws.{IsKnownTable}
+use Rattle.vpg_measure.specs.declared.verdict.Verdict.{Verdict}
 use Rattle.vpg_measure.specs.Lifts.{raised}
 use Rattle.vpg_measure.specs.Orders.{other_table}
 use Rattle.vpg_measure.specs.TwoGames.{levels_for, arena_for}
@@ -13,11 +14,12 @@ use Rattle.vpg_desk.specs.History.{Event}
 use Rattle.vpg_desk.specs.Lawful.{IsLawful, harvested}
 use Rattle.vpg_desk.specs.Setting.{Setting}
 use Rattle.vpg_desk.specs.Desk.{family_of}
-use Rattle.vpg_report.specs.Held.{Held, undo_meant, redo_meant, harvest_kept, after_change, after_undo, after_redo, after_keep, after_forget, with_harvest, without_harvest}
+use Rattle.vpg_report.specs.Held.{Held, undo_meant, redo_meant, harvest_kept, after_change, after_undo, after_redo, after_keep, after_forget, with_harvest, without_harvest, with_seen}
 use Rattle.vpg_script.specs.Script as script
 use Rattle.vpg_script.specs.Script.{Request}
 use Rattle.vpg_texts.specs.Text.{blank_number, blank_name}
 use Rattle.vpg_texts.specs.Scene.{Scene, table_in, TellsFeature}
+use Rattle.vpg_texts.specs.Changed.{changed_text, verdicts_by}
 use Rattle.vpg_texts.specs.Sights.{IsSeen, has_vertices}
 use Rattle.vpg_answers.specs.Answers.{IsAnswer}
 use Rattle.vpg_answers.specs.declared.query.Query.{Query}
@@ -92,6 +94,7 @@ query_of scene (script.OfVertex question identifier) =
 query_of scene (script.OfFeature name) = query_or NoFeature queries.OfFeature (index_of scene.names name)
 query_of scene (script.OfChoice value name) =
     query_or NoFeature (λ f. queries.OfChoice f value) (index_of scene.names name)
+query_of scene (script.OfPage question) = Ok (queries.OfPage question)
 
 -- how far it is followed
 abbrev pub answer_limits : Limits
@@ -121,6 +124,7 @@ first_call scene held script.Harvest = Ok Order
 first_call scene held (script.Commit k) = call_or NoHarvest Commit (harvest_kept held.harvests k)
 first_call scene held (script.Settle n) = Ok Order
 first_call scene held (script.Look lookup) = page_if (has_vertices scene.identifiers lookup)
+first_call scene held script.Changed = Ok Page
 first_call scene held (script.Known name) = call_or NoFeature (λ f. Page) (index_of scene.names name)
 first_call scene held (script.Ask inquiry) = order_or (query_of scene inquiry)
 
@@ -273,6 +277,18 @@ abbrev pub TellsPage : (List Entry → List ℕ → Type 0) → Held → Reply �
 TellsPage Tells held (PageIs page) calls text new = Tells page text × (calls ≡ []) × (new ≡ held)
 TellsPage Tells held _ calls text new = ⊥
 
+-- the verdict of each vertex on a page
+abbrev pub verdicts_on : Scene → List Entry → List Verdict
+verdicts_on scene page =
+    verdicts_by scene.game (table_of Hopeful page (length scene.game)) (table_of Dual page (length scene.game))
+
+-- The verdicts of the page are told against those that are held as seen, and are then held in their place.
+abbrev pub TellsVerdicts : Scene → Held → Reply → Rest
+TellsVerdicts scene held (PageIs page) calls text new =
+    Ends (changed_text scene.identifiers held.seen (verdicts_on scene page)) (with_seen held (verdicts_on scene page))
+    calls text new
+TellsVerdicts scene held _ calls text new = ⊥
+
 -- what is asked is answered of an order
 abbrev pub TellsAnswer : Scene → Held → script.Inquiry → Reply → Rest
 TellsAnswer scene held inquiry (Ordered decisions hopeful dual) calls text new =
@@ -301,6 +317,7 @@ Continues scene held made label (script.Settle n) reply calls text new =
     Sweeps scene held made label (sweeps_of n) reply calls text new
 Continues scene held made label (script.Look lookup) reply calls text new =
     TellsPage (Sees scene lookup) held reply calls text new
+Continues scene held made label script.Changed reply calls text new = TellsVerdicts scene held reply calls text new
 Continues scene held made label (script.Known name) reply calls text new =
     TellsPage (TellsNamed scene name) held reply calls text new
 Continues scene held made label (script.Ask inquiry) reply calls text new =

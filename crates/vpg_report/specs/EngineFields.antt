@@ -6,6 +6,7 @@ use Rattle.vpg_diagram.specs.FeatureDiagram.{feature_count}
 use Rattle.vpg_game.specs.Game.{NamedGame}
 use Rattle.vpg_partial.specs.Known.{literal_of}
 use Rattle.vpg_partial.specs.TableLaws.{AreChoicesOf}
+use Rattle.vpg_measure.specs.declared.verdict.Verdict.{Verdict}
 use Rattle.vpg_measure.specs.Orders.{HarvestView}
 use Rattle.vpg_desk.specs.Book.{Harvest}
 use Rattle.vpg_desk.specs.Commit.{handed_in}
@@ -20,9 +21,12 @@ use Rattle.vpg_report.specs.Serials.{serials}
 abbrev pub harvests_of : List (Option HarvestView) → List (Option Harvest)
 harvests_of harvests = map (λ h. option_map (handed_in true) h) harvests
 
-abbrev pub engine_in : ClientState → List Token → List Token → List (Option HarvestView) → EngineState
-engine_in client undos redos harvests =
-    record { client = client; held = record { undos = serials undos; redos = serials redos; harvests = harvests_of harvests } }
+abbrev pub engine_in : ClientState → List Token → List Token → List (Option HarvestView) → List Verdict → EngineState
+engine_in client undos redos harvests seen =
+    record {
+      client = client;
+      held = record { undos = serials undos; redos = serials redos; harvests = harvests_of harvests; seen = seen };
+    }
 
 -- a kept harvest: its order has this game and this diagram, and decides features of the diagram
 pub record IsOwnHarvest (of_game : NamedGame) (of_diagram : NamedDiagram) (harvest : HarvestView) : Type 0 where

@@ -1,6 +1,8 @@
--- What the engine holds from one line to the next: tokens, seen by their serials, and harvests.
+-- What the engine holds from one line to the next: tokens, seen by their serials, harvests, and the verdicts that were
+-- told last.
 use Rattle.std.specs.Prelude.{ℕ, zero, suc, ◌-◌, max, ◌==◌, if◌then◌else◌, List, [], ◌∷◌, ◌++◌, length, Option, Some, None, slice_get, slice_index_or, slice_set}
 use Rattle.std.specs.List.{reduce}
+use Rattle.vpg_measure.specs.declared.verdict.Verdict.{Verdict}
 use Rattle.vpg_desk.specs.Book.{Harvest, has_serial}
 
 pub record Held : Type 0 where
@@ -9,10 +11,12 @@ pub record Held : Type 0 where
   pub redos : List ℕ
   -- harvest K stands at place K - 1 for ever, and is None once it was committed
   pub harvests : List (Option Harvest)
+  -- the verdicts at the last `changed`; none before the first one
+  pub seen : List Verdict
 
 -- when a script begins
 abbrev pub nothing_held : Held
-nothing_held = record { undos = []; redos = []; harvests = [] }
+nothing_held = record { undos = []; redos = []; harvests = []; seen = [] }
 
 -- ---- what a command means
 
@@ -65,3 +69,7 @@ with_harvest held made = record held { harvests = held.harvests ++ Some made ∷
 
 abbrev pub without_harvest : Held → ℕ → Held
 without_harvest held k = record held { harvests = slice_set held.harvests (k - 1) None }
+
+-- what was told of the vertices is what is seen from now on
+abbrev pub with_seen : Held → List Verdict → Held
+with_seen held verdicts = record held { seen = verdicts }

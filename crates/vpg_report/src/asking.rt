@@ -57,5 +57,6 @@ pub(crate) fn query_of(
             Some(feature) => Ok(Query::OfChoice { feature, value }),
             None => Err(Missing::Feature),
         },
+        Inquiry::OfPage(question) => Ok(Query::OfPage { question }),
     }
 }

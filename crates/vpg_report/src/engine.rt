@@ -7,7 +7,7 @@ ghost use Rattle.vpg_guards.specs.Names.{index_of};
 ghost use Rattle.vpg_desk.specs.State.{IsOpened};
 ghost use Rattle.vpg_report.specs.Engine.{AnswersTo, SweepsTo, IsOpenFault, deciding, between_of, engine_of, scene_at};
 ghost use Rattle.vpg_report.specs.Run.{answering};
-ghost use Rattle.vpg_script.specs.Script.{Retract, Undo as Undoes, Redo as Redoes, Keep, Forget, Lift, Harvest as Harvests, Commit, Settle, Look, Known, Ask};
+ghost use Rattle.vpg_script.specs.Script.{Retract, Undo as Undoes, Redo as Redoes, Keep, Forget, Lift, Harvest as Harvests, Commit, Settle, Look, Changed, Known, Ask};
 ghost use Rattle.vpg_script.specs.View.{inquiry_shown, lookup_shown, request_shown};
 
 use crate::held::{
@@ -26,11 +26,11 @@ use vpg_desk::OpenFault;
 use vpg_diagram::Diagram;
 use vpg_game::GuardedGame;
 use vpg_guards::Names;
-use vpg_measure::{Harvest, Which};
+use vpg_measure::{Harvest, Verdict, Which};
 use vpg_office::{NotOpened, Redo, Site, Terms, Undo};
 use vpg_script::{Command, Inquiry, Lookup, Request, ServeFault, Server};
 use vpg_settle::swept;
-use vpg_texts::{has_vertices, look_over, put_known_over};
+use vpg_texts::{has_vertices, look_over, put_changed, put_known_over, verdicts_over};
 
 /// How many calls the log of a run's office takes.
 pub(crate) const ROOM: u32 = 1_048_576;
@@ -46,8 +46,9 @@ const LIMITS: Limits = Limits {
     trials: 10_000,
 };
 
-/// The client of an office, with its game and its diagram, the tokens that are held, and the harvests that were kept.
-/// Harvest K stands at place K - 1 until it is committed. An engine can't be let go: `end` spends its tokens.
+/// The client of an office, with its game and its diagram, the tokens that are held, the harvests that were kept, and
+/// the verdicts that were told last, none before the first time. Harvest K stands at place K - 1 until it is committed.
+/// An engine can't be let go: `end` spends its tokens.
 pub(crate) struct Engine<L: Terms> {
     game: Arc<GuardedGame>,
     diagram: Arc<Diagram>,
@@ -55,6 +56,7 @@ pub(crate) struct Engine<L: Terms> {
     undos: Vec<Undo<L>>,
     redos: Vec<Redo<L>>,
     harvests: Vec<Option<Harvest>>,
+    seen: Vec<Verdict>,
 }
 
 impl<L: Terms> Model for Engine<L> {
@@ -69,7 +71,7 @@ impl<L: Terms> Model for Engine<L> {
     ghost use Rattle.std.specs.Arc.{arc_value};
     ghost use Rattle.vpg_report.specs.EngineFields.{engine_in, IsEngine};
 
-    ghost view = { λ e. engine_in e.client e.undos.items e.redos.items e.harvests.items };
+    ghost view = { λ e. engine_in e.client e.undos.items e.redos.items e.harvests.items e.seen.items };
 
     ghost invariant = { λ e. IsEngine L.limit (arc_value e.game) (arc_value e.diagram) e.client.desk e.harvests.items };
 }
@@ -381,6 +383,27 @@ impl<L: Terms> Engine<L> {
         Ok(())
     }
 
+    /// Tells which verdicts of the present page are other than those told last.
+    fn changed<R: Wait>(
+        &mut self,
+        rt: &R,
+        alloc: Global,
+        session: u32,
+        out: &mut Vec<u8>,
+    ) -> Result<(), ServeFault>
+        ensures { OnOk result (AnswersTo self.old
+            (record { label = session; command = Changed }) out.old.items out.new.items self.new) }
+    {
+        let (page, games) = match self.client.page_with_games(rt, alloc, session) {
+            Ok(both) => both,
+            Err(fault) => return answer::unanswered(fault, out),
+        };
+        let verdicts = verdicts_over(alloc, &games, &page, &self.game)?;
+        put_changed(alloc, &self.game, &self.seen, &verdicts, out)?;
+        self.seen = verdicts;
+        Ok(())
+    }
+
     /// Tells what the present decisions make known of a feature, by its name.
     fn known<R: Wait>(
         &mut self,
@@ -455,6 +478,7 @@ impl<L: Terms> Engine<L> {
                 undos: Vec::new(alloc),
                 redos: Vec::new(alloc),
                 harvests: Vec::new(alloc),
+                seen: Vec::new(alloc),
             }),
             Err(refused) => Err(refused.fault),
         }
@@ -469,6 +493,7 @@ impl<L: Terms> Engine<L> {
             undos,
             redos,
             harvests: _,
+            seen: _,
         } = self;
         let _further = client.end(rt, undos, redos);
     }
@@ -517,6 +542,7 @@ impl<L: Terms> Server for Engine<L> {
             Command::Commit(number) => self.commit(rt, alloc, session, *number, out),
             Command::Settle(sweeps) => self.settle(rt, alloc, session, *sweeps, lifters, out),
             Command::Look(lookup) => self.look(rt, alloc, session, lookup, out),
+            Command::Changed => self.changed(rt, alloc, session, out),
             Command::Known(name) => self.known(rt, alloc, session, *name, out),
             Command::Ask(inquiry) => self.ask(rt, alloc, session, *inquiry, out),
         }

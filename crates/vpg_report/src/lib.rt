@@ -7,8 +7,8 @@
 //! which verdict). How a script is read stands in the crate of scripts, the texts in the crate of texts, those of what
 //! is asked of the page (`why`, `example`, `counterexample`, `offer`, `needs`, `repair`) in the crate of answers, and
 //! how an order is swept in the crate of settling; this one knows what each command asks of a desk. The tokens and
-//! harvests that lines leave are held until later lines use them up; at the end of a run, also after a fault, all
-//! tokens are spent and the desk is closed.
+//! harvests that lines leave are held until later lines use them up, and the verdicts that a `changed` told until the
+//! next one compares with them; at the end of a run, also after a fault, all tokens are spent and the desk is closed.
 //!
 //! What lines leave held is defined in `specs/Held`, the calls on a desk's book and their answers in `specs/Answers`
 //! and `specs/Run`, what a run's result says in `specs/Output`. All are this project's own.

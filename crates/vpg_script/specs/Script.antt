@@ -12,6 +12,8 @@ use Rattle.vpg_script.specs.declared.command.Claim.{Claim}
 use Rattle.vpg_script.specs.declared.command.Claim.TheVariants as claims
 use Rattle.vpg_script.specs.declared.command.VertexQuestion.{VertexQuestion}
 use Rattle.vpg_script.specs.declared.command.VertexQuestion.TheVariants as questions
+use Rattle.vpg_script.specs.declared.command.PageQuestion.{PageQuestion}
+use Rattle.vpg_script.specs.declared.command.PageQuestion.TheVariants as whole
 use Rattle.vpg_script.specs.declared.command.LineFault.{LineFault}
 use Rattle.vpg_script.specs.declared.command.LineFault.TheVariants as faults
 
@@ -55,6 +57,7 @@ pub data Inquiry : Type 0 where
   OfVertex : (question : VertexQuestion) → (identifier : ℕ) → Inquiry
   OfFeature : (name : List ℕ) → Inquiry
   OfChoice : (value : Bool) → (name : List ℕ) → Inquiry
+  OfPage : (question : PageQuestion) → Inquiry
 
 -- what a line asserts of the page: of a vertex its verdicts, or of the page as a whole
 pub data Assertion : Type 0 where
@@ -70,6 +73,7 @@ pub data Lookup : Type 0 where
   Products : Lookup
   Plan : Lookup
   Count : Lookup
+  Draw : Lookup
   Assert : (assertion : Assertion) → Lookup
 
 pub data Command : Type 0 where
@@ -85,6 +89,8 @@ pub data Command : Type 0 where
   Commit : (number : ℕ) → Command
   Settle : (sweeps : Option ℕ) → Command
   Look : (lookup : Lookup) → Command
+  -- which verdicts are other than they were at the last of these
+  Changed : Command
   Known : (name : List ℕ) → Command
   Ask : (inquiry : Inquiry) → Command
 
@@ -107,6 +113,8 @@ verb_of w =
     else if bytes_eq w (codes "products") then Some verbs.Products
     else if bytes_eq w (codes "plan") then Some verbs.Plan
     else if bytes_eq w (codes "count") then Some verbs.Count
+    else if bytes_eq w (codes "draw") then Some verbs.Draw
+    else if bytes_eq w (codes "changed") then Some verbs.Changed
     else if bytes_eq w (codes "known") then Some verbs.Known
     else if bytes_eq w (codes "assert") then Some verbs.Assert
     else if bytes_eq w (codes "why") then Some verbs.Why
@@ -117,6 +125,8 @@ verb_of w =
     else if bytes_eq w (codes "repair") then Some verbs.Repair
     else if bytes_eq w (codes "lost") then Some verbs.Lost
     else if bytes_eq w (codes "won") then Some verbs.Won
+    else if bytes_eq w (codes "forced") then Some verbs.Forced
+    else if bytes_eq w (codes "empty") then Some verbs.Empty
     else None
 
 -- a command without arguments
@@ -130,6 +140,10 @@ bare_command verbs.Trail = Some (Look Trail)
 bare_command verbs.Products = Some (Look Products)
 bare_command verbs.Plan = Some (Look Plan)
 bare_command verbs.Count = Some (Look Count)
+bare_command verbs.Draw = Some (Look Draw)
+bare_command verbs.Changed = Some Changed
+bare_command verbs.Forced = Some (Ask (OfPage whole.Forced))
+bare_command verbs.Empty = Some (Ask (OfPage whole.Empty))
 bare_command _ = None
 
 abbrev pub if_name : (List ℕ → Command) → List ℕ → Option Command

@@ -18,6 +18,7 @@ abbrev pub inquiry_shown : Inquiry → script.Inquiry
 inquiry_shown (inquiries.OfVertex question v) = script.OfVertex question v
 inquiry_shown (inquiries.OfFeature f) = script.OfFeature f.now
 inquiry_shown (inquiries.OfChoice value f) = script.OfChoice value f.now
+inquiry_shown (inquiries.OfPage question) = script.OfPage question
 
 -- what is asserted, as definitions see it
 abbrev pub assertion_shown : Assertion → script.Assertion
@@ -33,6 +34,7 @@ lookup_shown lookups.Trail = script.Trail
 lookup_shown lookups.Products = script.Products
 lookup_shown lookups.Plan = script.Plan
 lookup_shown lookups.Count = script.Count
+lookup_shown lookups.Draw = script.Draw
 lookup_shown (lookups.Assert assertion) = script.Assert (assertion_shown assertion)
 
 abbrev pub command_shown : Command → script.Command
@@ -48,6 +50,7 @@ command_shown commands.Harvest = script.Harvest
 command_shown (commands.Commit k) = script.Commit k
 command_shown (commands.Settle n) = script.Settle n
 command_shown (commands.Look lookup) = script.Look (lookup_shown lookup)
+command_shown commands.Changed = script.Changed
 command_shown (commands.Known f) = script.Known f.now
 command_shown (commands.Ask inquiry) = script.Ask (inquiry_shown inquiry)
 

@@ -43,6 +43,8 @@ pub enum Verb {
     Products,
     Plan,
     Count,
+    Draw,
+    Changed,
     Known,
     Assert,
     Why,
@@ -53,6 +55,8 @@ pub enum Verb {
     Repair,
     Lost,
     Won,
+    Forced,
+    Empty,
 }
 
 /// What is asked of a vertex.
@@ -70,6 +74,15 @@ pub enum VertexQuestion {
     Repair,
     /// Why in no product that is left Even wins from it, for the first table, or Odd, for the second.
     Lost(Which),
+}
+
+/// What is asked of the page as a whole.
+#[derive(Clone, Copy)]
+pub enum PageQuestion {
+    /// Which features that are not known are the same in every product that is left.
+    Forced,
+    /// Whether no product is left.
+    Empty,
 }
 
 /// A verdict that a line asserts of a vertex.
@@ -102,6 +115,8 @@ pub enum Lookup {
     Products,
     Plan,
     Count,
+    /// The picture of its game.
+    Draw,
     Assert(Assertion),
 }
 
@@ -114,6 +129,8 @@ pub enum Inquiry<'t> {
     OfFeature(&'t [u8]),
     /// Why one more decision contradicts the page: whether the feature is to be in, and its name.
     OfChoice(bool, &'t [u8]),
+    /// Something of the page as a whole.
+    OfPage(PageQuestion),
 }
 
 /// A command. Names stand in the line that was read.
@@ -132,6 +149,8 @@ pub enum Command<'t> {
     Commit(u64),
     Settle(Option<u64>),
     Look(Lookup),
+    /// Which verdicts are other than they were at the last of these.
+    Changed,
     Known(&'t [u8]),
     Ask(Inquiry<'t>),
 }
@@ -271,6 +290,10 @@ fn verb_named(word: &[u8]) -> Option<Verb>
         Some(Verb::Plan)
     } else if same(word, b"count") {
         Some(Verb::Count)
+    } else if same(word, b"draw") {
+        Some(Verb::Draw)
+    } else if same(word, b"changed") {
+        Some(Verb::Changed)
     } else if same(word, b"known") {
         Some(Verb::Known)
     } else if same(word, b"assert") {
@@ -291,6 +314,10 @@ fn verb_named(word: &[u8]) -> Option<Verb>
         Some(Verb::Lost)
     } else if same(word, b"won") {
         Some(Verb::Won)
+    } else if same(word, b"forced") {
+        Some(Verb::Forced)
+    } else if same(word, b"empty") {
+        Some(Verb::Empty)
     } else {
         None
     }
@@ -310,6 +337,10 @@ fn bare_command<'t>(verb: Verb) -> Option<Command<'t>>
         Verb::Products => Some(Command::Look(Lookup::Products)),
         Verb::Plan => Some(Command::Look(Lookup::Plan)),
         Verb::Count => Some(Command::Look(Lookup::Count)),
+        Verb::Draw => Some(Command::Look(Lookup::Draw)),
+        Verb::Changed => Some(Command::Changed),
+        Verb::Forced => Some(Command::Ask(Inquiry::OfPage(PageQuestion::Forced))),
+        Verb::Empty => Some(Command::Ask(Inquiry::OfPage(PageQuestion::Empty))),
         Verb::Select
         | Verb::Exclude
         | Verb::Retract

@@ -3,10 +3,11 @@
 //! A script is read line by line from a `Source`; a `Server` carries each line's request out, and its answer is written
 //! whole to a `Sink` before the next line is read. A line is blank, a comment, or a command with its arguments, under a
 //! label from 1 to 64 or none. The commands are `select`, `exclude`, `retract`, `undo`, `redo`, `keep`, `forget`,
-//! `lift`, `harvest`, `commit`, `settle` and `known`; what is looked at of the page, a `Lookup`: `show`, `trail`,
-//! `products`, `plan`, `count` and `assert`; and what is asked of it, an `Inquiry`: `why`, `example`, `counterexample`,
-//! `offer`, `needs` and `repair`. Each other first word is a fault of its line. A further question of a vertex is a
-//! `VertexQuestion` more: the crate of answers has to know it, and the crate of runs does not.
+//! `lift`, `harvest`, `commit`, `settle`, `changed` and `known`; what is looked at of the page, a `Lookup`: `show`,
+//! `trail`, `products`, `plan`, `count`, `draw` and `assert`; and what is asked of it, an `Inquiry`: `why`, `example`,
+//! `counterexample`, `offer`, `needs`, `repair`, `lost`, `won`, `forced` and `empty`. Each other first word is a fault
+//! of its line. A further question of a vertex is a `VertexQuestion` more, and one of the page as a whole a
+//! `PageQuestion`: the crate of answers has to know it, and the crate of runs does not.
 //!
 //! This crate knows no desk: what a request does is its server's, and `answer_script` holds for each. The crate of runs
 //! above serves a desk. `Device` makes a `Source` of each reader, and a `Sink` of each writer.
@@ -23,8 +24,8 @@ mod lines;
 mod serving;
 
 pub use command::{
-    Assertion, Claim, Command, Inquiry, LONGEST_LINE, LineFault, Lookup, ReadFault, Request,
-    VertexQuestion, read_line,
+    Assertion, Claim, Command, Inquiry, LONGEST_LINE, LineFault, Lookup, PageQuestion, ReadFault,
+    Request, VertexQuestion, read_line,
 };
 pub use device::{Device, Failed, Sink, Source};
 pub use lines::{MOST_READS, Next, NextFault, next_line};

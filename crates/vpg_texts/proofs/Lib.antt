@@ -1,5 +1,7 @@
 pub mod Settled
 pub mod Shown
+pub mod Differing
+pub mod Pictured
 pub mod Counted
 pub mod Planned
 pub mod Reading

@@ -70,6 +70,7 @@ module _ (scene : Scene) (entries : List Entry) (decisions : List Decision) wher
   seen_one hopeful dual script.Products one other = products_one one other
   seen_one hopeful dual script.Plan one other = planned_one hopeful dual one other
   seen_one hopeful dual script.Count one other = counted_one hopeful dual one other
+  seen_one hopeful dual script.Draw one other = under_one _ _ (λ known a b. a ∙ sym b)
   seen_one hopeful dual (script.Assert assertion) one other = asserted_one hopeful dual assertion one other
 
 -- ---- the same, by the code's words

@@ -1,3 +1,5 @@
+pub mod Changed
+pub mod Picture
 pub mod Plan
 pub mod Scene
 pub mod Text

@@ -7,6 +7,7 @@ use Rattle.vpg_script.specs.Script as script
 use Rattle.vpg_measure.specs.TwoGames.{top_for}
 use Rattle.vpg_trail.specs.Page.{Hopeful, Dual, Decision, Entry}
 use Rattle.vpg_texts.specs.declared.showing.plans.PlanFault.TheVariants.{NotFull, NotSettled}
+use Rattle.vpg_texts.specs.Picture.{IsDrawn}
 use Rattle.vpg_texts.specs.Plan.{IsPlanned, IsPlanFault}
 use Rattle.vpg_texts.specs.Scene.{Scene, UnderKnown, TellsUnder, IsShown, IsCounted, TellsKnown}
 use Rattle.vpg_texts.specs.Text.{trail_text, vertex_line}
@@ -35,6 +36,7 @@ has_vertices identifiers script.Trail = true
 has_vertices identifiers script.Products = true
 has_vertices identifiers script.Plan = true
 has_vertices identifiers script.Count = true
+has_vertices identifiers script.Draw = true
 
 -- the line of the vertex at a place
 abbrev pub line_at : ℕ → ℕ → List ℕ → (hopeful dual : List ℕ) → Option ℕ → List ℕ
@@ -134,5 +136,6 @@ IsSeen scene script.Trail entries decisions hopeful dual text = text ≡ trail_t
 IsSeen scene script.Products entries decisions hopeful dual text = TellsKnown scene decisions text
 IsSeen scene script.Plan entries decisions hopeful dual text = IsPlanAnswer scene decisions hopeful dual text
 IsSeen scene script.Count entries decisions hopeful dual text = IsCounted scene decisions hopeful dual text
+IsSeen scene script.Draw entries decisions hopeful dual text = IsDrawn scene decisions hopeful dual text
 IsSeen scene (script.Assert assertion) entries decisions hopeful dual text =
     IsAsserted scene assertion decisions hopeful dual text

@@ -6,20 +6,24 @@ ghost use Rattle.vpg_partial.specs.Known.{literal_of};
 ghost use Rattle.vpg_partial.specs.KnownLaws.{HasConflictOf};
 ghost use Rattle.vpg_partial.specs.TableLaws.{AreChoicesOf};
 
+mod changes;
 mod counts;
 mod entries;
 mod feature;
 mod known;
 mod lookups;
 mod page;
+mod pictures;
 mod plans;
 
+pub use changes::{put_changed, verdicts_over};
 pub use counts::{count, count_over};
 pub use entries::trail;
 pub use feature::{put_known, put_known_over};
 pub use known::{products, products_over};
 pub use lookups::look_over;
 pub use page::{show, show_over};
+pub use pictures::draw_over;
 pub use plans::{PlanFault, plan, plan_over};
 use std::alloc::{AllocError, Global};
 use vpg_diagram::Diagram;

@@ -47,7 +47,12 @@ pub fn has_vertices(game: &GuardedGame, lookup: &Lookup) -> bool
     match lookup {
         Lookup::Vertices(vs) => are_vertices(game, vs),
         Lookup::Assert(assertion) => has_asserted(game, assertion),
-        Lookup::Show | Lookup::Trail | Lookup::Products | Lookup::Plan | Lookup::Count => true,
+        Lookup::Show
+        | Lookup::Trail
+        | Lookup::Products
+        | Lookup::Plan
+        | Lookup::Count
+        | Lookup::Draw => true,
     }
 }
 

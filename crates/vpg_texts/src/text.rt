@@ -18,7 +18,7 @@ use vpg_partial::{Decision, Partial};
 use vpg_trail::Entry;
 
 /// Appends a number in decimal.
-fn number(n: u64, out: &mut Vec<u8>) -> Result<(), AllocError>
+pub(crate) fn number(n: u64, out: &mut Vec<u8>) -> Result<(), AllocError>
     ensures { OnOk result (out.new.items ≡ out.old.items ++ decimal n) }
 {
     let mut buffer = Buffer::new();
@@ -103,7 +103,7 @@ fn answer(yes: bool, out: &mut Vec<u8>) -> Result<(), AllocError>
     Ok(())
 }
 
-fn hopeless(hopeless: bool, out: &mut Vec<u8>) -> Result<(), AllocError>
+pub(crate) fn hopeless(hopeless: bool, out: &mut Vec<u8>) -> Result<(), AllocError>
     ensures { OnOk result (out.new.items ≡ out.old.items ++ hopeless_text hopeless) }
 {
     if hopeless {
@@ -136,7 +136,7 @@ fn measures(games: &PageGames, id: u32, h: u64, d: u64, out: &mut Vec<u8>) -> Re
     sure(d == games.shape(Which::Dual).top(), out)
 }
 
-fn identifier(game: &GuardedGame, v: u32) -> u32
+pub(crate) fn identifier(game: &GuardedGame, v: u32) -> u32
     requires { v < length game.now.vertices }
     ensures { result ≡ slice_index (vertex_ids game.now.vertices) v }
 {
@@ -212,7 +212,7 @@ pub(crate) fn page(
     vertices(games, game, hopeful, dual, out)
 }
 
-fn count_line(word: &[u8], n: usize, out: &mut Vec<u8>) -> Result<(), AllocError>
+pub(crate) fn count_line(word: &[u8], n: usize, out: &mut Vec<u8>) -> Result<(), AllocError>
     ensures { OnOk result (out.new.items ≡ out.old.items ++ count_line word.now n) }
 {
     out.extend_from_slice(word)?;

@@ -34,6 +34,8 @@ harvest's number, N a number):
   products, plan         known features; Even's moves, where all is known
   count                  how many vertices have which verdict; whether the page
                          is settled, and full
+  draw                   a picture of the game, for Graphviz
+  changed                verdicts that are other than at the last `changed`
   known F                whether F is known to be in or out
   assert V WORD ..       whether V is hopeless, possible, sure or unsure, and
                          stays so
@@ -48,6 +50,8 @@ harvest's number, N a number):
   offer V                what each further decision would make of V
   needs V                what every product has that is left and won at V
   repair V               what to retract so that V is possible
+  forced                 what every product has that is left
+  empty                  decisions that leave no product; else the first left
   # ..                   a comment
   N: COMMAND             session N (1 to 64) gives the command
 

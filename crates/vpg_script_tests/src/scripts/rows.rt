@@ -414,6 +414,79 @@ static COUNTS: [Row; 2] = [
     },
 ];
 
+static CHANGES: [Row; 2] = [
+    // Undo and redo change no verdict that was told: the next of these tells what they did.
+    Row {
+        diagram: DIAGRAM,
+        game: GAME,
+        script: "\
+            changed / exclude f / changed / 2: settle / 3: changed / changed / undo / changed / redo / settle / \
+            changed / select g / exclude h / settle / changed",
+        answers: "\
+            changed 0 / done 1 / changed 0 / settled 2 / 0 possible unsure hopeless unsure / changed 1 / \
+            changed 0 / undone 1 / 0 hopeless unsure possible unsure / changed 1 / redone 1 / settled 0 / 0 \
+            possible unsure hopeless unsure / changed 1 / done 2 / refused UnknownFeature / settled 1 / 1 \
+            possible unsure hopeless unsure / changed 1",
+    },
+    Row {
+        diagram: DIAGRAM,
+        game: "0 1 0 0[f],1; 7 0 0 7; 1 1 1 1[!g],7[f & g];",
+        script: "\
+            settle / changed / select f / settle / changed / select g / settle / changed / retract f / settle / \
+            changed",
+        answers: "\
+            settled 2 / 7 possible unsure possible sure / changed 1 / done 1 / settled 0 / changed 0 / done 2 / \
+            settled 4 / 0 possible unsure possible sure / 1 possible unsure possible sure / changed 2 / done 3 \
+            / settled 2 / changed 0",
+    },
+];
+
+static PICTURES: [Row; 1] = [
+    // A name of a vertex is not drawn.
+    Row {
+        diagram: DIAGRAM,
+        game: "parity 7; 7 1 0 7,0[!g | (f & !!r)] \"one\"; 0 2 1 7[!(f | g)],0;",
+        script: "draw / exclude f / select g / settle / draw",
+        answers: "\
+            digraph game { /   graph [label=\"decisions\", labelloc=t, rankdir=LR]; /   node [style=filled]; /   7 \
+            [shape=diamond, label=\"7 : 1\", fillcolor=white, color=gray40]; /   0 [shape=box, label=\"0 : 2\", \
+            fillcolor=white, color=gray40]; /   7 -> 7 [style=solid]; /   7 -> 0 [label=\"!g | f & !!r\", \
+            style=dashed, color=steelblue, fontcolor=steelblue]; /   0 -> 7 [label=\"!(f | g)\", style=dashed, \
+            color=steelblue, fontcolor=steelblue]; /   0 -> 0 [style=solid]; / } / done 1 / done 2 / settled 2 \
+            / digraph game { /   graph [label=\"decisions -f +g\", labelloc=t, rankdir=LR]; /   node \
+            [style=filled]; /   7 [shape=diamond, label=\"7 : 1\", fillcolor=mistyrose, color=firebrick]; /   0 \
+            [shape=box, label=\"0 : 2\", fillcolor=honeydew, color=darkgreen]; /   7 -> 7 [style=solid]; /   7 \
+            -> 0 [label=\"!g | f & !!r\", style=dotted, color=gray70, fontcolor=gray50]; /   0 -> 7 \
+            [label=\"!(f | g)\", style=dotted, color=gray70, fontcolor=gray50]; /   0 -> 0 [style=solid]; / }",
+    },
+];
+
+static PRODUCTS_LEFT: [Row; 2] = [
+    // d is in each product with a, though no line alone makes it known.
+    Row {
+        diagram: "root r / optional r a / or a : b c / optional r d / requires b d / requires c d",
+        game: DOT,
+        script: "\
+            forced / empty / select a / forced / known d / empty / select c / exclude b / forced",
+        answers: "\
+            forced 0 / product r a b c d / done 1 / forced +d / forced 1 / open d / product r a b c d / done 2 \
+            / done 3 / forced 0",
+    },
+    // No product has b, and no decision conflicts.
+    Row {
+        diagram: "\
+            root r / optional r b / or b : c d / alternative r : p q / requires c p / requires c q / requires d \
+            p / requires d q",
+        game: "parity 1; 0 1 0 1[b],0; 1 2 1 0[p],1;",
+        script: "\
+            forced / empty / select b / forced / empty / example 0 / select p / empty / retract b / empty / \
+            forced",
+        answers: "\
+            forced -b / forced -c / forced -d / forced 3 / product r p / done 1 / none / empty +b / none / \
+            refused Conflict p / empty +b / done 2 / product r p / forced -b / forced -c / forced -d / forced 3",
+    },
+];
+
 static KNOWN: [Row; 2] = [
     Row {
         diagram: DIAGRAM,
@@ -599,6 +672,24 @@ fn plans_on_full_settled_pages(rt: HostRuntime) -> Result<(), Fail> {
 #[test]
 fn verdicts_counted(rt: HostRuntime) -> Result<(), Fail> {
     assert_eq!(rt; first_wrong(&rt, rt.alloc(), &COUNTS), None);
+    Ok(())
+}
+
+#[test]
+fn changes_told(rt: HostRuntime) -> Result<(), Fail> {
+    assert_eq!(rt; first_wrong(&rt, rt.alloc(), &CHANGES), None);
+    Ok(())
+}
+
+#[test]
+fn pictures_drawn(rt: HostRuntime) -> Result<(), Fail> {
+    assert_eq!(rt; first_wrong(&rt, rt.alloc(), &PICTURES), None);
+    Ok(())
+}
+
+#[test]
+fn products_left(rt: HostRuntime) -> Result<(), Fail> {
+    assert_eq!(rt; first_wrong(&rt, rt.alloc(), &PRODUCTS_LEFT), None);
     Ok(())
 }
 

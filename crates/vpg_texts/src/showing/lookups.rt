@@ -16,6 +16,7 @@ use crate::showing::counts::count_over;
 use crate::showing::entries::trail;
 use crate::showing::known::products_over;
 use crate::showing::page::{is_settled, show_over};
+use crate::showing::pictures::draw_over;
 use crate::showing::plans::{PlanFault, plan_over};
 use crate::sights;
 use std::alloc::{AllocError, Global};
@@ -156,6 +157,7 @@ pub fn look_over(
         Lookup::Products => products_over(alloc, games, diagram, out),
         Lookup::Plan => plan_answer(alloc, games, page, game, diagram, out),
         Lookup::Count => count_over(alloc, games, page, game, diagram, out),
+        Lookup::Draw => draw_over(alloc, games, page, game, diagram, out),
         Lookup::Assert(assertion) => {
             assertion_over(alloc, games, page, game, diagram, assertion, out)
         }

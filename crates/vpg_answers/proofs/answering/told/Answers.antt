@@ -24,3 +24,12 @@ returns-in-OfFeature c =
     on_ok c.feature.result _ _
     (λ told. subst (λ (q : Query). Appends (IsAnswer (scene_of order.game order.diagram) c.args.limits q order.decisions order.hopeful order.dual) before after) (sym c.in-OfFeature.is)
     (answers order c.game-order.ensures.order c.args.limits (queries.OfFeature c.in-OfFeature.feature) before after told)) c.feature.ensures
+
+pub returns-in-OfPage : goal.returns-in-OfPage
+returns-in-OfPage c =
+    let order = c.args.order.now in
+    let before = c.args.out.now.items in
+    let after = c.of_page.new.out.items in
+    on_ok c.of_page.result _ _
+    (λ told. subst (λ (q : Query). Appends (IsAnswer (scene_of order.game order.diagram) c.args.limits q order.decisions order.hopeful order.dual) before after) (sym c.in-OfPage.is)
+    (answers order c.game-order.ensures.order c.args.limits (queries.OfPage c.in-OfPage.question) before after told)) c.of_page.ensures

@@ -1,37 +1,36 @@
-use Rattle.vpg_texts.specs.Scene.{scene_of}
 use Rattle.vpg_texts.proofs.Shown.{on_ok}
-use Rattle.vpg_why.specs.declared.question.Aim.TheVariants as aims
-use Rattle.vpg_answers.specs.Room.{SearchEnds}
+use Rattle.vpg_why.specs.Suffices.{IsSettled}
+use Rattle.vpg_why.specs.declared.question.Question.TheVariants as asks
 use Rattle.vpg_answers.proofs.Telling.{listed_below, told_lost, told_unless, told_lost_unsettled, because_explains, because_settled, unless_product, unless_settled, lost_short}
 use Rattle.vpg_answers.proofs.losses.loss.Goals as goal
 
-pub lost-requires : goal.lost-requires
-lost-requires c =
+pub tell-requires-clause-listed : goal.tell-requires-clause-listed
+tell-requires-clause-listed c =
     let order = c.args.order.now in
-    let explains = because_explains order (aims.Won c.args.which c.args.vertex) c.in_ok-found.field-0 c.in-Because.found c.deref.result.now c.in-Because.is c.deref.ensures.value c.in_ok-found.ensures.why in
+    let explains = because_explains order c.args.aim c.in_ok-found.field-0 c.in-Because.found c.deref.result.now c.in-Because.is c.deref.ensures.value c.in_ok-found.ensures.why in
     listed_below order c.names-names.ensures.order c.names-names.result.now c.names-names.ensures.names c.deref.result.now explains.among
 
 pub returns-in-Because : goal.returns-in-Because
 returns-in-Because c =
     let order = c.args.order.now in
-    let explains = because_explains order (aims.Won c.args.which c.args.vertex) c.in_ok-found.field-0 c.in-Because.found c.deref.result.now c.in-Because.is c.deref.ensures.value c.in_ok-found.ensures.why in
-    let settled = because_settled c.in_ok-found.field-0 c.in-Because.found (SearchEnds (scene_of order.game order.diagram) c.args.limits c.args.which) c.in-Because.is c.in_ok-found.ensures.settled in
-    on_ok c.lost.result _ _
-    (λ appended. told_lost order c.names-names.result.now c.names-names.ensures.names c.args.limits c.args.which c.args.vertex c.args.out.now.items c.lost.new.out.items c.identifier-identifier.result c.identifier-identifier.ensures
-    c.deref.result.now c.in-Because.found.exact settled explains appended) c.lost.ensures
+    let explains = because_explains order c.args.aim c.in_ok-found.field-0 c.in-Because.found c.deref.result.now c.in-Because.is c.deref.ensures.value c.in_ok-found.ensures.why in
+    let settled = because_settled c.in_ok-found.field-0 c.in-Because.found (IsSettled order.game order.diagram c.args.limits (asks.Lost c.args.aim)) c.in-Because.is c.in_ok-found.ensures.settled in
+    on_ok c.tell.result _ _
+    (λ appended. told_lost order c.names-names.result.now c.names-names.ensures.names c.args.limits c.args.aim c.args.out.now.items c.tell.new.out.items
+    c.deref.result.now c.in-Because.found.exact settled explains appended) c.tell.ensures
 
 pub returns-in-Unless : goal.returns-in-Unless
 returns-in-Unless c =
     let order = c.args.order.now in
-    let found = unless_product order (aims.Won c.args.which c.args.vertex) c.in_ok-found.field-0 c.in-Unless.example c.deref-in-Unless.result.now c.in-Unless.is c.deref-in-Unless.ensures.value c.in_ok-found.ensures.why in
-    let settled = unless_settled c.in_ok-found.field-0 c.in-Unless.example (SearchEnds (scene_of order.game order.diagram) c.args.limits c.args.which) c.in-Unless.is c.in_ok-found.ensures.settled in
+    let found = unless_product order c.args.aim c.in_ok-found.field-0 c.in-Unless.example c.deref-in-Unless.result.now c.in-Unless.is c.deref-in-Unless.ensures.value c.in_ok-found.ensures.why in
+    let settled = unless_settled c.in_ok-found.field-0 c.in-Unless.example (IsSettled order.game order.diagram c.args.limits (asks.Lost c.args.aim)) c.in-Unless.is c.in_ok-found.ensures.settled in
     on_ok c.product.result _ _
-    (λ appended. told_unless order c.names-names.result.now c.names-names.ensures.names c.args.limits c.args.which c.args.vertex c.args.out.now.items c.product.new.out.items c.deref-in-Unless.result.now
+    (λ appended. told_unless order c.names-names.result.now c.names-names.ensures.names c.args.limits c.args.aim c.args.out.now.items c.product.new.out.items c.deref-in-Unless.result.now
     c.in-Unless.example.first found settled appended) c.product.ensures
 
 pub returns-in-Unsettled : goal.returns-in-Unsettled
 returns-in-Unsettled c =
     let order = c.args.order.now in
-    let short = lost_short c.in_ok-found.field-0 (SearchEnds (scene_of order.game order.diagram) c.args.limits c.args.which) c.in-Unsettled.is c.in_ok-found.ensures.settled in
+    let short = lost_short c.in_ok-found.field-0 (IsSettled order.game order.diagram c.args.limits (asks.Lost c.args.aim)) c.in-Unsettled.is c.in_ok-found.ensures.settled in
     on_ok c.unsettled.result _ _
-    (λ appended. told_lost_unsettled order c.names-names.result.now c.names-names.ensures.names c.args.limits c.args.which c.args.vertex c.args.out.now.items c.unsettled.new.out.items short appended) c.unsettled.ensures
+    (λ appended. told_lost_unsettled order c.names-names.result.now c.names-names.ensures.names c.args.limits c.args.aim c.args.out.now.items c.unsettled.new.out.items short appended) c.unsettled.ensures

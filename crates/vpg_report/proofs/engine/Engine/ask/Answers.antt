@@ -20,7 +20,7 @@ answer-requires g c =
 pub returns-in-Err : goal.returns-in-Err
 returns-in-Err g c =
     let e = c.self.inside in
-    let old = engine_in e.client e.undos.items e.redos.items e.harvests.items in
+    let old = engine_in e.client e.undos.items e.redos.items e.harvests.items e.seen.items in
     on_same_view c.missing.result _ old _ _ _ _ c.self.view_is
     (λ told. missing_answers old c.args.session c.deref.result.now c.deref-2.result.now (c.deref.ensures ∙ c.self.invariant.game) (c.deref-2.ensures ∙ c.self.invariant.diagram) (inquiry_shown c.args.inquiry)
     (own_of c.in-Err.what) c.args.out.now.items _ c.in-Err.ensures.query told) c.missing.ensures
@@ -28,7 +28,7 @@ returns-in-Err g c =
 pub returns-in-Err-order : goal.returns-in-Err-order
 returns-in-Err-order g c =
     let e = c.self.inside in
-    let old = engine_in e.client e.undos.items e.redos.items e.harvests.items in
+    let old = engine_in e.client e.undos.items e.redos.items e.harvests.items e.seen.items in
     let first = ap order_or (here old c.args.session c.deref.result.now c.deref-2.result.now (c.deref.ensures ∙ c.self.invariant.game) (c.deref-2.ensures ∙ c.self.invariant.diagram) (inquiry_shown c.args.inquiry)
     (Ok c.in-Ok.query) c.in-Ok.ensures.query) in
     on_view c.unanswered.result _ old _ _ _ _ _ c.self.view_is
@@ -38,7 +38,7 @@ returns-in-Err-order g c =
 pub returns : goal.returns
 returns g c =
     let e = c.self.inside in
-    let old = engine_in e.client e.undos.items e.redos.items e.harvests.items in
+    let old = engine_in e.client e.undos.items e.redos.items e.harvests.items e.seen.items in
     on_view {E = ServeFault} (Ok tt) _ old _ _ _ _ _ c.self.view_is
     (λ told. ask_answers old c.args.session c.deref.result.now c.deref-2.result.now (c.deref.ensures ∙ c.self.invariant.game) (c.deref-2.ensures ∙ c.self.invariant.diagram) (inquiry_shown c.args.inquiry)
     g.L.Terms.limit c.self.invariant.room_is _ c.in-Ok.query c.in-Ok-order.order c.args.out.now.items _ c.in-Ok.ensures.query c.in-Ok-order.ensures.accepted c.in-Ok-order.ensures.ours refl told) c.in_ok-answer.ensures

@@ -17,8 +17,8 @@ use Rattle.vpg_report.proofs.engine.Engine.commit.Goals as goal
 pub returns-in_default : goal.returns-in_default
 returns-in_default g c =
     let e = c.self.inside in
-    let old = engine_in e.client e.undos.items e.redos.items e.harvests.items in
-    let with : List (Option HarvestView) → EngineState = λ hs. engine_in e.client e.undos.items e.redos.items hs in
+    let old = engine_in e.client e.undos.items e.redos.items e.harvests.items e.seen.items in
+    let with : List (Option HarvestView) → EngineState = λ hs. engine_in e.client e.undos.items e.redos.items hs e.seen.items in
     on_view c.refused.result _ old _ _ _ _ _ c.self.view_is
     (λ told. subst (λ (hs : List (Option HarvestView)). AnswersTo old (record { label = c.args.session; command = script.Commit c.args.number }) c.args.out.now.items c.refused.new.out.items (with hs))
     (sym c.in_default.ensures.none) (commit_unknown old c.args.session c.args.number e.harvests.items refl c.args.out.now.items _ c.in_default.ensures.kept told)) c.refused.ensures
@@ -50,9 +50,9 @@ commit_refused-requires g c = λ f is.
 pub returns-in-Ok : goal.returns-in-Ok
 returns-in-Ok g c =
     let e = c.self.inside in
-    let old = engine_in e.client e.undos.items e.redos.items e.harvests.items in
+    let old = engine_in e.client e.undos.items e.redos.items e.harvests.items e.seen.items in
     let hs = e.harvests.items in
-    let holds : List (Option Harvest) → Held = λ kept. record { undos = old.held.undos; redos = old.held.redos; harvests = kept } in
+    let holds : List (Option Harvest) → Held = λ kept. record { undos = old.held.undos; redos = old.held.redos; harvests = kept; seen = old.held.seen } in
     on_view c.numbered.result _ old _ _ _ _ _ c.self.view_is
     (λ told. committed old c.args.session c.args.number hs refl c.args.out.now.items _ g.L.Terms.limit c.self.invariant.room_is _ c.in-Some.harvest c.in-Some.ensures.kept c.in-Ok.added c.in-Ok.ensures.accepted
     (ap holds (ap harvests_of c.in-Some.ensures.gone ∙ gone_seen (handed_in true) hs (c.args.number - 1))) told) c.numbered.ensures
@@ -60,11 +60,11 @@ returns-in-Ok g c =
 pub returns-in-Err : goal.returns-in-Err
 returns-in-Err g c =
     let e = c.self.inside in
-    let old = engine_in e.client e.undos.items e.redos.items e.harvests.items in
+    let old = engine_in e.client e.undos.items e.redos.items e.harvests.items e.seen.items in
     let hs = e.harvests.items in
     let harvest = c.in-Some.harvest in
     let own = own_kept e.client.desk.game e.client.desk.diagram hs c.args.number harvest c.self.invariant.harvests c.in-Some.ensures.kept in
-    let holds : List (Option HarvestView) → Held = λ kept. record { undos = old.held.undos; redos = old.held.redos; harvests = harvests_of kept } in
+    let holds : List (Option HarvestView) → Held = λ kept. record { undos = old.held.undos; redos = old.held.redos; harvests = harvests_of kept; seen = old.held.seen } in
     let again = returned_again hs c.args.number harvest c.in-Err.field-0.fault c.in-Err.field-0.value c.take_harvest.new.harvests.items c.return_harvest.new.harvests.items
     c.in-Some.ensures.kept c.in-Some.ensures.gone c.in-Err.ensures.back c.return_harvest.ensures.back in
     on_view c.commit_refused.result _ old _ _ _ _ _ c.self.view_is

@@ -29,10 +29,10 @@ invariant_of-self-in-Err g c =
 pub returns-in-Ok : goal.returns-in-Ok
 returns-in-Ok g c =
     let e = c.self.inside in
-    let old = engine_in e.client e.undos.items e.redos.items e.harvests.items in
+    let old = engine_in e.client e.undos.items e.redos.items e.harvests.items e.seen.items in
     let found : index_of old.client.desk.diagram.names c.args.name.now ≡ Some c.in-Some.feature =
     ap (λ (s : EngineState). index_of s.client.desk.diagram.names c.args.name.now) c.self.view_is ∙ ap (λ (ns : List (List ℕ)). index_of ns c.args.name.now) (sym c.names.ensures) ∙ sym c.get.ensures.index ∙ c.in-Some.is in
-    let holds : List ℕ → Held = λ undos. record { undos = undos; redos = old.held.redos; harvests = old.held.harvests } in
+    let holds : List ℕ → Held = λ undos. record { undos = undos; redos = old.held.redos; harvests = old.held.harvests; seen = old.held.seen } in
     on_view c.hold_undo.result _ old _ _ _ _ _ c.self.view_is
     (λ told. decided old c.args.session c.args.name.now g.L.Terms.limit c.self.invariant.room_is _ c.in-Some.feature c.args.out.now.items _ found c.args.value c.in-Ok.undo.serial c.in-Ok.ensures.accepted
     (ap holds (c.hold_undo.ensures.held ∙ ap (λ (tokens : List Token). serials tokens ++ c.in-Ok.undo.serial ∷ []) c.reserve.ensures.items)) told) c.hold_undo.ensures.told
@@ -40,10 +40,10 @@ returns-in-Ok g c =
 pub returns-in-Err : goal.returns-in-Err
 returns-in-Err g c =
     let e = c.self.inside in
-    let old = engine_in e.client e.undos.items e.redos.items e.harvests.items in
+    let old = engine_in e.client e.undos.items e.redos.items e.harvests.items e.seen.items in
     let found : index_of old.client.desk.diagram.names c.args.name.now ≡ Some c.in-Some.feature =
     ap (λ (s : EngineState). index_of s.client.desk.diagram.names c.args.name.now) c.self.view_is ∙ ap (λ (ns : List (List ℕ)). index_of ns c.args.name.now) (sym c.names.ensures) ∙ sym c.get.ensures.index ∙ c.in-Some.is in
-    let holds : List ℕ → Held = λ undos. record { undos = undos; redos = old.held.redos; harvests = old.held.harvests } in
+    let holds : List ℕ → Held = λ undos. record { undos = undos; redos = old.held.redos; harvests = old.held.harvests; seen = old.held.seen } in
     let value = c.in-Err.field-0.value in
     let stays_held = unless_stray c.in-Err.field-0.fault _ _ c.in-Err.ensures.back
     (λ none. ap holds (ap serials (subst (λ (v : Option Token). IfNone v (c.hold_strayed.new.undos.items ≡ c.reserve.new.self.items)) none c.hold_strayed.ensures ∙ c.reserve.ensures.items))) in
@@ -54,7 +54,7 @@ returns-in-Err g c =
 pub returns-in_default : goal.returns-in_default
 returns-in_default g c =
     let e = c.self.inside in
-    let old = engine_in e.client e.undos.items e.redos.items e.harvests.items in
+    let old = engine_in e.client e.undos.items e.redos.items e.harvests.items e.seen.items in
     let none : index_of old.client.desk.diagram.names c.args.name.now ≡ None =
     ap (λ (s : EngineState). index_of s.client.desk.diagram.names c.args.name.now) c.self.view_is ∙ ap (λ (ns : List (List ℕ)). index_of ns c.args.name.now) (sym c.names.ensures) ∙ sym c.in_default.ensures.index in
     on_same_view c.refused.result _ old _ _ _ _ c.self.view_is

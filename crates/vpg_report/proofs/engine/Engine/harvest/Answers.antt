@@ -33,8 +33,8 @@ invariant_of-self-2 g c =
 pub returns-in-Err : goal.returns-in-Err
 returns-in-Err g c =
     let e = c.self.inside in
-    let old = engine_in e.client e.undos.items e.redos.items e.harvests.items in
-    let holds : List (Option Harvest) → Held = λ hs. record { undos = old.held.undos; redos = old.held.redos; harvests = hs } in
+    let old = engine_in e.client e.undos.items e.redos.items e.harvests.items e.seen.items in
+    let holds : List (Option Harvest) → Held = λ hs. record { undos = old.held.undos; redos = old.held.redos; harvests = hs; seen = old.held.seen } in
     on_view_by c.unanswered.result _ old _ _ _ _ _ _ c.self.view_is
     (λ told. harvest_none g.L.Terms.limit c.self.invariant.room_is c.args.session never_refused old _ c.args.lifters c.in-Err.fault c.args.out.now.items _ c.in-Err.ensures.fault (ap holds (ap harvests_of c.reserve.ensures.items)) told.0 told.1)
     (both_on c.unanswered.result _ _ c.unanswered.ensures.full c.unanswered.ensures.told)
@@ -42,10 +42,10 @@ returns-in-Err g c =
 pub returns : goal.returns
 returns g c =
     let e = c.self.inside in
-    let old = engine_in e.client e.undos.items e.redos.items e.harvests.items in
+    let old = engine_in e.client e.undos.items e.redos.items e.harvests.items e.seen.items in
     let harvest = c.swept-harvest.result.harvest in
     let kept = c.push_reserved.ensures.items ∙ ap (λ (hs : List (Option HarvestView)). hs ++ Some harvest ∷ []) c.reserve.ensures.items in
-    let holds : List (Option Harvest) → Held = λ hs. record { undos = old.held.undos; redos = old.held.redos; harvests = hs } in
+    let holds : List (Option Harvest) → Held = λ hs. record { undos = old.held.undos; redos = old.held.redos; harvests = hs; seen = old.held.seen } in
     let counted : c.len.result ≡ length old.held.harvests + 1 =
     omega (arith, c.len.ensures, c.push_reserved.ensures.len, c.reserve.ensures.len, e.harvests.ok.0, length-map e.harvests.items (λ (h : Option HarvestView). option_map (handed_in true) h)) in
     on_view_by c.numbered.result _ old _ _ _ _ _ _ c.self.view_is

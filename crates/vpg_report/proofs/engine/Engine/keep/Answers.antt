@@ -26,12 +26,12 @@ invariant_of-self-in-Err g c =
 pub returns-in-Ok : goal.returns-in-Ok
 returns-in-Ok g c =
     let e = c.self.inside in
-    let old = engine_in e.client e.undos.items e.redos.items e.harvests.items in
+    let old = engine_in e.client e.undos.items e.redos.items e.harvests.items e.seen.items in
     let tokens = e.undos.items in
     let at = subst (λ (ts : List Token). IsPlaceOf (undo_meant (serials ts) (Some c.args.serial)) (serials ts) (Some c.in-Some.place)) c.deref.ensures.value c.in-Some.ensures in
     let here : Stands at.0 c.in-Some.place (serials tokens) = stands at.0 c.in-Some.place (serials tokens) at.1.1 in
     let token = c.remove-token.result in
-    let holds : List ℕ → Held = λ ns. record { undos = ns; redos = old.held.redos; harvests = old.held.harvests } in
+    let holds : List ℕ → Held = λ ns. record { undos = ns; redos = old.held.redos; harvests = old.held.harvests; seen = old.held.seen } in
     on_view c.numbered.result _ old _ _ _ _ _ c.self.view_is
     (λ told. kept g.L.Terms.limit c.self.invariant.room_is old _ c.args.session at.0 c.in-Some.place token.serial c.args.out.now.items _ c.args.serial at.1.0 here
     (serial_at tokens c.in-Some.place token token c.remove-token.ensures.value token.serial refl) c.in-Ok.ensures.accepted
@@ -40,12 +40,12 @@ returns-in-Ok g c =
 pub returns-in-Err : goal.returns-in-Err
 returns-in-Err g c =
     let e = c.self.inside in
-    let old = engine_in e.client e.undos.items e.redos.items e.harvests.items in
+    let old = engine_in e.client e.undos.items e.redos.items e.harvests.items e.seen.items in
     let tokens = e.undos.items in
     let at = subst (λ (ts : List Token). IsPlaceOf (undo_meant (serials ts) (Some c.args.serial)) (serials ts) (Some c.in-Some.place)) c.deref.ensures.value c.in-Some.ensures in
     let here : Stands at.0 c.in-Some.place (serials tokens) = stands at.0 c.in-Some.place (serials tokens) at.1.1 in
     let token = c.remove-token.result in
-    let holds : List ℕ → Held = λ ns. record { undos = ns; redos = old.held.redos; harvests = old.held.harvests } in
+    let holds : List ℕ → Held = λ ns. record { undos = ns; redos = old.held.redos; harvests = old.held.harvests; seen = old.held.seen } in
     let meant = ap (λ (x : Option ℕ). call_or NoToken Keep x) (at.1.0 ∙ ap Some (sym (serial_at tokens c.in-Some.place token token c.remove-token.ensures.value token.serial refl ∙ here.serial token.serial))) in
     let stays_held = unless_stray c.in-Err.field-0.fault _ _ c.in-Err.ensures.back
     (λ back.

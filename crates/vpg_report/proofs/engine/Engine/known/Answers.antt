@@ -20,7 +20,7 @@ page_or found = call_or NoFeature (λ f. Page) found
 pub returns-in_default : goal.returns-in_default
 returns-in_default g c =
     let e = c.self.inside in
-    let old = engine_in e.client e.undos.items e.redos.items e.harvests.items in
+    let old = engine_in e.client e.undos.items e.redos.items e.harvests.items e.seen.items in
     let none : index_of old.client.desk.diagram.names c.args.name.now ≡ None =
     ap (λ (s : EngineState). index_of s.client.desk.diagram.names c.args.name.now) c.self.view_is ∙ ap (λ (ns : List (List ℕ)). index_of ns c.args.name.now) (sym c.names.ensures) ∙ sym c.in_default.ensures.index in
     on_same_view c.refused.result _ old _ _ _ _ c.self.view_is
@@ -41,7 +41,7 @@ put_known_over-requires-clause-feature g c =
 pub returns : goal.returns
 returns g c =
     let e = c.self.inside in
-    let old = engine_in e.client e.undos.items e.redos.items e.harvests.items in
+    let old = engine_in e.client e.undos.items e.redos.items e.harvests.items e.seen.items in
     let desk = e.client.desk in
     let diagram_is = c.deref-2.ensures ∙ c.self.invariant.diagram in
     let are = games_are desk _ c.deref.result.now c.in-Ok.ensures.games c.deref.ensures desk.game c.deref-2.result.now c.in-Ok.both.0.decisions refl diagram_is c.in-Ok.ensures.decisions in
@@ -52,7 +52,7 @@ returns g c =
 pub returns-in-Err : goal.returns-in-Err
 returns-in-Err g c =
     let e = c.self.inside in
-    let old = engine_in e.client e.undos.items e.redos.items e.harvests.items in
+    let old = engine_in e.client e.undos.items e.redos.items e.harvests.items e.seen.items in
     let found : index_of old.client.desk.diagram.names c.args.name.now ≡ Some c.in-Some.feature =
     ap (λ (s : EngineState). index_of s.client.desk.diagram.names c.args.name.now) c.self.view_is ∙ ap (λ (ns : List (List ℕ)). index_of ns c.args.name.now) (sym c.names.ensures) ∙ sym c.get.ensures.index ∙ c.in-Some.is in
     on_view c.unanswered.result _ old _ _ _ _ _ c.self.view_is

@@ -22,7 +22,7 @@ place_in identifier game = position (λ n. n == identifier) (vertex_ids game.ver
 pub returns-in_default : goal.returns-in_default
 returns-in_default g c =
     let e = c.self.inside in
-    let old = engine_in e.client e.undos.items e.redos.items e.harvests.items in
+    let old = engine_in e.client e.undos.items e.redos.items e.harvests.items e.seen.items in
     let ids = vertex_ids c.deref.result.now.vertices in
     let none = subst (λ (g : NamedGame). place_in c.args.identifier g ≡ None) (c.deref.ensures ∙ c.self.invariant.game) (vertex_found ids c.args.identifier None tt c.in_default.ensures.held) in
     on_same_view c.refused.result _ old _ _ _ _ c.self.view_is
@@ -55,7 +55,7 @@ invariant_of-self-in-Err-commit_own g c =
 pub returns-in-Err : goal.returns-in-Err
 returns-in-Err g c =
     let e = c.self.inside in
-    let old = engine_in e.client e.undos.items e.redos.items e.harvests.items in
+    let old = engine_in e.client e.undos.items e.redos.items e.harvests.items e.seen.items in
     let ids = vertex_ids c.deref.result.now.vertices in
     let here = subst (λ (g : NamedGame). place_in c.args.identifier g ≡ Some c.in-Some.v) (c.deref.ensures ∙ c.self.invariant.game)
     (vertex_found ids c.args.identifier (Some c.in-Some.v) c.in-Some.ensures.found c.in-Some.ensures.held) in
@@ -66,7 +66,7 @@ returns-in-Err g c =
 pub returns-in-Err-commit_own : goal.returns-in-Err-commit_own
 returns-in-Err-commit_own g c =
     let e = c.self.inside in
-    let old = engine_in e.client e.undos.items e.redos.items e.harvests.items in
+    let old = engine_in e.client e.undos.items e.redos.items e.harvests.items e.seen.items in
     let order = c.in-Ok.order in
     let ids = vertex_ids c.deref.result.now.vertices in
     let here = subst (λ (g : NamedGame). place_in c.args.identifier g ≡ Some c.in-Some.v) (c.deref.ensures ∙ c.self.invariant.game)
@@ -81,7 +81,7 @@ returns-in-Err-commit_own g c =
 pub returns : goal.returns
 returns g c =
     let e = c.self.inside in
-    let old = engine_in e.client e.undos.items e.redos.items e.harvests.items in
+    let old = engine_in e.client e.undos.items e.redos.items e.harvests.items e.seen.items in
     let order = c.in-Ok.order in
     let ids = vertex_ids c.deref.result.now.vertices in
     let here = subst (λ (g : NamedGame). place_in c.args.identifier g ≡ Some c.in-Some.v) (c.deref.ensures ∙ c.self.invariant.game)

@@ -45,7 +45,7 @@ look_over-requires-clause-dual_within g c =
 pub returns-then-not-has_vertices : goal.returns-then-not-has_vertices
 returns-then-not-has_vertices g c =
     let e = c.self.inside in
-    let old = engine_in e.client e.undos.items e.redos.items e.harvests.items in
+    let old = engine_in e.client e.undos.items e.redos.items e.harvests.items e.seen.items in
     on_same_view c.missing.result _ old _ _ _ _ c.self.view_is
     (λ told. missing_vertex old c.args.session (lookup_shown c.args.lookup.now) c.deref.result.now c.args.out.now.items _ (c.deref.ensures ∙ c.self.invariant.game)
     (cc (c.has_vertices.ensures, c.if-not-has_vertices.true)) told) c.missing.ensures
@@ -53,7 +53,7 @@ returns-then-not-has_vertices g c =
 pub returns : goal.returns
 returns g c =
     let e = c.self.inside in
-    let old = engine_in e.client e.undos.items e.redos.items e.harvests.items in
+    let old = engine_in e.client e.undos.items e.redos.items e.harvests.items e.seen.items in
     on_view {E = ServeFault} (Ok tt) _ old _ _ _ _ _ c.self.view_is
     (λ told. look_answers g.L.Terms.limit c.self.invariant.room_is old _ c.args.session c.deref-3.result.now c.deref-4.result.now c.args.out.now.items _ (c.deref-3.ensures ∙ c.self.invariant.game) (c.deref-4.ensures ∙ c.self.invariant.diagram)
     c.in-Ok.both.0.entries c.in-Ok.ensures.accepted refl c.in-Ok.both.0.decisions c.in-Ok.ensures.decisions c.in-Ok.both.0.hopeful c.in-Ok.both.0.dual c.in-Ok.ensures.hopeful c.in-Ok.ensures.dual (lookup_shown c.args.lookup.now)
@@ -62,7 +62,7 @@ returns g c =
 pub returns-in-Err : goal.returns-in-Err
 returns-in-Err g c =
     let e = c.self.inside in
-    let old = engine_in e.client e.undos.items e.redos.items e.harvests.items in
+    let old = engine_in e.client e.undos.items e.redos.items e.harvests.items e.seen.items in
     let first = looks old (lookup_shown c.args.lookup.now) c.deref.result.now (c.deref.ensures ∙ c.self.invariant.game) (cc (c.has_vertices.ensures, c.if-not-has_vertices.false)) in
     on_view c.unanswered.result _ old _ _ _ _ _ c.self.view_is
     (λ told. log_full g.L.Terms.limit c.self.invariant.room_is c.args.session never_refused old _ (script.Look (lookup_shown c.args.lookup.now)) Page c.in-Err.fault c.args.out.now.items _ first c.in-Err.ensures.fault (unless_stray_any c.in-Err.fault _ refl) told.0 told.1)

@@ -29,7 +29,7 @@ invariant_of-self-in-Err-commit_own g c =
 pub returns-in-Err : goal.returns-in-Err
 returns-in-Err g c =
     let e = c.self.inside in
-    let old = engine_in e.client e.undos.items e.redos.items e.harvests.items in
+    let old = engine_in e.client e.undos.items e.redos.items e.harvests.items e.seen.items in
     on_view_by c.unanswered.result _ old _ _ _ _ _ _ c.self.view_is
     (λ told. first_full g.L.Terms.limit c.self.invariant.room_is c.args.session never_refused old _ c.args.lifters c.args.sweeps c.in-Err.fault c.args.out.now.items _ c.in-Err.ensures.fault refl told.0 told.1)
     (both_on c.unanswered.result _ _ c.unanswered.ensures.full c.unanswered.ensures.told)
@@ -37,7 +37,7 @@ returns-in-Err g c =
 pub returns-in-Err-commit_own : goal.returns-in-Err-commit_own
 returns-in-Err-commit_own g c =
     let e = c.self.inside in
-    let old = engine_in e.client e.undos.items e.redos.items e.harvests.items in
+    let old = engine_in e.client e.undos.items e.redos.items e.harvests.items e.seen.items in
     let order = c.in-Ok.order in
     let harvest = c.swept-harvest.result.harvest in
     let given = c.unwrap_or.ensures ∙ rounds_given c.args.sweeps in
@@ -53,7 +53,7 @@ returns-in-Err-commit_own g c =
 pub returns-in-Err-settled : goal.returns-in-Err-settled
 returns-in-Err-settled g c =
     let e = c.self.inside in
-    let old = engine_in e.client e.undos.items e.redos.items e.harvests.items in
+    let old = engine_in e.client e.undos.items e.redos.items e.harvests.items e.seen.items in
     let order = c.in-Ok.order in
     let harvest = c.swept-harvest.result.harvest in
     let given = c.unwrap_or.ensures ∙ rounds_given c.args.sweeps in
@@ -69,7 +69,7 @@ returns-in-Err-settled g c =
 pub returns : goal.returns
 returns g c =
     let e = c.self.inside in
-    let old = engine_in e.client e.undos.items e.redos.items e.harvests.items in
+    let old = engine_in e.client e.undos.items e.redos.items e.harvests.items e.seen.items in
     let order = c.in-Ok.order in
     let harvest = c.swept-harvest.result.harvest in
     let given = c.unwrap_or.ensures ∙ rounds_given c.args.sweeps in

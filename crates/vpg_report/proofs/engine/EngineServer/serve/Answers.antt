@@ -65,6 +65,12 @@ returns-in-Look-clause-answer g c =
     served c.look.result c.args.self.now c.look.new.self c.args.lifters (asks (script.Look (lookup_shown c.in-Look.lookup))) (request_shown c.args.request.now) c.args.out.now.items c.look.new.out.items
     (ap (λ command. asks (command_shown command)) (sym c.in-Look.is)) (λ calls held. tt) c.look.ensures
 
+pub returns-in-Changed-clause-answer : goal.returns-in-Changed-clause-answer
+returns-in-Changed-clause-answer g c =
+    let asks : script.Command → Request = λ command. record { label = c.args.request.now.label; command = command } in
+    served c.changed.result c.args.self.now c.changed.new.self c.args.lifters (asks script.Changed) (request_shown c.args.request.now) c.args.out.now.items c.changed.new.out.items
+    (ap (λ command. asks (command_shown command)) (sym c.in-Changed.is)) (λ calls held. tt) c.changed.ensures
+
 pub returns-in-Known-clause-answer : goal.returns-in-Known-clause-answer
 returns-in-Known-clause-answer g c =
     let asks : script.Command → Request = λ command. record { label = c.args.request.now.label; command = command } in

@@ -37,3 +37,9 @@ returns-in-Vertices-clause-seen c =
     seen_as (scene_of c.args.game.now c.args.diagram.now) page.entries page.decisions page.hopeful page.dual c.vertices_over.result c.args.out.now.items c.vertices_over.new.out.items (script.Vertices c.in-Vertices.vs.items) (lookup_shown c.args.lookup.now)
     (ap lookup_shown (sym c.in-Vertices.is))
     (named_seen c.args.game.now c.args.diagram.now page.entries page.decisions page.hopeful page.dual c.args.games.now c.requires.games c.vertices_over.result c.args.out.now.items c.vertices_over.new.out.items c.deref.result.now c.in-Vertices.vs.items c.deref.ensures.value c.vertices_over.ensures.named)
+
+pub returns-in-Draw-clause-seen : goal.returns-in-Draw-clause-seen
+returns-in-Draw-clause-seen c =
+    let page = c.args.page.now in
+    seen_as (scene_of c.args.game.now c.args.diagram.now) page.entries page.decisions page.hopeful page.dual c.draw_over.result c.args.out.now.items c.draw_over.new.out.items script.Draw (lookup_shown c.args.lookup.now)
+    (ap lookup_shown (sym c.in-Draw.is)) c.draw_over.ensures.drawn

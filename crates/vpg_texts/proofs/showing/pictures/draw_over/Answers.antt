@@ -1,0 +1,22 @@
+use Rattle.std.proofs.Common.{◌≡◌, List, ◌<◌, sym, ◌∙◌, subst}
+use Rattle.std.specs.Prelude.{All}
+use Rattle.vpg_partial.specs.declared.decision.Decision.{Decision}
+use Rattle.vpg_texts.proofs.Pictured.{draws, verdict_each}
+use Rattle.vpg_texts.proofs.Shown.{named_below}
+use Rattle.vpg_texts.proofs.showing.pictures.draw_over.Goals as goal
+
+pub draw_game-requires-clause-decisions : goal.draw_game-requires-clause-decisions
+draw_game-requires-clause-decisions c =
+    subst (λ (ds : List Decision). All (λ d. d.feature < c.args.game.now.features) ds) (sym c.as_slice.ensures)
+    (named_below c.args.diagram.now.lines c.args.game.now.features c.args.page.now.decisions c.requires.named c.requires.features)
+
+pub draw_game-requires-clause-verdicts : goal.draw_game-requires-clause-verdicts
+draw_game-requires-clause-verdicts c =
+    verdict_each c.args.game.now c.args.page.now.hopeful c.args.page.now.dual c.deref.result.now (c.deref.ensures.value ∙ c.in_ok-verdicts.ensures)
+
+pub returns-clause-drawn : goal.returns-clause-drawn
+returns-clause-drawn c =
+    let page = c.args.page.now in
+    draws c.args.game.now c.args.diagram.now page.decisions c.args.games.now c.requires.games c.requires.features page.hopeful page.dual
+    c.draw_game.result c.args.out.now.items c.draw_game.new.out.items c.names-2.result.now c.known.result.now c.as_slice.result.now c.none-names.result.names c.deref.result.now
+    c.names-2.ensures.names c.known.ensures c.as_slice.ensures c.none-names.ensures.names (c.deref.ensures.value ∙ c.in_ok-verdicts.ensures) c.draw_game.ensures.drawn

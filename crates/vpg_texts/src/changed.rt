@@ -1,0 +1,133 @@
+//! The verdicts of a page's vertices, and the lines of those that are other than they were.
+ghost use Rattle.std.specs.Prelude.{◌≡◌, ◌++◌, ◌<◌, length, slice_index, IfOk, OnOk};
+ghost use Rattle.vpg_game.specs.Game.{vertex_ids};
+ghost use Rattle.vpg_game.specs.Levels.{top_of};
+ghost use Rattle.vpg_texts.specs.Changed.{change_count, change_line, change_lines, changed_text, same_verdicts, seen_at, sure_word, verdict_of, verdict_words, verdicts_below};
+
+use crate::text::{count_line, hopeless, identifier, number};
+use std::alloc::{AllocError, Global};
+use vpg_game::GuardedGame;
+use vpg_measure::{PageGames, Table, Verdict, Which};
+
+/// Each vertex of the opening page is possible and unsure.
+const UNSEEN: Verdict = Verdict {
+    hopeless: false,
+    sure: false,
+};
+
+/// What two tables say of a vertex.
+fn verdict(games: &PageGames, hopeful: &Table, dual: &Table, v: u32) -> Verdict
+    requires hopeful { v < length hopeful.now }
+    requires dual { v < length dual.now }
+    ensures { result ≡ verdict_of (top_of games.now.hopeful_levels) (top_of games.now.dual_levels)
+        (slice_index hopeful.now v) (slice_index dual.now v) }
+{
+    Verdict {
+        hopeless: hopeful.get(v) == games.shape(Which::Hopeful).top(),
+        sure: dual.get(v) == games.shape(Which::Dual).top(),
+    }
+}
+
+/// What two tables say of each vertex.
+pub(crate) fn verdicts(
+    alloc: Global,
+    games: &PageGames,
+    game: &GuardedGame,
+    hopeful: &Table,
+    dual: &Table,
+) -> Result<Vec<Verdict>, AllocError>
+    requires hopeful { length hopeful.now ≡ length game.now.vertices }
+    requires dual { length dual.now ≡ length game.now.vertices }
+    ensures { IfOk result (λ verdicts. verdicts.items
+        ≡ verdicts_below (top_of games.now.hopeful_levels) (top_of games.now.dual_levels) hopeful.now dual.now
+        (length game.now.vertices)) }
+{
+    let count = game.vertices() as u32;
+    let mut verdicts = Vec::with_capacity(alloc, count as usize)?;
+    for v in 0..count {
+        verdicts.push(verdict(games, hopeful, dual, v))?;
+    }
+    Ok(verdicts)
+}
+
+/// What was seen of a vertex; where nothing was, as it is on the opening page.
+fn seen_at(seen: &[Verdict], v: u32) -> Verdict
+    ensures { result ≡ seen_at seen.now v }
+{
+    match seen.get(v as usize) {
+        Some(verdict) => *verdict,
+        None => UNSEEN,
+    }
+}
+
+fn same(before: Verdict, now: Verdict) -> bool
+    ensures { result ≡ same_verdicts before now }
+{
+    before.hopeless == now.hopeless && before.sure == now.sure
+}
+
+fn sure_word(sure: bool, out: &mut Vec<u8>) -> Result<(), AllocError>
+    ensures { OnOk result (out.new.items ≡ out.old.items ++ sure_word sure) }
+{
+    if sure {
+        out.extend_from_slice(b" sure")
+    } else {
+        out.extend_from_slice(b" unsure")
+    }
+}
+
+fn words(verdict: Verdict, out: &mut Vec<u8>) -> Result<(), AllocError>
+    ensures { OnOk result (out.new.items ≡ out.old.items ++ verdict_words verdict) }
+{
+    hopeless(verdict.hopeless, out)?;
+    sure_word(verdict.sure, out)
+}
+
+/// The line of a vertex: its identifier, what was seen of it, and its verdicts now.
+fn change(id: u32, before: Verdict, now: Verdict, out: &mut Vec<u8>) -> Result<(), AllocError>
+    ensures { OnOk result (out.new.items ≡ out.old.items ++ change_line id before now) }
+{
+    number(id as u64, out)?;
+    words(before, out)?;
+    words(now, out)?;
+    out.push(b'\n')?;
+    Ok(())
+}
+
+/// The lines of the vertices whose verdicts are other than what was seen; how many they are.
+fn changes(
+    game: &GuardedGame,
+    seen: &[Verdict],
+    present: &[Verdict],
+    out: &mut Vec<u8>,
+) -> Result<usize, AllocError>
+    ensures count { IfOk result (λ n. n ≡ change_count seen.now present.now (length game.now.vertices)) }
+    ensures lines { IfOk result (λ _. out.new.items ≡ out.old.items
+        ++ change_lines (vertex_ids game.now.vertices) seen.now present.now (length game.now.vertices)) }
+{
+    let count = game.vertices() as u32;
+    let mut changed = 0;
+    for v in 0..count {
+        let before = seen_at(seen, v);
+        let verdict = seen_at(present, v);
+        if !same(before, verdict) {
+            change(identifier(game, v), before, verdict, out)?;
+            changed += 1;
+        }
+    }
+    Ok(changed)
+}
+
+/// A line for each vertex whose verdicts are other than what was seen, and their number.
+pub(crate) fn changed(
+    game: &GuardedGame,
+    seen: &[Verdict],
+    present: &[Verdict],
+    out: &mut Vec<u8>,
+) -> Result<(), AllocError>
+    ensures { OnOk result (out.new.items ≡ out.old.items
+        ++ changed_text (vertex_ids game.now.vertices) seen.now present.now) }
+{
+    let count = changes(game, seen, present, out)?;
+    count_line(b"changed", count, out)
+}

@@ -1,0 +1,48 @@
+//! The verdicts of a page, and the text of those that are other than they were.
+ghost use Rattle.std.specs.Prelude.{◌≡◌, ◌++◌, length, IfOk, OnOk, OnErr};
+ghost use Rattle.vpg_game.specs.Game.{graph_of, vertex_ids};
+ghost use Rattle.vpg_measure.specs.Games.{games_levels};
+ghost use Rattle.vpg_measure.specs.TwoGames.{levels_for};
+ghost use Rattle.vpg_texts.specs.Changed.{changed_text, verdicts_by};
+
+use crate::changed;
+use std::alloc::{AllocError, Global};
+use vpg_game::GuardedGame;
+use vpg_measure::{PageGames, Verdict, Which};
+use vpg_trail::Page;
+
+/// What a page's tables say of each vertex, in file order. The tables have one number for each vertex, and the games
+/// are those of this game: no guard and no edge is looked at.
+pub fn verdicts_over(
+    alloc: Global,
+    games: &PageGames,
+    page: &Page,
+    game: &GuardedGame,
+) -> Result<Vec<Verdict>, AllocError>
+    requires levels { (which : Which) → games_levels which games.now ≡ levels_for which (graph_of game.now) }
+    requires hopeful { length page.now.hopeful ≡ length game.now.vertices }
+    requires dual { length page.now.dual ≡ length game.now.vertices }
+    ensures { IfOk result (λ verdicts.
+        verdicts.items ≡ verdicts_by (graph_of game.now) page.now.hopeful page.now.dual) }
+{
+    changed::verdicts(alloc, games, game, &page.hopeful, &page.dual)
+}
+
+/// Appends a line for each vertex whose present verdicts are other than what was seen of it, in file order: its
+/// identifier, what was seen, and its present verdicts. Then their number. A vertex of which nothing was seen is taken
+/// to be possible and unsure, as on the opening page.
+pub fn put_changed(
+    alloc: Global,
+    game: &GuardedGame,
+    seen: &[Verdict],
+    present: &[Verdict],
+    out: &mut Vec<u8>,
+) -> Result<(), AllocError>
+    ensures changed { OnOk result
+        (out.new.items ≡ out.old.items ++ changed_text (vertex_ids game.now.vertices) seen.now present.now) }
+    ensures unchanged { OnErr result (out.new.items ≡ out.old.items) }
+{
+    let mut text = Vec::new(alloc);
+    changed::changed(game, seen, present, &mut text)?;
+    out.extend_from_slice(&text)
+}
