@@ -3,6 +3,7 @@
 ghost use Rattle.std.specs.Prelude.{◌↔◌, ◌<◌, IsTrue, All};
 ghost use Rattle.vpg_measure.specs.Lifts.{IsTableOf};
 
+use crate::lookups::ask;
 use crate::{DIAGRAM, GAME};
 use anyhow::{Result, bail};
 use std::alloc::Global;
@@ -141,7 +142,7 @@ fn copy_table(alloc: Global, table: &Table) -> End {
 }
 
 /// Whether this is a table of the arena's measures.
-fn is_table(shape: &Shape, arena: &Arena, table: &Table) -> bool
+pub(crate) fn is_table(shape: &Shape, arena: &Arena, table: &Table) -> bool
     ensures { IsTrue result → IsTableOf shape.now arena.now table.now }
 {
     table.values().len() == arena.vertices() as usize
@@ -233,6 +234,7 @@ fn refuse_of<R: Wait>(
     game: &GuardedGame,
 ) -> Result<()> {
     let parts = parts_of(heap.alloc(), diagram, game)?;
+    let zeros = Table::zero(heap.alloc(), 2)?;
     let mut making = Making {
         made: Made::Known,
         diagram,
@@ -243,6 +245,17 @@ fn refuse_of<R: Wait>(
         table: &parts.table,
     };
     refuse_each(rt, heap, report, &mut making);
+    let measures = (&parts.shape, &parts.arena, &parts.table);
+    ask(
+        rt,
+        heap,
+        report,
+        diagram,
+        game,
+        &parts.known,
+        measures,
+        zeros,
+    );
     Ok(())
 }
 

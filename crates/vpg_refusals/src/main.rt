@@ -12,6 +12,7 @@
 #![tactic(auto)]
 
 mod decided;
+mod lookups;
 mod orders;
 mod reading;
 mod trails;
