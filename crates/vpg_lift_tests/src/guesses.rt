@@ -5,7 +5,7 @@ use std::alloc::{AllocError, Global};
 use std::fmt::Write;
 use std::test::Fail;
 use vpg_game::GuardedGame;
-use vpg_guess::{harvest_by_bounds, raise_by_bounds};
+use vpg_guess::{harvest_by_bounds, harvest_by_bounds_at_once, raise_by_bounds};
 use vpg_measure::{Harvest, Order, Shape, Table, Which};
 
 // Vertex 0 keeps going round priority 1, vertex 3 does until it leaves for priority 3.
@@ -123,13 +123,13 @@ fn has_tables(harvest: &Harvest, hopeful: [u64; 2], dual: [u64; 2]) -> bool {
         && harvest.check()
 }
 
-/// Whether an order is raised to these two tables, which are progress tables.
-fn raises_to(alloc: Global, order: Order, hopeful: [u64; 2], dual: [u64; 2]) -> bool {
-    match harvest_by_bounds(alloc, order, BUDGET) {
+/// Whether an order was raised to these two tables, which are progress tables.
+fn is_harvest_of(raised: Result<Harvest, Order>, hopeful: [u64; 2], dual: [u64; 2]) -> bool {
+    match raised {
         Ok(harvest) => {
-            let raised = has_tables(&harvest, hopeful, dual);
+            let is_so = has_tables(&harvest, hopeful, dual);
             let_go(harvest.again());
-            raised
+            is_so
         }
         Err(order) => {
             let_go(order);
@@ -141,6 +141,15 @@ fn raises_to(alloc: Global, order: Order, hopeful: [u64; 2], dual: [u64; 2]) -> 
 #[test]
 fn harvests(rt: HostRuntime) -> Result<(), Fail> {
     let order = small(rt.alloc(), &[(1, false)])?;
-    assert!(rt; raises_to(rt.alloc(), order, [2, 0], [0, 1]));
+    let raised = harvest_by_bounds(rt.alloc(), order, BUDGET);
+    assert!(rt; is_harvest_of(raised, [2, 0], [0, 1]));
+    Ok(())
+}
+
+#[test]
+fn harvests_by_two_threads(rt: HostRuntime) -> Result<(), Fail> {
+    let order = small(rt.alloc(), &[(1, false)])?;
+    let raised = harvest_by_bounds_at_once(&rt, rt.alloc(), order, BUDGET);
+    assert!(rt; is_harvest_of(raised, [2, 0], [0, 1]));
     Ok(())
 }

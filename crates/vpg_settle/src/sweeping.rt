@@ -9,7 +9,7 @@ use std::alloc::Global;
 use std::sync::Wait;
 use std::thread::Threads;
 use vpg_board::{Gate, Predecessors, sweep_along};
-use vpg_guess::harvest_by_bounds;
+use vpg_guess::{harvest_by_bounds, harvest_by_bounds_at_once};
 use vpg_measure::{Harvest, Order, Table, Which};
 
 /// A line with so small a number asks for sweeps alone.
@@ -259,14 +259,37 @@ fn by_hints<G: Gate + Sync, T: Threads + Wait + Sync>(
     }
 }
 
-/// The order raised by guesses. Out of memory it comes back. Here alone a raise is known to be one of guesses.
-fn guess(alloc: Global, order: Order) -> Result<Harvest, Order>
+/// The order raised by certified guesses: by two threads, one for each table, where there are several lifters.
+fn raise_tables<T: Threads + Wait + Sync>(
+    rt: &T,
+    alloc: Global,
+    order: Order,
+    lifters: u32,
+) -> Result<Harvest, Order>
+    ensures order { IfOk result (λ harvest. IsSameOrder harvest.order order) }
+    ensures harvest { IfOk result IsHarvest }
+    ensures back { IfErr result (λ same. same ≡ order) }
+{
+    if lifters > 1 {
+        harvest_by_bounds_at_once(rt, alloc, order, BUDGET)
+    } else {
+        harvest_by_bounds(alloc, order, BUDGET)
+    }
+}
+
+/// The same. Out of memory it comes back. Here alone a raise is known to be one of guesses.
+fn guess<T: Threads + Wait + Sync>(
+    rt: &T,
+    alloc: Global,
+    order: Order,
+    lifters: u32,
+) -> Result<Harvest, Order>
     ensures order { IfOk result (λ harvest. IsSameOrder harvest.order order) }
     ensures harvest { IfOk result IsHarvest }
     ensures guessed { IfOk result (IsGuessed order) }
     ensures back { IfErr result (λ same. same ≡ order) }
 {
-    harvest_by_bounds(alloc, order, BUDGET)
+    raise_tables(rt, alloc, order, lifters)
 }
 
 /// The order raised by guesses, and swept from there where they don't settle it. Out of memory it is swept alone.
@@ -284,7 +307,7 @@ fn by_guesses<G: Gate + Sync, T: Threads + Wait + Sync>(
     ensures made { Settles lifters result.sweeps order result.harvest }
 {
     let goal = goal_of(&order, sweeps);
-    match guess(alloc, order) {
+    match guess(rt, alloc, order, lifters) {
         Ok(harvest) => {
             if harvest.check() {
                 let harvest = harvest.noted();
@@ -301,9 +324,9 @@ fn by_guesses<G: Gate + Sync, T: Threads + Wait + Sync>(
 /// lifter's then raises what a round raises. It never fails: where a board, a hint or a guess finds no memory, the
 /// sweeps go on without. The lifters call the gate.
 ///
-/// A guess has one budget for both tables; when it is spent, what is known until then is certified and raised. Sweeps
-/// follow, up to the number. From `MANY_SWEEPS` on they end, settled or not, where the tables exceed the order's in sum
-/// by the number.
+/// A guess has one budget for both tables; when it is spent, what is known until then is certified and raised. With two
+/// lifters or more each table has a thread and half of the budget. Sweeps follow, up to the number. From `MANY_SWEEPS`
+/// on they end, settled or not, where the tables exceed the order's in sum by the number.
 pub fn swept<G: Gate + Sync, T: Threads + Wait + Sync>(
     rt: &T,
     alloc: Global,

@@ -9,4 +9,4 @@ if_guessed order (Ok harvest) lawful = guessed order harvest lawful
 if_guessed order (Err same) lawful = tt
 
 pub returns-clause-guessed : goal.returns-clause-guessed
-returns-clause-guessed c = if_guessed c.args.order c.harvest_by_bounds.result c.harvest_by_bounds.ensures.harvest
+returns-clause-guessed g c = if_guessed c.args.order c.raise_tables.result c.raise_tables.ensures.harvest
