@@ -9,7 +9,8 @@ within 20 seconds of the processor, and 10 minutes by the clock, with status 0, 
   1  with one line there, which is one of the texts that docs/FORMATS.md lists;
   2  with the parser's message about wrong words there, and nothing on standard output.
 Whatever stands on standard output has to be whole lines of the forms that docs/FORMATS.md gives. A game that `project` wrote has to be read again.
-Where standard output is full or closed, and a run of the same case whose output is kept writes something, the run has to end with status 1 and `Write`.
+Where standard output is full or closed, and a run of the same case whose output is kept writes something, the run has
+to end with status 1 and `Write`.
 Cases that end otherwise are kept in the folder fuzz-findings, with their words; then the status is 1. A case depends on SEED and its number alone.
 """
 import collections
@@ -320,7 +321,7 @@ class NoEnd(Exception):
 
 
 class Runner:
-    """Runs a program in the present folder, its output kept in memory. To start one takes half a millisecond less than `subprocess` takes."""
+    """Runs a program in the present folder, its output kept in memory. That is faster than `subprocess`."""
 
     def __init__(self, program):
         self.program = program
@@ -334,7 +335,7 @@ class Runner:
         return text
 
     def run(self, words, source, output):
-        """Status, standard output and standard error: input from a file or folder, or closed; output kept, full or closed."""
+        """Status, standard output and standard error. Input is a file, a folder or closed, output kept, full or closed."""
         out, err = self.kept
         actions = [(os.POSIX_SPAWN_DUP2, err, 2)]
         actions.append((os.POSIX_SPAWN_OPEN, 0, source, os.O_RDONLY, 0) if source else (os.POSIX_SPAWN_CLOSE, 0))
@@ -385,7 +386,7 @@ def ends(runner, case):
     if kind == "done" and case.words[:1] == ["project"] and case.output == "kept":
         with open("plain", "wb") as file:
             file.write(out)
-        status, _, err = runner.run(["check", "plain", case.words[2]], "/dev/null", "kept")
+        status, _, err = runner.run(["check", "plain", [it for it in case.words if it != "--"][2]], "/dev/null", "kept")
         if status != 0:
             return None, f"the projected game is not read again: {err!r}"
     return kind, None

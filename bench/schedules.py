@@ -1,5 +1,5 @@
 #!/usr/bin/env python3
-"""Writes the script of the example `sessions`: orders in which the calls of several sessions can come, one after another.
+"""Writes the script of the example `sessions`: orders in which the calls of several sessions can come.
 
     schedules.py FILE       writes the script
 
@@ -50,7 +50,8 @@ class Script:
         for session, words in calls:
             self.call(session, words)
         self.lines += SHOWN
-        self.lines += ["undo"] * (1 + sum(words.split()[0] in ("select", "exclude", "retract", "redo") for _, words in calls))
+        changes = [words for _, words in calls if words.split()[0] in ("select", "exclude", "retract", "redo")]
+        self.lines += ["undo"] * (1 + len(changes))
         self.lines.append("trail")
 
 
