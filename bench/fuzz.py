@@ -62,8 +62,9 @@ REFUSED = (
 # a line of a picture
 DRAWN = (
     rb'digraph game \{|  graph \[label="decisions' + SIGNED + rb'", labelloc=t, rankdir=LR\];|  node \[style=filled\];'
-    + rb"|  " + N + rb' \[shape=(?:diamond|box), label="' + N + rb" : " + N + rb'", fillcolor=[a-z]+, color=[a-z0-9]+\];'
-    + rb"|  " + N + rb" -> " + N + rb' \[(?:label="[^"\n]+", )?style=(?:solid|(?:dashed|dotted), color=[a-z0-9]+, fontcolor=[a-z0-9]+)\];|\}'
+    + rb"|  " + N + rb' \[shape=(?:diamond|box), label="' + N + rb" : " + N
+    + rb'", fillcolor=[a-z]+, color=[a-z0-9]+\];|  ' + N + rb" -> " + N + rb' \[(?:label="[^"\n]+", )?style='
+    + rb"(?:solid|(?:dashed|dotted), color=[a-z0-9]+, fontcolor=[a-z0-9]+)\];|\}"
 )
 ANSWERS = re.compile(
     rb"(?:(?:(?:(?:done|undone|redone|kept|forgotten|added|harvest|settled|unsettled|entries|plans|changed|offers|hopeless|possible|sure|unsure) " + N + rb"|" + REFUSED

@@ -45,5 +45,7 @@ pub draws : {E : Type 0} (game : NamedGame) (diagram : NamedDiagram) (decisions 
     OnOk r ((text : List ℕ) × (IsDrawn (scene_of game diagram) decisions hopeful dual text × (after ≡ before ++ text)))
 draws game diagram decisions games are features hopeful dual r before after names known decided labels verdicts names_are known_is decided_are labels_are verdicts_are =
     let same : game ≡ named_game (scene_of game diagram) = λ i. record { vertices = named_again game.vertices i; features = features i } in
-    on_ok r _ _ (λ appended. (game_drawing names known (map literal_of decided) labels verdicts game,
-    ((games.known, (are.known, (λ i. game_drawing (names_are i) (known_is i) (map literal_of (decided_are i)) (labels_are i) (verdicts_are i) (same i)))), appended)))
+    on_ok r _ _ (λ appended. (
+      game_drawing names known (map literal_of decided) labels verdicts game,
+      ((games.known, (are.known, (λ i. game_drawing (names_are i) (known_is i) (map literal_of (decided_are i)) (labels_are i) (verdicts_are i) (same i)))), appended),
+    ))

@@ -414,7 +414,7 @@ static COUNTS: [Row; 2] = [
     },
 ];
 
-static CHANGES: [Row; 2] = [
+static OTHER_VERDICTS: [Row; 2] = [
     // Undo and redo change no verdict that was told: the next of these tells what they did.
     Row {
         diagram: DIAGRAM,
@@ -676,8 +676,8 @@ fn verdicts_counted(rt: HostRuntime) -> Result<(), Fail> {
 }
 
 #[test]
-fn changes_told(rt: HostRuntime) -> Result<(), Fail> {
-    assert_eq!(rt; first_wrong(&rt, rt.alloc(), &CHANGES), None);
+fn other_verdicts_told(rt: HostRuntime) -> Result<(), Fail> {
+    assert_eq!(rt; first_wrong(&rt, rt.alloc(), &OTHER_VERDICTS), None);
     Ok(())
 }
 
