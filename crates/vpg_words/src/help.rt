@@ -61,10 +61,18 @@ Examples:
   cd examples/elevator
   vpgdesk lint game diagram
   vpgdesk run game diagram script
+  vpgdesk desk game diagram
   vpgdesk project game diagram lift sensor overload
   vpgdesk draw game diagram | dot -Tsvg > game.svg
 
 All formats, commands, answers and faults: docs/FORMATS.md";
+
+/// What is said of the commands of scripts: the lines about them.
+pub fn command_list() -> &'static str {
+    let (_, behind) = AFTER.split_once("Scripts, ").unwrap_or(("", AFTER));
+    let (list, _) = behind.split_once("\n\n").unwrap_or((behind, ""));
+    list
+}
 
 /// The same in one line each.
 pub(crate) const SHORT_AFTER: &str = "\

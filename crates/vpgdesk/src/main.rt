@@ -13,7 +13,7 @@
 #![tactic(auto)]
 
 ghost use Rattle.std.specs.Io.KnownBytes.{Appends};
-ghost use Rattle.std.specs.Prelude.{◌≡◌, true, Err, OnOk, OnErr};
+ghost use Rattle.std.specs.Prelude.{◌≡◌, ◌≤◌, true, Err, OnOk, OnErr};
 
 mod ending;
 mod running;
@@ -24,6 +24,7 @@ use crate::ending::{End, ended, refused_line, status};
 use crate::running::run_script;
 use clap::error::ErrorKind;
 use std::alloc::{AllocError, Global};
+use std::cell::Cell;
 use std::io::IsTerminal;
 use std::process::ExitCode;
 use std::sync::Wait;
@@ -33,8 +34,10 @@ use vpg_family::{
     Family, Fault, Paths, Subject, drawn, explained, line_of, linted, open_script, read_family,
     read_texts,
 };
+use vpg_names::VertexNames;
 use vpg_script::{Device, Manner, Sink};
-use vpg_words::{Asked, Task, not_text, read};
+use vpg_terminal::{Ear, Heard, Setting, Typed};
+use vpg_words::{Asked, Task, command_list, not_text, read};
 
 /// The diagram that is built in: a root with two features, each of which may be left out.
 const DIAGRAM: &str = "root r\noptional r f\noptional r g\n";
@@ -75,6 +78,75 @@ fn run_built_in<T: Threads + Wait + Sync>(
         goes_on: false,
     };
     let ending = run_script(threads, alloc, family, &mut reader, &mut writer, 1, plain)?;
+    Ok(ended(ending))
+}
+
+/// What is said before the first line is read, behind the family's counts.
+const GREETING: &[u8] = b"one command a line; `help` lists commands, `quit` ends\n";
+
+/// The identifier where the game of this text starts, where it is that of a vertex.
+fn start_of(alloc: Global, text: &[u8], family: &Family) -> Result<Option<u32>, Fault> {
+    let names = VertexNames::read(alloc, text)?;
+    let Some(start) = names.start() else {
+        return Ok(None);
+    };
+    match u32::try_from(start) {
+        Ok(id) => Ok(family.game.find(id).map(|_| id)),
+        Err(_) => Ok(None),
+    }
+}
+
+/// A family of two files, and where its game starts.
+fn read_started(
+    rt: &HostRuntime,
+    alloc: Global,
+    paths: Paths<'_>,
+) -> Result<(Family, Option<u32>), Fault> {
+    let texts = read_texts(rt, alloc, paths)?;
+    let family = Family::read(alloc, &texts.diagram, &texts.game)?;
+    let start = start_of(alloc, &texts.game, &family)?;
+    Ok((family, start))
+}
+
+/// Answers commands from standard input as they are typed, on a family.
+fn sit<T: Threads + Wait + Sync>(
+    rt: &HostRuntime,
+    threads: &T,
+    alloc: Global,
+    paths: Paths<'_>,
+    lifters: u32,
+) -> Result<End, Fault>
+    requires { (1 ≤ lifters) × (lifters ≤ 64) }
+{
+    let (family, start) = read_started(rt, alloc, paths)?;
+    let counts = family.counted(alloc)?;
+    let mut talk = Device::writer(rt.stderr().lock());
+    // Where these fail the answers are still to come.
+    let _ = talk.put(&counts);
+    let _ = talk.put(GREETING);
+    let heard = Cell::new(Heard::Nothing);
+    let setting = Setting {
+        commands: command_list(),
+        is_prompted: rt.stdin().is_terminal(),
+        start,
+        heard: &heard,
+    };
+    let reader = Device::reader(rt.stdin().lock());
+    let mut reader = Typed::new(alloc, setting, reader, talk);
+    let mut writer = Ear::new(Device::writer(rt.stdout().lock()), &heard);
+    let forgiving = Manner {
+        is_strict: false,
+        goes_on: true,
+    };
+    let ending = run_script(
+        threads,
+        alloc,
+        family,
+        &mut reader,
+        &mut writer,
+        lifters,
+        forgiving,
+    )?;
     Ok(ended(ending))
 }
 
@@ -126,6 +198,9 @@ fn carry_out<T: Threads + Wait + Sync>(
                 manner,
             )?;
             Ok(ended(ending))
+        }
+        Task::Desk { paths, lifters } => {
+            sit(rt, threads, alloc, *paths, (*lifters).clamp(1, 64))
         }
         Task::Project { paths, features } => {
             let family = read_family(rt, alloc, *paths)?;

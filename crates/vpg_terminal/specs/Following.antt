@@ -1,0 +1,36 @@
+-- What an answer tells a session at a terminal, and which lines the session hands on by itself. This project's own.
+use Rattle.std.specs.Prelude.{ℕ, Bool, not, ◌||◌, if◌then◌else◌, ◌==◌, nat_eq, List, [], ◌∷◌, ◌++◌, take, drop, codes, decimal}
+use Rattle.std.specs.List.{starts_with, prefix_len}
+use Rattle.vpg_terminal.specs.declared.hearing.Heard.{Heard}
+use Rattle.vpg_terminal.specs.declared.hearing.Heard.TheVariants as hears
+
+abbrev pub is_within_word : ℕ → Bool
+is_within_word b = not (b == 32)
+
+-- what stands before the first blank
+abbrev pub first_word : List ℕ → List ℕ
+first_word line = take (prefix_len is_within_word line) line
+
+-- what stands behind the first blank
+abbrev pub behind : List ℕ → List ℕ
+behind line = drop 1 (drop (prefix_len is_within_word line) line)
+
+abbrev pub begins : List ℕ → List ℕ → Bool
+begins text word = starts_with nat_eq text word
+
+-- What an answer tells: that the line is no command, that a decision contradicts the page, that the page was swept, or that the vertex of a line of `show` is hopeless.
+abbrev pub heard_of : List ℕ → Heard
+heard_of answer =
+    if begins answer (codes "refused Word") || begins answer (codes "refused Args") then hears.Fault
+    else (if begins answer (codes "refused Conflict ") then hears.Conflict
+    else (if begins answer (codes "settled ") || begins answer (codes "unsettled ") then hears.Swept
+    else (if begins (behind (behind (behind answer))) (codes "hopeless ") then hears.Hopeless
+    else hears.Nothing)))
+
+-- the line `why +F` or `why -F`, by the byte of its sign
+abbrev pub why_line : ℕ → List ℕ → List ℕ
+why_line sign feature = codes "why " ++ (sign ∷ (feature ++ 10 ∷ []))
+
+-- the line of a command about a vertex
+abbrev pub vertex_line : List ℕ → ℕ → List ℕ
+vertex_line command id = command ++ 32 ∷ (decimal id ++ 10 ∷ [])
