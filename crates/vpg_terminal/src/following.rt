@@ -52,12 +52,18 @@ pub(crate) fn behind_line(
     start: Option<u32>,
 ) -> Result<Option<Following>, AllocError> {
     let (behind, line) = match (without_label(words), start) {
-        ([word, feature], _) if word.bytes == b"select".as_slice() =>
-            (Heard::Conflict, why_line(alloc, b'+', feature.bytes)?),
-        ([word, feature], _) if word.bytes == b"exclude".as_slice() =>
-            (Heard::Conflict, why_line(alloc, b'-', feature.bytes)?),
-        ([word, ..], Some(id)) if word.bytes == b"settle".as_slice() =>
-            (Heard::Swept, vertex_line(alloc, b"show", id)?),
+        ([word, feature], _) if word.bytes == b"select".as_slice() => (
+            Heard::Conflict,
+            why_line(alloc, b'+', feature.bytes)?,
+        ),
+        ([word, feature], _) if word.bytes == b"exclude".as_slice() => (
+            Heard::Conflict,
+            why_line(alloc, b'-', feature.bytes)?,
+        ),
+        ([word, ..], Some(id)) if word.bytes == b"settle".as_slice() => (
+            Heard::Swept,
+            vertex_line(alloc, b"show", id)?,
+        ),
         _ => return Ok(None),
     };
     Ok(Some(Following { behind, line }))

@@ -27,7 +27,7 @@ enum Asked<'l> {
     Quit,
 }
 
-fn asked<'l>(words: &[Word<'l>]) -> Asked<'l> {
+fn asked_of<'l>(words: &[Word<'l>]) -> Asked<'l> {
     match words {
         [word] if word.bytes == b"quit".as_slice() => Asked::Quit,
         [word] if word.bytes == b"help".as_slice() => Asked::Help,
@@ -62,7 +62,7 @@ fn nothing(alloc: Global) -> Result<Handed, AllocError> {
 }
 
 /// What is handed on of a line that asks nothing of the session: the line itself.
-fn handed(
+fn as_typed(
     alloc: Global,
     line: &[u8],
     words: &[Word<'_>],
@@ -103,14 +103,14 @@ fn meet<W: Sink>(
     talk: &mut W,
 ) -> Result<Option<Handed>, AllocError> {
     let words = words_of(alloc, line, false)?;
-    match asked(&words) {
+    match asked_of(&words) {
         Asked::Quit => return Ok(None),
         Asked::Help => {
             let _ = talk.put(setting.commands.as_bytes());
             let _ = talk.put(b"\n");
         }
         Asked::HelpOf(command) => tell_help(alloc, setting.commands, command, talk)?,
-        Asked::Nothing => return Ok(Some(handed(alloc, line, &words, setting.start)?)),
+        Asked::Nothing => return Ok(Some(as_typed(alloc, line, &words, setting.start)?)),
     }
     Ok(Some(nothing(alloc)?))
 }
@@ -130,9 +130,9 @@ fn tell_fault<W: Sink>(
     Ok(())
 }
 
-/// A script that is typed in, and what is said beside its answers.
+/// What was typed so far, and what is handed on of it.
 #[derive(Drop)]
-pub struct Typed<'c, R: Source, W> {
+struct Session<'c, R: Source, W> {
     alloc: Global,
     setting: Setting<'c>,
     reader: R,
@@ -149,21 +149,16 @@ pub struct Typed<'c, R: Source, W> {
     /// The next line is the rest of one that is too long.
     is_within: bool,
     has_ended: bool,
-    failed: bool,
-    calls: u32,
     ghost counted: { R.calls reader ≡ reads },
     ghost few: { reads ≤ 16777216 },
     ghost within: { given ≤ vec_len line },
 }
 
-impl<'c, R: Source, W: Sink> Typed<'c, R, W> {
-    /// A script from this reader that was not read yet.
-    pub fn new(alloc: Global, setting: Setting<'c>, reader: R, talk: W) -> Typed<'c, R, W>
+impl<'c, R: Source, W: Sink> Session<'c, R, W> {
+    fn new(alloc: Global, setting: Setting<'c>, reader: R, talk: W) -> Session<'c, R, W>
         requires { R.calls reader ≡ 0 }
-        ensures unread { ⟦<Typed<'c, R, W> as Source>⟧.calls result ≡ 0 }
-        ensures sound { ⟦<Typed<'c, R, W> as Source>⟧.has_failed result ≡ false }
     {
-        Typed {
+        Session {
             alloc,
             setting,
             reader,
@@ -176,8 +171,6 @@ impl<'c, R: Source, W: Sink> Typed<'c, R, W> {
             following: None,
             is_within: false,
             has_ended: false,
-            failed: false,
-            calls: 0,
         }
     }
 
@@ -212,7 +205,7 @@ impl<'c, R: Source, W: Sink> Typed<'c, R, W> {
     /// A line that was typed, or the rest of one that is too long.
     fn meet(&mut self, line: Vec<u8>) -> Result<(), AllocError> {
         let handed = if self.is_within {
-            Some(handed(self.alloc, &line, &[], None)?)
+            Some(as_typed(self.alloc, &line, &[], None)?)
         } else {
             meet(self.alloc, self.setting, &line, &mut self.talk)?
         };
@@ -267,6 +260,11 @@ impl<'c, R: Source, W: Sink> Typed<'c, R, W> {
         }
     }
 
+    /// Whether the line was handed on, and a next one may come.
+    fn is_spent(&self) -> bool {
+        self.given >= self.line.len() && !self.has_ended
+    }
+
     /// Hands on what is left of the line, as much as there is room for.
     fn hand_on(&mut self, buf: &mut [u8]) -> usize
         ensures bound { result ≤ length buf.new }
@@ -279,10 +277,33 @@ impl<'c, R: Source, W: Sink> Typed<'c, R, W> {
     }
 }
 
+/// A script that is typed in. It ends where its reader does, or at a line `quit`.
+#[derive(Drop)]
+pub struct Typed<'c, R: Source, W> {
+    session: Session<'c, R, W>,
+    failed: bool,
+    calls: u32,
+}
+
+impl<'c, R: Source, W: Sink> Typed<'c, R, W> {
+    /// A script from this reader that was not read yet. What is said beside the answers goes to `talk`.
+    pub fn new(alloc: Global, setting: Setting<'c>, reader: R, talk: W) -> Typed<'c, R, W>
+        requires { R.calls reader ≡ 0 }
+        ensures unread { ⟦<Typed<'c, R, W> as Source>⟧.calls result ≡ 0 }
+        ensures sound { ⟦<Typed<'c, R, W> as Source>⟧.has_failed result ≡ false }
+    {
+        Typed {
+            session: Session::new(alloc, setting, reader, talk),
+            failed: false,
+            calls: 0,
+        }
+    }
+}
+
 impl<R: Source + Drop, W: Sink> Typed<'_, R, W> {
     /// What the lines that are said beside the answers were written to.
     pub fn into_talk(self) -> W {
-        self.talk
+        self.session.talk
     }
 }
 
@@ -295,12 +316,12 @@ impl<R: Source, W: Sink> Source for Typed<'_, R, W> {
 
     fn fill(&mut self, buf: &mut [u8]) -> Result<usize, Failed> {
         self.calls += 1;
-        if self.given >= self.line.len() && !self.has_ended {
-            if let Err(failed) = self.next() {
+        if self.session.is_spent() {
+            if let Err(failed) = self.session.next() {
                 self.failed = true;
                 return Err(failed);
             }
         }
-        Ok(self.hand_on(buf))
+        Ok(self.session.hand_on(buf))
     }
 }
