@@ -5,7 +5,8 @@ use std::test::*;
 use vpg_script::{Device, Sink, Source};
 use vpg_terminal::{Ear, Heard, Setting, Typed};
 
-/// What is typed where the game starts at 7, the answers to the lines that are handed on, these lines, and what is said.
+/// What is typed where the game starts at 7, the answers to the lines that are handed on, these lines, and what is
+/// said.
 struct Typing {
     typed: &'static str,
     answers: &'static [&'static str],
@@ -36,9 +37,9 @@ static TYPINGS: [Typing; 9] = [
         typed: "help undo\nhelp frob\nhelp\nhelp select f\n",
         answers: &["", "", "", "refused Word\n"],
         handed: "\n\n\nhelp select f\n",
-        said: "> undo     takes back\n           a change\n> no such command; `help` lists them\n> select F, exclude F      \
-            decides\n  undo     takes back\n           a change\n> line:4:1: found `help`; expected a command\n  hint: \
-            `vpgdesk --help` lists the commands\n> ",
+        said: ">   undo     takes back\n           a change\n> no such command; `help` lists them\n\
+            > select F, exclude F      decides\n  undo     takes back\n           a change\n\
+            > line:4:1: found `help`; expected a command\n  hint: is `keep` meant?\n> ",
     },
     // A refused decision is explained, under a label too.
     Typing {
@@ -71,15 +72,15 @@ static TYPINGS: [Typing; 9] = [
         typed: "settle x\n",
         answers: &["refused Args\n"],
         handed: "settle x\n",
-        said: "> line:1:8: found `x`; expected a number\n  hint: it is written `settle [N]`\n  hint: a number is digits \
-            alone\n> ",
+        said: "> line:1:8: found `x`; expected a number\n  hint: it is written `settle [N]`\n  \
+            hint: a number is digits alone\n> ",
     },
     Typing {
         typed: "# help\nhelp: select f\n",
         answers: &["", "refused Word\n"],
         handed: "# help\nhelp: select f\n",
-        said: "> > line:2:1: found `help:`; expected a command\n  hint: a label is a number from 1 to 64 and `:`, with a \
-            blank behind it\n> ",
+        said: "> > line:2:1: found `help:`; expected a command\n  \
+            hint: a label is a number from 1 to 64 and `:`, with a blank behind it\n> ",
     },
     Typing {
         typed: "settle\n",

@@ -18,7 +18,8 @@ behind line = drop 1 (drop (prefix_len is_within_word line) line)
 abbrev pub begins : List ℕ → List ℕ → Bool
 begins text word = starts_with nat_eq text word
 
--- What an answer tells: that the line is no command, that a decision contradicts the page, that the page was swept, or that the vertex of a line of `show` is hopeless.
+-- What an answer tells: that the line is no command, that a decision contradicts the page, that the page was swept, or
+-- that the vertex of a line of `show` is hopeless.
 abbrev pub heard_of : List ℕ → Heard
 heard_of answer =
     if begins answer (codes "refused Word") || begins answer (codes "refused Args") then hears.Fault
