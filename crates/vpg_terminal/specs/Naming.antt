@@ -46,11 +46,13 @@ beside name = if is_empty name then [] else quoted name
 abbrev pub beside_both : List ℕ → List ℕ → List ℕ
 beside_both name other = if is_empty name && is_empty other then [] else quoted name ++ quoted other
 
--- What stands beside a line. The first word of a line of `show` is a vertex, the second one of a lift of `trail`, and the second and the third of a line of `plan`.
+-- What stands beside a line. The first word of a line of `show` is a vertex, the second one of a lift of `trail`, and
+-- the second and the third of a line of `plan`.
 abbrev pub labels_of : (ids : List ℕ) (names : List (List ℕ)) → List ℕ → List ℕ
 labels_of ids names line =
     if bytes_eq (first_word line) (codes "plan")
-    then beside_both (name_of ids names (first_word (behind_word line))) (name_of ids names (first_word (behind_word (behind_word line))))
+    then beside_both (name_of ids names (first_word (behind_word line)))
+    (name_of ids names (first_word (behind_word (behind_word line))))
     else (if bytes_eq (first_word line) (codes "hopeful") || bytes_eq (first_word line) (codes "dual")
     then beside (name_of ids names (first_word (behind_word line)))
     else beside (name_of ids names (first_word line)))

@@ -226,7 +226,8 @@ fn put_rest(
     out: &mut Vec<u8>,
 ) -> Result<(), AllocError>
     ensures { OnOk result (out.new.items ≡ out.old.items
-        ++ flat_map (λ line. 10 ∷ named_line (vertex_ids game.now.vertices) names.now.names line) (map (λ w. w.now) lines.now)) }
+        ++ flat_map (λ line. 10 ∷ named_line (vertex_ids game.now.vertices) names.now.names line)
+        (map (λ w. w.now) lines.now)) }
 {
     for line in lines {
         put_further(game, names, line, out)?;
