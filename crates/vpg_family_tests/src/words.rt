@@ -33,7 +33,7 @@ struct Call {
     taken: Taken,
 }
 
-static CALLS: [Call; 54] = [
+static CALLS: [Call; 56] = [
     Call {
         words: "",
         taken: Taken::BuiltIn,
@@ -145,6 +145,14 @@ static CALLS: [Call; 54] = [
     Call {
         words: "desk g --lifters 2 d",
         taken: Taken::Desk(2),
+    },
+    Call {
+        words: "desk g d --names",
+        taken: Taken::Desk(1),
+    },
+    Call {
+        words: "check g d --names",
+        taken: Taken::Wrong,
     },
     Call {
         words: "desk g d s",

@@ -1,19 +1,9 @@
 -- What an answer tells a session at a terminal, and which lines the session hands on by itself. This project's own.
-use Rattle.std.specs.Prelude.{ℕ, Bool, not, ◌||◌, if◌then◌else◌, ◌==◌, nat_eq, List, [], ◌∷◌, ◌++◌, take, drop, codes, decimal}
-use Rattle.std.specs.List.{starts_with, prefix_len}
+use Rattle.std.specs.Prelude.{ℕ, Bool, ◌||◌, if◌then◌else◌, nat_eq, List, [], ◌∷◌, ◌++◌, codes, decimal}
+use Rattle.std.specs.List.{starts_with}
+use Rattle.vpg_terminal.specs.Naming.{behind_word}
 use Rattle.vpg_terminal.specs.declared.hearing.Heard.{Heard}
 use Rattle.vpg_terminal.specs.declared.hearing.Heard.TheVariants as hears
-
-abbrev pub is_within_word : ℕ → Bool
-is_within_word b = not (b == 32)
-
--- what stands before the first blank
-abbrev pub first_word : List ℕ → List ℕ
-first_word line = take (prefix_len is_within_word line) line
-
--- what stands behind the first blank
-abbrev pub behind : List ℕ → List ℕ
-behind line = drop 1 (drop (prefix_len is_within_word line) line)
 
 abbrev pub begins : List ℕ → List ℕ → Bool
 begins text word = starts_with nat_eq text word
@@ -25,7 +15,7 @@ heard_of answer =
     if begins answer (codes "refused Word") || begins answer (codes "refused Args") then hears.Fault
     else (if begins answer (codes "refused Conflict ") then hears.Conflict
     else (if begins answer (codes "settled ") || begins answer (codes "unsettled ") then hears.Swept
-    else (if begins (behind (behind (behind answer))) (codes "hopeless ") then hears.Hopeless
+    else (if begins (behind_word (behind_word (behind_word answer))) (codes "hopeless ") then hears.Hopeless
     else hears.Nothing)))
 
 -- the line `why +F` or `why -F`, by the byte of its sign

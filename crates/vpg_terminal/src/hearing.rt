@@ -2,7 +2,7 @@
 ghost use Rattle.std.specs.Prelude.{◌≡◌};
 ghost use Rattle.vpg_terminal.specs.Following.{heard_of};
 
-use crate::words::behind;
+use crate::naming::behind_word;
 use std::cell::Cell;
 use vpg_script::{Failed, Sink};
 
@@ -31,7 +31,7 @@ pub fn heard_of(answer: &[u8]) -> Heard
         Heard::Conflict
     } else if answer.starts_with(b"settled ") || answer.starts_with(b"unsettled ") {
         Heard::Swept
-    } else if behind(behind(behind(answer))).starts_with(b"hopeless ") {
+    } else if behind_word(behind_word(behind_word(answer))).starts_with(b"hopeless ") {
         Heard::Hopeless
     } else {
         Heard::Nothing

@@ -2,8 +2,8 @@
 //!
 //! `Typed` is a script that is typed in: it hands each line on as it comes, meets `help` and `quit` itself, and hands
 //! lines of its own on behind some answers: why a decision is refused, and what a settled page shows of the vertex
-//! where the game starts. It learns of answers by an `Ear`, a sink that passes them on. `Named` is a sink that puts the
-//! names of vertices beside the lines of answers, and `LastAnswer` one that keeps the last answer alone.
+//! where the game starts. It learns of answers by an `Ear`, a sink that passes them on. `named_text` puts the names of
+//! vertices beside the lines of an answer, and `Named` is a sink that does so with each answer that is put to it.
 //!
 //! What is said beside the answers (a prompt, help, why a line is no command) goes to a sink of its own. So the answers
 //! are just those to the lines that are handed on.
@@ -15,10 +15,9 @@
 mod following;
 mod hearing;
 mod help;
-mod keeping;
+mod naming;
 mod typing;
-mod words;
 
 pub use hearing::{Ear, Heard};
-pub use keeping::LastAnswer;
+pub use naming::{Named, named_text};
 pub use typing::{Setting, Typed};

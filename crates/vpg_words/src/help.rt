@@ -92,6 +92,8 @@ pub(crate) const STRICT_HELP: &str = "End at the first line that is refused, wit
 
 pub(crate) const KEEP_GOING_HELP: &str = "Answer a line with a fault `refused ..`, and go on";
 
+pub(crate) const NAMES_HELP: &str = "Show the names of vertices beside answers";
+
 pub(crate) const FEATURE_HELP: &str =
     "The features of the product, all of them, the root among them";
 

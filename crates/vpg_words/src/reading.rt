@@ -1,7 +1,7 @@
 //! How words are read.
 use crate::help::{
     ABOUT, AFTER, DIAGRAM_HELP, EXPLAIN_HELP, FEATURE_HELP, FEATURES_HELP, GAME_HELP,
-    KEEP_GOING_HELP, LIFTERS_HELP, SCRIPT_HELP, SHORT_AFTER, STRICT_HELP,
+    KEEP_GOING_HELP, LIFTERS_HELP, NAMES_HELP, SCRIPT_HELP, SHORT_AFTER, STRICT_HELP,
 };
 use crate::task::{Asked, Task};
 use clap::builder::ValueParser;
@@ -56,7 +56,8 @@ fn desk_command<'a>(alloc: Global) -> Result<Command<'a>, AllocError> {
         "desk",
         "Answers commands as they are typed, on a family",
     )?
-    .arg(lifters(alloc))
+    .arg(lifters(alloc))?
+    .arg(flag(alloc, "names", NAMES_HELP))
 }
 
 fn run_command<'a>(alloc: Global) -> Result<Command<'a>, AllocError> {
@@ -64,7 +65,8 @@ fn run_command<'a>(alloc: Global) -> Result<Command<'a>, AllocError> {
         .arg(file(alloc, "SCRIPT", SCRIPT_HELP))?
         .arg(lifters(alloc))?
         .arg(flag(alloc, "strict", STRICT_HELP))?
-        .arg(flag(alloc, "keep-going", KEEP_GOING_HELP))
+        .arg(flag(alloc, "keep-going", KEEP_GOING_HELP))?
+        .arg(flag(alloc, "names", NAMES_HELP))
 }
 
 fn project_command<'a>(alloc: Global) -> Result<Command<'a>, AllocError> {
@@ -204,11 +206,13 @@ fn task_of<'a>(
                 lifters: matches.get_one("lifters").unwrap_or(1),
                 strict: matches.get_flag("strict"),
                 keep_going: matches.get_flag("keep-going"),
+                names: matches.get_flag("names"),
             }),
         ),
         "desk" => Ok(Some(Task::Desk {
             paths,
             lifters: matches.get_one("lifters").unwrap_or(1),
+            names: matches.get_flag("names"),
         })),
         "project" => Ok(Some(Task::Project {
             paths,
