@@ -12,6 +12,8 @@ enum Taken {
     BuiltIn,
     /// With so many lifters.
     Run(u32),
+    /// With so many lifters.
+    Desk(u32),
     /// With so many features.
     Project(usize),
     Check,
@@ -31,7 +33,7 @@ struct Call {
     taken: Taken,
 }
 
-static CALLS: [Call; 51] = [
+static CALLS: [Call; 56] = [
     Call {
         words: "",
         taken: Taken::BuiltIn,
@@ -134,6 +136,26 @@ static CALLS: [Call; 51] = [
     },
     Call {
         words: "run g d s --explain --explain",
+        taken: Taken::Wrong,
+    },
+    Call {
+        words: "desk g d",
+        taken: Taken::Desk(1),
+    },
+    Call {
+        words: "desk g --lifters 2 d",
+        taken: Taken::Desk(2),
+    },
+    Call {
+        words: "desk g d --names",
+        taken: Taken::Desk(1),
+    },
+    Call {
+        words: "check g d --names",
+        taken: Taken::Wrong,
+    },
+    Call {
+        words: "desk g d s",
         taken: Taken::Wrong,
     },
     Call {
@@ -267,6 +289,7 @@ fn task_taken(task: &Task<'_>) -> Taken {
     match task {
         Task::BuiltIn => Taken::BuiltIn,
         Task::Run { lifters, .. } => Taken::Run(*lifters),
+        Task::Desk { lifters, .. } => Taken::Desk(*lifters),
         Task::Project { features, .. } => Taken::Project(features.len()),
         Task::Check { .. } => Taken::Check,
         Task::Lint { .. } => Taken::Lint,

@@ -65,10 +65,18 @@ Examples:
   cd examples/elevator
   vpgdesk lint game diagram
   vpgdesk run game diagram script
+  vpgdesk desk game diagram
   vpgdesk project game diagram lift sensor overload
   vpgdesk draw game diagram | dot -Tsvg > game.svg
 
 All formats, commands, answers and faults: docs/FORMATS.md";
+
+/// What is said of the commands of scripts: the lines about them.
+pub fn command_list() -> &'static str {
+    let (_, behind) = AFTER.split_once("Scripts, ").unwrap_or(("", AFTER));
+    let (list, _) = behind.split_once("\n\n").unwrap_or((behind, ""));
+    list
+}
 
 /// The same in one line each.
 pub(crate) const SHORT_AFTER: &str = "\
@@ -87,6 +95,8 @@ pub(crate) const LIFTERS_HELP: &str = "How many threads raise the tables, 1 to 6
 pub(crate) const STRICT_HELP: &str = "End at the first line that is refused, with status 3";
 
 pub(crate) const KEEP_GOING_HELP: &str = "Answer a line with a fault `refused ..`, and go on";
+
+pub(crate) const NAMES_HELP: &str = "Show the names of vertices beside answers";
 
 pub(crate) const FEATURE_HELP: &str =
     "The features of the product, all of them, the root among them";

@@ -9,5 +9,6 @@ mod help;
 mod reading;
 mod task;
 
+pub use help::command_list;
 pub use reading::{not_text, read};
 pub use task::{Asked, Task};

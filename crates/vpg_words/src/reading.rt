@@ -1,7 +1,7 @@
 //! How words are read.
 use crate::help::{
     ABOUT, AFTER, DIAGRAM_HELP, EXPLAIN_HELP, FEATURE_HELP, FEATURES_HELP, GAME_HELP,
-    KEEP_GOING_HELP, LIFTERS_HELP, SCRIPT_HELP, SHORT_AFTER, STRICT_HELP,
+    KEEP_GOING_HELP, LIFTERS_HELP, NAMES_HELP, SCRIPT_HELP, SHORT_AFTER, STRICT_HELP,
 };
 use crate::task::{Asked, Task};
 use clap::builder::ValueParser;
@@ -40,19 +40,33 @@ fn explaining<'a>(alloc: Global, name: &'a str, about: &'a str) -> Result<Comman
     over_family(alloc, name, about)?.arg(flag(alloc, "explain", EXPLAIN_HELP))
 }
 
+/// The number of lifters.
+fn lifters<'a>(alloc: Global) -> Arg<'a> {
+    Arg::new(alloc, "lifters")
+        .long("lifters")
+        .value_name("N")
+        .value_parser(ValueParser::unsigned(1, 64))
+        .default_value("1")
+        .help(LIFTERS_HELP)
+}
+
+fn desk_command<'a>(alloc: Global) -> Result<Command<'a>, AllocError> {
+    over_family(
+        alloc,
+        "desk",
+        "Answers commands as they are typed, on a family",
+    )?
+    .arg(lifters(alloc))?
+    .arg(flag(alloc, "names", NAMES_HELP))
+}
+
 fn run_command<'a>(alloc: Global) -> Result<Command<'a>, AllocError> {
     explaining(alloc, "run", "Carries a script out on a family")?
         .arg(file(alloc, "SCRIPT", SCRIPT_HELP))?
-        .arg(
-            Arg::new(alloc, "lifters")
-                .long("lifters")
-                .value_name("N")
-                .value_parser(ValueParser::unsigned(1, 64))
-                .default_value("1")
-                .help(LIFTERS_HELP),
-        )?
+        .arg(lifters(alloc))?
         .arg(flag(alloc, "strict", STRICT_HELP))?
-        .arg(flag(alloc, "keep-going", KEEP_GOING_HELP))
+        .arg(flag(alloc, "keep-going", KEEP_GOING_HELP))?
+        .arg(flag(alloc, "names", NAMES_HELP))
 }
 
 fn project_command<'a>(alloc: Global) -> Result<Command<'a>, AllocError> {
@@ -104,6 +118,7 @@ fn command<'a>(alloc: Global) -> Result<Command<'a>, AllocError> {
         .after_help(SHORT_AFTER)
         .after_long_help(AFTER);
     let command = with_inner(command, run_command(alloc))?;
+    let command = with_inner(command, desk_command(alloc))?;
     let command = with_inner(command, project_command(alloc))?;
     let command = with_inner(command, check_command(alloc))?;
     let command = with_inner(command, lint_command(alloc))?;
@@ -191,8 +206,14 @@ fn task_of<'a>(
                 lifters: matches.get_one("lifters").unwrap_or(1),
                 strict: matches.get_flag("strict"),
                 keep_going: matches.get_flag("keep-going"),
+                names: matches.get_flag("names"),
             }),
         ),
+        "desk" => Ok(Some(Task::Desk {
+            paths,
+            lifters: matches.get_one("lifters").unwrap_or(1),
+            names: matches.get_flag("names"),
+        })),
         "project" => Ok(Some(Task::Project {
             paths,
             features: features(alloc, matches)?,
@@ -207,9 +228,9 @@ fn task_of<'a>(
     }
 }
 
-/// Whether the faults of a command are explained. `lint` always does so.
+/// Whether the faults of a command are explained. `lint` and `desk` always do so.
 fn explains(name: &str, matches: &ArgMatches<'_>) -> bool {
-    name == "lint" || matches.get_flag("explain")
+    name == "lint" || name == "desk" || matches.get_flag("explain")
 }
 
 /// What words ask for that the parser accepted.

@@ -24,6 +24,16 @@ pub enum Task<'a> {
         strict: bool,
         /// A line with a fault is answered, and the script goes on.
         keep_going: bool,
+        /// The names of vertices stand beside answers.
+        names: bool,
+    },
+    /// A script that is typed in, on a family.
+    Desk {
+        paths: Paths<'a>,
+        /// From 1 to 64.
+        lifters: u32,
+        /// The names of vertices stand beside answers.
+        names: bool,
     },
     /// The plain game of the product that has just these features.
     Project {
@@ -51,6 +61,7 @@ impl<'a> Task<'a> {
         match self {
             Task::BuiltIn => None,
             Task::Run { paths, .. } => Some(*paths),
+            Task::Desk { paths, .. } => Some(*paths),
             Task::Project { paths, .. } => Some(*paths),
             Task::Check { paths } => Some(*paths),
             Task::Lint { paths } => Some(*paths),

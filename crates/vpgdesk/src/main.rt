@@ -13,7 +13,9 @@
 #![tactic(auto)]
 
 ghost use Rattle.std.specs.Io.KnownBytes.{Appends};
-ghost use Rattle.std.specs.Prelude.{◌≡◌, true, Err, OnOk, OnErr};
+ghost use Rattle.std.specs.Arc.{arc_value};
+ghost use Rattle.std.specs.Prelude.{◌≡◌, ◌≤◌, true, Err, IfOk, OnOk, OnErr};
+ghost use Rattle.vpg_diagram.specs.FeatureDiagram.{feature_count};
 
 mod ending;
 mod running;
@@ -24,6 +26,7 @@ use crate::ending::{End, ended, refused_line, status};
 use crate::running::run_script;
 use clap::error::ErrorKind;
 use std::alloc::{AllocError, Global};
+use std::cell::Cell;
 use std::io::IsTerminal;
 use std::process::ExitCode;
 use std::sync::Wait;
@@ -33,8 +36,11 @@ use vpg_family::{
     Family, Fault, Paths, Subject, drawn, explained, line_of, linted, open_script, read_family,
     read_texts,
 };
+use vpg_game::GuardedGame;
+use vpg_names::VertexNames;
 use vpg_script::{Device, Manner, Sink};
-use vpg_words::{Asked, Task, not_text, read};
+use vpg_terminal::{Ear, Heard, Named, Setting, Typed};
+use vpg_words::{Asked, Task, command_list, not_text, read};
 
 /// The diagram that is built in: a root with two features, each of which may be left out.
 const DIAGRAM: &str = "root r\noptional r f\noptional r g\n";
@@ -78,6 +84,150 @@ fn run_built_in<T: Threads + Wait + Sync>(
     Ok(ended(ending))
 }
 
+/// What is said before the first line is read, behind the family's counts.
+const GREETING: &[u8] = b"one command a line; `help` lists commands, `quit` ends\n";
+
+/// A family of two files, and the names of its vertices.
+fn read_named(
+    rt: &HostRuntime,
+    alloc: Global,
+    paths: Paths<'_>,
+) -> Result<(Family, VertexNames), Fault>
+    ensures features { IfOk result (λ named. (arc_value named.0.game).features ≡ feature_count (arc_value named.0.diagram).lines) }
+{
+    let texts = read_texts(rt, alloc, paths)?;
+    let family = Family::read(alloc, &texts.diagram, &texts.game)?;
+    let names = VertexNames::read(alloc, &texts.game)?;
+    Ok((family, names))
+}
+
+/// Carries a script of a file out on a family, with the names of vertices beside its answers.
+fn run_named<T: Threads + Wait + Sync>(
+    rt: &HostRuntime,
+    threads: &T,
+    alloc: Global,
+    paths: Paths<'_>,
+    script: &str,
+    lifters: u32,
+    manner: Manner,
+) -> Result<End, Fault>
+    requires { (1 ≤ lifters) × (lifters ≤ 64) }
+{
+    let (family, names) = read_named(rt, alloc, paths)?;
+    let game = family.game.clone()?;
+    let mut reader = Device::reader(open_script(rt, script)?);
+    let mut writer = Named::new(alloc, &game, &names, Device::writer(rt.stdout().lock()));
+    let ending = run_script(
+        threads,
+        alloc,
+        family,
+        &mut reader,
+        &mut writer,
+        lifters,
+        manner,
+    )?;
+    Ok(ended(ending))
+}
+
+/// The same without names.
+fn run_bare<T: Threads + Wait + Sync>(
+    rt: &HostRuntime,
+    threads: &T,
+    alloc: Global,
+    paths: Paths<'_>,
+    script: &str,
+    lifters: u32,
+    manner: Manner,
+) -> Result<End, Fault>
+    requires { (1 ≤ lifters) × (lifters ≤ 64) }
+{
+    let family = read_family(rt, alloc, paths)?;
+    let mut reader = Device::reader(open_script(rt, script)?);
+    let mut writer = Device::writer(rt.stdout().lock());
+    let ending = run_script(
+        threads,
+        alloc,
+        family,
+        &mut reader,
+        &mut writer,
+        lifters,
+        manner,
+    )?;
+    Ok(ended(ending))
+}
+
+/// The identifier where a game starts, where it is that of a vertex.
+fn start_of(names: &VertexNames, game: &GuardedGame) -> Option<u32> {
+    let id = u32::try_from(names.start()?).ok()?;
+    game.find(id).map(|_| id)
+}
+
+/// Answers commands as they are typed, on a family whose game starts at a vertex of this identifier.
+fn converse<T: Threads + Wait + Sync, W: Sink + Drop>(
+    rt: &HostRuntime,
+    threads: &T,
+    alloc: Global,
+    family: Family,
+    start: Option<u32>,
+    lifters: u32,
+    writer: W,
+) -> Result<End, Fault>
+    requires lifters { (1 ≤ lifters) × (lifters ≤ 64) }
+    requires features { (arc_value family.game).features ≡ feature_count (arc_value family.diagram).lines }
+{
+    let counts = family.counted(alloc)?;
+    let mut talk = Device::writer(rt.stderr().lock());
+    // Where these fail the answers are still to come.
+    let _ = talk.put(&counts);
+    let _ = talk.put(GREETING);
+    let heard = Cell::new(Heard::Nothing);
+    let setting = Setting {
+        commands: command_list(),
+        is_prompted: rt.stdin().is_terminal(),
+        start,
+        heard: &heard,
+    };
+    let reader = Device::reader(rt.stdin().lock());
+    let mut reader = Typed::new(alloc, setting, reader, talk);
+    let mut writer = Ear::new(writer, &heard);
+    let forgiving = Manner {
+        is_strict: false,
+        goes_on: true,
+    };
+    let ending = run_script(
+        threads,
+        alloc,
+        family,
+        &mut reader,
+        &mut writer,
+        lifters,
+        forgiving,
+    )?;
+    Ok(ended(ending))
+}
+
+/// Answers commands from standard input as they are typed, on a family of two files.
+fn sit<T: Threads + Wait + Sync>(
+    rt: &HostRuntime,
+    threads: &T,
+    alloc: Global,
+    paths: Paths<'_>,
+    lifters: u32,
+    shows_names: bool,
+) -> Result<End, Fault>
+    requires { (1 ≤ lifters) × (lifters ≤ 64) }
+{
+    let (family, names) = read_named(rt, alloc, paths)?;
+    let game = family.game.clone()?;
+    let start = start_of(&names, &game);
+    let writer = Device::writer(rt.stdout().lock());
+    if shows_names {
+        let writer = Named::new(alloc, &game, &names, writer);
+        return converse(rt, threads, alloc, family, start, lifters, writer);
+    }
+    converse(rt, threads, alloc, family, start, lifters, writer)
+}
+
 /// Writes a picture of a family.
 fn draw(rt: &HostRuntime, alloc: Global, paths: Paths<'_>, subject: Subject) -> Result<(), Fault> {
     let texts = read_texts(rt, alloc, paths)?;
@@ -107,25 +257,26 @@ fn carry_out<T: Threads + Wait + Sync>(
             lifters,
             strict,
             keep_going,
+            names,
         } => {
-            let family = read_family(rt, alloc, *paths)?;
-            let mut reader = Device::reader(open_script(rt, script)?);
-            let mut writer = Device::writer(rt.stdout().lock());
             let manner = Manner {
                 is_strict: *strict,
                 goes_on: *keep_going,
             };
             // The parser takes no other number of lifters.
-            let ending = run_script(
-                threads,
-                alloc,
-                family,
-                &mut reader,
-                &mut writer,
-                (*lifters).clamp(1, 64),
-                manner,
-            )?;
-            Ok(ended(ending))
+            let lifters = (*lifters).clamp(1, 64);
+            if *names {
+                return run_named(rt, threads, alloc, *paths, script, lifters, manner);
+            }
+            run_bare(rt, threads, alloc, *paths, script, lifters, manner)
+        }
+        Task::Desk {
+            paths,
+            lifters,
+            names,
+        } => {
+            let lifters = (*lifters).clamp(1, 64);
+            sit(rt, threads, alloc, *paths, lifters, *names)
         }
         Task::Project { paths, features } => {
             let family = read_family(rt, alloc, *paths)?;

@@ -1,0 +1,75 @@
+-- The names that stand beside the lines of answers. This project's own.
+use Rattle.std.specs.Prelude.{ℕ, Bool, not, ◌&&◌, ◌||◌, nat_lt, ◌==◌, if◌then◌else◌, true, false, List, [], ◌∷◌, ◌++◌, take, drop, map, flat_map, position, Option, Some, None, codes, bytes_eq, slice_index_or}
+use Rattle.std.specs.List.{prefix_len, slice_split}
+use Rattle.vpg_script.specs.Script.{number_of, largest_identifier}
+
+abbrev pub is_within_word : ℕ → Bool
+is_within_word b = not (b == 32)
+
+-- what stands before the first blank, and what stands behind it
+abbrev pub first_word : List ℕ → List ℕ
+first_word line = take (prefix_len is_within_word line) line
+
+abbrev pub behind_word : List ℕ → List ℕ
+behind_word line = drop 1 (drop (prefix_len is_within_word line) line)
+
+-- the name of the vertex of an identifier, of vertices with these identifiers and these names; empty where it has none
+abbrev pub name_at : (ids : List ℕ) (names : List (List ℕ)) → Option ℕ → List ℕ
+name_at ids names None = []
+name_at ids names (Some v) = slice_index_or names v []
+
+abbrev pub name_with : (ids : List ℕ) (names : List (List ℕ)) → Option ℕ → List ℕ
+name_with ids names None = []
+name_with ids names (Some id) = name_at ids names (position (λ n. n == id) ids)
+
+-- the same of the vertex whose identifier this word is
+abbrev pub name_of : (ids : List ℕ) (names : List (List ℕ)) → List ℕ → List ℕ
+name_of ids names word = name_with ids names (number_of largest_identifier word)
+
+abbrev pub is_empty : List ℕ → Bool
+is_empty [] = true
+is_empty (b ∷ bytes) = false
+
+-- a byte as it is shown: `?` where it is a control character
+abbrev pub shown_byte : ℕ → ℕ
+shown_byte byte = if nat_lt byte 32 || (byte == 127) then 63 else byte
+
+-- ` "NAME"`
+abbrev pub quoted : List ℕ → List ℕ
+quoted name = codes " \"" ++ map shown_byte name ++ codes "\""
+
+-- a name, where there is one
+abbrev pub beside : List ℕ → List ℕ
+beside name = if is_empty name then [] else quoted name
+
+-- two names, where there is one of them
+abbrev pub beside_both : List ℕ → List ℕ → List ℕ
+beside_both name other = if is_empty name && is_empty other then [] else quoted name ++ quoted other
+
+-- What stands beside a line. The first word of a line of `show` is a vertex, the second one of a lift of `trail`, and
+-- the second and the third of a line of `plan`.
+abbrev pub labels_of : (ids : List ℕ) (names : List (List ℕ)) → List ℕ → List ℕ
+labels_of ids names line =
+    if bytes_eq (first_word line) (codes "plan")
+    then beside_both (name_of ids names (first_word (behind_word line)))
+    (name_of ids names (first_word (behind_word (behind_word line))))
+    else (if bytes_eq (first_word line) (codes "hopeful") || bytes_eq (first_word line) (codes "dual")
+    then beside (name_of ids names (first_word (behind_word line)))
+    else beside (name_of ids names (first_word line)))
+
+-- a line with what stands beside it
+abbrev pub named_line : (ids : List ℕ) (names : List (List ℕ)) → List ℕ → List ℕ
+named_line ids names line = line ++ labels_of ids names line
+
+abbrev pub is_line_end : ℕ → Bool
+is_line_end b = b == 10
+
+-- lines with what stands beside each, and a line feed between any two
+abbrev pub named_lines : (ids : List ℕ) (names : List (List ℕ)) → List (List ℕ) → List ℕ
+named_lines ids names [] = []
+named_lines ids names (line ∷ lines) =
+    named_line ids names line ++ flat_map (λ other. 10 ∷ named_line ids names other) lines
+
+-- a text with what stands beside each of its lines
+abbrev pub named_text : (ids : List ℕ) (names : List (List ℕ)) → List ℕ → List ℕ
+named_text ids names text = named_lines ids names (slice_split is_line_end text)

@@ -1,0 +1,67 @@
+//! What an answer tells a session, and a sink that listens.
+ghost use Rattle.std.specs.Prelude.{◌≡◌};
+ghost use Rattle.vpg_terminal.specs.Following.{heard_of};
+
+use crate::naming::behind_word;
+use std::cell::Cell;
+use vpg_script::{Failed, Sink};
+
+/// What an answer tells a session.
+#[derive(Clone, Copy, Debug, PartialEq, Eq)]
+pub enum Heard {
+    /// The line is no command.
+    Fault,
+    /// A decision contradicts the page.
+    Conflict,
+    /// The page was swept.
+    Swept,
+    /// The vertex whose line it is, as `show V` answers it, is hopeless.
+    Hopeless,
+    /// Nothing of this.
+    Nothing,
+}
+
+/// What an answer tells.
+pub fn heard_of(answer: &[u8]) -> Heard
+    ensures { result ≡ heard_of answer.now }
+{
+    if answer.starts_with(b"refused Word") || answer.starts_with(b"refused Args") {
+        Heard::Fault
+    } else if answer.starts_with(b"refused Conflict ") {
+        Heard::Conflict
+    } else if answer.starts_with(b"settled ") || answer.starts_with(b"unsettled ") {
+        Heard::Swept
+    } else if behind_word(behind_word(behind_word(answer))).starts_with(b"hopeless ") {
+        Heard::Hopeless
+    } else {
+        Heard::Nothing
+    }
+}
+
+/// A sink that passes answers on, and notes what each of them tells.
+#[derive(Drop)]
+pub struct Ear<'c, W> {
+    writer: W,
+    heard: &'c Cell<Heard>,
+}
+
+impl<'c, W: Sink> Ear<'c, W> {
+    /// An ear that passes on to this writer.
+    pub fn new(writer: W, heard: &'c Cell<Heard>) -> Ear<'c, W>
+        ensures contents { ⟦<Ear<'c, W> as Sink>⟧.contents result ≡ W.contents writer }
+        ensures failed { ⟦<Ear<'c, W> as Sink>⟧.has_failed result ≡ W.has_failed writer }
+    {
+        Ear { writer, heard }
+    }
+}
+
+impl<W: Sink> Sink for Ear<'_, W> {
+    ghost contents = { λ e. W.contents e.writer };
+
+    ghost has_failed = { λ e. W.has_failed e.writer };
+
+    fn put(&mut self, bytes: &[u8]) -> Result<(), Failed> {
+        self.heard.set(heard_of(bytes));
+        self.writer.put(bytes)
+    }
+}

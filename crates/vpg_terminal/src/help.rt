@@ -1,0 +1,41 @@
+//! What a session says of commands.
+use std::alloc::{AllocError, Global};
+use vpg_places::words_of;
+
+/// How many bytes of a line of the list tell how commands are written.
+const WRITTEN: usize = 25;
+
+/// Whether a line of the list begins what is said of a command, and doesn't go on with it.
+fn begins(line: &[u8]) -> bool {
+    line.starts_with(b"  ") && !line.starts_with(b"   ")
+}
+
+/// Whether a line that begins what is said of commands names this word.
+fn names(alloc: Global, line: &[u8], command: &[u8]) -> Result<bool, AllocError> {
+    let written = line.get(..WRITTEN).unwrap_or(line);
+    let words = words_of(alloc, written, false)?;
+    Ok(words.iter().any(|word| word.bytes == command))
+}
+
+/// Appends the lines of a list of commands that tell of one, and whether there are any.
+pub(crate) fn put_command(
+    alloc: Global,
+    list: &str,
+    command: &[u8],
+    out: &mut Vec<u8>,
+) -> Result<bool, AllocError> {
+    let mut is_told = false;
+    let mut is_found = false;
+    for line in list.lines() {
+        let line = line.as_bytes();
+        if begins(line) {
+            is_told = names(alloc, line, command)?;
+            is_found = is_found || is_told;
+        }
+        if is_told {
+            out.extend_from_slice(line)?;
+            out.push(b'\n')?;
+        }
+    }
+    Ok(is_found)
+}

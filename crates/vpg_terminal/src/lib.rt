@@ -1,0 +1,23 @@
+//! What stands between a script and a person at a terminal.
+//!
+//! `Typed` is a script that is typed in: it hands each line on as it comes, meets `help` and `quit` itself, and hands
+//! lines of its own on behind some answers: why a decision is refused, and what a settled page shows of the vertex
+//! where the game starts. It learns of answers by an `Ear`, a sink that passes them on. `named_text` puts the names of
+//! vertices beside the lines of an answer, and `Named` is a sink that does so with each answer that is put to it.
+//!
+//! What is said beside the answers (a prompt, help, why a line is no command) goes to a sink of its own. So the answers
+//! are just those to the lines that are handed on.
+//!
+//! `specs/Following` says what an answer tells and which line follows it, `specs/Naming` what stands beside a line.
+//! Both are this project's own.
+#![tactic(auto)]
+
+mod following;
+mod hearing;
+mod help;
+mod naming;
+mod typing;
+
+pub use hearing::{Ear, Heard};
+pub use naming::{Named, named_text};
+pub use typing::{Setting, Typed};

@@ -1,0 +1,327 @@
+//! A script that is typed in.
+ghost use Rattle.std.specs.Prelude.{◌≡◌, ◌≤◌, ◌++◌, ◌∷◌, [], None, IfOk, false, length, vec_len};
+
+use crate::following::{Following, behind_line, behind_own};
+use crate::hearing::Heard;
+use crate::help::put_command;
+use std::alloc::{AllocError, Global};
+use std::cell::Cell;
+use std::mem;
+use vpg_lint::{explain_line, put_message};
+use vpg_places::{Word, words_of};
+use vpg_script::{Failed, Next, Sink, Source, next_line};
+
+/// What stands before each line on a terminal.
+const PROMPT: &[u8] = b"> ";
+
+/// What is said of a word that names no command.
+const UNKNOWN: &[u8] = b"no such command; `help` lists them\n";
+
+/// What a line asks of the session itself.
+#[derive(Clone, Copy)]
+enum Asked<'l> {
+    Nothing,
+    Help,
+    /// What is said of the commands of this word.
+    HelpOf(&'l [u8]),
+    Quit,
+}
+
+fn asked_of<'l>(words: &[Word<'l>]) -> Asked<'l> {
+    match words {
+        [word] if word.bytes == b"quit".as_slice() => Asked::Quit,
+        [word] if word.bytes == b"help".as_slice() => Asked::Help,
+        [word, command] if word.bytes == b"help".as_slice() => Asked::HelpOf(command.bytes),
+        _ => Asked::Nothing,
+    }
+}
+
+/// What a session is given: the list of commands, whether it writes prompts, the identifier of the vertex where the
+/// game starts, and what was heard of the last answer.
+#[derive(Clone, Copy)]
+pub struct Setting<'c> {
+    pub commands: &'c str,
+    pub is_prompted: bool,
+    pub start: Option<u32>,
+    pub heard: &'c Cell<Heard>,
+}
+
+/// What a line is handed on as, and what follows it.
+#[derive(Drop)]
+struct Handed {
+    line: Vec<u8>,
+    following: Option<Following>,
+}
+
+/// The line in which a script says nothing.
+fn nothing(alloc: Global) -> Result<Handed, AllocError> {
+    Ok(Handed {
+        line: Vec::from_slice(alloc, b"\n")?,
+        following: None,
+    })
+}
+
+/// What is handed on of a line that asks nothing of the session: the line itself.
+fn as_typed(
+    alloc: Global,
+    line: &[u8],
+    words: &[Word<'_>],
+    start: Option<u32>,
+) -> Result<Handed, AllocError>
+    ensures { IfOk result (λ handed. handed.line.items ≡ line.now ++ 10 ∷ []) }
+{
+    let following = behind_line(alloc, words, start)?;
+    let mut copy = Vec::from_slice(alloc, line)?;
+    copy.push(b'\n')?;
+    Ok(Handed {
+        line: copy,
+        following,
+    })
+}
+
+/// Says how commands are written.
+fn tell_help<W: Sink>(
+    alloc: Global,
+    commands: &str,
+    command: &[u8],
+    talk: &mut W,
+) -> Result<(), AllocError> {
+    let mut text = Vec::new(alloc);
+    if !put_command(alloc, commands, command, &mut text)? {
+        text.extend_from_slice(UNKNOWN)?;
+    }
+    // Where this fails the answers are still to come.
+    let _ = talk.put(&text);
+    Ok(())
+}
+
+/// Meets a line that was typed: what is handed on of it, or `None` where the session ends.
+fn meet<W: Sink>(
+    alloc: Global,
+    setting: Setting<'_>,
+    line: &[u8],
+    talk: &mut W,
+) -> Result<Option<Handed>, AllocError> {
+    let words = words_of(alloc, line, false)?;
+    match asked_of(&words) {
+        Asked::Quit => return Ok(None),
+        Asked::Help => {
+            let _ = talk.put(setting.commands.as_bytes());
+            let _ = talk.put(b"\n");
+        }
+        Asked::HelpOf(command) => tell_help(alloc, setting.commands, command, talk)?,
+        Asked::Nothing => return Ok(Some(as_typed(alloc, line, &words, setting.start)?)),
+    }
+    Ok(Some(nothing(alloc)?))
+}
+
+/// Says why a line is no command.
+fn tell_fault<W: Sink>(
+    alloc: Global,
+    number: usize,
+    line: &[u8],
+    talk: &mut W,
+) -> Result<(), AllocError> {
+    let line = line.strip_suffix(b"\n").unwrap_or(line);
+    let message = explain_line(alloc, number, line)?;
+    let mut text = Vec::new(alloc);
+    put_message("line", &message, &mut text)?;
+    let _ = talk.put(&text);
+    Ok(())
+}
+
+/// What was typed so far, and what is handed on of it.
+#[derive(Drop)]
+struct Session<'c, R: Source, W> {
+    alloc: Global,
+    setting: Setting<'c>,
+    reader: R,
+    talk: W,
+    /// What was read and not looked at, and how often it was read.
+    held: Vec<u8>,
+    reads: u32,
+    /// How many lines were typed.
+    typed: usize,
+    /// What is handed on, how much of it was, and what follows it.
+    line: Vec<u8>,
+    given: usize,
+    following: Option<Following>,
+    /// The next line is the rest of one that is too long.
+    is_within: bool,
+    has_ended: bool,
+    ghost counted: { R.calls reader ≡ reads },
+    ghost few: { reads ≤ 16777216 },
+    ghost within: { given ≤ vec_len line },
+}
+
+impl<'c, R: Source, W: Sink> Session<'c, R, W> {
+    fn new(alloc: Global, setting: Setting<'c>, reader: R, talk: W) -> Session<'c, R, W>
+        requires { R.calls reader ≡ 0 }
+    {
+        Session {
+            alloc,
+            setting,
+            reader,
+            talk,
+            held: Vec::new(alloc),
+            reads: 0,
+            typed: 0,
+            line: Vec::new(alloc),
+            given: 0,
+            following: None,
+            is_within: false,
+            has_ended: false,
+        }
+    }
+
+    /// Takes a line that is to be handed on, or the end where there is none.
+    fn take(&mut self, handed: Option<Handed>) {
+        self.given = 0;
+        match handed {
+            Some(Handed { line, following }) => {
+                self.line = line;
+                self.following = following;
+            }
+            None => {
+                self.line.clear();
+                self.following = None;
+                self.has_ended = true;
+            }
+        }
+    }
+
+    /// What the session itself hands on behind an answer, where there is something.
+    fn own(&mut self, heard: Heard) -> Result<bool, AllocError> {
+        match mem::replace(&mut self.following, None) {
+            Some(Following { behind, line }) if behind == heard => {
+                let following = behind_own(self.alloc, behind, self.setting.start)?;
+                self.take(Some(Handed { line, following }));
+                Ok(true)
+            }
+            _ => Ok(false),
+        }
+    }
+
+    /// A line that was typed, or the rest of one that is too long.
+    fn meet(&mut self, line: Vec<u8>) -> Result<(), AllocError> {
+        let handed = if self.is_within {
+            Some(as_typed(self.alloc, &line, &[], None)?)
+        } else {
+            meet(self.alloc, self.setting, &line, &mut self.talk)?
+        };
+        self.is_within = false;
+        self.take(handed);
+        Ok(())
+    }
+
+    /// Waits for the next line.
+    fn listen(&mut self) -> Result<(), Failed> {
+        if self.setting.is_prompted && !self.is_within {
+            let _ = self.talk.put(PROMPT);
+        }
+        self.typed = self.typed.saturating_add(1);
+        match next_line(
+            self.alloc,
+            &mut self.held,
+            &mut self.reads,
+            &mut self.reader,
+        ) {
+            Ok(Next::Line(line)) => match self.meet(line) {
+                Ok(()) => Ok(()),
+                Err(_) => Err(Failed),
+            },
+            Ok(Next::TooLong) => {
+                let line = mem::replace(&mut self.held, Vec::new(self.alloc));
+                self.is_within = true;
+                self.take(Some(Handed {
+                    line,
+                    following: None,
+                }));
+                Ok(())
+            }
+            Ok(Next::End) => {
+                self.take(None);
+                Ok(())
+            }
+            Err(_) => Err(Failed),
+        }
+    }
+
+    /// The next line, of the session itself or typed.
+    fn next(&mut self) -> Result<(), Failed> {
+        let heard = self.setting.heard.replace(Heard::Nothing);
+        if matches!(heard, Heard::Fault) {
+            let _ = tell_fault(self.alloc, self.typed, &self.line, &mut self.talk);
+        }
+        match self.own(heard) {
+            Ok(true) => Ok(()),
+            Ok(false) => self.listen(),
+            Err(_) => Err(Failed),
+        }
+    }
+
+    /// Whether the line was handed on, and a next one may come.
+    fn is_spent(&self) -> bool {
+        self.given >= self.line.len() && !self.has_ended
+    }
+
+    /// Hands on what is left of the line, as much as there is room for.
+    fn hand_on(&mut self, buf: &mut [u8]) -> usize
+        ensures bound { result ≤ length buf.new }
+        ensures len { length buf.new ≡ length buf.old }
+    {
+        let n = (self.line.len() - self.given).min(buf.len());
+        buf[..n].copy_from_slice(&self.line[self.given..self.given + n]);
+        self.given += n;
+        n
+    }
+}
+
+/// A script that is typed in. It ends where its reader does, or at a line `quit`.
+#[derive(Drop)]
+pub struct Typed<'c, R: Source, W> {
+    session: Session<'c, R, W>,
+    failed: bool,
+    calls: u32,
+}
+
+impl<'c, R: Source, W: Sink> Typed<'c, R, W> {
+    /// A script from this reader that was not read yet. What is said beside the answers goes to `talk`.
+    pub fn new(alloc: Global, setting: Setting<'c>, reader: R, talk: W) -> Typed<'c, R, W>
+        requires { R.calls reader ≡ 0 }
+        ensures unread { ⟦<Typed<'c, R, W> as Source>⟧.calls result ≡ 0 }
+        ensures sound { ⟦<Typed<'c, R, W> as Source>⟧.has_failed result ≡ false }
+    {
+        Typed {
+            session: Session::new(alloc, setting, reader, talk),
+            failed: false,
+            calls: 0,
+        }
+    }
+}
+
+impl<R: Source + Drop, W: Sink> Typed<'_, R, W> {
+    /// What the lines that are said beside the answers were written to.
+    pub fn into_talk(self) -> W {
+        self.session.talk
+    }
+}
+
+impl<R: Source, W: Sink> Source for Typed<'_, R, W> {
+    ghost remaining = { λ _. None };
+
+    ghost has_failed = { λ d. d.failed };
+
+    ghost calls = { λ d. d.calls };
+
+    fn fill(&mut self, buf: &mut [u8]) -> Result<usize, Failed> {
+        self.calls += 1;
+        if self.session.is_spent() {
+            if let Err(failed) = self.session.next() {
+                self.failed = true;
+                return Err(failed);
+            }
+        }
+        Ok(self.session.hand_on(buf))
+    }
+}
