@@ -93,7 +93,8 @@ fn read_named(
     alloc: Global,
     paths: Paths<'_>,
 ) -> Result<(Family, VertexNames), Fault>
-    ensures features { IfOk result (λ named. (arc_value named.0.game).features ≡ feature_count (arc_value named.0.diagram).lines) }
+    ensures features { IfOk result (λ named.
+        (arc_value named.0.game).features ≡ feature_count (arc_value named.0.diagram).lines) }
 {
     let texts = read_texts(rt, alloc, paths)?;
     let family = Family::read(alloc, &texts.diagram, &texts.game)?;
