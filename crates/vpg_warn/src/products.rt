@@ -4,6 +4,7 @@ ghost use Rattle.std.specs.Prelude.{◌≡◌, ◌↔◌, ◌<◌, IsTrue, All};
 use std::alloc::{AllocError, Global};
 use vpg_diagram::Diagram;
 use vpg_guards::Tri;
+use vpg_measure::known_under;
 use vpg_partial::{Decision, Partial, PartialFault};
 
 /// What decisions make known, or that they contradict each other.
@@ -30,7 +31,7 @@ pub(crate) fn closure_of(
     if !are_below(features, decisions) {
         return Ok(Closed::Conflict);
     }
-    match Partial::close(alloc, diagram, decisions) {
+    match known_under(alloc, diagram, decisions) {
         Ok(known) => Ok(Closed::Known(known)),
         Err(PartialFault::Conflict { .. }) => Ok(Closed::Conflict),
         Err(PartialFault::Memory) => Err(AllocError),

@@ -14,6 +14,6 @@ choices_below lines decisions n e below =
     subst (λ (m : ℕ). AllByRecursion (λ (l : Literal). l.feature < m) (map literal_of decisions)) e
     (All-map (λ (l : Literal). l.feature < n) literal_of decisions (recursion_from_All (λ (d : Decision). d.feature < n) decisions below))
 
-pub close-requires : goal.close-requires
-close-requires c =
+pub known_under-requires : goal.known_under-requires
+known_under-requires c =
     choices_below c.args.diagram.now.lines c.args.decisions.now c.features-features.result c.features-features.ensures.count (c.are_below.ensures.0 c.if-not-are_below.false)
