@@ -18,7 +18,7 @@ const DENSE: usize = 64;
 const FALL: usize = 16;
 
 /// How often a vertex rises in the first turn before it is taken to climb.
-const CLIMBS: u32 = 2;
+const CLIMBS: u8 = 2;
 
 /// The vertices that are to be looked at: those whose lift may exceed their value. And how often each rose in this
 /// turn, and in which turn each was found to move last.
@@ -28,14 +28,15 @@ pub(crate) struct Waiting {
     count: usize,
     // the least value over an edge that raises a vertex, where its value is a number over some edge
     limits: PerVertex<u64>,
-    // those that wait, and others
+    // those that wait, and others; only some of those that wait where it is not complete
     queue: VecDeque<u32>,
-    raises: PerVertex<u32>,
+    is_complete: bool,
+    raises: PerVertex<u8>,
     // the last turn at whose end it moved; zero for none
-    moved: PerVertex<u32>,
-    turn: u32,
+    moved: PerVertex<u8>,
+    turn: u8,
     // how often a vertex rises in a turn before it is taken to climb
-    climbs: u32,
+    climbs: u8,
 }
 
 impl Waiting {
@@ -46,7 +47,7 @@ impl Waiting {
         table: &[u64],
     ) -> Result<Waiting, AllocError> {
         let mut waiting = Waiting::none(alloc, ground.graph.vertices())?;
-        waiting.add_all(ground, table)?;
+        waiting.add_all(ground, table);
         Ok(waiting)
     }
 
@@ -57,6 +58,7 @@ impl Waiting {
             count: 0,
             limits: PerVertex::of(alloc, vertices, u64::MAX)?,
             queue: VecDeque::new(alloc),
+            is_complete: false,
             raises: PerVertex::of(alloc, vertices, 0)?,
             moved: PerVertex::of(alloc, vertices, 0)?,
             turn: 0,
@@ -65,17 +67,35 @@ impl Waiting {
     }
 
     // All wait that are below the top, where none waited.
-    fn add_all(&mut self, ground: &GuessGround, table: &[u64]) -> Result<(), AllocError> {
+    fn add_all(&mut self, ground: &GuessGround, table: &[u64]) {
         for v in 0..ground.graph.vertices() {
             let value = value_in(table, v);
             if value < ground.even.top {
                 self.waits.set(v, true);
                 self.limits.set(v, ground.even.limit(v, value));
+                self.count = self.count.saturating_add(1);
+            }
+        }
+    }
+
+    // The queue has all that wait.
+    fn complete(&mut self) -> Result<(), AllocError> {
+        if self.is_complete {
+            return Ok(());
+        }
+        self.is_complete = true;
+        for v in 0..self.waits.count() {
+            if self.waits.get(v) {
                 self.queue.push_back(v)?;
             }
         }
-        self.count = self.queue.len();
         Ok(())
+    }
+
+    // The queue has none.
+    fn empty_queue(&mut self) {
+        self.is_complete = false;
+        self.queue.clear();
     }
 
     // Whether v waited; it waits no more.
@@ -93,6 +113,13 @@ impl Waiting {
         self.waits.count() as usize / DENSE < self.count
     }
 
+    fn put_back(&mut self, v: u32) -> Result<(), AllocError> {
+        if self.is_complete {
+            self.queue.push_back(v)?;
+        }
+        Ok(())
+    }
+
     // Those that move to v, which rose, are to be looked at again where that may raise them.
     fn wake(&mut self, ground: &GuessGround, table: &[u64], v: u32) -> Result<(), AllocError> {
         self.raises.set(v, self.raises.get(v).saturating_add(1));
@@ -102,23 +129,21 @@ impl Waiting {
             if !self.waits.get(*u) && self.limits.get(*u) <= value {
                 self.waits.set(*u, true);
                 self.count = self.count.saturating_add(1);
-                self.queue.push_back(*u)?;
+                self.put_back(*u)?;
             }
         }
         Ok(())
     }
 
-    /// Those that move to what rose since the table was so are to be looked at again.
+    /// Those that move to what rose are to be looked at again.
     pub(crate) fn wake_risen(
         &mut self,
         ground: &GuessGround,
-        before: &[u64],
         table: &[u64],
+        risen: &[u32],
     ) -> Result<(), AllocError> {
-        for v in 0..ground.graph.vertices() {
-            if value_in(before, v) < value_in(table, v) {
-                self.wake(ground, table, v)?;
-            }
+        for v in risen {
+            self.wake(ground, table, *v)?;
         }
         Ok(())
     }
@@ -225,7 +250,7 @@ fn look_round(
     requires { IsTableOf shape.now arena.now table.old }
     ensures { IsRaisedFrom shape.now arena.now table.old table.new }
 {
-    waiting.queue.clear();
+    waiting.empty_queue();
     for v in 0..arena.vertices() {
         look(shape, arena, ground, waiting, table, v, budget)?;
     }
@@ -245,6 +270,7 @@ fn look_queue(
     requires { IsTableOf shape.now arena.now table.old }
     ensures { IsRaisedFrom shape.now arena.now table.old table.new }
 {
+    waiting.complete()?;
     for _ in 0..waiting.queue.len() {
         let Some(v) = waiting.queue.pop_front() else {
             break;
@@ -287,7 +313,7 @@ fn lift_waiting(
     requires { IsTableOf shape.now arena.now table.old }
     ensures { IsRaisedFrom shape.now arena.now table.old table.new }
 {
-    let mut least = waiting.count;
+    let mut least = usize::MAX;
     let mut left = budget.left();
     for _ in 0..u64::MAX {
         if waiting.count == 0 || budget.is_spent() {
