@@ -2,6 +2,7 @@
 ghost use Rattle.std.specs.Prelude.{◌≡◌, ◌≢◌, ◌<◌, ◌≤◌, ◌+◌, ℕ, length, slice_index_or, IfOk, IfSome, IsNone};
 ghost use Rattle.vpg_guards.specs.declared.tri.Tri.TheVariants.{Unknown};
 ghost use Rattle.vpg_guards.specs.Known.{AreAllKnown};
+ghost use Rattle.vpg_measure.specs.Games.{ArePageGames};
 ghost use Rattle.vpg_partial.specs.TableLaws.{AreChoicesOf, IsKnownTable};
 ghost use Rattle.vpg_why.specs.Explained.{choices};
 ghost use Rattle.vpg_why.specs.Found.{HasRoom, IsOutlook, IsOutlookExact, IsFound, IsFoundExact};
@@ -11,7 +12,7 @@ use crate::asking::{closed, games_with, is_top, with_one};
 use crate::question::{Aim, Limits, Question, Shown};
 use std::alloc::{AllocError, Global};
 use vpg_guards::Tri;
-use vpg_measure::{Order, Which};
+use vpg_measure::{Order, PageGames, Which};
 use vpg_partial::{Decision, Partial};
 
 /// What some decisions say of an aim.
@@ -32,8 +33,8 @@ pub(crate) enum Outlook {
 pub struct Example {
     /// For each feature whether the product has it.
     pub features: Vec<bool>,
-    /// Whether it was shown to be the first: of the products that are left and meet the aim, none comes before it in the order of the
-    /// features, where a product with a feature comes before one without.
+    /// Whether it was shown to be the first: of the products that are left and meet the aim, none comes before it in
+    /// the order of the features, where a product with a feature comes before one without.
     pub first: bool,
 }
 
@@ -64,7 +65,8 @@ fn open_feature(known: &Partial, features: u16) -> Option<u16>
     None
 }
 
-// What the decisions say of an aim, where this was shown of the verdict under what they make known: that it bars the aim, or not.
+// What the decisions say of an aim, where this was shown of the verdict under what they make known: that it bars the
+// aim, or not.
 fn outlook_under(
     alloc: Global,
     order: &Order,
@@ -117,6 +119,32 @@ fn look_at_features(
     }
 }
 
+// For one that is won, under the games of the decisions.
+fn look_at_games(
+    alloc: Global,
+    order: &Order,
+    games: &PageGames,
+    which: Which,
+    vertex: u32,
+    decisions: &[Decision],
+    limits: Limits,
+) -> Result<Outlook, AllocError>
+    requires games { ArePageGames order.now.game order.now.diagram (choices decisions.now) games.now }
+    requires named { AreChoicesOf order.now.diagram.lines (choices decisions.now) }
+    requires vertex { vertex < length order.now.game.vertices }
+    ensures outlook { IfOk result
+        (IsOutlook order.now.game order.now.diagram (Aim.Won which vertex) (choices decisions.now)) }
+    ensures settled { IfOk result
+        (λ outlook. AlwaysSettles limits.rounds order.now.game order.now.diagram which → IsOutlookExact outlook) }
+{
+    // What every order keeps, for the proof.
+    let _order = order.game();
+    let shown = is_top(alloc, order, games, which, vertex, limits)?;
+    let aim = Aim::Won { which, vertex };
+    let found = outlook_under(alloc, order, aim, decisions, games.known(), shown)?;
+    Ok(found)
+}
+
 // For one that is won.
 fn look_at_game(
     alloc: Global,
@@ -128,18 +156,15 @@ fn look_at_game(
 ) -> Result<Outlook, AllocError>
     requires named { AreChoicesOf order.now.diagram.lines (choices decisions.now) }
     requires vertex { vertex < length order.now.game.vertices }
-    ensures outlook { IfOk result (IsOutlook order.now.game order.now.diagram (Aim.Won which vertex) (choices decisions.now)) }
-    ensures settled { IfOk result (λ outlook. AlwaysSettles limits.rounds order.now.game order.now.diagram which → IsOutlookExact outlook) }
+    ensures outlook { IfOk result
+        (IsOutlook order.now.game order.now.diagram (Aim.Won which vertex) (choices decisions.now)) }
+    ensures settled { IfOk result
+        (λ outlook. AlwaysSettles limits.rounds order.now.game order.now.diagram which → IsOutlookExact outlook) }
 {
     // What every order keeps, for the proof.
     let _order = order.game();
     match games_with(alloc, order, decisions)? {
-        Some(games) => {
-            let shown = is_top(alloc, order, &games, which, vertex, limits)?;
-            let aim = Aim::Won { which, vertex };
-            let found = outlook_under(alloc, order, aim, decisions, games.known(), shown)?;
-            Ok(found)
-        }
+        Some(games) => look_at_games(alloc, order, &games, which, vertex, decisions, limits),
         None => Ok(Outlook::Lost),
     }
 }
@@ -154,7 +179,8 @@ pub(crate) fn look(
     requires named { AreChoicesOf order.now.diagram.lines (choices decisions.now) }
     requires aim { IsAim order.now.game aim }
     ensures outlook { IfOk result (IsOutlook order.now.game order.now.diagram aim (choices decisions.now)) }
-    ensures settled { IfOk result (λ outlook. AimSettles limits.rounds order.now.game order.now.diagram aim → IsOutlookExact outlook) }
+    ensures settled { IfOk result
+        (λ outlook. AimSettles limits.rounds order.now.game order.now.diagram aim → IsOutlookExact outlook) }
 {
     match aim {
         Aim::Any => look_at_features(alloc, order, decisions),
@@ -175,7 +201,9 @@ fn search(
     requires aim { IsAim order.now.game aim }
     ensures found { IfOk result (IsFound order.now.game order.now.diagram aim (choices decisions.now)) }
     ensures spent { IfOk result (λ found. trials.old ≤ trials.new + most_trials depth) }
-    ensures settled { IfOk result (λ found. HasRoom order.now.diagram (choices decisions.now) depth trials.old → AimSettles limits.rounds order.now.game order.now.diagram aim → IsFoundExact found) }
+    ensures settled { IfOk result
+        (λ found. HasRoom order.now.diagram (choices decisions.now) depth trials.old →
+        AimSettles limits.rounds order.now.game order.now.diagram aim → IsFoundExact found) }
 {
     if depth == 0 || *trials == 0 {
         return Ok(Found::Unsettled);
@@ -222,7 +250,8 @@ pub(crate) fn search_all(
     requires named { AreChoicesOf order.now.diagram.lines (choices decisions.now) }
     requires aim { IsAim order.now.game aim }
     ensures found { IfOk result (IsFound order.now.game order.now.diagram aim (choices decisions.now)) }
-    ensures settled { IfOk result (λ found. IsSettled order.now.game order.now.diagram limits (Question.Lost aim) → IsFoundExact found) }
+    ensures settled { IfOk result
+        (λ found. IsSettled order.now.game order.now.diagram limits (Question.Lost aim) → IsFoundExact found) }
 {
     let mut trials = limits.trials;
     let depth = order.diagram().features() as u32 + 1;
@@ -230,15 +259,16 @@ pub(crate) fn search_all(
     Ok(found)
 }
 
-/// A product that is left and meets the aim: for the first table one in which Even wins from the vertex, for the second one in which
-/// Odd does, or just any. Or nothing, where there is none, however cautious the page's verdict is.
+/// A product that is left and meets the aim: for the first table one in which Even wins from the vertex, for the second
+/// one in which Odd does, or just any. Or nothing, where there is none, however cautious the page's verdict is.
 ///
-/// It splits over one feature that is not known after another, and leaves out what the verdicts of the page and of each trial cut off.
-/// After so many trials it gives up.
+/// It splits over one feature that is not known after another, and leaves out what the verdicts of the page and of each
+/// trial cut off. After so many trials it gives up.
 pub fn find(alloc: Global, order: &Order, aim: Aim, limits: Limits) -> Result<Found, AllocError>
     requires { IsAim order.now.game aim }
     ensures found { IfOk result (IsFound order.now.game order.now.diagram aim (choices order.now.decisions)) }
-    ensures settled { IfOk result (λ found. IsSettled order.now.game order.now.diagram limits (Question.Lost aim) → IsFoundExact found) }
+    ensures settled { IfOk result
+        (λ found. IsSettled order.now.game order.now.diagram limits (Question.Lost aim) → IsFoundExact found) }
 {
     let found = search_all(alloc, order, aim, order.decisions(), limits)?;
     Ok(found)

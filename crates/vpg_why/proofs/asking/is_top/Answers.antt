@@ -1,7 +1,16 @@
 use Rattle.std.proofs.Common.{◌≡◌, ◌∙◌, ℕ, List, true, false, sym, ap, subst, replicate}
 use Rattle.vpg_measure.specs.Lifts.{IsProgressTable, after_rounds}
-use Rattle.vpg_why.proofs.Tops.{top_shown, top_refuted, low_shown, settles_from_zeros}
+use Rattle.vpg_why.proofs.Tops.{top_shown, top_refuted, low_shown, settles_from_zeros, value_there, zeros_fit}
 use Rattle.vpg_why.proofs.asking.is_top.Goals as goal
+
+pub raise-requires : goal.raise-requires
+raise-requires c = zeros_fit c.shape-shape.result.now c.arena-arena.result.now c.in_ok-table.table
+    (c.in_ok-table.ensures ∙ ap (λ n. replicate n 0) c.vertices.ensures)
+
+pub get-requires : goal.get-requires
+get-requires c =
+    value_there c.args.order.now.game c.args.which c.args.games.now.known c.shape-shape.result.now c.arena-arena.result.now (c.shape-shape.ensures ∙ c.requires.games.1.levels c.args.which) (c.arena-arena.ensures ∙ c.requires.games.1.arena c.args.which)
+    c.raise.new.table c.raise.ensures.table c.args.vertex c.requires.vertex
 
 pub returns-then-get-top-clause-yes : goal.returns-then-get-top-clause-yes
 returns-then-get-top-clause-yes c e =
