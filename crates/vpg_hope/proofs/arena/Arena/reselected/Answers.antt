@@ -27,3 +27,18 @@ returns-clause-first c = c.arena.ensures ∙ c.in_ok-replace_marked.ensures.firs
 
 pub returns-clause-second : goal.returns-clause-second
 returns-clause-second c = c.arena-2.ensures ∙ c.in_ok-replace_marked.ensures.second.vertices
+
+pub arena-requires : goal.arena-requires
+arena-requires c = c.in_ok-replace_marked.ensures.first.lists
+
+pub arena-requires-2 : goal.arena-requires-2
+arena-requires-2 c = c.in_ok-replace_marked.ensures.second.lists
+
+pub replace_marked-requires-clause-features : goal.replace_marked-requires-clause-features
+replace_marked-requires-clause-features c = c.requires.features
+
+pub replace_marked-requires-clause-second_features : goal.replace_marked-requires-clause-second_features
+replace_marked-requires-clause-second_features c = c.requires.second_features
+
+pub replace_marked-requires-clause-marks : goal.replace_marked-requires-clause-marks
+replace_marked-requires-clause-marks c = c.requires.marks
