@@ -1,19 +1,20 @@
 -- An arena in the making: the vertices before one are as selected, and the others as they were.
-use Rattle.std.proofs.Common.{◌≡◌, ℕ, ◌+◌, ◌<◌, ◌≤◌, List, ◌++◌, length, get_or, set, drop, All, length-append, refl, sym, ap, subst, ◌∙◌, arith}
-use Rattle.std.proofs.lemmas.List.{length-set}
+use Rattle.std.proofs.Common.{◌≡◌, ℕ, ◌+◌, ◌<◌, ◌≤◌, Bool, List, ◌++◌, length, get_or, set, drop, All, length-append, refl, sym, ap, subst, ◌∙◌, arith}
+use Rattle.std.proofs.lemmas.List.{length-set, length-map}
 use Rattle.std.proofs.lemmas.List.Elements.{All-set}
 use Rattle.vpg_guards.specs.Formula.{Formula}
-use Rattle.vpg_game.specs.Guarded.{GuardedEdge}
+use Rattle.vpg_game.specs.Guarded.{GuardedEdge, GuardedGame}
 use Rattle.vpg_game.specs.Game.{NamedGame, IsGame, graph_of, vertex_in, edges_in}
 use Rattle.vpg_game.proofs.Graphs.{same_count, graph_at}
 use Rattle.vpg_game.specs.declared.player.Player.{Player}
 use Rattle.vpg_hope.specs.declared.arena.Row.{Row}
 use Rattle.vpg_hope.specs.declared.selection.Selection.{Selection}
 use Rattle.vpg_hope.specs.Games.{Vertex, isolated}
-use Rattle.vpg_hope.specs.Arena.{InLists, row_vertices}
-use Rattle.vpg_hope.specs.Selection.{kept_under, owner_under, priority_under, vertex_under}
+use Rattle.vpg_hope.specs.Arena.{InLists, AreRows, row_vertex, row_vertices}
+use Rattle.vpg_hope.specs.Drafts.{IsHeldDraft, IsSelectedDraft}
+use Rattle.vpg_hope.specs.Selection.{kept_under, owner_under, priority_under, vertex_under, IsHeldUnmarked}
 use Rattle.vpg_hope.proofs.Rows.{own_row, ranges_in_own}
-use Rattle.vpg_hope.proofs.Selected.{AreUpTo, few_more, few_next, kept_closed, vertex_replaced, vertex_left}
+use Rattle.vpg_hope.proofs.Selected.{AreUpTo, few_more, few_next, kept_closed, vertex_replaced, vertex_left, vertices_selected}
 
 -- rows and an own list, over the list that the arena shares
 pub record IsDraft (selection : Selection) (game : NamedGame) (olds : List Vertex) (shared : List ℕ) (v : ℕ) (rows : List Row) (own : List ℕ) : Type 0 where
@@ -65,3 +66,47 @@ module _ (selection : Selection) (game : NamedGame) (olds : List Vertex) (shared
     closed = draft.closed;
     few = few_next game.vertices own v less draft.few;
   }
+
+-- ---- the first and the last
+
+module _ (selection : Selection) (game : NamedGame) (rows : List Row) (shared own : List ℕ) where
+  -- how many vertices there are
+  pub vertices_count : {marks : List Bool} → IsHeldDraft selection marks (graph_of game) rows shared own → length (row_vertices rows shared own) ≡ length (graph_of game)
+  vertices_count held = length-map rows (row_vertex shared own) ∙ held.count
+
+  pub draft_begun : {marks : List Bool} → IsHeldDraft selection marks (graph_of game) rows shared own → IsDraft selection game (row_vertices rows shared own) shared 0 rows own
+  draft_begun held = record {
+    count = held.count;
+    made = refl;
+    ranges = held.lists.ranges;
+    closed = subst (λ (n : ℕ). All (λ w. w < n) own) held.count held.lists.own_closed;
+    few = omega (arith, held.few);
+  }
+
+  pub draft_done : {marks : List Bool} (shared' : List ℕ) (v : ℕ) (rows' : List Row) (own' : List ℕ) → IsHeldDraft selection marks (graph_of game) rows shared own → shared' ≡ shared →
+      length (graph_of game) ≤ v → IsDraft selection game (row_vertices rows shared own) shared v rows' own' → IsSelectedDraft selection (graph_of game) rows' shared' own'
+  draft_done shared' v rows' own' held same past draft =
+      subst (λ (ss : List ℕ). IsSelectedDraft selection (graph_of game) rows' ss own') (sym same) (record {
+        lists = record {
+          count = omega (arith, held.lists.count, held.count, draft.count);
+          few = held.lists.few;
+          ranges = draft.ranges;
+          closed = subst (λ (n : ℕ). All (λ w. w < n) shared) (held.count ∙ sym draft.count) held.lists.closed;
+          own_closed = subst (λ (n : ℕ). All (λ w. w < n) own') (sym draft.count) draft.closed;
+        };
+        vertices = vertices_selected selection (graph_of game) (row_vertices rows shared own) (row_vertices rows' shared own') v (vertices_count held) past draft.made;
+      })
+
+-- a copy of an arena's rows and lists
+pub copy_held : (selection : Selection) (marks : List Bool) (graph : GuardedGame Formula) (olds : List Vertex) (rows rows' : List Row) (shared shared' own own' : List ℕ) →
+    AreRows rows shared own → row_vertices rows shared own ≡ olds → length olds ≡ length graph → length own ≤ 262144 → IsHeldUnmarked selection marks graph olds →
+    rows' ≡ rows → shared' ≡ shared → own' ≡ own → IsHeldDraft selection marks graph rows' shared' own'
+copy_held selection marks graph olds rows rows' shared shared' own own' are is same few held same_rows same_shared same_own =
+    subst (λ (rs : List Row). IsHeldDraft selection marks graph rs shared' own') (sym same_rows)
+    (subst (λ (ss : List ℕ). IsHeldDraft selection marks graph rows ss own') (sym same_shared)
+    (subst (λ (os : List ℕ). IsHeldDraft selection marks graph rows shared os) (sym same_own) (record {
+      lists = are;
+      count = sym (length-map rows (row_vertex shared own)) ∙ ap length is ∙ same;
+      few = few;
+      held = subst (IsHeldUnmarked selection marks graph) (sym is) held;
+    })))

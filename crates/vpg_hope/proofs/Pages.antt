@@ -12,7 +12,7 @@ use Rattle.vpg_partial.proofs.Tables.{tables_refine, remaining_products_complete
 use Rattle.vpg_game.specs.Guarded.{GuardedGame, AllGuards, dual}
 use Rattle.vpg_hope.specs.Games.{Game}
 use Rattle.vpg_hope.specs.Comparison.{IsEasier, dual_game}
-use Rattle.vpg_hope.specs.Hope.{product_game, hopeful_game, cautious_game, IsFullOf}
+use Rattle.vpg_hope.specs.Hope.{product_game, hopeful_game, IsFullOf}
 use Rattle.vpg_hope.specs.PageLaws.{RemainingProductsAreHarder, DualsOfRemainingProductsAreHarder, RemainingProductsAreEasier, MoreChoicesAreHarder, FullPagesHaveTheProductsGame}
 use Rattle.vpg_hope.proofs.Guards.{hopeful_easier, cautious_harder, earlier_easier, full_same, product_dual, dual_guards}
 

@@ -1,5 +1,6 @@
 pub mod Arena
 pub mod Comparison
+pub mod Drafts
 pub mod Games
 pub mod Hope
 pub mod Laws

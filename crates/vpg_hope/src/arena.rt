@@ -1,9 +1,11 @@
 //! Plain games kept for look-ups: what measures are lifted over.
 ghost use Rattle.std.specs.Prelude.{◌≡◌, ℕ, ◌<◌, ◌+◌, ◌^◌, ◌++◌, [], length, map, IfOk, OnOk, All, true, false};
+ghost use Rattle.std.specs.Arc.{arc_slice_items};
 ghost use Rattle.vpg_guards.specs.Known.{kleene};
 ghost use Rattle.vpg_game.specs.Game.{IsGame, graph_of, vertex_in};
 ghost use Rattle.vpg_game.specs.Guarded.{dual};
 ghost use Rattle.vpg_hope.specs.Arena.{vertex_at, row_vertices, AreRows};
+ghost use Rattle.vpg_hope.specs.Drafts.{IsHeldDraft, IsSelectedDraft};
 ghost use Rattle.vpg_hope.specs.Hope.{hopeful_game, cautious_game};
 ghost use Rattle.vpg_hope.specs.Selection.{features_under, owner_under, priority_under, vertex_under, kept_under, IsHeldUnmarked};
 
@@ -90,6 +92,76 @@ fn push_row(
         start,
         end: own.len() as u32,
     })
+}
+
+/// An arena in the making: its rows, the list that it shares, and its own. Clauses name these.
+#[derive(Drop)]
+struct Draft {
+    rows: Vec<Row>,
+    shared: ArcSlice<u32>,
+    own: Vec<u32>,
+}
+
+impl Draft {
+    /// A copy of an arena's rows and of its own list, with room there for a sixteenth of what it shares.
+    fn of(
+        alloc: Global,
+        rows: &[Row],
+        shared: &ArcSlice<u32>,
+        own: &[u32],
+    ) -> Result<Draft, AllocError>
+        ensures rows { IfOk result (λ draft. draft.rows.items ≡ rows.now) }
+        ensures shared { IfOk result (λ draft. arc_slice_items draft.shared ≡ arc_slice_items shared.now) }
+        ensures own { IfOk result (λ draft. draft.own.items ≡ own.now) }
+    {
+        let room = own.len() + shared.len() / 16;
+        let shared = shared.clone()?;
+        let rows = Vec::from_slice(alloc, rows)?;
+        let own = copy_with_room(alloc, own, room)?;
+        Ok(Draft { rows, shared, own })
+    }
+
+    /// The arena that was made.
+    fn arena(self) -> Arena
+        requires { AreRows self.rows.items (arc_slice_items self.shared) self.own.items }
+        ensures { result ≡ row_vertices self.rows.items (arc_slice_items self.shared) self.own.items }
+    {
+        Arena {
+            rows: self.rows,
+            shared: self.shared,
+            own: self.own,
+        }
+    }
+}
+
+/// Gives marked vertices what is selected of them, each looked at once for both drafts. The others have it already.
+fn replace_marked(
+    one: &mut Draft,
+    two: &mut Draft,
+    game: &GuardedGame,
+    first: Selection<'_>,
+    second: Selection<'_>,
+    marks: &[bool],
+) -> Result<(), AllocError>
+    requires features { features_under first ≡ game.now.features }
+    requires second_features { features_under second ≡ game.now.features }
+    requires marks { length marks.now ≡ length (graph_of game.now) }
+    requires held { IsHeldDraft first marks.now (graph_of game.now)
+        one.old.rows.items (arc_slice_items one.old.shared) one.old.own.items }
+    requires second_held { IsHeldDraft second marks.now (graph_of game.now)
+        two.old.rows.items (arc_slice_items two.old.shared) two.old.own.items }
+    ensures first { OnOk result (IsSelectedDraft first.entry (graph_of game.now)
+        one.new.rows.items (arc_slice_items one.new.shared) one.new.own.items) }
+    ensures second { OnOk result (IsSelectedDraft second.entry (graph_of game.now)
+        two.new.rows.items (arc_slice_items two.new.shared) two.new.own.items) }
+{
+    for v in 0..game.vertices() as u32 {
+        if marks[v as usize] {
+            one.rows[v as usize] = push_row(&mut one.own, game, first, v)?;
+            two.rows[v as usize] = push_row(&mut two.own, game, second, v)?;
+        }
+    }
+    Ok(())
 }
 
 impl Arena {
@@ -187,29 +259,10 @@ impl Arena {
             let two = other.gathered(alloc, game, second, marks)?;
             return Ok((one, two));
         }
-        let shared = self.shared.clone()?;
-        let mut rows = Vec::from_slice(alloc, &self.rows)?;
-        let mut own = copy_with_room(alloc, &self.own, self.own.len() + self.shared.len() / 16)?;
-        let others_shared = other.shared.clone()?;
-        let mut others_rows = Vec::from_slice(alloc, &other.rows)?;
-        let mut others_own = copy_with_room(
-            alloc,
-            &other.own,
-            other.own.len() + other.shared.len() / 16,
-        )?;
-        for v in 0..game.vertices() as u32 {
-            if marks[v as usize] {
-                rows[v as usize] = push_row(&mut own, game, first, v)?;
-                others_rows[v as usize] = push_row(&mut others_own, game, second, v)?;
-            }
-        }
-        let one = Arena { rows, shared, own };
-        let two = Arena {
-            rows: others_rows,
-            shared: others_shared,
-            own: others_own,
-        };
-        Ok((one, two))
+        let mut one = Draft::of(alloc, &self.rows, &self.shared, &self.own)?;
+        let mut two = Draft::of(alloc, &other.rows, &other.shared, &other.own)?;
+        replace_marked(&mut one, &mut two, game, first, second, marks)?;
+        Ok((one.arena(), two.arena()))
     }
 
     /// The same, with the successors of all vertices in one new list.

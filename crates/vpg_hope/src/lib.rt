@@ -13,7 +13,8 @@
 //! Definitions: `specs/Games` (plain games), `specs/Strategies` (positional strategies and winning, after Jurdzinski
 //! 2000), `specs/Hope` (the game of a product after FASE 2020, the hopeful and the cautious game), `specs/Comparison`
 //! (games that favour Even more, the dual), `specs/Plain` (identifiers and the text, in PGSolver's format). [`laws`]
-//! has what is proved of them; `specs/Arena`, `specs/Selection` and `specs/PlainParts` serve private contracts alone.
+//! has what is proved of them; `specs/Arena`, `specs/Drafts`, `specs/Selection` and `specs/PlainParts` serve private
+//! contracts alone.
 #![tactic(auto)]
 
 pub mod arena;

@@ -42,11 +42,8 @@ impl PlainGame {
         requires { length set.now ≡ game.now.features }
         ensures { IfOk result (λ plain. plain ≡ projection set.now game.now) }
     {
+        let ids = ids_of(alloc, game)?;
         let arena = Arena::selected(alloc, game, Selection::Product(set))?;
-        let mut ids = Vec::with_capacity(alloc, game.vertices())?;
-        for v in 0..arena.vertices() {
-            ids.push(game.id(v))?;
-        }
         Ok(PlainGame { ids, arena })
     }
 
@@ -91,6 +88,18 @@ impl PlainGame {
         text.extend_from_slice(b";\n")?;
         Ok(())
     }
+}
+
+/// The identifiers of a game's vertices.
+fn ids_of(alloc: Global, game: &GuardedGame) -> Result<Vec<u32>, AllocError>
+    ensures { IfOk result (λ ids. ids.items ≡ vertex_ids game.now.vertices) }
+{
+    let vertices = game.vertices();
+    let mut ids = Vec::with_capacity(alloc, vertices)?;
+    for v in 0..vertices as u32 {
+        ids.push(game.id(v))?;
+    }
+    Ok(ids)
 }
 
 /// The greatest of some identifiers, or 0.

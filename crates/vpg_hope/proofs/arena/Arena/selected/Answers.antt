@@ -1,12 +1,13 @@
-use Rattle.std.proofs.Common.{◌≡◌, ℕ, [], ◌+◌, ◌<◌, List, ◌++◌, length, length-append, refl, sym, ap, ap₂, ◌∙◌, subst, All, arith}
-use Rattle.std.proofs.lemmas.List.{length_push}
+use Rattle.std.proofs.Common.{◌≡◌, ℕ, [], ◌+◌, ◌<◌, ◌≤◌, List, ◌++◌, length, length-append, map, refl, sym, ap, ap₂, ◌∙◌, subst, All, arith}
+use Rattle.std.proofs.lemmas.List.{length_push, take_all}
+use Rattle.std.proofs.lemmas.Result.{IfOk-weaker}
 use Rattle.std.proofs.lemmas.List.Elements.{All-push}
 use Rattle.vpg_guards.specs.Formula.{Formula, IsBelow}
 use Rattle.vpg_game.specs.declared.player.Player.{Player}
-use Rattle.vpg_game.specs.Guarded.{GuardedEdge}
+use Rattle.vpg_game.specs.Guarded.{GuardedEdge, GuardedGame}
 use Rattle.vpg_game.specs.Game.{graph_of, vertex_in}
 use Rattle.vpg_game.proofs.Graphs.{same_count}
-use Rattle.vpg_hope.specs.Selection.{features_under, kept_under, owner_under, priority_under}
+use Rattle.vpg_hope.specs.Selection.{features_under, kept_under, owner_under, priority_under, vertex_under}
 use Rattle.vpg_hope.specs.Arena.{InLists}
 use Rattle.vpg_hope.proofs.Rows.{ranges_in_shared}
 use Rattle.vpg_hope.proofs.Selected.{guards_named, priority_fits, few_more, kept_closed, vertex_made}
@@ -57,3 +58,10 @@ loop-v-preserved c =
       few = rw extended (few_more c.args.selection (vertex_in (graph_of game) v).owner game.vertices ss more v less
           (ap (λ (es : List (GuardedEdge Formula)). kept_under c.args.selection (vertex_in (graph_of game) v).owner es) (sym c.edges.ensures.graph ∙ c.edges.ensures.value)) c.loop-v.invariant.few);
     }
+
+pub returns : goal.returns
+returns c =
+    let graph = graph_of c.args.game.now in
+    let past : length graph ≤ c.loop-v.v = omega (arith, c.loop-v-test.false, c.vertices-vertices.ensures.graph) in
+    let made = c.loop-v.invariant.made ∙ ap (λ (xs : GuardedGame Formula). map (vertex_under c.args.selection) xs) (take_all c.loop-v.v graph past) in
+    IfOk-weaker c.over.result _ _ (λ arena is. is ∙ made) c.over.ensures

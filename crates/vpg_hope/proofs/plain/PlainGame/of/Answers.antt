@@ -1,7 +1,19 @@
-use Rattle.vpg_game.specs.Game.{vertex_ids}
-use Rattle.vpg_hope.proofs.PlainTexts.{ids_more}
+use Rattle.std.proofs.Common.{length, ap, arith}
+use Rattle.std.proofs.lemmas.List.{length-map}
+use Rattle.vpg_game.specs.Game.{NamedVertex, graph_of}
+use Rattle.vpg_game.proofs.Graphs.{same_count}
+use Rattle.vpg_hope.specs.Selection.{vertex_under}
+use Rattle.vpg_hope.specs.declared.selection.Selection.TheVariants.{Product}
 use Rattle.vpg_hope.proofs.plain.PlainGame.of.Goals as goal
 
-pub loop-v-preserved : goal.loop-v-preserved
-loop-v-preserved c =
-    ids_more (vertex_ids c.args.game.now.vertices) c.loop-v.ids.items c.push.new.self.items c.loop-v.v c.id.result c.loop-v.invariant c.id.ensures c.in_ok-push.ensures.items
+pub invariant_of-result : goal.invariant_of-result
+invariant_of-result c =
+    let game = c.args.game.now in
+    omega (
+      arith,
+      ap length c.in_ok-ids.ensures,
+      length-map game.vertices (λ (x : NamedVertex). x.id),
+      same_count game,
+      length-map (graph_of game) (vertex_under (Product c.args.set)),
+      ap length c.in_ok-arena.ensures,
+    )

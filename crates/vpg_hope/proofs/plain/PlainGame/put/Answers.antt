@@ -25,3 +25,6 @@ returns c =
     c.greatest_of.ensures ∙ ap greatest (c.deref.ensures.value ∙ ids ∙ sym (ids-unguarded plain.ids plain.game same)) in
     whole_put plain c.loop-v.v c.args.text.now.items _ _ _ c.loop-v.text.items (decimal c.greatest_of.result) same past
     c.in_ok-extend_from_slice.ensures.items c.in_ok-put_number.ensures c.in_ok-extend_from_slice-2.ensures.items c.loop-v.invariant (ap decimal most)
+
+pub put_vertex-requires : goal.put_vertex-requires
+put_vertex-requires c = omega (arith, c.loop-v-test.true, c.vertices-v-end.ensures, ap (λ (p : IdentifiedGame). length p.game) c.self.view_is)

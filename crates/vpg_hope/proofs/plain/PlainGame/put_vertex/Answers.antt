@@ -25,3 +25,15 @@ returns c =
     (ap decimal (c.priority.ensures ∙ ap (λ (g : Game). priority_of g v) game))
     (digit ∙ ap owner_digit (c.owner.ensures ∙ ap (λ (g : Game). owner_of g v) game))
     (ap₂ (λ (xs ws : List ℕ). marked_text 32 xs ws) (c.deref.ensures.value ∙ ids) (c.kept.ensures.kept ∙ ap (λ (g : Game). successors_of g v) game))
+
+pub kept-requires : goal.kept-requires
+kept-requires c = omega (arith, c.requires, ap (λ (p : IdentifiedGame). length p.game) c.self.view_is)
+
+pub put_successors-requires : goal.put_successors-requires
+put_successors-requires c k d less = omega (arith, c.kept.ensures.closed k d less, c.self.invariant, ap length c.deref.ensures.value)
+
+pub owner-requires : goal.owner-requires
+owner-requires c = omega (arith, c.requires, ap (λ (p : IdentifiedGame). length p.game) c.self.view_is)
+
+pub priority-requires : goal.priority-requires
+priority-requires c = omega (arith, c.requires, ap (λ (p : IdentifiedGame). length p.game) c.self.view_is)
