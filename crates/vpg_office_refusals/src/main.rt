@@ -149,20 +149,21 @@ fn open_and_end<R: Wait>(rt: &R, heap: &mut Heap, report: &mut Report, family: &
 }
 
 /// Makes each call with little memory.
-fn refuse<R: Wait>(rt: &R, heap: &mut Heap, report: &mut Report, family: &Family) {
-    open_and_end(rt, heap, report, family);
-    change(rt, heap, report, family);
-    look(rt, heap, report, family);
-    change_beside_watch(rt, heap, report, family);
+fn refuse<R: Wait>(rt: &R, heap: &mut Heap, report: &mut Report) -> Option<()> {
+    let family = Family::read(heap.alloc())?;
+    open_and_end(rt, heap, report, &family);
+    change(rt, heap, report, &family);
+    look(rt, heap, report, &family);
+    change_beside_watch(rt, heap, report, &family);
     presses::refuse(rt, heap, report);
+    Some(())
 }
 
 fn main(rt: HostRuntime) -> Result<()> {
     let words: Vec<String> = env::args(&rt)?.collect(rt.alloc())?;
     let mut heap = Heap::new(rt.alloc(), words.len())?;
     let mut report = Report::new(rt.alloc())?;
-    let family = Family::read(rt.alloc()).context("no family")?;
-    refuse(&rt, &mut heap, &mut report, &family);
+    refuse(&rt, &mut heap, &mut report).context("no family")?;
     report.write(&rt, &heap)?;
     Ok(())
 }
