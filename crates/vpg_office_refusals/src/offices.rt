@@ -24,8 +24,11 @@ const ROOM: u32 = 100;
 /// At this length of a log each of its lists is full, and the next call makes them grow.
 const FULL: usize = 32;
 
+/// At this length the next call makes the row of calls ask ahead.
+const AHEAD: usize = 28;
+
 /// More memory than a call and its sheet take.
-const PLENTY: usize = 1 << 13;
+const PLENTY: usize = 1 << 14;
 
 /// The game and the diagram of the offices.
 #[derive(Drop)]
@@ -102,15 +105,35 @@ fn prepare<L: Terms, R: Wait>(
     held
 }
 
-/// Asks whether the page is settled until the log has all but one of the calls that it takes to be full.
-fn fill<L: Terms, R: Wait>(rt: &R, alloc: Global, office: &Office<L>, seat: &mut Seat<L>)
+/// Asks whether the page is settled until the log has so many calls.
+fn fill<L: Terms, R: Wait>(
+    rt: &R,
+    alloc: Global,
+    office: &Office<L>,
+    seat: &mut Seat<L>,
+    calls: usize,
+)
     requires { 0 < length L.game.vertices }
 {
-    for _ in 0..FULL {
-        if seat.front.len() < FULL - 1 {
+    for _ in 0..calls {
+        if seat.front.len() < calls {
             looked(rt, alloc, office, seat, Look::Settled);
         }
     }
+}
+
+/// Fills the log up to one call less than its lists have room for. The row of calls asks ahead for its next part, and
+/// does without where that is refused: then the call that needs it asks again.
+fn fill_up<L: Terms, R: Wait>(rt: &R, heap: &mut Heap, office: &Office<L>, seat: &mut Seat<L>)
+    requires { 0 < length L.game.vertices }
+{
+    fill(rt, heap.alloc(), office, seat, AHEAD);
+    if !heap.is_marked() {
+        heap.leave(0);
+        looked(rt, heap.alloc(), office, seat, Look::Settled);
+        heap.relax();
+    }
+    fill(rt, heap.alloc(), office, seat, FULL - 1);
 }
 
 /// What is seen of a seat without a call.
@@ -172,7 +195,11 @@ fn try_from<L: Terms, R: Wait>(
     let now = look_at(seat, &held);
     let holds = match end {
         End::Done => is_done(row, bytes, before, now),
-        End::Memory => is_same(before, now) && is_page(rt, heap.alloc(), office, seat, page),
+        End::Memory => {
+            is_same(before, now)
+                && is_page(rt, heap.alloc(), office, seat, page)
+                && seat.front.len() == before.calls.saturating_add(1)
+        }
         End::Otherwise => false,
     };
     (held, Outcome { end, holds })
@@ -209,7 +236,7 @@ fn try_at<L: Terms, R: Wait>(
 {
     let mut seat = seat;
     let held = prepare(rt, heap.alloc(), office, &mut seat, row);
-    fill(rt, heap.alloc(), office, &mut seat);
+    fill_up(rt, heap, office, &mut seat);
     let (held, tried) = try_call(rt, heap, office, &mut seat, held, row, bytes);
     spend(rt, office, &mut seat, held);
     tried
