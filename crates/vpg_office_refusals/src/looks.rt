@@ -5,7 +5,7 @@ ghost use Rattle.std.specs.Prelude.{◌<◌, length};
 use crate::calls::{Seat, end_of};
 use std::alloc::Global;
 use std::sync::Wait;
-use vpg_measure::Harvest;
+use vpg_measure::{Harvest, Order, Which};
 use vpg_office::{Front, NoWatch, Office, Returned, Terms, read};
 use vpg_scarce::{End, is_same_page};
 use vpg_trail::Page;
@@ -25,6 +25,8 @@ pub(crate) enum Look {
     Watch,
     /// What the watch reads.
     Read,
+    /// What the harvest and its order tell, and what is made of them.
+    Carry,
 }
 
 impl Look {
@@ -32,7 +34,7 @@ impl Look {
     pub(crate) fn is_logged(self) -> bool {
         match self {
             Look::Order | Look::Commit | Look::Settled | Look::Verdict | Look::Page => true,
-            Look::Join | Look::Meet | Look::Watch | Look::Read => false,
+            Look::Join | Look::Meet | Look::Watch | Look::Read | Look::Carry => false,
         }
     }
 }
@@ -169,6 +171,46 @@ fn read_shown<L: Terms>(seat: &mut Seat<L>) -> End {
     end_if(shown(seat).is_some())
 }
 
+/// Whether an order has the game, the diagram and one decision.
+fn order_tells(order: &Order) -> bool {
+    order.game().vertices() == 2
+        && order.diagram().features() == 3
+        && order.decisions().len() == 1
+        && order.hopeful().values().len() == 2
+        && order.dual().values().len() == 2
+        && order.shape(Which::Hopeful).top() > 0
+        && order.arena(Which::Dual).vertices() == 2
+}
+
+/// Whether a harvest is settled, and its order tells what it has.
+fn harvest_tells(harvest: &Harvest) -> bool {
+    let order = harvest.order();
+    order.game().vertices() > 0
+        && order_tells(order)
+        && harvest.check()
+        && harvest.value(Which::Hopeful, 0) > 0
+}
+
+/// The harvest of an order whose first vertex is lifted and which is settled then.
+fn harvest_again(order: Order) -> Harvest {
+    if order.game().vertices() == 0 {
+        return Harvest::alone(order, 100);
+    }
+    let lifted = Harvest::one(order, Which::Hopeful, 0);
+    Harvest::alone(lifted.again(), 100)
+}
+
+/// Makes a further harvest of the harvest's order.
+fn carry<L: Terms>(seat: &mut Seat<L>) -> End {
+    let Some(harvest) = seat.harvest.take() else {
+        return End::Otherwise;
+    };
+    let again = harvest_again(harvest.again());
+    let tells = harvest_tells(&again);
+    put_harvest(&mut seat.harvest, again);
+    end_if(tells)
+}
+
 /// Makes such a call.
 pub(crate) fn looked<L: Terms, R: Wait>(
     rt: &R,
@@ -189,5 +231,6 @@ pub(crate) fn looked<L: Terms, R: Wait>(
         Look::Meet => meet(rt, office, seat),
         Look::Watch => watch(rt, alloc, office, seat),
         Look::Read => read_shown(seat),
+        Look::Carry => carry(seat),
     }
 }

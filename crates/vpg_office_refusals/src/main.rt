@@ -112,6 +112,11 @@ fn look<R: Wait>(rt: &R, heap: &mut Heap, report: &mut Report, family: &Family) 
         row("Session::settled", LIFTED, Call::Look(Look::Settled)),
         row("Session::verdict", LIFTED, Call::Look(Look::Verdict)),
         row("Session::page", LIFTED, Call::Look(Look::Page)),
+        row(
+            "calls of an order and of its harvest",
+            ORDERED,
+            Call::Look(Look::Carry),
+        ),
     ];
     refuse_each(rt, heap, report, family, &rows);
 }
