@@ -4,7 +4,8 @@
 //! here as a machine refuses it: [`Heap`] takes every block that the process can get, gives so many bytes back, and a
 //! call is made with those alone. [`tried`] makes a call so again and again, first with none, then with sixteen bytes
 //! more each time, until it is done. So each growth beyond all that the call held before is refused in turn, and after
-//! each refusal the call's [`Trial`] says whether anything changed. [`Report`] writes a line for each call.
+//! each refusal the call's [`Trial`] says whether anything changed. [`tried_anew`] does the same of a call that is made
+//! on things of its own each time ([`Anew`]). [`Report`] writes a line for each call.
 //!
 //! Memory that is only taken and never written costs a process address space and no more.
 //!
@@ -20,4 +21,6 @@ mod trial;
 pub use heap::Heap;
 pub use pages::is_same_page;
 pub use report::Report;
-pub use trial::{End, MOST_TRIES, Told, Trial, more, tried, tried_through};
+pub use trial::{
+    Anew, End, MOST_TRIES, Outcome, Told, Trial, more, tried, tried_anew, tried_through,
+};

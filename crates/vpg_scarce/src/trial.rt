@@ -98,3 +98,35 @@ pub fn tried_through<R: Wait, T: Trial<R>>(
     }
     Told::Never
 }
+
+/// How a try ended, and whether all was then as it has to be.
+#[derive(Clone, Copy, PartialEq, Eq, Debug, Drop)]
+pub struct Outcome {
+    pub end: End,
+    pub holds: bool,
+}
+
+/// A call that is made on things of its own at each try.
+pub trait Anew<R> {
+    /// Makes all that the call needs with ample memory, the call with so many bytes, and looks at what it left.
+    fn try_within(&mut self, rt: &R, heap: &mut Heap, bytes: usize) -> Outcome;
+}
+
+/// Makes the call with more and more memory until it is done with so many bytes or more. With fewer it may be done in
+/// a lesser form. Where calls are marked it ends as soon as it is done.
+pub fn tried_anew<R: Wait, T: Anew<R>>(rt: &R, heap: &mut Heap, call: &mut T, most: usize) -> Told {
+    let mut bytes = 0;
+    let mut told = Told::TakesNone;
+    for _ in 0..MOST_TRIES {
+        let Outcome { end, holds } = call.try_within(rt, heap, bytes);
+        match end {
+            End::Otherwise => return Told::Otherwise,
+            _ if !holds => return Told::Changed,
+            End::Done if bytes >= most || heap.is_marked() => return told,
+            End::Done => {}
+            End::Memory => told = Told::Unchanged,
+        }
+        bytes = more(bytes);
+    }
+    Told::Never
+}
