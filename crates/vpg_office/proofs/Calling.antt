@@ -32,6 +32,18 @@ pub some_all : {A : Type 0} (P : A → Type 0) → ((a : A) → P a) → (o : Op
 some_all P all None = tt
 some_all P all (Some a) = all a
 
+pub some_is : {A : Type 0} (o : Option A) (a : A) (P : A → Type 0) → o ≡ Some a → P a → IfSome o P
+some_is {A} o a P is p = subst (λ (x : Option A). IfSome x P) (sym is) p
+
+pub some_unless : {A : Type 0} (o : Option A) (P : A → Type 0) → o ≡ None → IfSome o P
+some_unless {A} o P is = subst (λ (x : Option A). IfSome x P) (sym is) tt
+
+pub none_is : {A : Type 0} (o : Option A) (P : Type 0) → o ≡ None → P → IfNone o P
+none_is {A} o P is p = subst (λ (x : Option A). IfNone x P) (sym is) p
+
+pub none_unless : {A : Type 0} (o : Option A) (a : A) (P : Type 0) → o ≡ Some a → IfNone o P
+none_unless {A} o a P is = subst (λ (x : Option A). IfNone x P) (sym is) tt
+
 -- what comes after a beginning
 rest_of : (front log : List Event) (p : IsPrefix front log) → drop (length front) log ≡ p.0
 rest_of [] log p = sym p.1
@@ -147,9 +159,9 @@ module _ {row : Shelves} {game : NamedGame} {diagram : NamedDiagram} {limit : �
       IfSome cause (λ r. (told ≡ DeskRefuses fault) × (front_after ≡ new) × (new ≡ newest ++ event session (call_of asked (Refused r)) (book.Refused (refusal_of r)) ∷ [])) →
       IsLog row game diagram limit after new desk_after room_after total_after shown sessions
   log_refused None session asked fault told front front_after after new room_after desk_after total_after same t fits kept none some =
-      coe 0 1 (k. IsLog row game diagram limit after new ((sym same) k) room_after ((sym t) k) shown sessions) (admitted none.1.1 fits kept)
+      coe 0 1 (k. IsLog row game diagram limit after new ((sym same) k) room_after ((sym t) k) shown sessions) (admitted none.2 fits kept)
   log_refused (Some r) session asked fault told front front_after after new room_after desk_after total_after same t fits kept none some =
-      log_after after new room_after desk_after total_after session (call_of asked (Refused r)) (book.Refused (refusal_of r)) kept some.1.1 fits
+      log_after after new room_after desk_after total_after session (call_of asked (Refused r)) (book.Refused (refusal_of r)) kept some.2 fits
       (λ k. (same k).game) (λ k. (same k).diagram) (λ k. (same k).book) (t ∙ i.counted ∙ (λ k. ((sym same) k).book.tokens))
 
   -- an order of the desk is of the office's game and diagram
@@ -182,14 +194,14 @@ module _ {L F : Type 0} {row : Shelves} {game : NamedGame} {diagram : NamedDiagr
       IfSome cause (λ r. (told ≡ DeskRefuses fault) × (front_after ≡ new) × (new ≡ newest ++ event session (call_of asked (Refused r)) (book.Refused (refusal_of r)) ∷ [])) →
       Tells (family_between game diagram) limit refusal call session front front_after told
   refused_tells None limit refusal call of is p alone none some =
-      subst (λ (f : Fault L F). Tells (family_between game diagram) limit refusal call session front front_after f) (sym none.0) none.1.0
+      subst (λ (f : Fault L F). Tells (family_between game diagram) limit refusal call session front front_after f) (sym none.0) none.1
   refused_tells (Some r) limit refusal call of is p alone none some =
       subst (λ (f : Fault L F). Tells (family_between game diagram) limit refusal call session front front_after f) (sym some.0) (
         refusal_of r,
         (
           sym is,
-          coe 0 1 (k. Extends (family_between game diagram) front session (of r k) (book.Refused (refusal_of r)) ((sym some.1.0) k))
-              (extends front newest session (call_of asked (Refused r)) (book.Refused (refusal_of r)) p alone some.1.1 kept),
+          coe 0 1 (k. Extends (family_between game diagram) front session (of r k) (book.Refused (refusal_of r)) ((sym some.1) k))
+              (extends front newest session (call_of asked (Refused r)) (book.Refused (refusal_of r)) p alone some.2 kept),
         ),
       )
 
@@ -200,4 +212,11 @@ module _ {L F : Type 0} {row : Shelves} {game : NamedGame} {diagram : NamedDiagr
   refused_begins None history p none some = subst (λ (f : Fault L F). Begins history front_after f) (sym none.0) tt
   refused_begins (Some r) history p none some =
       subst (λ (f : Fault L F). Begins history front_after f) (sym some.0)
-      (prefix_more history newest front_after (event session (call_of asked (Refused r)) (book.Refused (refusal_of r))) p (some.1.0 ∙ some.1.1))
+      (prefix_more history newest front_after (event session (call_of asked (Refused r)) (book.Refused (refusal_of r))) p (some.1 ∙ some.2))
+
+-- a call that isn't made says nothing of a token's history
+pub stops_begin : {L F : Type 0} (limit session : ℕ) (front newest history new : List Event) (f : Fault L F) → Stops limit front session newest f → Begins history new f
+stops_begin limit session front newest history new (LogFull g) s = tt
+stops_begin limit session front newest history new (Doubled g) s = tt
+stops_begin limit session front newest history new (DeskRefuses fault) s = absurd s
+stops_begin limit session front newest history new Memory s = tt

@@ -13,7 +13,7 @@ returns-then-has_call_since-clause-err g c =
     let same = calls_since g.L.Terms.shelves g.L.Terms.game g.L.Terms.diagram c.args.self.now.chronicle c.args.self.now.newest c.requires.kept c.args.request.now.session (length c.args.front.now) in
     let told : lines_by c.args.request.now.session (lines_of (drop c.len-seen.result c.deref.result.now)) ≡ lines_by c.args.request.now.session (lines_of (drop (length c.args.front.now) c.args.self.now.chronicle.told.items)) =
     λ j. lines_by c.args.request.now.session (lines_of (drop (c.len-seen.ensures.length j) (c.deref.ensures.value j))) in
-    (c.copy-then-has_call_since.ensures.same, omega (arith, c.if-len-self-room.false, c.len.ensures.length, c.requires.limit), subst (λ n. 0 < n) (told ∙ sym same) (c.has_call_since.ensures.yes c.if-has_call_since.true))
+    (c.copy-then-has_call_since.ensures.same, omega (arith, c.if-len-self.false, c.len.ensures.length, c.requires.limit), subst (λ n. 0 < n) (told ∙ sym same) (c.has_call_since.ensures.yes c.if-has_call_since.true))
 
 pub returns-in-Ok-clause-none : goal.returns-in-Ok-clause-none
 returns-in-Ok-clause-none g c =

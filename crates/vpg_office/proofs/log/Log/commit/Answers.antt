@@ -140,11 +140,14 @@ invariant_of-self-in-Err-hand_in g c =
     log_refused i c.commit_cause-cause.result c.args.session (ask.Commit c.of.result) c.in-Err-hand_in.refused.fault c.refuse-fault.result c.args.front.now c.refuse-fault.new.front c.refuse-fault.new.self.chronicle c.refuse-fault.new.self.newest c.refuse-fault.new.self.room c.hand_in.new.desk c.self.inside.purse
     c.in-Err-hand_in.ensures.err refl c.refuse-fault.ensures.limit c.refuse-fault.ensures.kept c.refuse-fault.ensures.memory c.refuse-fault.ensures.refused
 
-pub returns-in-Err-hand_in-clause-fault : goal.returns-in-Err-hand_in-clause-fault
-returns-in-Err-hand_in-clause-fault g c =
+pub returns-clause-fault : goal.returns-clause-fault
+returns-clause-fault g c =
     let i = admitted c.self.invariant c.admit.ensures.newest c.admit.ensures.limit c.admit.ensures.kept in
     let parts = refused_all i c.args.harvest c.commit_cause-cause.result (commit_refusal c.in-Err-hand_in.refused.fault) c.commit_cause-cause.ensures c.in-Err-hand_in.ensures.refused in
     let Before : Cause → Type 0 = λ r. Decides (not (tells_other r)) (IsOf g.L.Terms.game g.L.Terms.diagram c.args.harvest.order) × IsReply (family_between g.L.Terms.game g.L.Terms.diagram) (book_after (family_between g.L.Terms.game g.L.Terms.diagram) opened c.admit.new.self.newest) (book.Commit (handed_in (not (tells_other r)) c.args.harvest)) (book.Refused (refusal_of r)) in
     commit_tells g.L.Terms.limit c.args.harvest (ask.Commit c.of.result) c.args.session c.args.front.now c.refuse-fault.new.front c.admit.new.self.newest c.refuse-fault.new.self.newest c.commit_cause-cause.result c.in-Err-hand_in.refused.fault c.refuse-fault.result c.refuse-fault.ensures.kept
     (λ r k. book.Commit (handed_in (not (tells_other r)) (c.of.ensures k))) c.commit_cause-cause.ensures (seen_here i c.args.front.now (c.admit.ensures.newest ∙ c.self.view_is) c.requires.seen) c.in-Ok.ensures.none
     (then_some c.commit_cause-cause.result Before (λ r. Decides (not (tells_other r)) (IsOf g.L.Terms.game g.L.Terms.diagram c.args.harvest.order)) (λ r told. told.0) parts) c.refuse-fault.ensures.memory c.refuse-fault.ensures.refused
+
+pub invariant_of-self : goal.invariant_of-self
+invariant_of-self g c = admitted c.self.invariant c.admit.ensures.newest c.admit.ensures.limit c.admit.ensures.kept

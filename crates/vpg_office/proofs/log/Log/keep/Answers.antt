@@ -65,3 +65,6 @@ returns-clause-begins g c =
     let i = admitted c.self.invariant c.admit.ensures.newest c.admit.ensures.limit c.admit.ensures.kept in
     prefix_more c.args.token.history c.admit.new.self.newest c.enter.new.front (event c.args.session (book.Keep c.serial.result) book.Spent)
     (seen_here i c.args.token.history (c.admit.ensures.newest ∙ c.self.view_is) c.requires.held) (c.enter.ensures.front ∙ c.enter.ensures.newest)
+
+pub invariant_of-self : goal.invariant_of-self
+invariant_of-self g c = admitted c.self.invariant c.admit.ensures.newest c.admit.ensures.limit c.admit.ensures.kept

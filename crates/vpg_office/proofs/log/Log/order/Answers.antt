@@ -65,3 +65,9 @@ pub returns-clause-ours : goal.returns-clause-ours
 returns-clause-ours g c =
     let i = admitted c.self.invariant c.admit.ensures.newest c.admit.ensures.limit c.admit.ensures.kept in
     (c.in-Ok-order.ensures.game ∙ i.replay.of_game, c.in-Ok-order.ensures.diagram ∙ i.replay.of_diagram)
+
+pub invariant_of-self : goal.invariant_of-self
+invariant_of-self g c = admitted c.self.invariant c.admit.ensures.newest c.admit.ensures.limit c.admit.ensures.kept
+
+pub invariant_of-self-in_default : goal.invariant_of-self-in_default
+invariant_of-self-in_default g c = admitted c.self.invariant c.admit.ensures.newest c.admit.ensures.limit c.admit.ensures.kept

@@ -109,3 +109,9 @@ returns-clause-reached g c =
     let b = book_after F opened c.admit.new.self.newest in
     let now : c.self.inside.desk.book ≡ book_after F opened c.enter.new.front = leaves i c.args.session book.Page (book.PageIs b.present) ∙ ap (book_after F opened) (sym (c.enter.ensures.front ∙ c.enter.ensures.newest)) in
     coe 0 1 (k. IsReached (setting_between (i.replay.of_game k) (i.replay.of_diagram k)) (now k)) c.in-Ok-page.ensures.reached
+
+pub invariant_of-self : goal.invariant_of-self
+invariant_of-self g c = admitted c.self.invariant c.admit.ensures.newest c.admit.ensures.limit c.admit.ensures.kept
+
+pub invariant_of-self-in_default : goal.invariant_of-self-in_default
+invariant_of-self-in_default g c = admitted c.self.invariant c.admit.ensures.newest c.admit.ensures.limit c.admit.ensures.kept

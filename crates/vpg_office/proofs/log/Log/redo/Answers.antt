@@ -1,5 +1,5 @@
 use Rattle.std.proofs.Common.{◌≤◌, ◌<◌, arith, ◌≡◌, List, [], ◌∷◌, ◌++◌, Option, Some, IfSome, sym, ap, ◌∙◌, subst, option_map, eq-eqb}
-use Rattle.std.specs.Prelude.{IsTrue}
+use Rattle.std.specs.Prelude.{⊤, IsTrue}
 use Rattle.vpg_desk.specs.Book as book
 use Rattle.vpg_desk.specs.Book.{Book, Refusal, opened, IsReply}
 use Rattle.vpg_desk.specs.Faults.{redo_refusal}
@@ -9,7 +9,7 @@ use Rattle.vpg_office.specs.Fronts.{Extends, event, family_between}
 use Rattle.vpg_office.specs.Kept.{IsLastGiven}
 use Rattle.vpg_office.specs.Story.{refusal_of}
 use Rattle.vpg_office.specs.Token.{EndsWith}
-use Rattle.vpg_office.proofs.Calling.{admitted, extends, log_after, log_history, log_refused, prefix_more, refused_begins, refused_here, refused_tells, seen_here, some_all, stops_tell, told_here}
+use Rattle.vpg_office.proofs.Calling.{admitted, extends, log_after, log_history, log_refused, prefix_more, refused_begins, refused_here, refused_tells, seen_here, some_all, stops_begin, stops_tell, told_here}
 use Rattle.vpg_office.proofs.Swinging.{redone_back, redone_tokens}
 use Rattle.vpg_office.specs.declared.asked.Asked.TheVariants as ask
 use Rattle.vpg_office.proofs.log.Log.redo.Goals as goal
@@ -118,10 +118,10 @@ refuse-fault-requires-clause-reply g c =
     (subst (λ n. IfSome (redo_refusal c.in-Err-redo_by.refused.fault) (λ r. Replies c.self.inside.desk (book.Redo n) (book.Refused r))) (sym c.serial.ensures) c.in-Err-redo_by.ensures.refused)
 
 pub refuse-fault-requires-clause-hands : goal.refuse-fault-requires-clause-hands
-refuse-fault-requires-clause-hands g c = some_all _ (λ _. tt) c.redo_cause-cause.result
+refuse-fault-requires-clause-hands g c = some_all (λ _. ⊤) (λ _. tt) c.redo_cause-cause.result
 
 pub refuse-fault-requires-clause-named : goal.refuse-fault-requires-clause-named
-refuse-fault-requires-clause-named g c = some_all _ (λ _. tt) c.redo_cause-cause.result
+refuse-fault-requires-clause-named g c = some_all (λ _. ⊤) (λ _. tt) c.redo_cause-cause.result
 
 pub invariant_of-self-in-Err-redo_by : goal.invariant_of-self-in-Err-redo_by
 invariant_of-self-in-Err-redo_by g c =
@@ -129,14 +129,23 @@ invariant_of-self-in-Err-redo_by g c =
     log_refused i c.redo_cause-cause.result c.args.session (ask.Redo c.serial.result) c.in-Err-redo_by.refused.fault c.refuse-fault.result c.args.front.now c.refuse-fault.new.front c.refuse-fault.new.self.chronicle c.refuse-fault.new.self.newest c.refuse-fault.new.self.room c.redo_by.new.desk c.redo_by.new.purse
     c.in-Err-redo_by.ensures.same c.redo_by.ensures.counted c.refuse-fault.ensures.limit c.refuse-fault.ensures.kept c.refuse-fault.ensures.memory c.refuse-fault.ensures.refused
 
-pub returns-in-Err-redo_by-clause-fault : goal.returns-in-Err-redo_by-clause-fault
-returns-in-Err-redo_by-clause-fault g c =
+pub returns-clause-fault : goal.returns-clause-fault
+returns-clause-fault g c =
     let i = admitted c.self.invariant c.admit.ensures.newest c.admit.ensures.limit c.admit.ensures.kept in
     refused_tells (ask.Redo c.serial.result) c.args.session c.args.front.now c.refuse-fault.new.front c.admit.new.self.newest c.refuse-fault.new.self.newest c.in-Err-redo_by.refused.fault c.refuse-fault.result c.refuse-fault.ensures.kept
     c.redo_cause-cause.result g.L.Terms.limit redo_refusal (book.Redo c.args.token.serial) (λ r k. book.Redo (c.serial.ensures k)) c.redo_cause-cause.ensures (seen_here i c.args.front.now (c.admit.ensures.newest ∙ c.self.view_is) c.requires.seen) c.in-Ok.ensures.none c.refuse-fault.ensures.memory c.refuse-fault.ensures.refused
 
-pub returns-in-Err-redo_by-clause-refused : goal.returns-in-Err-redo_by-clause-refused
-returns-in-Err-redo_by-clause-refused g c =
+pub returns-clause-refused : goal.returns-clause-refused
+returns-clause-refused g c =
     let i = admitted c.self.invariant c.admit.ensures.newest c.admit.ensures.limit c.admit.ensures.kept in
     refused_begins (ask.Redo c.serial.result) c.args.session c.args.front.now c.refuse-fault.new.front c.admit.new.self.newest c.refuse-fault.new.self.newest c.in-Err-redo_by.refused.fault c.refuse-fault.result c.refuse-fault.ensures.kept
     c.redo_cause-cause.result c.args.token.history (seen_here i c.args.token.history (c.admit.ensures.newest ∙ c.self.view_is) c.requires.held.beginning) c.refuse-fault.ensures.memory c.refuse-fault.ensures.refused
+
+pub invariant_of-self : goal.invariant_of-self
+invariant_of-self g c = admitted c.self.invariant c.admit.ensures.newest c.admit.ensures.limit c.admit.ensures.kept
+
+pub returns-clause-back : goal.returns-clause-back
+returns-clause-back g c = c.in-Err-redo_by.ensures.back
+
+pub returns-in-Err-clause-refused : goal.returns-in-Err-clause-refused
+returns-in-Err-clause-refused g c = stops_begin g.L.Terms.limit c.args.session c.args.front.now c.admit.new.self.newest c.args.token.history c.args.front.now c.in-Err.fault c.in-Err.ensures.err

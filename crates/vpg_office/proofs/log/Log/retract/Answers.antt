@@ -1,9 +1,10 @@
-use Rattle.std.proofs.Common.{◌≤◌, ◌<◌, refl, ◌≡◌, ◌+◌, Option, Some, IfSome, sym, ap, ◌∙◌, subst, arith, option_map}
+use Rattle.std.proofs.Common.{eq-eqb, ◌≤◌, ◌<◌, refl, ◌≡◌, ◌+◌, Option, Some, IfSome, sym, ap, ◌∙◌, subst, arith, option_map}
+use Rattle.std.specs.Prelude.{⊤}
 use Rattle.vpg_desk.specs.Book as book
 use Rattle.vpg_desk.specs.Book.{Book, Refusal}
 use Rattle.vpg_desk.specs.Faults.{retract_refusal}
 use Rattle.vpg_desk.specs.State.{Replies}
-use Rattle.vpg_office.specs.Fronts.{Extends, family_between}
+use Rattle.vpg_office.specs.Fronts.{Extends, event, family_between}
 use Rattle.vpg_office.specs.Story.{refusal_of}
 use Rattle.vpg_office.proofs.Calling.{admitted, log_refused, refused_here, refused_tells, some_all, extends, stops_tell, told_here, log_history, seen_here, few_tokens, log_after}
 use Rattle.vpg_office.specs.declared.asked.Asked.TheVariants as ask
@@ -90,10 +91,10 @@ refuse-requires-clause-reply g c =
     refused_here i (book.Retract c.args.feature) c.retract_cause-cause.result (retract_refusal c.in-Err-retract.fault) c.retract_cause-cause.ensures c.in-Err-retract.ensures.refused
 
 pub refuse-requires-clause-hands : goal.refuse-requires-clause-hands
-refuse-requires-clause-hands g c = some_all _ (λ _. tt) c.retract_cause-cause.result
+refuse-requires-clause-hands g c = some_all (λ _. ⊤) (λ _. tt) c.retract_cause-cause.result
 
 pub refuse-requires-clause-named : goal.refuse-requires-clause-named
-refuse-requires-clause-named g c = some_all _ (λ _. tt) c.retract_cause-cause.result
+refuse-requires-clause-named g c = some_all (λ _. ⊤) (λ _. tt) c.retract_cause-cause.result
 
 pub invariant_of-self-in-Err-retract : goal.invariant_of-self-in-Err-retract
 invariant_of-self-in-Err-retract g c =
@@ -101,8 +102,18 @@ invariant_of-self-in-Err-retract g c =
     log_refused i c.retract_cause-cause.result c.args.session (ask.Retract c.args.feature) c.in-Err-retract.fault c.refuse.result c.args.front.now c.refuse.new.front c.refuse.new.self.chronicle c.refuse.new.self.newest c.refuse.new.self.room c.retract.new.self c.self.inside.purse
     c.in-Err-retract.ensures.err refl c.refuse.ensures.limit c.refuse.ensures.kept c.refuse.ensures.memory c.refuse.ensures.refused
 
-pub returns-in-Err-retract-clause-fault : goal.returns-in-Err-retract-clause-fault
-returns-in-Err-retract-clause-fault g c =
+pub returns-clause-fault : goal.returns-clause-fault
+returns-clause-fault g c =
     let i = admitted c.self.invariant c.admit.ensures.newest c.admit.ensures.limit c.admit.ensures.kept in
     refused_tells (ask.Retract c.args.feature) c.args.session c.args.front.now c.refuse.new.front c.admit.new.self.newest c.refuse.new.self.newest c.in-Err-retract.fault c.refuse.result c.refuse.ensures.kept
     c.retract_cause-cause.result g.L.Terms.limit retract_refusal (book.Retract c.args.feature) (λ r. refl) c.retract_cause-cause.ensures (seen_here i c.args.front.now (c.admit.ensures.newest ∙ c.self.view_is) c.requires.seen) c.in-Ok.ensures.none c.refuse.ensures.memory c.refuse.ensures.refused
+
+pub invariant_of-self : goal.invariant_of-self
+invariant_of-self g c = admitted c.self.invariant c.admit.ensures.newest c.admit.ensures.limit c.admit.ensures.kept
+
+pub invariant_of-result : goal.invariant_of-result
+invariant_of-result g c = (
+  c.issue-share.ensures.amount,
+  c.issue-share.ensures.parts,
+  record { before = c.admit.new.self.newest; own = event c.args.session (book.Retract c.args.feature) (book.Changed c.serial.result); is = c.copy.ensures.same ∙ c.enter.ensures.front ∙ c.enter.ensures.newest; gave = eq-eqb _ _ c.serial.ensures },
+)

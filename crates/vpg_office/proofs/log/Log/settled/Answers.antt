@@ -57,3 +57,6 @@ returns-clause-done g c =
     let F = family_between g.L.Terms.game g.L.Terms.diagram in
     let e = extends c.args.front.now c.admit.new.self.newest c.args.session book.Settled (book.IsSettled c.settled-r.result) (seen_here i c.args.front.now (c.admit.ensures.newest ∙ c.self.view_is) c.requires.seen) c.in-Ok.ensures.none c.enter.ensures.newest c.enter.ensures.kept in
     subst (λ (l : List Event). Extends F c.args.front.now c.args.session book.Settled (book.IsSettled c.settled-r.result) l) (sym c.enter.ensures.front) e
+
+pub invariant_of-self : goal.invariant_of-self
+invariant_of-self g c = admitted c.self.invariant c.admit.ensures.newest c.admit.ensures.limit c.admit.ensures.kept
