@@ -20,9 +20,9 @@ use Rattle.vpg_office.specs.contracts.asked.Entry as Entry
 use Rattle.vpg_office.specs.contracts.asked.Told as Told
 use Rattle.vpg_office.specs.contracts.chronicle.Chronicle as Chronicle
 use Rattle.vpg_office.specs.contracts.front.Front as Front
+use Rattle.vpg_office.specs.contracts.log.Calls as Made
 use Rattle.vpg_office.specs.contracts.log.Log as Log
 use Rattle.vpg_office.specs.contracts.log.Log.TheInside as Inside
-use Rattle.vpg_office.specs.contracts.log.Replay as Replay
 use Rattle.vpg_office.specs.contracts.office.RowRowed.TheImpl as rowed
 use Rattle.vpg_office.specs.contracts.office.Shared as Shared
 use Rattle.vpg_office.specs.declared.terms.Terms as terms
@@ -50,14 +50,14 @@ module _ (L : RattleType) (t : terms.Ghosts L.Denot) (l : ledger.Ghosts L.Denot)
   front_syncs : IsSync (Front.the_row L t l)
   front_syncs = search (front_sync, sendable, crosses) depth 40
 
-  replay_fields : AllSend (fields (Replay.the_type L t l))
-  replay_fields = (chronicle_field, (search (front_sends, sendable) depth 12, (search (desk_send, sendable) depth 12, (search sendable depth 12, tt))))
+  calls_fields : AllSend (fields (Made.the_type L t l))
+  calls_fields = (chronicle_field, (search (front_sends, sendable) depth 12, (search sendable depth 12, tt)))
 
-  replay_field : IsSend (Replay.the_field L t l).row
-  replay_field = struct_send (shape (Replay.the_type L t l)) replay_fields
+  calls_field : IsSend (Made.the_field L t l).row
+  calls_field = struct_send (shape (Made.the_type L t l)) calls_fields
 
   fields_send : AllSend (fields (Inside.the_type L t l))
-  fields_send = (replay_field, (search (purse_send, sendable, crosses) depth 40, (search (press_send, front_sends, front_syncs, sendable, crosses) depth 40, (search sendable depth 12, (search sendable depth 12, tt)))))
+  fields_send = (calls_field, (search (desk_send, sendable) depth 12, (search (purse_send, sendable, crosses) depth 40, (search (press_send, front_sends, front_syncs, sendable, crosses) depth 40, (search sendable depth 12, (search sendable depth 12, tt))))))
 
   inside_send : IsSend (Inside.the_row L t l)
   inside_send = recorded_send (Inside.the_field L t l).row _ _ (Inside.the_type L t l).to_one (struct_send (shape (Inside.the_type L t l)) fields_send)

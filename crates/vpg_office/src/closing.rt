@@ -1,11 +1,14 @@
 //! How the log of an office ends.
-ghost use Rattle.std.specs.Prelude.{◌≡◌, ◌+◌, length};
+ghost use Rattle.std.specs.Prelude.{◌≡◌, ◌+◌, ℕ, length};
+ghost use Rattle.vpg_desk.specs.Book as book;
 ghost use Rattle.vpg_desk.specs.Book.{opened};
 ghost use Rattle.vpg_desk.specs.History.{book_after};
+ghost use Rattle.vpg_desk.specs.State.{IsStep};
 ghost use Rattle.vpg_office.specs.Fronts.{family_between};
 
+use crate::chronicle::Row;
 use crate::front::Front;
-use crate::log::{Log, Replay};
+use crate::log::{Calls, Log};
 use crate::purse::Purse;
 use crate::redo_token::Redo;
 use crate::terms::Terms;
@@ -27,8 +30,9 @@ fn keep_all<L: Terms>(desk: &mut Desk, purse: &mut Purse<L>, undos: Vec<Undo<L>>
     undos.destroy_empty();
 }
 
-fn keep_one<L: Terms>(desk: &mut Desk, purse: &mut Purse<L>, undo: Undo<L>)
+pub(crate) fn keep_one<L: Terms>(desk: &mut Desk, purse: &mut Purse<L>, undo: Undo<L>)
     requires { purse.old ≡ desk.old.book.tokens }
+    ensures step { (session : ℕ) → IsStep desk.old session (book.Keep undo.serial) book.Spent desk.new }
     ensures counted { purse.new ≡ desk.new.book.tokens }
     ensures spent { desk.new.book.tokens + 1 ≡ desk.old.book.tokens }
 {
@@ -55,8 +59,9 @@ fn forget_all<L: Terms>(desk: &mut Desk, purse: &mut Purse<L>, redos: Vec<Redo<L
     redos.destroy_empty();
 }
 
-fn forget_one<L: Terms>(desk: &mut Desk, purse: &mut Purse<L>, redo: Redo<L>)
+pub(crate) fn forget_one<L: Terms>(desk: &mut Desk, purse: &mut Purse<L>, redo: Redo<L>)
     requires { purse.old ≡ desk.old.book.tokens }
+    ensures step { (session : ℕ) → IsStep desk.old session (book.Forget redo.serial) book.Spent desk.new }
     ensures counted { purse.new ≡ desk.new.book.tokens }
     ensures spent { desk.new.book.tokens + 1 ≡ desk.old.book.tokens }
 {
@@ -75,54 +80,57 @@ impl<L: Terms> Log<L> {
     pub(crate) fn tokens(&self) -> u64
         ensures { result ≡ (book_after (family_between L.game L.diagram) opened self.now).tokens }
     {
-        self.replay.desk.tokens()
+        self.desk.tokens()
     }
 
     /// Spends the tokens handed in, and ends the log. Answers how many further tokens are out.
-    pub(crate) fn end<R: Wait>(self, rt: &R, undos: Vec<Undo<L>>, redos: Vec<Redo<L>>) -> u64
+    pub(crate) fn end<R: Wait>(
+        self,
+        rt: &R,
+        row: Row,
+        undos: Vec<Undo<L>>,
+        redos: Vec<Redo<L>>,
+    ) -> u64
         ensures { result + length undos.items + length redos.items
             ≡ (book_after (family_between L.game L.diagram) opened self).tokens }
     {
         let Log {
-            replay,
+            calls,
+            mut desk,
             mut purse,
             press,
             sessions: _,
             watched: _,
         } = self;
-        let Replay {
-            chronicle: _,
-            newest: _,
-            mut desk,
-            room: _,
-        } = replay;
         keep_all(&mut desk, &mut purse, undos);
         forget_all(&mut desk, &mut purse, redos);
         let further = desk.tokens();
-        let_go(rt, desk, press);
+        let_go(rt, row, calls, desk, purse, press);
         further
     }
 
     /// Lets the log go.
-    pub(crate) fn dissolve<R: Wait>(self, rt: &R) {
+    pub(crate) fn dissolve<R: Wait>(self, rt: &R, row: Row) {
         let Log {
-            replay,
-            purse: _,
+            calls,
+            desk,
+            purse,
             press,
             sessions: _,
             watched: _,
         } = self;
-        let Replay {
-            chronicle: _,
-            newest: _,
-            desk,
-            room: _,
-        } = replay;
-        let_go(rt, desk, press);
+        let_go(rt, row, calls, desk, purse, press);
     }
 }
 
-/// Closes the press, and lets the desk go.
-fn let_go<L: Terms, R: Wait>(rt: &R, _desk: Desk, press: Press<Front<L>>) {
+/// Closes the press, and lets the rest go, here alone.
+fn let_go<L: Terms, R: Wait>(
+    rt: &R,
+    _row: Row,
+    _calls: Calls<L>,
+    _desk: Desk,
+    _purse: Purse<L>,
+    press: Press<Front<L>>,
+) {
     press.close(rt);
 }

@@ -13,7 +13,7 @@ use crate::asked::{Answer, Asked, Cause};
 use crate::chronicle::Row;
 use crate::fault::{Fault, Returned};
 use crate::front::Front;
-use crate::log::{Log, admit, enter};
+use crate::log::{Log, Request};
 use crate::terms::Terms;
 use std::alloc::Global;
 use std::snapshot::Snapshot;
@@ -82,19 +82,14 @@ impl<L: Terms> Log<L> {
         ensures back { IfErr result (λ b. b.value ≡ harvest) }
     {
         let _ = harvest.order();
-        let asked = Asked::Commit {
-            harvest: Snapshot::of(&harvest),
-        };
-        let place = match admit(
-            rt,
+        let request = Request {
             row,
-            &mut self.replay.chronicle,
-            &self.replay.newest,
-            front,
-            self.replay.room,
             session,
-            &asked,
-        ) {
+            asked: Asked::Commit {
+                harvest: Snapshot::of(&harvest),
+            },
+        };
+        let place = match self.calls.admit(rt, &request, front) {
             Ok(place) => place,
             Err(fault) => {
                 return Err(Returned {
@@ -103,40 +98,18 @@ impl<L: Terms> Log<L> {
                 });
             }
         };
-        match hand_in(&mut self.replay.desk, alloc, harvest, own) {
+        match hand_in(&mut self.desk, alloc, harvest, own) {
             Ok(entries) => {
                 let answer = Answer::Added { entries };
-                enter(
-                    &mut self.replay.chronicle,
-                    &mut self.replay.newest,
-                    front,
-                    &place,
-                    session,
-                    &asked,
-                    answer,
-                );
+                self.calls.enter(&request, front, place, answer);
                 Ok(entries)
             }
             Err(refused) => {
                 let CommitRefused { fault, harvest } = refused;
-                let Some(cause) = commit_cause(fault) else {
-                    return Err(Returned {
-                        fault: Fault::Memory,
-                        value: harvest,
-                    });
-                };
-                let answer = Answer::Refused { cause };
-                enter(
-                    &mut self.replay.chronicle,
-                    &mut self.replay.newest,
-                    front,
-                    &place,
-                    session,
-                    &asked,
-                    answer,
-                );
+                let cause = commit_cause(fault);
+                let fault = self.calls.refuse(&request, front, place, cause, fault);
                 Err(Returned {
-                    fault: Fault::Refused { fault },
+                    fault,
                     value: harvest,
                 })
             }

@@ -1,6 +1,6 @@
 //! What lies under the office's lock: the log with the desk that replays it, the purse of tokens, and the press. Each
 //! of the three has a rule of its own; what joins them stands in `specs/Locked.antt`.
-ghost use Rattle.std.specs.Prelude.{◌≡◌, ◌+◌, ◌-◌, ◌<◌, ◌≤◌, ◌⊎◌, ℕ, List, [], ◌∷◌, ◌++◌, length, drop, true, false, Some, None, IfOk, IfErr, OnOk, OnErr, IfSome, option_map};
+ghost use Rattle.std.specs.Prelude.{◌≡◌, ◌+◌, ◌-◌, ◌<◌, ◌≤◌, ◌⊎◌, ℕ, List, [], ◌∷◌, ◌++◌, length, drop, true, false, Some, None, IfOk, IfErr, OnOk, OnErr, IfNone, IfSome, option_map};
 ghost use mathlib.Core.List.{IsPrefix};
 ghost use Rattle.boxcar.specs.Table.{Shows};
 ghost use Rattle.vpg_desk.specs.Book as book;
@@ -26,19 +26,38 @@ use std::sync::Wait;
 use vpg_desk::{DecideFault, Desk};
 use vpg_watch::Press;
 
-/// The calls that were made, the history that they are, and the desk that replays it.
-pub struct Replay<L: Terms> {
+/// The calls that were made, and the history that they are.
+#[derive(Drop)]
+pub struct Calls<L: Terms> {
     pub(crate) chronicle: Chronicle,
     // the whole log
     pub(crate) newest: Front<L>,
-    pub(crate) desk: Desk,
     // how many calls it takes
     pub(crate) room: usize,
 }
 
-/// The log, the purse and the press. Contracts see it as the history that the log is.
+/// What a session asks, and the row that its call is pushed to.
+pub struct Request<'a> {
+    pub(crate) row: &'a Row,
+    pub(crate) session: u32,
+    pub(crate) asked: Asked,
+}
+
+// Not derived, so that letting it go is one call.
+impl Drop for Request<'_> {
+    fn drop(self) {
+        let Request {
+            row: _,
+            session: _,
+            asked: _,
+        } = self;
+    }
+}
+
+/// The log with the desk that replays it, the purse and the press. Contracts see it as the history that the log is.
 pub struct Log<L: Terms> {
-    pub(crate) replay: Replay<L>,
+    pub(crate) calls: Calls<L>,
+    pub(crate) desk: Desk,
     pub(crate) purse: Purse<L>,
     pub(crate) press: Press<Front<L>>,
     pub(crate) sessions: u32,
@@ -57,111 +76,150 @@ impl<L: Terms> Model for Log<L> {
 
     ghost use Rattle.vpg_office.specs.Locked.{IsLog};
 
-    ghost view = { λ g. g.replay.newest };
+    ghost view = { λ g. g.calls.newest };
 
     ghost invariant = { λ g.
-        IsLog L.shelves L.game L.diagram L.limit g.replay.chronicle g.replay.newest g.replay.desk g.replay.room g.purse g.press.front g.sessions };
+        IsLog L.shelves L.game L.diagram L.limit g.calls.chronicle g.calls.newest g.desk g.calls.room g.purse g.press.front
+        g.sessions };
 }
 
-/// Whether the front is a beginning of the log.
-pub(crate) fn has<L: Terms>(
-    row: &Row,
-    chronicle: &Chronicle,
-    newest: &Front<L>,
-    front: &Front<L>,
-) -> bool
-    requires row { row.now ≡ L.shelves }
-    requires kept { IsChronicle L.shelves L.game L.diagram chronicle.now newest.now }
-    ensures { result ≡ true → IsPrefix front.now newest.now }
-{
-    let Some((place, _)) = &front.last else {
-        return true;
-    };
-    let count = front.count;
-    if count > chronicle.places.len() {
-        return false;
+impl<L: Terms> Calls<L> {
+    /// Whether the front is a beginning of the log.
+    pub(crate) fn has(&self, row: &Row, front: &Front<L>) -> bool
+        requires row { row.now ≡ L.shelves }
+        requires kept { IsChronicle L.shelves L.game L.diagram self.now.chronicle self.now.newest }
+        ensures { result ≡ true → IsPrefix front.now self.now.newest }
+    {
+        let Some((place, _)) = &front.last else {
+            return true;
+        };
+        let count = front.count;
+        if count > self.chronicle.places.len() {
+            return false;
+        }
+        let mine = &self.chronicle.places[count - 1];
+        if mine.index() != place.index() {
+            return false;
+        }
+        row.agrees(mine, place);
+        true
     }
-    let mine = &chronicle.places[count - 1];
-    if mine.index() != place.index() {
-        return false;
-    }
-    row.agrees(mine, place);
-    true
-}
 
-/// Takes a call in where the log has room for it and the session made none since the front, and gives it a place.
-pub(crate) fn admit<L: Terms, F, R: Wait>(
-    rt: &R,
-    row: &Row,
-    chronicle: &mut Chronicle,
-    newest: &Front<L>,
-    front: &Front<L>,
-    room: usize,
-    session: u32,
-    asked: &Asked,
-) -> Result<Place, Fault<L, F>>
-    requires row { row.now ≡ L.shelves }
-    requires kept { IsChronicle L.shelves L.game L.diagram chronicle.old newest.now }
-    requires seen { IsPrefix front.now newest.now }
-    requires limit { room ≡ L.limit }
-    ensures kept { IsChronicle L.shelves L.game L.diagram chronicle.new newest.now }
-    ensures room { OnOk result (HasRoom chronicle.new) }
-    ensures place { IfOk result
-        (λ p. Shows L.shelves p × IsEntryOf (lines_of chronicle.new.told.items) session asked.now p.value) }
-    ensures fits { OnOk result (length newest.now < L.limit) }
-    ensures none { OnOk result (calls_by session (drop (length front.now) newest.now) ≡ 0) }
-    ensures err { IfErr result (Stops L.limit front.now session newest.now) }
-{
-    if newest.len() >= room {
-        return Err(Fault::LogFull {
-            front: newest.copy(),
-        });
+    /// Takes a call in where the log has room for it and the session made none since the front, and gives it a place.
+    pub(crate) fn admit<F, R: Wait>(
+        &mut self,
+        rt: &R,
+        request: &Request<'_>,
+        front: &Front<L>,
+    ) -> Result<Place, Fault<L, F>>
+        requires row { request.now.row.now ≡ L.shelves }
+        requires kept { IsChronicle L.shelves L.game L.diagram self.old.chronicle self.old.newest }
+        requires seen { IsPrefix front.now self.old.newest }
+        requires limit { self.old.room ≡ L.limit }
+        ensures newest { self.new.newest ≡ self.old.newest }
+        ensures limit { self.new.room ≡ self.old.room }
+        ensures kept { IsChronicle L.shelves L.game L.diagram self.new.chronicle self.new.newest }
+        ensures room { OnOk result (HasRoom self.new.chronicle) }
+        ensures place { IfOk result
+            (λ p. Shows L.shelves p ×
+            IsEntryOf (lines_of self.new.chronicle.told.items) request.now.session request.now.asked p.value) }
+        ensures fits { OnOk result (length self.new.newest < L.limit) }
+        ensures none { OnOk result (calls_by request.now.session (drop (length front.now) self.new.newest) ≡ 0) }
+        ensures err { IfErr result (Stops L.limit front.now request.now.session self.new.newest) }
+    {
+        if self.newest.len() >= self.room {
+            return Err(Fault::LogFull {
+                front: self.newest.copy(),
+            });
+        }
+        let seen = front.len();
+        if has_call_since(request.session, &self.chronicle.told, seen) {
+            return Err(Fault::Doubled {
+                front: self.newest.copy(),
+            });
+        }
+        match self
+            .chronicle
+            .prepare(rt, request.row, request.session, &request.asked)
+        {
+            Ok(place) => Ok(place),
+            Err(_) => Err(Fault::Memory),
+        }
     }
-    let seen = front.len();
-    if has_call_since(session, &chronicle.told, seen) {
-        return Err(Fault::Doubled {
-            front: newest.copy(),
-        });
-    }
-    match chronicle.prepare(rt, row, session, asked) {
-        Ok(place) => Ok(place),
-        Err(_) => Err(Fault::Memory),
-    }
-}
 
-/// Puts the call and its answer behind the log. The front becomes the whole log.
-pub(crate) fn enter<L: Terms>(
-    chronicle: &mut Chronicle,
-    newest: &mut Front<L>,
-    front: &mut Front<L>,
-    place: &Place,
-    session: u32,
-    asked: &Asked,
-    answer: Answer,
-)
-    requires kept { IsChronicle L.shelves L.game L.diagram chronicle.old newest.old }
-    requires room { HasRoom chronicle.old }
-    requires place { Shows L.shelves place.now ×
-        IsEntryOf (lines_of chronicle.old.told.items) session asked.now place.now.value }
-    requires fits { length newest.old < L.limit }
-    requires few { length newest.old < 1048576 }
-    requires reply { let family = family_between L.game L.diagram in let b =
-        book_after family opened newest.old in IsReply family b (call_of asked.now answer)
-        (reply_of family b.present answer) }
-    requires hands { HandsIn (IsLawful (family_between L.game L.diagram)) (call_of asked.now answer) }
-    requires named { IsNamed L.game L.diagram asked.now answer }
-    ensures kept { IsChronicle L.shelves L.game L.diagram chronicle.new newest.new }
-    ensures newest { let family =
-        family_between L.game L.diagram in newest.new ≡ newest.old
-        ++ event session (call_of asked.now answer)
-        (reply_of family (book_after family opened newest.old).present answer) ∷ [] }
-    ensures front { front.new ≡ newest.new }
-    ensures history { IsHistory (family_between L.game L.diagram) front.new }
-{
-    let count = newest.len() + 1;
-    chronicle.put(place, session, asked, answer);
-    *newest = Front::at(place, answer, count);
-    *front = newest.copy();
+    /// Puts the call and its answer behind the log. The front becomes the whole log.
+    pub(crate) fn enter(
+        &mut self,
+        request: &Request<'_>,
+        front: &mut Front<L>,
+        place: Place,
+        answer: Answer,
+    )
+        requires kept { IsChronicle L.shelves L.game L.diagram self.old.chronicle self.old.newest }
+        requires room { HasRoom self.old.chronicle }
+        requires place { Shows L.shelves place ×
+            IsEntryOf (lines_of self.old.chronicle.told.items) request.now.session request.now.asked place.value }
+        requires fits { length self.old.newest < L.limit }
+        requires few { length self.old.newest < 1048576 }
+        requires reply { let family = family_between L.game L.diagram in let b =
+            book_after family opened self.old.newest in IsReply family b (call_of request.now.asked answer)
+            (reply_of family b.present answer) }
+        requires hands { HandsIn (IsLawful (family_between L.game L.diagram)) (call_of request.now.asked answer) }
+        requires named { IsNamed L.game L.diagram request.now.asked answer }
+        ensures kept { IsChronicle L.shelves L.game L.diagram self.new.chronicle self.new.newest }
+        ensures limit { self.new.room ≡ self.old.room }
+        ensures newest { let family =
+            family_between L.game L.diagram in self.new.newest ≡ self.old.newest
+            ++ event request.now.session (call_of request.now.asked answer)
+            (reply_of family (book_after family opened self.old.newest).present answer) ∷ [] }
+        ensures front { front.new ≡ self.new.newest }
+        ensures history { IsHistory (family_between L.game L.diagram) front.new }
+    {
+        let count = self.newest.len() + 1;
+        self.newest = Front::at(&place, answer, count);
+        self.chronicle
+            .put(place, request.session, &request.asked, answer);
+        *front = self.newest.copy();
+    }
+
+    /// Enters the desk's refusal, where there is a cause; else the desk was out of memory.
+    pub(crate) fn refuse<F: Drop>(
+        &mut self,
+        request: &Request<'_>,
+        front: &mut Front<L>,
+        place: Place,
+        cause: Option<Cause>,
+        fault: F,
+    ) -> Fault<L, F>
+        requires kept { IsChronicle L.shelves L.game L.diagram self.old.chronicle self.old.newest }
+        requires room { HasRoom self.old.chronicle }
+        requires place { Shows L.shelves place ×
+            IsEntryOf (lines_of self.old.chronicle.told.items) request.now.session request.now.asked place.value }
+        requires fits { length self.old.newest < L.limit }
+        requires few { length self.old.newest < 1048576 }
+        requires reply { IfSome cause (λ r.
+            IsReply (family_between L.game L.diagram)
+            (book_after (family_between L.game L.diagram) opened self.old.newest)
+            (call_of request.now.asked (Answer.Refused r)) (book.Refused (refusal_of r))) }
+        requires hands { IfSome cause (λ r.
+            HandsIn (IsLawful (family_between L.game L.diagram)) (call_of request.now.asked (Answer.Refused r))) }
+        requires named { IfSome cause (λ r. IsNamed L.game L.diagram request.now.asked (Answer.Refused r)) }
+        ensures kept { IsChronicle L.shelves L.game L.diagram self.new.chronicle self.new.newest }
+        ensures limit { self.new.room ≡ self.old.room }
+        ensures memory { IfNone cause
+            ((result ≡ Fault.Memory) × (front.new ≡ front.old) × (self.new.newest ≡ self.old.newest)) }
+        ensures refused { IfSome cause (λ r.
+            (result ≡ Fault.Refused fault) × (front.new ≡ self.new.newest) ×
+            (self.new.newest ≡ self.old.newest
+            ++ event request.now.session (call_of request.now.asked (Answer.Refused r))
+            (book.Refused (refusal_of r)) ∷ [])) }
+    {
+        let Some(cause) = cause else {
+            return Fault::Memory;
+        };
+        self.enter(request, front, place, Answer::Refused { cause });
+        Fault::Refused { fault }
+    }
 }
 
 /// Why the desk refuses to decide, where it isn't out of memory.
@@ -198,14 +256,14 @@ impl<L: Terms> Log<L> {
         requires press { press.front ≡ [] }
         ensures { result ≡ [] }
     {
-        let replay = Replay {
+        let calls = Calls {
             chronicle: Chronicle::new(alloc),
             newest: Front::empty(),
-            desk,
             room,
         };
         Log {
-            replay,
+            calls,
+            desk,
             purse,
             press,
             sessions: 0,
@@ -230,7 +288,7 @@ impl<L: Terms> Log<L> {
         ensures front { result ≡ self.now }
         ensures history { IsHistory (family_between L.game L.diagram) result }
     {
-        self.replay.newest.copy()
+        self.calls.newest.copy()
     }
 
     /// Whether the front is a beginning of the log.
@@ -238,7 +296,20 @@ impl<L: Terms> Log<L> {
         requires { row.now ≡ L.shelves }
         ensures { result ≡ true → IsPrefix front.now self.now }
     {
-        has(row, &self.replay.chronicle, &self.replay.newest, front)
+        self.calls.has(row, front)
+    }
+
+    /// Returns where the log has the front.
+    pub(crate) fn awaits<R: Wait>(&self, rt: &R, row: &Row, front: &Front<L>)
+        requires { row.now ≡ L.shelves }
+        ensures { IsPrefix front.now self.now }
+    {
+        'again: for _ in rt.forever() {
+            if self.has(row, front) {
+                return;
+            }
+        }
+        unreachable!()
     }
 
     /// Makes the first the longer of both, where the log has both.
@@ -278,56 +349,31 @@ impl<L: Terms> Log<L> {
             (Tells (family_between L.game L.diagram) L.limit decide_refusal
             (book.Decide feature value) session front.old front.new) }
     {
-        let asked = Asked::Decide { feature, value };
-        let place = match admit(
-            rt,
+        let request = Request {
             row,
-            &mut self.replay.chronicle,
-            &self.replay.newest,
-            front,
-            self.replay.room,
             session,
-            &asked,
-        ) {
+            asked: Asked::Decide { feature, value },
+        };
+        let place = match self.calls.admit(rt, &request, front) {
             Ok(place) => place,
             Err(fault) => return Err(fault),
         };
-        match self.replay.desk.decide(alloc, session, feature, value) {
+        match self.desk.decide(alloc, session, feature, value) {
             Ok(token) => {
                 let answer = Answer::Changed {
                     serial: token.serial(),
                 };
-                enter(
-                    &mut self.replay.chronicle,
-                    &mut self.replay.newest,
-                    front,
-                    &place,
-                    session,
-                    &asked,
-                    answer,
-                );
+                self.calls.enter(&request, front, place, answer);
                 let share = self.purse.issue();
                 Ok(Undo {
                     token,
-                    place: self.replay.newest.copy(),
+                    place: front.copy(),
                     share,
                 })
             }
             Err(fault) => {
-                let Some(cause) = decide_cause(fault) else {
-                    return Err(Fault::Memory);
-                };
-                let answer = Answer::Refused { cause };
-                enter(
-                    &mut self.replay.chronicle,
-                    &mut self.replay.newest,
-                    front,
-                    &place,
-                    session,
-                    &asked,
-                    answer,
-                );
-                Err(Fault::Refused { fault })
+                let cause = decide_cause(fault);
+                Err(self.calls.refuse(&request, front, place, cause, fault))
             }
         }
     }

@@ -20,7 +20,7 @@ use crate::asked::{Answer, Asked};
 use crate::chronicle::Row;
 use crate::fault::{Fault, Never};
 use crate::front::Front;
-use crate::log::{Log, admit, enter};
+use crate::log::{Log, Request};
 use crate::terms::Terms;
 use std::alloc::{AllocError, Global};
 use std::sync::{Arc, Wait};
@@ -44,30 +44,18 @@ impl<L: Terms> Log<L> {
         ensures fault { IfErr result
             (Tells (family_between L.game L.diagram) L.limit never_refused book.Settled session front.old front.new) }
     {
-        let asked = Asked::Settled;
-        let place = match admit(
-            rt,
+        let request = Request {
             row,
-            &mut self.replay.chronicle,
-            &self.replay.newest,
-            front,
-            self.replay.room,
             session,
-            &asked,
-        ) {
+            asked: Asked::Settled,
+        };
+        let place = match self.calls.admit(rt, &request, front) {
             Ok(place) => place,
             Err(fault) => return Err(fault),
         };
-        let r = self.replay.desk.settled();
-        enter(
-            &mut self.replay.chronicle,
-            &mut self.replay.newest,
-            front,
-            &place,
-            session,
-            &asked,
-            Answer::IsSettled { settled: r },
-        );
+        let r = self.desk.settled();
+        let answer = Answer::IsSettled { settled: r };
+        self.calls.enter(&request, front, place, answer);
         Ok(r)
     }
 
@@ -90,28 +78,20 @@ impl<L: Terms> Log<L> {
             (Tells (family_between L.game L.diagram) L.limit never_refused
             (book.Verdict vertex) session front.old front.new) }
     {
-        let asked = Asked::Verdict { vertex };
-        let place = match admit(
-            rt,
+        let request = Request {
             row,
-            &mut self.replay.chronicle,
-            &self.replay.newest,
-            front,
-            self.replay.room,
             session,
-            &asked,
-        ) {
+            asked: Asked::Verdict { vertex },
+        };
+        let place = match self.calls.admit(rt, &request, front) {
             Ok(place) => place,
             Err(fault) => return Err(fault),
         };
-        let r = self.replay.desk.verdict(vertex);
-        enter(
-            &mut self.replay.chronicle,
-            &mut self.replay.newest,
+        let r = self.desk.verdict(vertex);
+        self.calls.enter(
+            &request,
             front,
-            &place,
-            session,
-            &asked,
+            place,
             Answer::VerdictIs {
                 hopeless: r.hopeless,
                 sure: r.sure,
@@ -148,32 +128,19 @@ impl<L: Terms> Log<L> {
         ensures fault { IfErr result
             (Tells (family_between L.game L.diagram) L.limit never_refused book.Page session front.old front.new) }
     {
-        let asked = Asked::Page;
-        let place = match admit(
-            rt,
+        let request = Request {
             row,
-            &mut self.replay.chronicle,
-            &self.replay.newest,
-            front,
-            self.replay.room,
             session,
-            &asked,
-        ) {
+            asked: Asked::Page,
+        };
+        let place = match self.calls.admit(rt, &request, front) {
             Ok(place) => place,
             Err(fault) => return Err(fault),
         };
-        let Ok(page) = self.replay.desk.page(alloc) else {
+        let Ok(page) = self.desk.page(alloc) else {
             return Err(Fault::Memory);
         };
-        enter(
-            &mut self.replay.chronicle,
-            &mut self.replay.newest,
-            front,
-            &place,
-            session,
-            &asked,
-            Answer::PageIs,
-        );
+        self.calls.enter(&request, front, place, Answer::PageIs);
         Ok(page)
     }
 
@@ -184,7 +151,7 @@ impl<L: Terms> Log<L> {
             (choices_of (book_after (family_between L.game L.diagram) book.opened self.now).present)
             (arc_value games)) }
     {
-        self.replay.desk.games().clone()
+        self.desk.games().clone()
     }
 
     /// The present page, with what its decisions make of the game.
@@ -241,32 +208,19 @@ impl<L: Terms> Log<L> {
         ensures fault { IfErr result
             (Tells (family_between L.game L.diagram) L.limit never_refused book.Order session front.old front.new) }
     {
-        let asked = Asked::Order;
-        let place = match admit(
-            rt,
+        let request = Request {
             row,
-            &mut self.replay.chronicle,
-            &self.replay.newest,
-            front,
-            self.replay.room,
             session,
-            &asked,
-        ) {
+            asked: Asked::Order,
+        };
+        let place = match self.calls.admit(rt, &request, front) {
             Ok(place) => place,
             Err(fault) => return Err(fault),
         };
-        let Ok(r) = self.replay.desk.order(alloc) else {
+        let Ok(r) = self.desk.order(alloc) else {
             return Err(Fault::Memory);
         };
-        enter(
-            &mut self.replay.chronicle,
-            &mut self.replay.newest,
-            front,
-            &place,
-            session,
-            &asked,
-            Answer::Ordered,
-        );
+        self.calls.enter(&request, front, place, Answer::Ordered);
         Ok(r)
     }
 }

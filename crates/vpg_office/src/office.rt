@@ -302,25 +302,21 @@ impl<L: Terms> Shared<Row, L, Log<L>> {
     {
         let Shared { row, log, of: _ } = self;
         let log = log.into_inner();
-        'again: for _ in rt.forever() {
-            if log.has(&row, front) {
-                *front = log.front();
-                let tokens = log.tokens();
-                if tokens == 0 {
-                    log.dissolve(rt);
-                    return Ok(());
-                }
-                return Err(TokensOut {
-                    tokens,
-                    office: Shared {
-                        row,
-                        log: Mutex::new(log),
-                        of: PhantomData,
-                    },
-                });
-            }
+        log.awaits(rt, &row, front);
+        *front = log.front();
+        let tokens = log.tokens();
+        if tokens == 0 {
+            log.dissolve(rt, row);
+            return Ok(());
         }
-        unreachable!()
+        Err(TokensOut {
+            tokens,
+            office: Shared {
+                row,
+                log: Mutex::new(log),
+                of: PhantomData,
+            },
+        })
     }
 
     /// Spends the tokens handed in, and ends the office, whatever the log's room. It is never refused, and answers how
@@ -339,12 +335,8 @@ impl<L: Terms> Shared<Row, L, Log<L>> {
     {
         let Shared { row, log, of: _ } = self;
         let log = log.into_inner();
-        'again: for _ in rt.forever() {
-            if log.has(&row, front) {
-                *front = log.front();
-                return log.end(rt, undos, redos);
-            }
-        }
-        unreachable!()
+        log.awaits(rt, &row, front);
+        *front = log.front();
+        log.end(rt, row, undos, redos)
     }
 }

@@ -97,13 +97,7 @@ impl<L: Terms> Log<L> {
     fn show<R: Wait>(&mut self, rt: &R, alloc: Global) -> Result<(), AllocError>
         ensures { self.new ≡ self.old }
     {
-        publish(
-            rt,
-            alloc,
-            &mut self.press,
-            &self.replay.desk,
-            &self.replay.newest,
-        )
+        publish(rt, alloc, &mut self.press, &self.desk, &self.calls.newest)
     }
 
     /// Publishes the sheet of the log, where the call just made changed the page and there was a watch. One that finds
@@ -125,7 +119,7 @@ impl<L: Terms> Log<L> {
         ensures same { self.new ≡ self.old }
         ensures history { IfOk result (IsHistory (family_between L.game L.diagram)) }
     {
-        if !self.watched && self.replay.newest.len() > 0 && self.show(rt, alloc).is_err() {
+        if !self.watched && self.calls.newest.len() > 0 && self.show(rt, alloc).is_err() {
             return Err(NoWatch::Memory);
         }
         match self.press.watch() {

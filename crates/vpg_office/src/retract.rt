@@ -11,7 +11,7 @@ use crate::asked::{Answer, Asked, Cause};
 use crate::chronicle::Row;
 use crate::fault::Fault;
 use crate::front::Front;
-use crate::log::{Log, admit, enter};
+use crate::log::{Log, Request};
 use crate::terms::Terms;
 use crate::undo_token::Undo;
 use std::alloc::Global;
@@ -50,56 +50,31 @@ impl<L: Terms> Log<L> {
             (Tells (family_between L.game L.diagram) L.limit retract_refusal
             (book.Retract feature) session front.old front.new) }
     {
-        let asked = Asked::Retract { feature };
-        let place = match admit(
-            rt,
+        let request = Request {
             row,
-            &mut self.replay.chronicle,
-            &self.replay.newest,
-            front,
-            self.replay.room,
             session,
-            &asked,
-        ) {
+            asked: Asked::Retract { feature },
+        };
+        let place = match self.calls.admit(rt, &request, front) {
             Ok(place) => place,
             Err(fault) => return Err(fault),
         };
-        match self.replay.desk.retract(alloc, session, feature) {
+        match self.desk.retract(alloc, session, feature) {
             Ok(token) => {
                 let answer = Answer::Changed {
                     serial: token.serial(),
                 };
-                enter(
-                    &mut self.replay.chronicle,
-                    &mut self.replay.newest,
-                    front,
-                    &place,
-                    session,
-                    &asked,
-                    answer,
-                );
+                self.calls.enter(&request, front, place, answer);
                 let share = self.purse.issue();
                 Ok(Undo {
                     token,
-                    place: self.replay.newest.copy(),
+                    place: front.copy(),
                     share,
                 })
             }
             Err(fault) => {
-                let Some(cause) = retract_cause(fault) else {
-                    return Err(Fault::Memory);
-                };
-                let answer = Answer::Refused { cause };
-                enter(
-                    &mut self.replay.chronicle,
-                    &mut self.replay.newest,
-                    front,
-                    &place,
-                    session,
-                    &asked,
-                    answer,
-                );
-                Err(Fault::Refused { fault })
+                let cause = retract_cause(fault);
+                Err(self.calls.refuse(&request, front, place, cause, fault))
             }
         }
     }

@@ -1,24 +1,30 @@
 //! Calls that take a token.
-ghost use Rattle.std.specs.Prelude.{◌≡◌, ◌+◌, ◌<◌, ◌≤◌, true, Some, None, IfOk, IfErr, OnOk, option_map};
+ghost use Rattle.std.specs.Prelude.{◌≡◌, ◌+◌, ◌<◌, ◌≤◌, ℕ, true, Some, None, IfOk, IfErr, IfSome, IsTrue, OnOk, OnErr, option_map};
 ghost use mathlib.Core.List.{IsPrefix};
 ghost use Rattle.vpg_desk.specs.Book as book;
 ghost use Rattle.vpg_desk.specs.Faults.{redo_refusal, undo_refusal};
+ghost use Rattle.vpg_desk.specs.History.{gives_redo, gives_undo};
+ghost use Rattle.vpg_desk.specs.State.{IsStep, Replies};
 ghost use Rattle.vpg_office.specs.Faults.{Begins, Tells, never_refused};
 ghost use Rattle.vpg_office.specs.Fronts.{Extends, GoesBackTo, family_between};
 ghost use Rattle.vpg_office.specs.Kept.{IsLastGiven};
 ghost use Rattle.vpg_office.specs.Story.{refusal_of};
+ghost use Rattle.vpg_office.specs.Token.{EndsWith};
 
 use crate::asked::{Answer, Asked, Cause};
 use crate::chronicle::Row;
+use crate::closing::{forget_one, keep_one};
 use crate::fault::{Fault, Never, Returned};
 use crate::front::Front;
-use crate::log::{Log, admit, enter, has};
+use crate::log::{Log, Request};
+use crate::purse::Purse;
 use crate::redo_token::Redo;
 use crate::terms::Terms;
 use crate::undo_token::Undo;
 use std::alloc::Global;
 use std::sync::Wait;
-use vpg_desk::{RedoFault, RedoRefused, UndoFault, UndoRefused};
+use std::sync::ledger::Share;
+use vpg_desk::{Desk, RedoFault, RedoRefused, UndoFault, UndoRefused};
 
 /// Why the desk refuses to undo, where it isn't out of memory.
 fn undo_cause(fault: UndoFault) -> Option<Cause>
@@ -42,6 +48,100 @@ fn redo_cause(fault: RedoFault) -> Option<Cause>
     }
 }
 
+/// The token of the other kind that the desk gave, and the share that goes with it.
+struct Swung<L: Terms, T> {
+    other: T,
+    share: Share<L>,
+}
+
+/// Why the desk refused a token, and the token.
+struct Unswung<F, T> {
+    fault: F,
+    token: T,
+}
+
+/// Takes a token's change back at the desk. Refused, it leaves the desk, and the token comes back.
+fn undo_by<L: Terms>(
+    desk: &mut Desk,
+    purse: &mut Purse<L>,
+    alloc: Global,
+    token: Undo<L>,
+) -> Result<Swung<L, vpg_desk::Redo>, Unswung<UndoFault, Undo<L>>>
+    requires { purse.old ≡ desk.old.book.tokens }
+    ensures counted { purse.new ≡ purse.old }
+    ensures accepted { IfOk result (λ r.
+        (session : ℕ) → IsStep desk.old session (book.Undo token.serial) (book.Undone r.other) desk.new) }
+    ensures share { IfOk result (λ r. (r.share.amount ≡ 1) × (r.share.parts ≡ 1)) }
+    ensures ends { OnOk result (EndsWith (λ reply. IsTrue (gives_undo token.serial reply)) token.history) }
+    ensures refused { IfErr result (λ b.
+        IfSome (undo_refusal b.fault) (λ r. Replies desk.old (book.Undo token.serial) (book.Refused r))) }
+    ensures same { OnErr result (desk.new ≡ desk.old) }
+    ensures back { IfErr result (λ b. b.token ≡ token) }
+{
+    let Undo {
+        token: inner,
+        place,
+        mut share,
+    } = token;
+    purse.audit(&mut share);
+    match desk.undo(alloc, inner) {
+        Ok(other) => Ok(Swung { other, share }),
+        Err(refused) => {
+            let UndoRefused {
+                fault,
+                token: inner,
+            } = refused;
+            let token = Undo {
+                token: inner,
+                place,
+                share,
+            };
+            Err(Unswung { fault, token })
+        }
+    }
+}
+
+/// Makes a token's change again at the desk. Refused, it leaves the desk, and the token comes back.
+fn redo_by<L: Terms>(
+    desk: &mut Desk,
+    purse: &mut Purse<L>,
+    alloc: Global,
+    token: Redo<L>,
+) -> Result<Swung<L, vpg_desk::Undo>, Unswung<RedoFault, Redo<L>>>
+    requires { purse.old ≡ desk.old.book.tokens }
+    ensures counted { purse.new ≡ purse.old }
+    ensures accepted { IfOk result (λ r.
+        (session : ℕ) → IsStep desk.old session (book.Redo token.serial) (book.Redone r.other) desk.new) }
+    ensures share { IfOk result (λ r. (r.share.amount ≡ 1) × (r.share.parts ≡ 1)) }
+    ensures ends { OnOk result (EndsWith (λ reply. IsTrue (gives_redo token.serial reply)) token.history) }
+    ensures refused { IfErr result (λ b.
+        IfSome (redo_refusal b.fault) (λ r. Replies desk.old (book.Redo token.serial) (book.Refused r))) }
+    ensures same { OnErr result (desk.new ≡ desk.old) }
+    ensures back { IfErr result (λ b. b.token ≡ token) }
+{
+    let Redo {
+        token: inner,
+        place,
+        mut share,
+    } = token;
+    purse.audit(&mut share);
+    match desk.redo(alloc, inner) {
+        Ok(other) => Ok(Swung { other, share }),
+        Err(refused) => {
+            let RedoRefused {
+                fault,
+                token: inner,
+            } = refused;
+            let token = Redo {
+                token: inner,
+                place,
+                share,
+            };
+            Err(Unswung { fault, token })
+        }
+    }
+}
+
 impl<L: Terms> Log<L> {
     /// Whether the log has a token's front, and its last call that gave a token of the serial is at the end of that.
     pub(crate) fn holds(&self, row: &Row, serial: u64, own: &Front<L>) -> bool
@@ -53,10 +153,10 @@ impl<L: Terms> Log<L> {
             return false;
         }
         let at = (serial - 1) as usize;
-        if at >= self.replay.chronicle.given.len() || self.replay.chronicle.given[at] != count - 1 {
+        if at >= self.calls.chronicle.given.len() || self.calls.chronicle.given[at] != count - 1 {
             return false;
         }
-        has(row, &self.replay.chronicle, &self.replay.newest, own)
+        self.calls.has(row, own)
     }
 
     pub(crate) fn undo<R: Wait>(
@@ -82,19 +182,14 @@ impl<L: Terms> Log<L> {
         ensures refused { IfErr result (λ b. Begins token.history front.new b.fault) }
         ensures back { IfErr result (λ b. b.value ≡ token) }
     {
-        let asked = Asked::Undo {
-            serial: token.serial(),
-        };
-        let place = match admit(
-            rt,
+        let request = Request {
             row,
-            &mut self.replay.chronicle,
-            &self.replay.newest,
-            front,
-            self.replay.room,
             session,
-            &asked,
-        ) {
+            asked: Asked::Undo {
+                serial: token.serial(),
+            },
+        };
+        let place = match self.calls.admit(rt, &request, front) {
             Ok(place) => place,
             Err(fault) => {
                 return Err(Returned {
@@ -103,60 +198,25 @@ impl<L: Terms> Log<L> {
                 });
             }
         };
-        let Undo {
-            token: inner,
-            place: own,
-            mut share,
-        } = token;
-        self.purse.audit(&mut share);
-        match self.replay.desk.undo(alloc, inner) {
-            Ok(redo) => {
+        match undo_by(&mut self.desk, &mut self.purse, alloc, token) {
+            Ok(swung) => {
+                let Swung { other, share } = swung;
                 let answer = Answer::Undone {
-                    serial: redo.serial(),
+                    serial: other.serial(),
                 };
-                enter(
-                    &mut self.replay.chronicle,
-                    &mut self.replay.newest,
-                    front,
-                    &place,
-                    session,
-                    &asked,
-                    answer,
-                );
+                self.calls.enter(&request, front, place, answer);
                 Ok(Redo {
-                    token: redo,
-                    place: self.replay.newest.copy(),
+                    token: other,
+                    place: front.copy(),
                     share,
                 })
             }
             Err(refused) => {
-                let UndoRefused {
-                    fault,
-                    token: inner,
-                } = refused;
-                let token = Undo {
-                    token: inner,
-                    place: own,
-                    share,
-                };
-                let Some(cause) = undo_cause(fault) else {
-                    return Err(Returned {
-                        fault: Fault::Memory,
-                        value: token,
-                    });
-                };
-                let answer = Answer::Refused { cause };
-                enter(
-                    &mut self.replay.chronicle,
-                    &mut self.replay.newest,
-                    front,
-                    &place,
-                    session,
-                    &asked,
-                    answer,
-                );
+                let Unswung { fault, token } = refused;
+                let cause = undo_cause(fault);
+                let fault = self.calls.refuse(&request, front, place, cause, fault);
                 Err(Returned {
-                    fault: Fault::Refused { fault },
+                    fault,
                     value: token,
                 })
             }
@@ -186,19 +246,14 @@ impl<L: Terms> Log<L> {
         ensures refused { IfErr result (λ b. Begins token.history front.new b.fault) }
         ensures back { IfErr result (λ b. b.value ≡ token) }
     {
-        let asked = Asked::Redo {
-            serial: token.serial(),
-        };
-        let place = match admit(
-            rt,
+        let request = Request {
             row,
-            &mut self.replay.chronicle,
-            &self.replay.newest,
-            front,
-            self.replay.room,
             session,
-            &asked,
-        ) {
+            asked: Asked::Redo {
+                serial: token.serial(),
+            },
+        };
+        let place = match self.calls.admit(rt, &request, front) {
             Ok(place) => place,
             Err(fault) => {
                 return Err(Returned {
@@ -207,60 +262,25 @@ impl<L: Terms> Log<L> {
                 });
             }
         };
-        let Redo {
-            token: inner,
-            place: own,
-            mut share,
-        } = token;
-        self.purse.audit(&mut share);
-        match self.replay.desk.redo(alloc, inner) {
-            Ok(undo) => {
+        match redo_by(&mut self.desk, &mut self.purse, alloc, token) {
+            Ok(swung) => {
+                let Swung { other, share } = swung;
                 let answer = Answer::Redone {
-                    serial: undo.serial(),
+                    serial: other.serial(),
                 };
-                enter(
-                    &mut self.replay.chronicle,
-                    &mut self.replay.newest,
-                    front,
-                    &place,
-                    session,
-                    &asked,
-                    answer,
-                );
+                self.calls.enter(&request, front, place, answer);
                 Ok(Undo {
-                    token: undo,
-                    place: self.replay.newest.copy(),
+                    token: other,
+                    place: front.copy(),
                     share,
                 })
             }
             Err(refused) => {
-                let RedoRefused {
-                    fault,
-                    token: inner,
-                } = refused;
-                let token = Redo {
-                    token: inner,
-                    place: own,
-                    share,
-                };
-                let Some(cause) = redo_cause(fault) else {
-                    return Err(Returned {
-                        fault: Fault::Memory,
-                        value: token,
-                    });
-                };
-                let answer = Answer::Refused { cause };
-                enter(
-                    &mut self.replay.chronicle,
-                    &mut self.replay.newest,
-                    front,
-                    &place,
-                    session,
-                    &asked,
-                    answer,
-                );
+                let Unswung { fault, token } = refused;
+                let cause = redo_cause(fault);
+                let fault = self.calls.refuse(&request, front, place, cause, fault);
                 Err(Returned {
-                    fault: Fault::Refused { fault },
+                    fault,
                     value: token,
                 })
             }
@@ -288,19 +308,14 @@ impl<L: Terms> Log<L> {
             (book.Keep token.serial) session front.old front.new b.fault) }
         ensures back { IfErr result (λ b. b.value ≡ token) }
     {
-        let asked = Asked::Keep {
-            serial: token.serial(),
-        };
-        let place = match admit(
-            rt,
+        let request = Request {
             row,
-            &mut self.replay.chronicle,
-            &self.replay.newest,
-            front,
-            self.replay.room,
             session,
-            &asked,
-        ) {
+            asked: Asked::Keep {
+                serial: token.serial(),
+            },
+        };
+        let place = match self.calls.admit(rt, &request, front) {
             Ok(place) => place,
             Err(fault) => {
                 return Err(Returned {
@@ -309,23 +324,8 @@ impl<L: Terms> Log<L> {
                 });
             }
         };
-        let Undo {
-            token: inner,
-            place: _,
-            mut share,
-        } = token;
-        self.purse.audit(&mut share);
-        self.replay.desk.keep(inner);
-        enter(
-            &mut self.replay.chronicle,
-            &mut self.replay.newest,
-            front,
-            &place,
-            session,
-            &asked,
-            Answer::Spent,
-        );
-        self.purse.take_back(share);
+        keep_one(&mut self.desk, &mut self.purse, token);
+        self.calls.enter(&request, front, place, Answer::Spent);
         Ok(())
     }
 
@@ -350,19 +350,14 @@ impl<L: Terms> Log<L> {
             (book.Forget token.serial) session front.old front.new b.fault) }
         ensures back { IfErr result (λ b. b.value ≡ token) }
     {
-        let asked = Asked::Forget {
-            serial: token.serial(),
-        };
-        let place = match admit(
-            rt,
+        let request = Request {
             row,
-            &mut self.replay.chronicle,
-            &self.replay.newest,
-            front,
-            self.replay.room,
             session,
-            &asked,
-        ) {
+            asked: Asked::Forget {
+                serial: token.serial(),
+            },
+        };
+        let place = match self.calls.admit(rt, &request, front) {
             Ok(place) => place,
             Err(fault) => {
                 return Err(Returned {
@@ -371,23 +366,8 @@ impl<L: Terms> Log<L> {
                 });
             }
         };
-        let Redo {
-            token: inner,
-            place: _,
-            mut share,
-        } = token;
-        self.purse.audit(&mut share);
-        self.replay.desk.forget(inner);
-        enter(
-            &mut self.replay.chronicle,
-            &mut self.replay.newest,
-            front,
-            &place,
-            session,
-            &asked,
-            Answer::Spent,
-        );
-        self.purse.take_back(share);
+        forget_one(&mut self.desk, &mut self.purse, token);
+        self.calls.enter(&request, front, place, Answer::Spent);
         Ok(())
     }
 }

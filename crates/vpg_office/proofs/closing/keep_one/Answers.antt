@@ -1,5 +1,7 @@
 use Rattle.std.proofs.Common.{◌≡◌, ◌-◌, ap, arith}
+use Rattle.vpg_desk.specs.Book as book
 use Rattle.vpg_desk.specs.Book.{Book}
+use Rattle.vpg_desk.specs.State.{IsStep}
 use Rattle.vpg_office.proofs.closing.keep_one.Goals as goal
 
 pub returns-clause-counted : goal.returns-clause-counted
@@ -11,3 +13,6 @@ pub returns-clause-spent : goal.returns-clause-spent
 returns-clause-spent g c =
     let tokens : c.keep.new.self.book.tokens ≡ c.args.desk.now.book.tokens - 1 = ap (λ (b : Book). b.tokens) (c.keep.ensures 0).step.1 in
     omega (arith, c.audit.ensures.bound, c.undo.invariant.0, c.requires, tokens)
+
+pub returns-clause-step : goal.returns-clause-step
+returns-clause-step g c = λ s. coe 0 1 (k. IsStep c.args.desk.now s (book.Keep (c.undo.view_is k).serial) book.Spent c.keep.new.self) (c.keep.ensures s)

@@ -8,24 +8,24 @@ use Rattle.vpg_office.specs.Story.{events_of}
 use Rattle.vpg_office.specs.declared.asked.Answer.{Answer}
 use Rattle.vpg_office.specs.declared.asked.Entry.{Entry}
 use Rattle.vpg_office.proofs.Places.{is_beginning, is_shown, some_story}
-use Rattle.vpg_office.proofs.log.has.Goals as goal
+use Rattle.vpg_office.proofs.log.Calls.has.Goals as goal
 
 pub agrees-requires : goal.agrees-requires
 agrees-requires g c =
     let i = c.front.invariant in
     let size : c.front.inside.count ≡ length (story c.in-Some.place.value c.in-Some.field-0-1) = i.count_is ∙ ap (λ (o : Option (Where Entry × Answer)). length (story_to o)) c.in-Some.is in
     let some = some_story c.in-Some.place.value c.in-Some.field-0-1 in
-    let mine : Shows g.L.Terms.shelves c.index-mine.result.now = is_shown g.L.Terms.shelves g.L.Terms.game g.L.Terms.diagram c.args.chronicle.now c.args.newest.now c.requires.kept c.front.inside.count c.index-mine.result.now (omega (arith, c.if-count-len.false, c.len.ensures)) c.index-mine.ensures in
+    let mine : Shows g.L.Terms.shelves c.index-mine.result.now = is_shown g.L.Terms.shelves g.L.Terms.game g.L.Terms.diagram c.args.self.now.chronicle c.args.self.now.newest c.requires.kept c.front.inside.count c.index-mine.result.now (omega (arith, c.if-count-len.false, c.len.ensures)) c.index-mine.ensures in
     let theirs : Shows g.L.Terms.shelves c.in-Some.place = subst (IsInRow g.L.Terms.shelves) c.in-Some.is i.in_row in
     (subst (λ (s : Shelves). Shows s c.index-mine.result.now) (sym c.requires.row) mine, subst (λ (s : Shelves). Shows s c.in-Some.place) (sym c.requires.row) theirs, sym c.index.ensures ∙ c.if-index.false ∙ c.index-2.ensures)
 
 pub returns : goal.returns
 returns g c = λ _.
-    subst (λ (l : List Event). IsPrefix l c.args.newest.now) (ap (λ (o : Option (Where Entry × Answer)). events_of (family_between g.L.Terms.game g.L.Terms.diagram) (story_to o)) (sym c.in-Some.is) ∙ c.front.view_is)
-    (is_beginning g.L.Terms.shelves g.L.Terms.game g.L.Terms.diagram c.args.chronicle.now c.args.newest.now c.requires.kept c.front.inside.count c.in-Some.place c.index-mine.result.now c.in-Some.field-0-1
+    subst (λ (l : List Event). IsPrefix l c.args.self.now.newest) (ap (λ (o : Option (Where Entry × Answer)). events_of (family_between g.L.Terms.game g.L.Terms.diagram) (story_to o)) (sym c.in-Some.is) ∙ c.front.view_is)
+    (is_beginning g.L.Terms.shelves g.L.Terms.game g.L.Terms.diagram c.args.self.now.chronicle c.args.self.now.newest c.requires.kept c.front.inside.count c.in-Some.place c.index-mine.result.now c.in-Some.field-0-1
     (subst (λ (o : Option (Where Entry × Answer)). IsFront g.L.Terms.shelves g.L.Terms.game g.L.Terms.diagram g.L.Terms.limit c.front.inside.count o) c.in-Some.is c.front.invariant) (omega (arith, c.if-count-len.false, c.len.ensures)) c.index-mine.ensures c.agrees.ensures)
 
 pub returns-in_default : goal.returns-in_default
 returns-in_default g c = λ _.
     let none : [] ≡ c.args.front.now = ap (λ (o : Option (Where Entry × Answer)). events_of (family_between g.L.Terms.game g.L.Terms.diagram) (story_to o)) (sym c.in_default.is) ∙ c.front.view_is in
-    (c.args.newest.now, ap (λ (l : List Event). l ++ c.args.newest.now) (sym none))
+    (c.args.self.now.newest, ap (λ (l : List Event). l ++ c.args.self.now.newest) (sym none))
