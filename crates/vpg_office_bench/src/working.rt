@@ -25,14 +25,11 @@ pub fn decide<L: Terms, R: Wait>(
     office: &Office<L>,
     seat: &mut Seat<L>,
     feature: u16,
+    value: bool,
 ) -> Option<Undo<L>> {
-    match seat
-        .session
-        .decide(rt, alloc, office, &mut seat.front, feature, true)
-    {
-        Ok(token) => Some(token),
-        Err(_fault) => None,
-    }
+    seat.session
+        .decide(rt, alloc, office, &mut seat.front, feature, value)
+        .ok()
 }
 
 /// The token of a retraction, unless it is refused.
@@ -43,13 +40,9 @@ fn retract<L: Terms, R: Wait>(
     seat: &mut Seat<L>,
     feature: u16,
 ) -> Option<Undo<L>> {
-    match seat
-        .session
+    seat.session
         .retract(rt, alloc, office, &mut seat.front, feature)
-    {
-        Ok(token) => Some(token),
-        Err(_fault) => None,
-    }
+        .ok()
 }
 
 /// Spends a token. A token can't be let go, so a call that is refused is made again: the log has to have room for it.
@@ -144,7 +137,7 @@ fn round<L: Terms, R: Wait>(
     feature: u16,
     places: &mut Places,
 ) -> Option<()> {
-    let token = decide(rt, alloc, office, seat, feature)?;
+    let token = decide(rt, alloc, office, seat, feature, true)?;
     places.note(seat.front.len());
     keep(rt, office, seat, token);
     places.note(seat.front.len());
@@ -201,7 +194,8 @@ pub fn places_of_all<L: Terms + Send + Sync, R: Threads + Wait + Sync>(
     .ok()
 }
 
-/// Whether the calls of each session stand in order, and the sum of all places is that of the first `calls` numbers from 1.
+/// Whether the calls of each session stand in order, and the sum of all places is that of the first `calls` numbers
+/// from 1.
 pub fn are_in_order(all: &[Option<Places>], calls: usize) -> bool {
     let mut in_order = true;
     let mut sum = 0u64;
@@ -216,7 +210,23 @@ pub fn are_in_order(all: &[Option<Places>], calls: usize) -> bool {
     in_order && sum.saturating_mul(2) == calls.saturating_mul(calls.saturating_add(1))
 }
 
-/// A further session decides a feature and undoes that so often: three calls a time.
+/// A session decides a feature and undoes that so often: three calls a time.
+fn decide_and_undo<L: Terms, R: Wait>(
+    rt: &R,
+    alloc: Global,
+    office: &Office<L>,
+    seat: &mut Seat<L>,
+    feature: u16,
+    rounds: u32,
+) {
+    for _ in 0..rounds {
+        if let Some(token) = decide(rt, alloc, office, seat, feature, true) {
+            undo(rt, alloc, office, seat, token);
+        }
+    }
+}
+
+/// A further session makes changes.
 fn try_changes<L: Terms, R: Wait>(
     rt: &R,
     alloc: Global,
@@ -225,12 +235,14 @@ fn try_changes<L: Terms, R: Wait>(
     rounds: u32,
 ) -> Option<()> {
     let mut seat = joined(rt, office)?;
-    for _ in 0..rounds {
-        if let Some(token) = decide(rt, alloc, office, &mut seat, feature) {
-            undo(rt, alloc, office, &mut seat, token);
-        }
-    }
+    decide_and_undo(rt, alloc, office, &mut seat, feature, rounds);
     Some(())
+}
+
+/// How many calls the log has.
+pub fn calls_of<L: Terms, R: Wait>(rt: &R, office: &Office<L>) -> Option<usize> {
+    let seat = joined(rt, office)?;
+    Some(seat.front.len())
 }
 
 /// A further session makes changes. Then it is told that this has ended.

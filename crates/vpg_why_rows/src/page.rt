@@ -1,8 +1,12 @@
 //! The page that rows speak of: the order of its decisions, with both tables settled.
-ghost use Rattle.std.specs.Prelude.{◌≡◌, ◌↔◌, ◌<◌, IsTrue, IfOk, All, length};
+ghost use Rattle.std.specs.Arc.{arc_value};
+ghost use Rattle.std.specs.Prelude.{◌≡◌, ◌↔◌, ◌<◌, IsTrue, IfSome, All, map};
+ghost use Rattle.vpg_diagram.specs.FeatureDiagram.{feature_count};
+ghost use Rattle.vpg_partial.specs.Known.{literal_of};
+ghost use Rattle.vpg_partial.specs.TableLaws.{AreChoicesOf};
 
-use anyhow::{Context, Result, bail};
-use std::alloc::{AllocError, Global};
+use crate::line::Line;
+use std::alloc::Global;
 use std::sync::Arc;
 use vpg_diagram::Diagram;
 use vpg_game::GuardedGame;
@@ -46,31 +50,19 @@ fn are_below(features: usize, decisions: &[Decision]) -> bool
     decisions.iter().all(|d| (d.feature as usize) < features)
 }
 
-/// The order of decisions with two tables of zeros, or nothing where game, diagram and decisions don't fit together.
-fn order_of(
-    alloc: Global,
-    game: GuardedGame,
-    diagram: Diagram,
-    decisions: Vec<Decision>,
-) -> Result<Option<Result<Order, Refused>>, AllocError> {
+/// Whether each decision is of a feature of the diagram.
+fn are_choices(diagram: &Diagram, decisions: &[Decision]) -> bool
+    ensures { IsTrue result → AreChoicesOf diagram.now.lines (map literal_of decisions.now) }
+{
     let features = diagram.features();
-    if game.features() != features || !are_below(features, &decisions) {
-        return Ok(None);
-    }
-    let vertices = game.vertices() as u32;
-    zeros_are_opening();
-    let hopeful = Table::zero(alloc, vertices)?;
-    let dual = Table::zero(alloc, vertices)?;
-    let game = Arc::new(alloc, game)?;
-    let diagram = Arc::new(alloc, diagram)?;
-    Ok(Some(Order::of(alloc, game, diagram, decisions, hopeful, dual)))
+    are_below(features, decisions)
 }
 
 /// The decision of a word.
-fn decision_of(names: &Names, word: &[u8]) -> Result<Decision> {
-    let (sign, name) = word.split_first().context("word")?;
-    let feature = names.get(name).context("feature")?;
-    Ok(Decision {
+fn decision_of(names: &Names, word: &[u8]) -> Option<Decision> {
+    let (sign, name) = word.split_first()?;
+    let feature = names.get(name)?;
+    Some(Decision {
         serial: 1,
         session: 1,
         feature,
@@ -78,33 +70,118 @@ fn decision_of(names: &Names, word: &[u8]) -> Result<Decision> {
     })
 }
 
-/// The decisions of a row.
-fn decisions_of(alloc: Global, names: &Names, text: &[u8]) -> Result<Vec<Decision>> {
-    let mut decisions = Vec::new(alloc);
-    for word in text.split(|sign| *sign == b' ') {
-        if !word.is_empty() {
-            decisions.push(decision_of(names, word)?)?;
+/// Adds the decision of a word to a list; or says in the line that it has none.
+fn add(names: &Names, word: &[u8], decisions: &mut Vec<Decision>, line: &mut Line) -> bool {
+    match decision_of(names, word) {
+        Some(decision) => {
+            line.note(decisions.push(decision).is_ok());
+            true
+        }
+        None => {
+            line.put("feature");
+            false
         }
     }
-    Ok(decisions)
+}
+
+/// Adds the decisions of a row to a list; or says in the line that a word has none.
+fn add_all(names: &Names, text: &[u8], decisions: &mut Vec<Decision>, line: &mut Line) -> bool {
+    for word in text.split(|sign| *sign == b' ') {
+        if !word.is_empty() && !add(names, word, decisions, line) {
+            return false;
+        }
+    }
+    true
+}
+
+/// The decisions of a page, which are of features of the diagram; or in the line why there are none.
+fn decisions_of(diagram: &Diagram, text: &[u8], line: &mut Line) -> Option<Vec<Decision>>
+    ensures { IfSome result (λ list. AreChoicesOf diagram.now.lines (map literal_of list.items)) }
+{
+    let mut decisions = Vec::new(line.alloc);
+    if !add_all(diagram.names(), text, &mut decisions, line) {
+        return None;
+    }
+    if !are_choices(diagram, &decisions) {
+        line.put("features");
+        return None;
+    }
+    Some(decisions)
+}
+
+/// The diagram that a text spells; or in the line why it spells none.
+fn diagram_of(text: &[u8], line: &mut Line) -> Option<Arc<Diagram>> {
+    match Diagram::read(line.alloc, text) {
+        Ok(diagram) => {
+            let shared = Arc::new(line.alloc, diagram).ok();
+            line.note(shared.is_some());
+            shared
+        }
+        Err(fault) => {
+            line.show(&fault);
+            None
+        }
+    }
+}
+
+/// The game that a text spells, by the names of a diagram; or in the line why it spells none.
+fn game_of(diagram: &Diagram, text: &[u8], line: &mut Line) -> Option<Arc<GuardedGame>>
+    ensures { IfSome result (λ game. (arc_value game).features ≡ feature_count diagram.now.lines) }
+{
+    match GuardedGame::read(line.alloc, text, diagram.names()) {
+        Ok(game) => {
+            let shared = Arc::new(line.alloc, game).ok();
+            line.note(shared.is_some());
+            shared
+        }
+        Err(fault) => {
+            line.show(&fault);
+            None
+        }
+    }
+}
+
+/// The order of decisions with two tables of zeros, unless it is refused. Nothing where there is no memory for these.
+fn zeros_over(
+    alloc: Global,
+    game: Arc<GuardedGame>,
+    diagram: Arc<Diagram>,
+    decisions: Vec<Decision>,
+) -> Option<Result<Order, Refused>>
+    requires features { (arc_value game).features ≡ feature_count (arc_value diagram).lines }
+    requires named { AreChoicesOf (arc_value diagram).lines (map literal_of decisions.items) }
+{
+    zeros_are_opening();
+    let vertices = game.vertices() as u32;
+    let hopeful = Table::zero(alloc, vertices).ok()?;
+    let dual = Table::zero(alloc, vertices).ok()?;
+    Some(Order::of(alloc, game, diagram, decisions, hopeful, dual))
 }
 
 /// The order with both tables raised by certified bounds.
-fn raised(alloc: Global, order: Order, budget: u64) -> Result<Order> {
-    match harvest_by_bounds(alloc, order, budget) {
-        Ok(harvest) => Ok(harvest.again()),
-        Err(_) => bail!("Memory"),
+fn raised(order: Order, budget: u64, line: &mut Line) -> Option<Order> {
+    let harvest = harvest_by_bounds(line.alloc, order, budget).ok();
+    line.note(harvest.is_some());
+    match harvest {
+        Some(harvest) => Some(harvest.again()),
+        None => None,
     }
 }
 
-/// The page's order.
-pub(crate) fn order_from(alloc: Global, texts: &Texts) -> Result<Order> {
-    let diagram = Diagram::read(alloc, &texts.diagram)?;
-    let decisions = decisions_of(alloc, diagram.names(), &texts.page)?;
-    let game = GuardedGame::read(alloc, &texts.game, diagram.names())?;
-    match order_of(alloc, game, diagram, decisions)? {
-        Some(Ok(order)) => raised(alloc, order, 1 << 27),
-        Some(Err(refused)) => bail!("{}", refused.fault),
-        None => bail!("features"),
+/// The page's order; or in the line why there is none.
+pub(crate) fn order_from(texts: &Texts, line: &mut Line) -> Option<Order> {
+    let diagram = diagram_of(&texts.diagram, line)?;
+    let decisions = decisions_of(&diagram, &texts.page, line)?;
+    let game = game_of(&diagram, &texts.game, line)?;
+    match zeros_over(line.alloc, game, diagram, decisions) {
+        Some(Ok(order)) => raised(order, 1 << 27, line),
+        Some(Err(refused)) => {
+            line.show(&refused.fault);
+            None
+        }
+        None => {
+            line.note(false);
+            None
+        }
     }
 }
