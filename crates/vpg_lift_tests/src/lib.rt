@@ -16,4 +16,6 @@ mod lifters;
 #[cfg(test)]
 mod measures;
 #[cfg(test)]
+mod refusals;
+#[cfg(test)]
 mod sweeps;

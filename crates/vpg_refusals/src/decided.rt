@@ -3,13 +3,14 @@
 ghost use Rattle.std.specs.Prelude.{◌↔◌, ◌<◌, IsTrue, All};
 ghost use Rattle.vpg_measure.specs.Lifts.{IsTableOf};
 
-use crate::lookups::ask;
+use crate::lookups::{ask, ask_guard};
 use crate::{DIAGRAM, GAME};
 use anyhow::{Result, bail};
 use std::alloc::Global;
 use std::sync::Wait;
 use vpg_diagram::Diagram;
 use vpg_game::GuardedGame;
+use vpg_guards::Tri;
 use vpg_hope::Arena;
 use vpg_measure::{Shape, StrategyFault, Table, strategy};
 use vpg_partial::{Decision, Partial, PartialFault};
@@ -267,7 +268,9 @@ fn refuse_over<R: Wait>(
     diagram: &Diagram,
 ) -> Result<()> {
     let game = GuardedGame::read(heap.alloc(), GAME, diagram.names())?;
-    refuse_of(rt, heap, report, diagram, &game)
+    refuse_of(rt, heap, report, diagram, &game)?;
+    let known = [Tri::No, Tri::Unknown, Tri::Unknown];
+    ask_guard(heap, report, diagram.names(), &[false, true, false], &known)
 }
 
 /// Makes each with little memory.
