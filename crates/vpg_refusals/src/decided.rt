@@ -63,6 +63,11 @@ const DECISIONS: [Decision; 3] = [
     },
 ];
 
+/// A set of features without the root and `g`, and what is known where only the root is: that it is out.
+const SET: [bool; 3] = [false, true, false];
+
+const KNOWN: [Tri; 3] = [Tri::No, Tri::Unknown, Tri::Unknown];
+
 /// The first table once it is settled.
 const SETTLED: [u64; 2] = [1, 0];
 
@@ -267,10 +272,9 @@ fn refuse_over<R: Wait>(
     report: &mut Report,
     diagram: &Diagram,
 ) -> Result<()> {
+    ask_guard(heap, report, diagram.names(), &SET, &KNOWN)?;
     let game = GuardedGame::read(heap.alloc(), GAME, diagram.names())?;
-    refuse_of(rt, heap, report, diagram, &game)?;
-    let known = [Tri::No, Tri::Unknown, Tri::Unknown];
-    ask_guard(heap, report, diagram.names(), &[false, true, false], &known)
+    refuse_of(rt, heap, report, diagram, &game)
 }
 
 /// Makes each with little memory.

@@ -128,7 +128,7 @@ impl<R> Trial<R> for Looking<'_> {
 /// A guard of each kind of part.
 const GUARD: &[u8] = b"!(f & g) | r & true";
 
-/// Asks a guard, with no memory, of a set of features without `g` and of knowledge of the root alone.
+/// Asks a guard, with no memory, whether it holds in a set, and what is known of it.
 pub(crate) fn ask_guard(
     heap: &mut Heap,
     report: &mut Report,
