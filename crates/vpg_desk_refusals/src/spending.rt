@@ -28,7 +28,7 @@ fn undone<R: Wait>(rt: &R, heap: &Heap, desk: &mut Desk, token: Undo) -> Option<
     wait_for_token(rt, desk);
     match desk.undo(heap.alloc(), token) {
         Ok(token) => Some(token),
-        Err(UndoRefused { token, .. }) => {
+        Err(UndoRefused { fault: _, token }) => {
             keep(rt, desk, token);
             None
         }
