@@ -135,7 +135,7 @@ pub(crate) fn is_settled_small(harvest: &Harvest) -> bool {
 }
 
 /// The text of a game of vertices of Even, each with an edge to itself alone, of the priorities 1, 3, 5 and so on.
-pub(crate) fn loops_text(alloc: Global, count: u32) -> Result<String, Fail> {
+fn loops_text(alloc: Global, count: u32) -> Result<String, Fail> {
     let mut text = String::new(alloc);
     let mut priority = 1u32;
     for i in 0..count {

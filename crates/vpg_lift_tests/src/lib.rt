@@ -16,6 +16,4 @@ mod lifters;
 #[cfg(test)]
 mod measures;
 #[cfg(test)]
-mod refusals;
-#[cfg(test)]
 mod sweeps;

@@ -71,7 +71,7 @@ pub fn undecided<L: Terms, R: Wait + Abort + AllocGlobal>(
 }
 
 /// The token of a retraction, or why there is none.
-pub fn try_retract<L: Terms, R: Wait + Abort + AllocGlobal>(
+fn try_retract<L: Terms, R: Wait + Abort + AllocGlobal>(
     rt: &R,
     office: &Office<L>,
     seat: &mut Seat<L>,
@@ -236,7 +236,7 @@ pub fn order<L: Terms, R: Wait + Abort + AllocGlobal>(
 }
 
 /// How many entries it added, or why none and the harvest.
-pub fn try_commit<L: Terms, R: Wait + Abort + AllocGlobal>(
+fn try_commit<L: Terms, R: Wait + Abort + AllocGlobal>(
     rt: &R,
     office: &Office<L>,
     seat: &mut Seat<L>,

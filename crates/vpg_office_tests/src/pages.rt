@@ -92,8 +92,7 @@ fn put_page(text: &mut String, page: &Page) -> Result<(), AllocError> {
     put_table(text, &page.dual)
 }
 
-/// A page in words.
-pub fn shown(alloc: Global, page: &Page) -> Result<String, AllocError> {
+fn shown(alloc: Global, page: &Page) -> Result<String, AllocError> {
     let mut text = String::new(alloc);
     put_page(&mut text, page)?;
     Ok(text)

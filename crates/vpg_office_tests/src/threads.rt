@@ -7,7 +7,6 @@ ghost use Rattle.std.specs.Prelude.{◌≡◌, ◌≤◌};
 ghost use Rattle.vpg_diagram.specs.FeatureDiagram.{feature_count};
 
 use crate::calls::{Seat, close, commit, decide, joined, keep, order, retract};
-use crate::held::hold_one;
 use crate::offices::{DIAGRAM, F, G, GAME, family};
 use crate::pages::page_text;
 use crate::watchers::watch_at_once;
@@ -26,7 +25,7 @@ use vpg_measure::{Harvest, Order};
 use vpg_office::{Fault, Office, Site, Terms, Undo, may_be_shared};
 
 /// A diagram with a feature for each of eight sessions.
-pub const WIDE: &[u8] = b"root r\noptional r f\noptional r g\noptional r a\noptional r b
+const WIDE: &[u8] = b"root r\noptional r f\noptional r g\noptional r a\noptional r b
 optional r c\noptional r d\noptional r e\noptional r h\n";
 
 /// What is done on an office.
@@ -37,12 +36,6 @@ pub enum Run {
     Late,
     Eight,
     Watch,
-    /// So many sessions, of which the one on this feature is held at this point between its order and its commit.
-    Held {
-        sessions: u16,
-        held: u16,
-        point: u64,
-    },
 }
 
 /// Opens an office, and does it.
@@ -68,11 +61,6 @@ fn open_and_run<L: Terms + Send + Sync, R: Threads + Wait + Abort + AllocGlobal 
         Run::Late => commit_late(rt, office),
         Run::Eight => eight_at_once(rt, office),
         Run::Watch => watch_at_once(rt, office),
-        Run::Held {
-            sessions,
-            held,
-            point,
-        } => hold_one(rt, office, sessions, held, point),
     }
 }
 
