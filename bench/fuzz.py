@@ -7,7 +7,10 @@ Each case begins with a sound family (built in, an example, or a random one), an
 within 20 seconds of the processor, and 10 minutes by the clock, with status 0, 1, 2 or 3 and never by a signal:
   0  with nothing on standard error;
   1  with one line there, which is one of the texts that docs/FORMATS.md lists;
-  2  with the parser's message about wrong words there, and nothing on standard output.
+  2  with the parser's message about wrong words there, and nothing on standard output;
+  3  with nothing there behind an assertion that failed, or with the number of the refused line of a strict script.
+`lint`, `desk` and what has `--explain` write further lines on standard error, and `desk` its talk: lines without
+control characters.
 Whatever stands on standard output has to be whole lines of the forms that docs/FORMATS.md gives. A game that `project` wrote has to be read again.
 Where standard output is full or closed, and a run of the same case whose output is kept writes something, the run has
 to end with status 1 and `Write`.
@@ -50,7 +53,11 @@ FAULTS = {
     "write": rb"Write",
     "project": rb"UnknownFeature [^\x00-\x1f\x7f]*|NotAProduct",
 }
-FAULTS = {kind: re.compile(rb"\Avpgdesk: (?:" + text + rb")\n\Z") for kind, text in FAULTS.items()}
+FAULTS = {kind: re.compile(rb"\Avpgdesk: (?:" + text + rb")\Z") for kind, text in FAULTS.items()}
+STRICT = re.compile(rb"\Avpgdesk: script Line [1-9][0-9]* Refused\n\Z")
+# what explains a fault, and what a session says beside its answers
+LINES = re.compile(rb"\A(?:[^\x00-\x1f\x7f]*\n)*\Z")
+GREETING = b"one command a line; `help` lists commands, `quit` ends\n"
 
 # the second form is that of a word behind `help help`
 WRONG_WORDS = re.compile(rb"\Aerror: (?:.*\n\nFor more information, try '--help'\.|unrecognized subcommand '[^\n]*'\n\nUsage: [^ \n]+ help \[COMMAND\]\.\.\.)\n\Z", re.S)
@@ -81,22 +88,67 @@ ANSWERS = re.compile(
 )
 PLAIN = re.compile(rb"\Aparity " + N + rb";\n(?:" + N + rb" " + N + rb" [01](?: " + N + rb"(?:," + N + rb")*)?;\n)+\Z")
 COUNTS = re.compile(rb"\Avertices " + N + rb" edges " + N + rb" features " + N + rb" top " + N + rb" " + N + rb"\n\Z")
-TOLD = re.compile(rb"\A(?:Configures|Carries|Counts|Writes|Reads|Print|vpgdesk [0-9])")
+TOLD = re.compile(rb"\A(?:Configures|Carries|Counts|Writes|Reads|Answers|Draws|Says|Print|vpgdesk [0-9])")
+# a picture of a file's names: these may hold any byte but a quote, and are written without control characters
+PICTURE = re.compile(rb"\Adigraph (?:game|features) \{\n(?:  [^\x00-\x1f]*;\n)*\}\n\Z")
+WARNINGS = re.compile(
+    rb"\A(?:[^\x00-\x1f\x7f]*(?::[1-9][0-9]*:[1-9][0-9]*: warning: [^\x00-\x1f\x7f]+"
+    + rb"|: warning: [a-z ]+: [1-9][0-9]* more)\n)*warnings " + N + rb"\n\Z"
+)
+NAMED = re.compile(rb'(?: "[^"\x00-\x1f\x7f]*")+$', re.M)
+OF_FAULTY_LINES = re.compile(rb"^refused (?:Word|Args|TooLong)$\n", re.M)
+# a lone `--` is as no word
+ANSWERING = (b"", b"--", b"run", b"desk")
+
+
+def are_answers(words, out):
+    """Whether these are answers to a script: where the words ask for it, to lines with a fault, and with names."""
+    if b"--names" in words:
+        out = NAMED.sub(b"", out)
+    if b"--keep-going" in words or b"desk" in words:
+        out = OF_FAULTY_LINES.sub(b"", out)
+    return ANSWERS.match(out)
+
+
+def faults_in(words, err):
+    """The kinds of the faults on standard error, or None where another line stands there that may not."""
+    lines = err.splitlines(True)
+    told = [kind for line in lines for kind, text in FAULTS.items() if text.match(line.rstrip(b"\n"))]
+    explains = any(word in words for word in (b"--explain", b"lint", b"desk"))
+    if not (LINES.match(err) and (explains or len(lines) == len(told))):
+        return None
+    # a fault is told in the first line, but behind a session's talk
+    if told and b"desk" not in words and not any(text.match(lines[0].rstrip(b"\n")) for text in FAULTS.values()):
+        return None
+    return told
+
+
+def is_quiet(words, err):
+    """Whether standard error has nothing, or a session's talk."""
+    if b"desk" in words and err:
+        counts, _, talk = err.partition(b"\n")
+        is_talk = talk.startswith(GREETING) and LINES.match(talk)
+        return COUNTS.match(counts + b"\n") and is_talk and not faults_in(words, err)
+    return not err
 
 
 def kind_of(words, status, out, err):
     """What kind of end this is, or None where it is none of those allowed."""
-    task = os.fsencode(words[0]) if words else b""
-    if status == 0 and not err and not re.search(rb"^fails", out, re.M):
-        # a lone `--` is as no word
-        forms = {b"": ANSWERS, b"--": ANSWERS, b"run": ANSWERS, b"project": PLAIN, b"check": COUNTS}
-        if task in forms and forms[task].match(out):
+    words = [os.fsencode(word) for word in words]
+    task = words[0] if words else b""
+    failed = re.search(rb"^fails", out, re.M)
+    if status == 0 and is_quiet(words, err) and not (failed and task in ANSWERING):
+        forms = {b"project": PLAIN, b"check": COUNTS, b"draw": PICTURE, b"lint": WARNINGS}
+        if are_answers(words, out) if task in ANSWERING else task in forms and forms[task].match(out):
             return "done"
-        return "help or version" if TOLD.match(out) else None
-    if status == 3 and not err and task in (b"", b"--", b"run") and ANSWERS.match(out):
-        return "assertion failed" if re.search(rb"^fails", out, re.M) else None
-    if status == 1 and ANSWERS.match(out):
-        return next((kind for kind, text in FAULTS.items() if text.match(err)), None)
+        return "help or version" if TOLD.match(out) and not err else None
+    if status == 3 and task in ANSWERING and are_answers(words, out):
+        if b"--strict" in words and STRICT.match(err):
+            return "refused under --strict" if re.search(rb"^refused [^\n]*\n\Z", out, re.M) else None
+        return "assertion failed" if failed and is_quiet(words, err) else None
+    if status == 1 and are_answers(words, out):
+        told = faults_in(words, err)
+        return told[0] if told and len(told) == 1 else None
     if status == 2 and not out and WRONG_WORDS.match(err):
         return "wrong words"
     return None
@@ -138,7 +190,7 @@ TOKENS = re.compile(rb"[A-Za-z0-9_]+|[^A-Za-z0-9_]")
 DICTIONARY = (
     b"0 1 2 7 00 01 64 65 4096 65535 65536 65537 4294967295 4294967296 1000000000 1000000001 18446744073709551615 18446744073709551616 4611686018427387904 -1 +1 1.5 0x10 "
     b"parity start root mandatory optional alternative or group requires excludes true false select exclude retract undo redo keep forget lift harvest commit settle show trail "
-    b"products plan count draw changed forced empty known assert hopeless possible sure unsure full settled why example counterexample lost won offer needs repair hopeful dual r f g a b 1: 65: 0: : ; , [ ] ( ) ! & | # \" \\ { } \xc3\xa9 \xff \x00 \x0b \x1a"
+    b"products plan count draw changed forced empty known assert hopeless possible sure unsure full settled why example counterexample lost won offer needs repair help quit hopeful dual r f g a b 1: 65: 0: : ; , [ ] ( ) ! & | # \" \\ { } \xc3\xa9 \xff \x00 \x0b \x1a"
 ).split(b" ") + [b"9" * 40, b"9" * 5000, b"x" * 64, b"x" * 65, b" ", b"\t", b"\n", b"\r", b"\r\n", b""]
 
 
@@ -246,6 +298,7 @@ def damaged(rng, text):
 STRANGE_WORDS = [
     "", " ", "-", "--", "-h", "--help", "-V", "--version", "--lifters", "--lifters=4", "0", "64", "65", "run", "project", "check", "help", "rum", "RUN", "--runn", "-x", "é", "game", "script",
     "no/such", ".", "/", "a\nb", "a\tb", "\x1b[31m", "r", "f", "x" * 65, "x" * 5000, "=", "--=", "-hV", b"\xff", b"\xc3", b"f\x80",
+    "--strict", "--keep-going", "--names", "--explain", "--features", "desk", "lint", "draw",
 ]
 
 
@@ -266,16 +319,53 @@ def damaged_words(rng, words):
     return words
 
 
+# the options of each command, but for `--lifters`
+OPTIONS = {
+    "run": ["--explain", "--strict", "--keep-going", "--names"],
+    "desk": ["--names"],
+    "project": ["--explain"],
+    "check": ["--explain"],
+    "lint": [],
+    "draw": ["--explain", "--features"],
+}
+
+
+def options_of(rng, task):
+    options = [word for word in OPTIONS[task] if rng.random() < 0.25]
+    if task in ("run", "desk") and rng.random() < 0.2:
+        options += rng.choice([["--lifters", "2"], ["--lifters=4"]])
+    return options
+
+
 def words_of(rng, diagram):
-    task = rng.choice(["", "run", "run", "run", "project", "check"])
+    task = rng.choices(["", "run", "desk", "project", "check", "lint", "draw"], [2, 5, 2, 2, 2, 1, 1])[0]
+    if not task:
+        return []
+    words = [task, "game", "diagram"]
     if task == "run":
-        return ["run", "game", "diagram", "script"]
-    if task == "check":
-        return ["check", "game", "diagram"]
+        words.append("script")
     if task == "project":
         names = [name.decode() for name in set(re.findall(rb"[A-Za-z_][A-Za-z0-9_]*", diagram))]
-        return ["project", "game", "diagram"] + [name for name in sorted(names) if rng.random() < 0.7] + ["r"]
-    return []
+        words += [name for name in sorted(names) if rng.random() < 0.7] + ["r"]
+    return words + options_of(rng, task)
+
+
+def arguments_of(words):
+    """The words of a command that was accepted, without its options."""
+    words = [os.fsencode(word) for word in words]
+    behind = words.index(b"--") if b"--" in words else len(words)
+    return [word for word in words[:behind] if len(word) < 2 or not word.startswith(b"-")] + words[behind + 1 :]
+
+
+TYPED = [b"help\n", b"help select\n", b"help frob\n", b"  help  why \n", b"quit\n", b"quit now\n", b"exclude r\n", b"frob\n"]
+
+
+def typed(rng, script):
+    """A script with lines that a session alone has."""
+    lines = script.splitlines(True)
+    for _ in range(rng.choice([0, 1, 3])):
+        lines.insert(rng.randint(0, len(lines)), rng.choice(TYPED))
+    return b"".join(lines)
 
 
 class Case:
@@ -285,6 +375,8 @@ class Case:
         rng = random.Random(f"{seed} {number}")
         family = list(rng.choice(families + [None] * 4) or random_family(rng))
         self.words = words_of(rng, family[1])
+        if self.words[:1] == ["desk"]:
+            family[2] = typed(rng, family[2])
         what = rng.randrange(20)
         if what < 16:
             i = rng.randrange(3) if self.words else 2
@@ -378,16 +470,15 @@ def ends(runner, case):
     if case.output != "kept":
         # a write that fails has to be told, unless nothing is to be written
         if whole[1]:
-            whole = (1, b"", b"vpgdesk: Write\n")
-            kind = kind and "write"
-        if (status, out, err) != whole:
+            kind = kind and status == 1 and kind_of(case.words, status, out, err) == "write" and "write"
+        elif (status, out, err) != whole:
             kind = None
-    if kind is None:
+    if not kind:
         return None, f"status {status}, standard error {err[:300]!r}, end of standard output {out[-200:]!r}"
     if kind == "done" and case.words[:1] == ["project"] and case.output == "kept":
         with open("plain", "wb") as file:
             file.write(out)
-        status, _, err = runner.run(["check", "plain", [it for it in case.words if it != "--"][2]], "/dev/null", "kept")
+        status, _, err = runner.run(["check", "plain", arguments_of(case.words)[2]], "/dev/null", "kept")
         if status != 0:
             return None, f"the projected game is not read again: {err!r}"
     return kind, None

@@ -3,8 +3,9 @@
 
     hostile.py PROGRAM [WORD..]      the cases whose names have one of the words; all without one
 
-One line a case: bytes read, seconds of the processor, peak memory in MB, and how it ended. The status is 1 where a case ended in another way, took more than
-SECONDS for each million bytes (and one more for all), or more than 1,000 MB.
+One line a case: bytes read, seconds of the processor, peak memory in MB, and how it ended. The status is 1 where a case
+ended in another way, took more than SECONDS for each million bytes that it read or said on standard error (and one more
+for all), or more than 1,000 MB.
 """
 import os
 import resource
@@ -28,9 +29,12 @@ def name(number, length=8):
 
 
 def cases():
-    """Names with the words, the game, the diagram, the script, and the status and standard error that are expected."""
+    """Names with the words, the game, the diagram, the script (or what is typed), and the status and standard error."""
     check, run = ["check", "game", "diagram"], ["run", "game", "diagram", "script"]
+    lint, draw, desk = ["lint", "game", "diagram"], ["draw", "game", "diagram"], ["desk", "game", "diagram"]
     done = (0, b"")
+    # with any text on standard error
+    talked, explained = (0, None), (1, None)
 
     def told(text):
         return (1, b"vpgdesk: " + text + b"\n")
@@ -85,6 +89,29 @@ def cases():
     yield "settling 65,536 vertices in reverse order", run, lines(b"%d 1 0 %d[f],0;\n", reversed(vertices)), ROOT, b"settle\nexclude f\nsettle\nshow\n", done
     yield "script of a million lines that are refused", run, GAME, ROOT, b"undo 7\n" * million, done
 
+    # what explains, warns and draws
+    double = lines(b"%d 0 0 %d;\n", range(65_535)) + b"0 0 0 0;"
+    yield "65,536 vertices of which the last is double, explained", [*check, "--explain"], double, ROOT, b"", explained
+    endless = b"0 0 0 0[" + b"f&" * (million // 2)
+    yield "guard of a megabyte that never ends, explained", [*check, "--explain"], endless, ROOT, b"", explained
+    long = b"root " + b"r" * million
+    yield "feature name of a megabyte in a diagram, explained", [*check, "--explain"], GAME, long, b"", explained
+    yield "one rule more, explained", [*check, "--explain"], GAME, many + b"requires r r\n", b"", explained
+    apart = b"start 0;" + lines(b"%d 0 0;\n", vertices)
+    yield "65,536 vertices without moves that are not reached, with warnings", lint, apart, ROOT, b"", done
+    yield "16,384 rules that close in a chain, with warnings", lint, GAME, many, b"", done
+    repeated = b"0 0 0 " + b",".join([b"0[f]"] * 1_048_576) + b";"
+    yield "a picture of a million repeated successors with guards", draw, repeated, ROOT, b"", done
+    yield "a picture of edges with guards at the depth limit", draw, edges_at_depth(), ROOT, b"", done
+    yield "a picture of 16,384 rules", [*draw, "--features"], GAME, many, b"", done
+    named = b"".join(b'%d 0 0 %d "%0100d";\n' % (v, v, v) for v in vertices)
+    yield "65,536 names of a hundred bytes beside answers", [*run, "--names"], named, ROOT, b"show\n" * 10, done
+    yield "a session of 64 MB of lines that are refused", desk, GAME, ROOT, b"undo 7\n" * ((64 << 20) // 7), talked
+    yield "a session of a million lines that are no commands", desk, GAME, ROOT, b"frob\n" * million, talked
+    yield "a line of 64 MB that is typed", desk, GAME, ROOT, b"x" * (64 << 20), talked
+    frob = b"frob\n" * ((64 << 20) // 5)
+    yield "64 MB of lines that are no commands, answered", [*run, "--keep-going"], GAME, ROOT, frob, done
+
 
 def edges_at_depth():
     """A game of 4,096 vertices with 64 successors each, of which each guard opens 64 times."""
@@ -96,10 +123,11 @@ def edges_at_depth():
 def run(program, folder, words):
     """Status, standard error, seconds of the processor and peak memory of a run."""
     errors, used = os.path.join(folder, "errors"), os.path.join(folder, "used")
+    typed = os.path.join(folder, "script") if words[0] == "desk" else os.devnull
     # a small program in between, since a child's peak memory counts what its parent had when it began
-    with open(errors, "wb") as err:
+    with open(errors, "wb") as err, open(typed, "rb") as source:
         timed = ["/usr/bin/env", "time", "--quiet", "-f", "%U %S %M", "-o", used, program, *words]
-        status = subprocess.run(timed, stdin=subprocess.DEVNULL, stdout=subprocess.DEVNULL, stderr=err, cwd=folder).returncode
+        status = subprocess.run(timed, stdin=source, stdout=subprocess.DEVNULL, stderr=err, cwd=folder).returncode
     with open(errors, "rb") as err, open(used) as figures:
         user, system, kilobytes = figures.read().split()
         return status, err.read(), float(user) + float(system), int(kilobytes) / 1024
@@ -119,7 +147,8 @@ def main():
                     out.write(text)
             size = len(game) + len(diagram) + len(script)
             status, text, seconds, memory = run(program, folder, words)
-            right = (status, text) == expected and seconds <= 1 + SECONDS * size / 1_000_000 and memory <= MEMORY
+            right = status == expected[0] and expected[1] in (None, text)
+            right = right and seconds <= 1 + SECONDS * (size + len(text)) / 1_000_000 and memory <= MEMORY
             bad += not right
             end = "as expected" if right else f"NOT AS EXPECTED: status {status}, {text[:120]!r}"
             print(f"{size:10} bytes {seconds:7.2f} s {memory:6.0f} MB  {title}: {end}", flush=True)

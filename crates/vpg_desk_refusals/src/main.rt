@@ -9,6 +9,7 @@
 mod changes;
 mod desks;
 mod looks;
+mod spending;
 mod tokens;
 
 use anyhow::{Context, Result};
@@ -30,7 +31,7 @@ fn refuse<R: Wait>(rt: &R, heap: &mut Heap, report: &mut Report) -> Option<()> {
     desks::refuse(rt, heap, report)?;
     let mut desk = desks::desk_of(heap.alloc())?;
     let used = use_desk(rt, heap, report, &mut desk);
-    desks::let_go(desk);
+    spending::ask(rt, heap, report, desk);
     used
 }
 

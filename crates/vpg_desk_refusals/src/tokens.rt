@@ -23,7 +23,7 @@ pub(crate) fn end_of(is_memory: bool) -> End {
 }
 
 /// Waits until a token is out. It never waits, since who calls it holds one; no contract here says so.
-fn wait_for_token<R: Wait>(rt: &R, desk: &Desk)
+pub(crate) fn wait_for_token<R: Wait>(rt: &R, desk: &Desk)
     ensures { 0 < desk.now.book.tokens }
 {
     for _ in rt.forever() {

@@ -21,6 +21,7 @@ use vpg_scarce::{Heap, Report};
 /// Makes each call with little memory.
 fn refuse<R: Threads + Wait + Sync>(rt: &R, heap: &mut Heap, report: &mut Report) -> Option<()> {
     boards::refuse(rt, heap, report)?;
+    boards::ask(heap, report)?;
     sweeps::refuse(rt, heap, report)
 }
 

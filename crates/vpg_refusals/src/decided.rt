@@ -3,13 +3,14 @@
 ghost use Rattle.std.specs.Prelude.{◌↔◌, ◌<◌, IsTrue, All};
 ghost use Rattle.vpg_measure.specs.Lifts.{IsTableOf};
 
-use crate::lookups::ask;
+use crate::lookups::{ask, ask_guard};
 use crate::{DIAGRAM, GAME};
 use anyhow::{Result, bail};
 use std::alloc::Global;
 use std::sync::Wait;
 use vpg_diagram::Diagram;
 use vpg_game::GuardedGame;
+use vpg_guards::Tri;
 use vpg_hope::Arena;
 use vpg_measure::{Shape, StrategyFault, Table, strategy};
 use vpg_partial::{Decision, Partial, PartialFault};
@@ -61,6 +62,11 @@ const DECISIONS: [Decision; 3] = [
         value: true,
     },
 ];
+
+/// A set of features without the root and `g`, and what is known where only the root is: that it is out.
+const SET: [bool; 3] = [false, true, false];
+
+const KNOWN: [Tri; 3] = [Tri::No, Tri::Unknown, Tri::Unknown];
 
 /// The first table once it is settled.
 const SETTLED: [u64; 2] = [1, 0];
@@ -266,6 +272,7 @@ fn refuse_over<R: Wait>(
     report: &mut Report,
     diagram: &Diagram,
 ) -> Result<()> {
+    ask_guard(heap, report, diagram.names(), &SET, &KNOWN)?;
     let game = GuardedGame::read(heap.alloc(), GAME, diagram.names())?;
     refuse_of(rt, heap, report, diagram, &game)
 }

@@ -1,11 +1,13 @@
 //! Calls that take no memory. Each is made where there is none, and has to tell what it tells otherwise.
 
 use crate::decided::is_table;
+use crate::told_of;
+use anyhow::{Result, bail};
 use std::alloc::Global;
 use std::sync::Wait;
 use vpg_diagram::Diagram;
 use vpg_game::{GuardedGame, Player};
-use vpg_guards::{Names, Tri};
+use vpg_guards::{Names, Tri, parse_guard};
 use vpg_hope::Arena;
 use vpg_measure::{Shape, Table, is_progress, lift, prog, settle_alone};
 use vpg_partial::Partial;
@@ -121,6 +123,28 @@ impl<R> Trial<R> for Looking<'_> {
     fn is_unchanged(&mut self, _rt: &R, _alloc: Global) -> bool {
         false
     }
+}
+
+/// A guard of each kind of part.
+const GUARD: &[u8] = b"!(f & g) | r & true";
+
+/// Asks a guard, with no memory, whether it holds in a set, and what is known of it.
+pub(crate) fn ask_guard(
+    heap: &mut Heap,
+    report: &mut Report,
+    names: &Names,
+    set: &[bool],
+    known: &[Tri],
+) -> Result<()> {
+    if set.len() != names.len() || known.len() != names.len() {
+        bail!("features");
+    }
+    let guard = parse_guard(heap.alloc(), GUARD, names)?;
+    heap.leave(0);
+    let tells = guard.eval(set) && matches!(guard.kleene(known), Tri::Unknown);
+    heap.relax();
+    report.note(heap, "Guard::eval, kleene", told_of(tells));
+    Ok(())
 }
 
 /// Asks each with no memory.

@@ -21,12 +21,21 @@ mod writing;
 use anyhow::Result;
 use std::env;
 use std::sync::Wait;
-use vpg_scarce::{Heap, Report};
+use vpg_scarce::{Heap, Report, Told};
 
 /// The diagram and the game of most examples.
 pub(crate) const DIAGRAM: &[u8] = b"root r\noptional r f\noptional r g\n";
 
 pub(crate) const GAME: &[u8] = b"parity 1; 0 1 0 1[f],0; 1 2 1 0[g],1;";
+
+/// What came of calls that were made once, with no memory.
+pub(crate) fn told_of(tells: bool) -> Told {
+    if tells {
+        Told::TakesNone
+    } else {
+        Told::Otherwise
+    }
+}
 
 /// Makes each call with little memory.
 fn refuse<R: Wait>(rt: &R, heap: &mut Heap, report: &mut Report) -> Result<()> {

@@ -7,14 +7,14 @@ ghost use Rattle.vpg_partial.specs.Known.{literal_of};
 ghost use Rattle.vpg_partial.specs.TableLaws.{AreChoicesOf};
 
 use crate::decided::are_below;
-use crate::{DIAGRAM, GAME};
-use anyhow::Result;
+use crate::{DIAGRAM, GAME, told_of};
+use anyhow::{Result, bail};
 use std::alloc::{AllocError, Global};
 use std::sync::{Arc, Wait};
 use vpg_diagram::Diagram;
 use vpg_game::GuardedGame;
 use vpg_measure::laws::orders::zeros_are_opening;
-use vpg_measure::{Order, OrderFault, Refused, Table};
+use vpg_measure::{Harvest, Order, OrderFault, Refused, Table, Which};
 use vpg_partial::Decision;
 use vpg_scarce::{End, Heap, Report, Trial};
 
@@ -35,6 +35,8 @@ const DECISIONS: [Decision; 2] = [
         value: false,
     },
 ];
+
+const ORDER_CALLS: &str = "Order::game, diagram, decisions, hopeful, dual, shape, arena";
 
 /// Whether a game has a diagram's features, and each decision is of one.
 fn fit(game: &GuardedGame, diagram: &Diagram, decisions: &[Decision]) -> bool
@@ -125,6 +127,76 @@ impl<R> Trial<R> for Ordering {
     }
 }
 
+/// Whether an order tells what it was made of: with `f` in and `g` out, over tables of zeros.
+fn order_tells(order: &Order) -> bool {
+    order.game().vertices() == 2
+        && order.diagram().features() == 3
+        && order.decisions() == DECISIONS.as_slice()
+        && order.hopeful().values() == [0, 0].as_slice()
+        && order.dual().values() == [0, 0].as_slice()
+        && order.shape(Which::Dual).top() == 2
+        && order.arena(Which::Dual).vertices() == 2
+}
+
+/// Whether a harvest of two vertices has these tables, and says whether they are settled.
+fn harvest_tells(harvest: &Harvest, hopeful: u64, dual: u64, is_settled: bool) -> bool {
+    if harvest.order().game().vertices() != 2 {
+        return false;
+    }
+    let values = [
+        harvest.value(Which::Hopeful, 0),
+        harvest.value(Which::Dual, 0),
+    ];
+    values == [hopeful, dual] && harvest.check() == is_settled
+}
+
+/// Whether harvests of an order tell what they have, and the order of the last one's tables.
+fn harvests_tell(order: Order) -> (bool, Order) {
+    if order.game().vertices() != 2 {
+        return (false, order);
+    }
+    let harvest = Harvest::one(order, Which::Hopeful, 0);
+    let one = harvest_tells(&harvest, 1, 0, false);
+    let harvest = Harvest::alone(harvest.again(), 10);
+    let alone = harvest_tells(&harvest, 1, 2, true);
+    (one && alone, harvest.again())
+}
+
+/// Asks an order, and harvests of it, with no memory.
+fn ask(heap: &mut Heap, report: &mut Report, order: Order) {
+    heap.leave(0);
+    let tells = order_tells(&order);
+    heap.relax();
+    report.note(heap, ORDER_CALLS, told_of(tells));
+    heap.leave(0);
+    let (tells, order) = harvests_tell(order);
+    heap.relax();
+    let_go(order);
+    report.note(
+        heap,
+        "Harvest::one, alone, check, value, again, order",
+        told_of(tells),
+    );
+}
+
+/// Asks an order, where there is one.
+fn ask_made(
+    heap: &mut Heap,
+    report: &mut Report,
+    game: Arc<GuardedGame>,
+    diagram: Arc<Diagram>,
+) -> Result<()> {
+    let decisions = Vec::from_slice(heap.alloc(), &DECISIONS)?;
+    if !fit(&game, &diagram, &decisions) {
+        bail!("no fit");
+    }
+    match order_of(heap.alloc(), game, diagram, decisions)? {
+        Ok(order) => ask(heap, report, order),
+        Err(_) => bail!("no order"),
+    }
+    Ok(())
+}
+
 /// Makes an order of these with little memory.
 fn refuse_of<R: Wait>(
     rt: &R,
@@ -155,6 +227,7 @@ fn diagram_of(alloc: Global) -> Result<Arc<Diagram>> {
 pub(crate) fn refuse<R: Wait>(rt: &R, heap: &mut Heap, report: &mut Report) -> Result<()> {
     let diagram = diagram_of(heap.alloc())?;
     let game = game_of(heap.alloc(), &diagram)?;
+    let (game_again, diagram_again) = (Arc::try_clone(&game)?, Arc::try_clone(&diagram)?);
     refuse_of(rt, heap, report, game, diagram);
-    Ok(())
+    ask_made(heap, report, game_again, diagram_again)
 }

@@ -25,12 +25,13 @@ const NEXT: Decision = Decision {
     value: false,
 };
 
-/// What is done with a trail.
+/// What is done with a trail, one after another.
 #[derive(Clone, Copy)]
 enum Deed {
     Open,
     Append,
     Splice,
+    Look,
 }
 
 /// A trail, and what is done with it.
@@ -102,12 +103,27 @@ fn splice(alloc: Global, trail: &mut Trail) -> End {
     }
 }
 
+/// Looks at a trail of four decisions.
+fn look(trail: &Trail) -> End {
+    let (hopeful, dual) = trail.tables();
+    let zeros = hopeful.values() == [0, 0].as_slice() && dual.values() == [0, 0].as_slice();
+    if trail.entries().len() != 4 {
+        return End::Otherwise;
+    }
+    if zeros && trail.level(0) == 0 && trail.level(3) == 3 {
+        End::Done
+    } else {
+        End::Otherwise
+    }
+}
+
 impl<R> Trial<R> for Trailing {
     fn attempt(&mut self, _rt: &R, alloc: Global) -> End {
         match self.deed {
             Deed::Open => open(alloc),
             Deed::Append => append(&mut self.trail),
             Deed::Splice => splice(alloc, &mut self.trail),
+            Deed::Look => look(&self.trail),
         }
     }
 
@@ -126,6 +142,7 @@ fn refuse_each<R: Wait>(rt: &R, heap: &mut Heap, report: &mut Report, trailing: 
         ("Trail::open", Deed::Open, 0),
         ("Trail::append", Deed::Append, 0),
         ("Trail::splice", Deed::Splice, 1),
+        ("Trail::entries, tables, level", Deed::Look, 4),
     ] {
         trailing.deed = deed;
         trailing.entries = entries;
