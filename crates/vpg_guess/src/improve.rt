@@ -8,13 +8,13 @@ use crate::scale::Scale;
 use crate::values::Evaluation;
 use std::alloc::{AllocError, Global};
 use vpg_game::Player;
-use vpg_regions::{Budget, Graph, PerVertex, Regions};
+use vpg_regions::{Budget, Choices, Graph, PerVertex, Regions};
 
 /// A guess of values, and choices. Odd's are those that win, where its value is the top.
 #[derive(Drop)]
 pub(crate) struct Guess {
     pub(crate) values: PerVertex<u64>,
-    pub(crate) choice: PerVertex<Option<u32>>,
+    pub(crate) choice: Choices,
 }
 
 /// How often lowering looks at all edges and vertices at most before strategies are valued again.
@@ -28,7 +28,7 @@ struct Improvement<'a> {
     graph: &'a Graph,
     scale: &'a Scale,
     table: &'a [u64],
-    choice: PerVertex<Option<u32>>,
+    choice: Choices,
     values: PerVertex<u64>,
     // the values before the last evaluation
     before: PerVertex<u64>,
