@@ -149,7 +149,8 @@ def words_of(*command):
 def line(name, game, is_family, zielonka, runs, copies):
     plain, zeros, lines, told = [], {}, {}, set()
     for _ in range(runs):
-        plain.append(words_of(zielonka, game, "2"))
+        if not plain or not plain[0][3].startswith("more"):
+            plain.append(words_of(zielonka, game, "2"))
         for program in copies:
             words = words_of(program, game, "zeros")
             zeros.setdefault(program, []).append(float(words[0]))
