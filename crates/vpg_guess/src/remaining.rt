@@ -182,9 +182,9 @@ impl Waiting {
             return false;
         }
         self.rounds = self.rounds.saturating_sub(1);
-        match rising(arena, ground, table) {
+        match ask(arena, ground, table) {
             Rising::Nothing => true,
-            Rising::Some => false,
+            Rising::Several => false,
             Rising::Most => {
                 self.is_climbing = self.rounds == 0;
                 !self.is_climbing
@@ -252,12 +252,12 @@ impl Waiting {
 #[derive(Clone, Copy)]
 enum Rising {
     Nothing,
-    Some,
+    Several,
     Most,
 }
 
 // Asks vertices here and there that are below the top.
-fn rising(arena: &Arena, ground: &GuessGround, table: &[u64]) -> Rising {
+fn ask(arena: &Arena, ground: &GuessGround, table: &[u64]) -> Rising {
     let stride = (ground.graph.vertices() / ASKED).saturating_add(1);
     let mut asked = 0u32;
     let mut rising = 0u32;
@@ -273,7 +273,7 @@ fn rising(arena: &Arena, ground: &GuessGround, table: &[u64]) -> Rising {
     if rising == 0 {
         Rising::Nothing
     } else if rising < asked.saturating_sub(asked / MOST) {
-        Rising::Some
+        Rising::Several
     } else {
         Rising::Most
     }
