@@ -1,5 +1,5 @@
 -- What raising keeps of a table.
-use Rattle.std.proofs.Common.{◌≡◌, ℕ, ◌<◌, List, length, sym, subst}
+use Rattle.std.proofs.Common.{ℕ, ◌<◌, List, length}
 use Rattle.vpg_game.specs.declared.levels.Level.{Level}
 use Rattle.vpg_hope.specs.Arena.{Vertex as Node}
 use Rattle.vpg_measure.specs.Lifts.{IsTableOf, IsProgressTable, IsBelowTable, raised, after_rounds}
@@ -18,10 +18,10 @@ module _ (levels : List Level) (arena : List Node) where
     below = λ other t p h. b.below other t p (a.below other t p h);
   }
 
-  pub round_above : (old mid new : List ℕ) → IsTableOf levels arena old → IsRaisedFrom levels arena old mid → new ≡ after_rounds levels arena 1 mid →
+  pub round_above : (old mid new : List ℕ) → IsTableOf levels arena old → IsRaisedFrom levels arena old mid → IsBelowTable (after_rounds levels arena 1 mid) new →
       IsBelowTable (after_rounds levels arena 1 old) new
-  round_above old mid new is kept e =
-      subst (λ table. IsBelowTable (after_rounds levels arena 1 old) table) (sym e) (after_grows levels arena 1 old mid is kept.table kept.above)
+  round_above old mid new is kept below =
+      below_trans (after_rounds levels arena 1 old) (after_rounds levels arena 1 mid) new (after_grows levels arena 1 old mid is kept.table kept.above) below
 
   pub round_stays : (table : List ℕ) → IsTableOf levels arena table → IsProgressTable levels arena table → IsBelowTable (after_rounds levels arena 1 table) table
   round_stays table is p = after_stays levels arena 1 table table is is p (below_self table)

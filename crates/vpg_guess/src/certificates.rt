@@ -11,7 +11,7 @@ use std::alloc::{AllocError, Global};
 use vpg_game::Player;
 use vpg_hope::Arena;
 use vpg_measure::{Certificate, Shape, Table};
-use vpg_regions::{Budget, PerVertex, Regions};
+use vpg_regions::{Budget, Choices, PerVertex, Regions};
 
 // Values that a table is to be raised to, and the vertices where they exceed it.
 #[derive(Drop)]
@@ -150,7 +150,7 @@ fn move_of(ground: &GuessGround, bounds: &PerVertex<u64>, solved: &Solved, v: u3
 fn ranks_along(
     alloc: Global,
     ground: &GuessGround,
-    choice: &PerVertex<Option<u32>>,
+    choice: &Choices,
     raised: &[u32],
     budget: &mut Budget,
 ) -> Result<PerVertex<u64>, AllocError> {
@@ -211,9 +211,9 @@ impl<'a> Straight<'a> {
         chosen
     }
 
-    fn choices(&self, alloc: Global) -> Result<PerVertex<Option<u32>>, AllocError> {
+    fn choices(&self, alloc: Global) -> Result<Choices, AllocError> {
         let graph = &self.ground.graph;
-        let mut choice = PerVertex::of(alloc, graph.vertices(), None)?;
+        let mut choice = Choices::none(alloc, graph.vertices())?;
         for v in &self.raises.exceeding {
             if graph.owner(*v) == Player::Odd {
                 choice.set(*v, self.move_from(*v));
@@ -230,7 +230,7 @@ fn straight_choices(
     guess: &Guess,
     raises: &Raises,
     table: &[u64],
-) -> Result<PerVertex<Option<u32>>, AllocError> {
+) -> Result<Choices, AllocError> {
     let mut rising = PerVertex::of(alloc, ground.graph.vertices(), false)?;
     for v in &raises.exceeding {
         rising.set(*v, true);
@@ -281,7 +281,7 @@ fn ranks_won(
     solved: &Solved,
     budget: &mut Budget,
 ) -> Result<PerVertex<u64>, AllocError> {
-    let mut choice = PerVertex::of(alloc, ground.graph.vertices(), None)?;
+    let mut choice = Choices::none(alloc, ground.graph.vertices())?;
     let mut raised = Vec::new(alloc);
     for v in solved.vertices() {
         if solved.winner(*v) == Some(Player::Odd) {

@@ -41,12 +41,21 @@ impl GuessGround {
         Ok(lost)
     }
 
-    /// The value that a vertex's owner moves to.
-    pub(crate) fn best(&self, table: &[u64], v: u32) -> u64 {
-        let successors = self.graph.successors(v);
-        match self.graph.owner(v) {
+    /// The value that a vertex's owner moves to, where it has these successors.
+    fn best(&self, table: &[u64], owner: Player, successors: &[u32]) -> u64 {
+        match owner {
             Player::Even => least_in(table, successors, self.even.top),
             Player::Odd => greatest_in(table, successors),
+        }
+    }
+
+    /// Whether a lift raises a vertex, whose value is a number over some edge. The arena is that of the graph.
+    pub(crate) fn would_rise(&self, arena: &Arena, table: &[u64], v: u32) -> bool {
+        if v < arena.vertices() {
+            let best = self.best(table, arena.owner(v), arena.kept(v));
+            self.even.limit(v, value_in(table, v)) <= best
+        } else {
+            false
         }
     }
 

@@ -8,13 +8,13 @@ use crate::scale::Scale;
 use crate::values::Evaluation;
 use std::alloc::{AllocError, Global};
 use vpg_game::Player;
-use vpg_regions::{Budget, Graph, PerVertex, Regions};
+use vpg_regions::{Budget, Choices, Graph, PerVertex, Regions};
 
 /// A guess of values, and choices. Odd's are those that win, where its value is the top.
 #[derive(Drop)]
 pub(crate) struct Guess {
     pub(crate) values: PerVertex<u64>,
-    pub(crate) choice: PerVertex<Option<u32>>,
+    pub(crate) choice: Choices,
 }
 
 /// How often lowering looks at all edges and vertices at most before strategies are valued again.
@@ -28,12 +28,14 @@ struct Improvement<'a> {
     graph: &'a Graph,
     scale: &'a Scale,
     table: &'a [u64],
-    choice: PerVertex<Option<u32>>,
+    choice: Choices,
     values: PerVertex<u64>,
     // the values before the last evaluation
     before: PerVertex<u64>,
     // whether the value exceeds the table, and may still fall
     open: PerVertex<bool>,
+    // those whose value was lowered to the table's since the last evaluation
+    closed: Vec<u32>,
     mark: PerVertex<u32>,
     stamp: u32,
     // those to be looked at
@@ -62,6 +64,7 @@ impl<'a> Improvement<'a> {
             values,
             before: PerVertex::of(alloc, vertices, 0)?,
             open: PerVertex::of(alloc, vertices, false)?,
+            closed: Vec::new(alloc),
             mark: PerVertex::of(alloc, vertices, 0)?,
             stamp: 0,
             waits: PerVertex::of(alloc, vertices, false)?,
@@ -250,6 +253,7 @@ impl<'a> Improvement<'a> {
         self.values.set(v, value);
         if !self.exceeds(v) {
             self.open.set(v, false);
+            self.closed.push(v)?;
         }
         Ok(true)
     }
@@ -312,17 +316,13 @@ impl<'a> Improvement<'a> {
         Ok(changed)
     }
 
-    // The vertices that changed, and the open ones from where moves lead there.
+    // The vertices that changed or were closed, and the open ones from where moves lead there.
     fn leading_to(
         &mut self,
         changed: Vec<u32>,
         budget: &mut Budget,
     ) -> Result<Vec<u32>, AllocError> {
-        self.stamp = self.stamp.saturating_add(1);
-        let mut leading = changed;
-        for v in &leading {
-            self.mark.set(*v, self.stamp);
-        }
+        let mut leading = self.with_closed(changed)?;
         for at in 0..self.graph.vertices() as usize {
             let v = match leading.get(at) {
                 Some(v) => *v,
@@ -332,6 +332,23 @@ impl<'a> Improvement<'a> {
             self.lead(v, &mut leading)?;
         }
         Ok(leading)
+    }
+
+    // Marks the vertices that changed and those that were closed, and gives each once.
+    fn with_closed(&mut self, changed: Vec<u32>) -> Result<Vec<u32>, AllocError> {
+        self.stamp = self.stamp.saturating_add(1);
+        let mut both = changed;
+        for v in &both {
+            self.mark.set(*v, self.stamp);
+        }
+        for v in &self.closed {
+            if self.mark.get(*v) != self.stamp {
+                self.mark.set(*v, self.stamp);
+                both.push(*v)?;
+            }
+        }
+        self.closed.clear();
+        Ok(both)
     }
 
     fn lead(&mut self, v: u32, leading: &mut Vec<u32>) -> Result<(), AllocError> {

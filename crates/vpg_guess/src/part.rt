@@ -2,7 +2,7 @@
 use crate::ground::{GuessGround, value_in};
 use crate::improve::{Guess, guess_table};
 use std::alloc::{AllocError, Global};
-use vpg_regions::{Budget, Draft, Graph, PerVertex, solve_part};
+use vpg_regions::{Budget, Choices, Draft, Graph, solve_part};
 
 /// Vertices that move, and behind them the others that they move to, which have no moves here.
 #[derive(Drop)]
@@ -20,7 +20,7 @@ pub(crate) struct Part {
 #[derive(Drop)]
 struct Numbered {
     vertices: Vec<u32>,
-    places: PerVertex<Option<u32>>,
+    places: Choices,
     count: u32,
 }
 
@@ -28,7 +28,7 @@ impl Numbered {
     fn new(alloc: Global, vertices: u32) -> Result<Numbered, AllocError> {
         Ok(Numbered {
             vertices: Vec::new(alloc),
-            places: PerVertex::of(alloc, vertices, None)?,
+            places: Choices::none(alloc, vertices)?,
             count: 0,
         })
     }

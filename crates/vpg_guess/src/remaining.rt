@@ -1,13 +1,14 @@
 //! Lifts of what remains: each vertex of which a successor rose, in the order of the vertices where they are many, and
 //! else first come, first served.
+ghost use Rattle.std.specs.Prelude.{◌≡◌, IsTrue};
 ghost use Rattle.vpg_guess.specs.Kept.{IsRaisedFrom};
-ghost use Rattle.vpg_measure.specs.Lifts.{IsTableOf};
+ghost use Rattle.vpg_measure.specs.Lifts.{IsTableOf, IsProgressTable, after_rounds};
 
 use crate::ground::{GuessGround, value_in};
 use std::alloc::{AllocError, Global};
 use std::collections::VecDeque;
 use vpg_hope::Arena;
-use vpg_measure::lifts::raise;
+use vpg_measure::lifts::{Outcome, raise, settle_alone};
 use vpg_measure::{Shape, Table};
 use vpg_regions::{Budget, PerVertex};
 
@@ -17,8 +18,20 @@ const DENSE: usize = 64;
 /// Rounds go on while the number of waiting vertices falls by one in so many.
 const FALL: usize = 16;
 
+/// Where more than one in so many rose at once, all are looked at again.
+const MANY: usize = 4;
+
+/// How many rounds of lifts come first where all wait, and how many vertices are asked before each whether they would
+/// rise.
+const ROUNDS: u32 = 2;
+
+const ASKED: u32 = 256;
+
+/// Most would rise where all but one in so many of them would.
+const MOST: u32 = 8;
+
 /// How often a vertex rises in the first turn before it is taken to climb.
-const CLIMBS: u32 = 2;
+const CLIMBS: u8 = 2;
 
 /// The vertices that are to be looked at: those whose lift may exceed their value. And how often each rose in this
 /// turn, and in which turn each was found to move last.
@@ -26,16 +39,19 @@ const CLIMBS: u32 = 2;
 pub(crate) struct Waiting {
     waits: PerVertex<bool>,
     count: usize,
-    // the least value over an edge that raises a vertex, where its value is a number over some edge
-    limits: PerVertex<u64>,
-    // those that wait, and others
+    // so many rounds of lifts may come before the next turn; none where not all wait that are below the top
+    rounds: u32,
+    // whether most still rose behind these
+    is_climbing: bool,
+    // those that wait, and others; only some of those that wait where it is not complete
     queue: VecDeque<u32>,
-    raises: PerVertex<u32>,
+    is_complete: bool,
+    raises: PerVertex<u8>,
     // the last turn at whose end it moved; zero for none
-    moved: PerVertex<u32>,
-    turn: u32,
+    moved: PerVertex<u8>,
+    turn: u8,
     // how often a vertex rises in a turn before it is taken to climb
-    climbs: u32,
+    climbs: u8,
 }
 
 impl Waiting {
@@ -46,7 +62,7 @@ impl Waiting {
         table: &[u64],
     ) -> Result<Waiting, AllocError> {
         let mut waiting = Waiting::none(alloc, ground.graph.vertices())?;
-        waiting.add_all(ground, table)?;
+        waiting.add_all(ground, table);
         Ok(waiting)
     }
 
@@ -55,8 +71,10 @@ impl Waiting {
         Ok(Waiting {
             waits: PerVertex::of(alloc, vertices, false)?,
             count: 0,
-            limits: PerVertex::of(alloc, vertices, u64::MAX)?,
+            rounds: 0,
+            is_climbing: false,
             queue: VecDeque::new(alloc),
+            is_complete: false,
             raises: PerVertex::of(alloc, vertices, 0)?,
             moved: PerVertex::of(alloc, vertices, 0)?,
             turn: 0,
@@ -64,18 +82,43 @@ impl Waiting {
         })
     }
 
-    // All wait that are below the top, where none waited.
-    fn add_all(&mut self, ground: &GuessGround, table: &[u64]) -> Result<(), AllocError> {
+    // All wait that are below the top.
+    fn add_all(&mut self, ground: &GuessGround, table: &[u64]) {
+        let mut count = 0usize;
         for v in 0..ground.graph.vertices() {
-            let value = value_in(table, v);
-            if value < ground.even.top {
-                self.waits.set(v, true);
-                self.limits.set(v, ground.even.limit(v, value));
+            let waits = value_in(table, v) < ground.even.top;
+            self.waits.set(v, waits);
+            if waits {
+                count = count.saturating_add(1);
+            }
+        }
+        self.count = count;
+        self.empty_queue();
+    }
+
+    /// Rounds of lifts may come first: all wait that are below the top.
+    pub(crate) fn begin_rounds(&mut self) {
+        self.rounds = ROUNDS;
+    }
+
+    // The queue has all that wait.
+    fn complete(&mut self) -> Result<(), AllocError> {
+        if self.is_complete {
+            return Ok(());
+        }
+        self.is_complete = true;
+        for v in 0..self.waits.count() {
+            if self.waits.get(v) {
                 self.queue.push_back(v)?;
             }
         }
-        self.count = self.queue.len();
         Ok(())
+    }
+
+    // The queue has none.
+    fn empty_queue(&mut self) {
+        self.is_complete = false;
+        self.queue.clear();
     }
 
     // Whether v waited; it waits no more.
@@ -93,38 +136,65 @@ impl Waiting {
         self.waits.count() as usize / DENSE < self.count
     }
 
+    fn put_back(&mut self, v: u32) -> Result<(), AllocError> {
+        if self.is_complete {
+            self.queue.push_back(v)?;
+        }
+        Ok(())
+    }
+
     // Those that move to v, which rose, are to be looked at again where that may raise them.
     fn wake(&mut self, ground: &GuessGround, table: &[u64], v: u32) -> Result<(), AllocError> {
         self.raises.set(v, self.raises.get(v).saturating_add(1));
         let value = value_in(table, v);
-        self.limits.set(v, ground.even.limit(v, value));
         for u in ground.graph.predecessors(v) {
-            if !self.waits.get(*u) && self.limits.get(*u) <= value {
+            if !self.waits.get(*u) && ground.even.limit(*u, value_in(table, *u)) <= value {
                 self.waits.set(*u, true);
                 self.count = self.count.saturating_add(1);
-                self.queue.push_back(*u)?;
+                self.put_back(*u)?;
             }
         }
         Ok(())
     }
 
-    /// Those that move to what rose since the table was so are to be looked at again.
+    /// Those that move to what rose are to be looked at again.
     pub(crate) fn wake_risen(
         &mut self,
         ground: &GuessGround,
-        before: &[u64],
         table: &[u64],
+        risen: &[u32],
     ) -> Result<(), AllocError> {
-        for v in 0..ground.graph.vertices() {
-            if value_in(before, v) < value_in(table, v) {
-                self.wake(ground, table, v)?;
-            }
+        if ground.graph.vertices() as usize / MANY < risen.len() {
+            self.add_all(ground, table);
+            self.begin_rounds();
+            return Ok(());
+        }
+        for v in risen {
+            self.wake(ground, table, *v)?;
         }
         Ok(())
+    }
+
+    // Whether a round of lifts comes next: where nothing seems to rise, since it may show that, and the first time most
+    // do. Where most do again, they climb.
+    fn asks_for_round(&mut self, arena: &Arena, ground: &GuessGround, table: &[u64]) -> bool {
+        if self.rounds == 0 {
+            return false;
+        }
+        self.rounds = self.rounds.saturating_sub(1);
+        match ask(arena, ground, table) {
+            Rising::Nothing => true,
+            Rising::Several => false,
+            Rising::Most => {
+                self.is_climbing = self.rounds == 0;
+                !self.is_climbing
+            }
+        }
     }
 
     // A turn begins: nothing rose yet.
     fn begin_turn(&mut self) {
+        self.rounds = 0;
         self.turn = self.turn.saturating_add(1);
         for v in 0..self.raises.count() {
             self.raises.set(v, 0);
@@ -138,6 +208,7 @@ impl Waiting {
         alloc: Global,
         ground: &GuessGround,
     ) -> Result<Vec<u32>, AllocError> {
+        self.is_climbing = false;
         let mut moving = Vec::new(alloc);
         if self.count == 0 {
             return Ok(moving);
@@ -177,6 +248,37 @@ impl Waiting {
     }
 }
 
+/// How many of the vertices that were asked would rise.
+#[derive(Clone, Copy)]
+enum Rising {
+    Nothing,
+    Several,
+    Most,
+}
+
+// Asks vertices here and there that are below the top.
+fn ask(arena: &Arena, ground: &GuessGround, table: &[u64]) -> Rising {
+    let stride = (ground.graph.vertices() / ASKED).saturating_add(1);
+    let mut asked = 0u32;
+    let mut rising = 0u32;
+    for at in 0..ASKED {
+        let v = at.saturating_mul(stride);
+        if v < ground.graph.vertices() && value_in(table, v) < ground.even.top {
+            asked = asked.saturating_add(1);
+            if ground.would_rise(arena, table, v) {
+                rising = rising.saturating_add(1);
+            }
+        }
+    }
+    if rising == 0 {
+        Rising::Nothing
+    } else if rising < asked.saturating_sub(asked / MOST) {
+        Rising::Several
+    } else {
+        Rising::Most
+    }
+}
+
 // Lifts a vertex once, and says whether its value rose.
 fn lift_vertex(shape: &Shape, arena: &Arena, table: &mut Table, v: u32) -> bool
     requires { IsTableOf shape.now arena.now table.old }
@@ -204,8 +306,7 @@ fn look(
 {
     if waiting.takes(v) {
         budget.spend(ground.graph.successors(v).len().saturating_add(1));
-        let best = ground.best(table.values(), v);
-        if waiting.limits.get(v) <= best && lift_vertex(shape, arena, table, v) {
+        if ground.would_rise(arena, table.values(), v) && lift_vertex(shape, arena, table, v) {
             waiting.wake(ground, table.values(), v)?;
         }
     }
@@ -225,7 +326,7 @@ fn look_round(
     requires { IsTableOf shape.now arena.now table.old }
     ensures { IsRaisedFrom shape.now arena.now table.old table.new }
 {
-    waiting.queue.clear();
+    waiting.empty_queue();
     for v in 0..arena.vertices() {
         look(shape, arena, ground, waiting, table, v, budget)?;
     }
@@ -245,6 +346,7 @@ fn look_queue(
     requires { IsTableOf shape.now arena.now table.old }
     ensures { IsRaisedFrom shape.now arena.now table.old table.new }
 {
+    waiting.complete()?;
     for _ in 0..waiting.queue.len() {
         let Some(v) = waiting.queue.pop_front() else {
             break;
@@ -287,10 +389,10 @@ fn lift_waiting(
     requires { IsTableOf shape.now arena.now table.old }
     ensures { IsRaisedFrom shape.now arena.now table.old table.new }
 {
-    let mut least = waiting.count;
+    let mut least = usize::MAX;
     let mut left = budget.left();
     for _ in 0..u64::MAX {
-        if waiting.count == 0 || budget.is_spent() {
+        if waiting.count == 0 || waiting.is_climbing || budget.is_spent() {
             break;
         }
         look_once(shape, arena, ground, waiting, table, budget)?;
@@ -302,6 +404,45 @@ fn lift_waiting(
         }
     }
     Ok(())
+}
+
+/// One round of lifts, which takes no memory. Says whether it raised nothing.
+pub(crate) fn lift_round(shape: &Shape, arena: &Arena, table: &mut Table) -> bool
+    requires { IsTableOf shape.now arena.now table.old }
+    ensures raised { IsRaisedFrom shape.now arena.now table.old table.new }
+    ensures round { table.new ≡ after_rounds shape.now arena.now 1 table.old }
+    ensures settled { IsTrue result → IsProgressTable shape.now arena.now table.new }
+{
+    match settle_alone(shape, arena, table, 1) {
+        Outcome::Settled => true,
+        Outcome::RanOut => false,
+    }
+}
+
+/// Rounds of lifts, where they come first. Says whether one raised nothing. They wake nothing: all wait.
+#[tactic(auto, using(crate::proofs::Kept::kept_then))]
+pub(crate) fn lift_all(
+    shape: &Shape,
+    arena: &Arena,
+    ground: &GuessGround,
+    waiting: &mut Waiting,
+    table: &mut Table,
+    budget: &mut Budget,
+) -> bool
+    requires { IsTableOf shape.now arena.now table.old }
+    ensures raised { IsRaisedFrom shape.now arena.now table.old table.new }
+    ensures settled { IsTrue result → IsProgressTable shape.now arena.now table.new }
+{
+    for _ in 0..ROUNDS {
+        if !waiting.asks_for_round(arena, ground, table.values()) {
+            break;
+        }
+        budget.spend(ground.graph.size() as usize);
+        if lift_round(shape, arena, table) {
+            return true;
+        }
+    }
+    false
 }
 
 /// Lifts until nothing waits, or so many edges and vertices were looked at, or the budget is spent; or until so many

@@ -10,10 +10,26 @@ use vpg_regions::{Graph, PerVertex};
 pub(crate) struct Scale {
     pub(crate) player: Player,
     pub(crate) top: u64,
-    // what one more counts at each vertex
+    // each vertex's priority, as the shape counts it
+    priorities: PerVertex<u32>,
+    // what one more counts at each priority
     weights: PerVertex<u64>,
-    // the same where the other player wins if the vertex's priority recurs, else nothing
-    steps: PerVertex<u64>,
+}
+
+// One of each vertex's priorities, each raised by this; and the greatest.
+fn priorities_of(
+    alloc: Global,
+    arena: &Arena,
+    raise: u32,
+) -> Result<(PerVertex<u32>, u32), AllocError> {
+    let mut priorities = PerVertex::of(alloc, arena.vertices(), 0)?;
+    let mut greatest = 0u32;
+    for v in 0..arena.vertices() {
+        let priority = arena.priority(v).saturating_add(raise);
+        priorities.set(v, priority);
+        greatest = greatest.max(priority);
+    }
+    Ok((priorities, greatest))
 }
 
 impl Scale {
@@ -28,55 +44,53 @@ impl Scale {
             Player::Even => 0,
             Player::Odd => 1,
         };
-        let mut weights = PerVertex::of(alloc, arena.vertices(), 1)?;
-        let mut steps = PerVertex::of(alloc, arena.vertices(), 0)?;
-        for v in 0..arena.vertices() {
-            let priority = u64::from(arena.priority(v)) + raise;
-            let weight = shape.weight(priority);
-            weights.set(v, weight);
-            if priority % 2 == 1 {
-                steps.set(v, weight);
-            }
+        let (priorities, greatest) = priorities_of(alloc, arena, raise)?;
+        let mut weights = PerVertex::of(alloc, greatest.saturating_add(1), 1)?;
+        for priority in 0..=greatest {
+            weights.set(priority, shape.weight(u64::from(priority)));
         }
         Ok(Scale {
             player,
             top: shape.top(),
+            priorities,
             weights,
-            steps,
         })
     }
 
     /// The scale of a game that has these vertices, in this order.
     pub(crate) fn at(&self, alloc: Global, vertices: &[u32]) -> Result<Scale, AllocError> {
         let count = u32::try_from(vertices.len()).unwrap_or(u32::MAX);
-        let mut weights = PerVertex::of(alloc, count, 1)?;
-        let mut steps = PerVertex::of(alloc, count, 0)?;
+        let mut priorities = PerVertex::of(alloc, count, 0)?;
         let mut place = 0u32;
         for v in vertices {
-            weights.set(place, self.weights.get(*v));
-            steps.set(place, self.steps.get(*v));
+            priorities.set(place, self.priorities.get(*v));
             place = place.saturating_add(1);
         }
         Ok(Scale {
             player: self.player,
             top: self.top,
-            weights,
-            steps,
+            priorities,
+            weights: self.weights.copy(alloc)?,
         })
     }
 
     pub(crate) fn weight(&self, v: u32) -> u64 {
-        self.weights.get(v)
+        self.weights.get(self.priorities.get(v))
     }
 
     /// What one more counts at a vertex where the other player wins if its priority recurs; else nothing.
     pub(crate) fn step(&self, v: u32) -> u64 {
-        self.steps.get(v)
+        let priority = self.priorities.get(v);
+        if priority % 2 == 1 {
+            self.weights.get(priority)
+        } else {
+            0
+        }
     }
 
     /// Whether the other player wins where the priority of this vertex recurs.
     pub(crate) fn is_strict(&self, v: u32) -> bool {
-        self.steps.get(v) != 0
+        self.priorities.get(v) % 2 == 1
     }
 
     /// The least number over an edge from this vertex to one of this value.
@@ -84,22 +98,22 @@ impl Scale {
         if self.top <= value {
             return self.top;
         }
-        cut(value, self.weights.get(v))
-            .saturating_add(self.steps.get(v))
+        cut(value, self.weight(v))
+            .saturating_add(self.step(v))
             .min(self.top)
     }
 
     /// Whether the least number over an edge from this vertex to one of this value is at least a bound, itself such a
     /// number.
     pub(crate) fn reaches(&self, v: u32, bound: u64, value: u64) -> bool {
-        bound <= value.saturating_add(self.steps.get(v))
+        bound <= value.saturating_add(self.step(v))
     }
 
     /// The least value over an edge to which the number at this vertex exceeds its own, itself such a number; past all
     /// values at the top.
     pub(crate) fn limit(&self, v: u32, own: u64) -> u64 {
         if own < self.top {
-            let gap = self.weights.get(v).saturating_sub(self.steps.get(v));
+            let gap = self.weight(v).saturating_sub(self.step(v));
             own.saturating_add(gap)
         } else {
             u64::MAX

@@ -1,13 +1,13 @@
 //! Games over some of a graph's vertices.
 use std::alloc::{AllocError, Global};
 use vpg_game::Player;
-use vpg_regions::{Budget, Draft, Graph, PerVertex, Regions, solve_regions};
+use vpg_regions::{Budget, Choices, Draft, Graph, Regions, solve_regions};
 
 /// Some vertices of a graph under numbers of their own, and behind them a dead end of Even, where Odd wins.
 #[derive(Drop)]
 pub(crate) struct Subgame {
     pub(crate) vertices: Vec<u32>,
-    places: PerVertex<Option<u32>>,
+    places: Choices,
     sink: u32,
     draft: Draft,
 }
@@ -18,7 +18,7 @@ impl Subgame {
         graph: &Graph,
         vertices: Vec<u32>,
     ) -> Result<Subgame, AllocError> {
-        let mut places = PerVertex::of(alloc, graph.vertices(), None)?;
+        let mut places = Choices::none(alloc, graph.vertices())?;
         let mut sink = 0u32;
         for v in &vertices {
             places.set(*v, Some(sink));
@@ -79,7 +79,7 @@ fn solve_with_sink(
 #[derive(Drop)]
 pub(crate) struct Solved {
     vertices: Vec<u32>,
-    places: PerVertex<Option<u32>>,
+    places: Choices,
     regions: Regions,
 }
 

@@ -105,6 +105,19 @@ impl Draft {
         }
     }
 
+    /// With room for so many vertices and edges.
+    pub fn with_room(alloc: Global, vertices: usize, edges: usize) -> Result<Draft, AllocError> {
+        Ok(Draft {
+            count: 0,
+            owners: Vec::with_capacity(alloc, vertices)?,
+            priorities: Vec::with_capacity(alloc, vertices)?,
+            successors: Lists {
+                ends: Vec::with_capacity(alloc, vertices)?,
+                items: Vec::with_capacity(alloc, edges)?,
+            },
+        })
+    }
+
     /// An edge of the vertex that comes next.
     pub fn edge(&mut self, to: u32) -> Result<(), AllocError> {
         self.successors.items.push(to)?;
@@ -124,11 +137,9 @@ impl Draft {
     pub fn finish(self, alloc: Global) -> Result<Graph, AllocError> {
         let mut draft = self;
         let merged = merged(alloc, &occurring(alloc, &draft.priorities)?)?;
-        let mut least = Vec::with_capacity(alloc, draft.priorities.len())?;
-        for priority in &draft.priorities {
-            least.push(merged.get(*priority))?;
+        for priority in &mut draft.priorities {
+            *priority = merged.get(*priority);
         }
-        draft.priorities = least;
         draft.as_written(alloc)
     }
 
@@ -188,10 +199,19 @@ fn merged(alloc: Global, occurs: &PerVertex<bool>) -> Result<PerVertex<u32>, All
     Ok(merged)
 }
 
+// How many edges an arena has.
+fn edges_of(arena: &Arena) -> usize {
+    let mut count = 0usize;
+    for v in 0..arena.vertices() {
+        count = count.saturating_add(arena.kept(v).len());
+    }
+    count
+}
+
 impl Graph {
     /// The game of an arena.
     pub fn of(alloc: Global, arena: &Arena) -> Result<Graph, AllocError> {
-        let mut draft = Draft::new(alloc);
+        let mut draft = Draft::with_room(alloc, arena.vertices() as usize, edges_of(arena))?;
         for v in 0..arena.vertices() {
             draft.successors.items.extend_from_slice(arena.kept(v))?;
             draft.vertex(arena.owner(v), arena.priority(v))?;

@@ -22,5 +22,5 @@ mod weights;
 pub use budget::Budget;
 pub use components::{Components, Moves};
 pub use graph::{Draft, Graph};
-pub use per_vertex::PerVertex;
+pub use per_vertex::{Choices, PerVertex};
 pub use regions::{Regions, solve_part, solve_regions};

@@ -46,3 +46,36 @@ impl<T: Copy> PerVertex<T> {
         }
     }
 }
+
+/// No vertex: no game has so many.
+const NONE: u32 = u32::MAX;
+
+/// One vertex or none for each vertex, in half of the room.
+#[derive(Drop)]
+pub struct Choices {
+    chosen: PerVertex<u32>,
+}
+
+impl Choices {
+    /// None at each of so many vertices.
+    pub fn none(alloc: Global, vertices: u32) -> Result<Choices, AllocError> {
+        Ok(Choices {
+            chosen: PerVertex::of(alloc, vertices, NONE)?,
+        })
+    }
+
+    pub fn copy(&self, alloc: Global) -> Result<Choices, AllocError> {
+        Ok(Choices {
+            chosen: self.chosen.copy(alloc)?,
+        })
+    }
+
+    pub fn get(&self, v: u32) -> Option<u32> {
+        let chosen = self.chosen.get(v);
+        if chosen == NONE { None } else { Some(chosen) }
+    }
+
+    pub fn set(&mut self, v: u32, chosen: Option<u32>) {
+        self.chosen.set(v, chosen.unwrap_or(NONE));
+    }
+}

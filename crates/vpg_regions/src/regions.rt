@@ -3,7 +3,7 @@
 use crate::budget::Budget;
 use crate::components::{Components, Moves};
 use crate::graph::Graph;
-use crate::per_vertex::PerVertex;
+use crate::per_vertex::{Choices, PerVertex};
 use crate::recursion::solve_by_recursion;
 use crate::solution::Solution;
 use crate::weights::solve_by_weights;
@@ -20,7 +20,7 @@ const FIRST_WEIGHTS: u64 = 1 << 20;
 #[derive(Drop)]
 pub struct Regions {
     winner: PerVertex<Option<Player>>,
-    pub choice: PerVertex<Option<u32>>,
+    pub choice: Choices,
 }
 
 impl Regions {

@@ -1,7 +1,7 @@
 //! A game that is being solved: who is taken to win where, and what a player can force.
 use crate::budget::Budget;
 use crate::graph::Graph;
-use crate::per_vertex::PerVertex;
+use crate::per_vertex::{Choices, PerVertex};
 use std::alloc::{AllocError, Global};
 use vpg_game::Player;
 
@@ -10,7 +10,7 @@ use vpg_game::Player;
 pub struct Solution<'a> {
     pub graph: &'a Graph,
     /// The winner's choices, and others where nobody is taken to win.
-    pub choice: PerVertex<Option<u32>>,
+    pub choice: Choices,
     winner: PerVertex<Option<Player>>,
     // the vertices of the present game
     alive: PerVertex<bool>,
@@ -27,7 +27,7 @@ impl<'a> Solution<'a> {
         let vertices = graph.vertices();
         Ok(Solution {
             graph,
-            choice: PerVertex::of(alloc, vertices, None)?,
+            choice: Choices::none(alloc, vertices)?,
             winner: PerVertex::of(alloc, vertices, None)?,
             alive: PerVertex::of(alloc, vertices, true)?,
             mark: PerVertex::of(alloc, vertices, 0)?,
@@ -318,7 +318,7 @@ impl<'a> Solution<'a> {
     }
 
     /// Who was given what, and the choices.
-    pub fn finish(self) -> (PerVertex<Option<Player>>, PerVertex<Option<u32>>) {
+    pub fn finish(self) -> (PerVertex<Option<Player>>, Choices) {
         let Solution { winner, choice, .. } = self;
         (winner, choice)
     }

@@ -1,0 +1,186 @@
+#!/usr/bin/env python3
+"""Guesses in plain Rust, made from the text of their functions, to be measured without a proof.
+
+    plain_copy.py make ROOT FILE                          # writes FILE, to be compiled by `rustc -O --edition 2024`
+    plain_copy.py measure ZIELONKA VERTICES RUNS COPY..   # beside plain Zielonka: all families, and hard games
+
+`make` takes the functions of vpg_regions and vpg_guess under ROOT, and of vpg_measure what those use, without clauses,
+and puts `plain_copy.rs` around them. `COPY GAME zeros` raises both tables of a game from zeros; `COPY GAME line` does
+as a line `settle` does, with a sweep first, and settles again after `exclude f`. Each prints milliseconds of processor
+time, whether all is settled, and a number that is the same for the same tables.
+
+`measure` prints one line for each game, each figure the least of RUNS runs, in turns: the recursion on both games
+(`zielonka.rs`), and for each COPY zeros, in milliseconds and times the recursion, and for families a line, and again,
+with its share of the line. `!!` stands where something is not settled, or two COPY do not have the same tables.
+"""
+import os
+import re
+import subprocess
+import sys
+import tempfile
+
+import settling
+
+HERE = os.path.dirname(os.path.abspath(__file__))
+MEASURE = """
+pub mod which {
+    #[derive(Clone, Copy)]
+    pub enum Which {
+        Hopeful,
+        Dual,
+    }
+}
+pub struct Order;
+pub struct Harvest;
+pub use self::bounds::{Certificate, raise_to_bounds};
+pub use self::lifts::is_progress;
+pub use self::shape::Shape;
+pub use self::table::Table;
+pub use self::which::Which;
+"""
+# what is not copied, and from where on a file is not
+LEFT_OUT = {("vpg_guess", "at_once")}
+CUT = {
+    ("vpg_guess", "raising"): "/// A raised table, and whether",
+    ("vpg_measure", "lifts"): "// The first kept successor",
+}
+
+
+def without(lines, begins, ends):
+    """Lines without those from one that begins so up to the one where it ends."""
+    kept, skipped = [], None
+    for line in lines:
+        if skipped is None and begins(line.strip()):
+            skipped = []
+        if skipped is None:
+            kept.append(line)
+        else:
+            skipped.append(line)
+            if ends("\n".join(skipped)):
+                skipped = None
+    return kept
+
+
+def is_balanced(text):
+    return text.count("{") == text.count("}")
+
+
+def plain(crate, text):
+    """The text of a module in plain Rust."""
+    lines = text.split("\n")
+    lines = without(lines, lambda line: line.startswith("ghost use"), lambda text: text.endswith(";"))
+    lines = without(lines, lambda line: re.match(r"(requires|ensures)\b.*\{", line) is not None, is_balanced)
+    lines = without(lines, lambda line: line.startswith("impl Model for"), is_balanced)
+    left_out = ("#[tactic", "#![tactic", "#[derive(Drop)]", "#[error", "//!", "use thiserror")
+    lines = [line.replace("///", "//") for line in lines if not line.strip().startswith(left_out)]
+    text = "\n".join(lines).replace(", Error)]", ")]").replace("\nfn raise_within", "\npub fn raise_within")
+    text = re.sub(r"\bcrate::", f"crate::{crate}::", text)
+    text = re.sub(r"^use (vpg_regions|vpg_measure)::", r"use crate::\1::", text, flags=re.M)
+    others = r"^use (vpg_game|vpg_hope(::arena)?|std::(alloc|collections))::"
+    text = re.sub(others, "use crate::shim::", text, flags=re.M)
+    text = re.sub(r"^use std::marker::Model;", "", text, flags=re.M)
+    return re.sub(r"^use crate::shim::(\{?)(.*?)(\}?);", lambda m: used(m.group(2)), text, flags=re.M)
+
+
+def used(names):
+    """What a module uses of those that are not used everywhere."""
+    others = [name for name in re.split(r",\s*", names) if name not in ("AllocError", "Global")]
+    return f"use crate::shim::{{{', '.join(others)}}};" if others else ""
+
+
+def crate_text(root, crate, names):
+    base = f"{root}/crates/{crate}/src"
+    modules = []
+    for name in names or sorted(file[:-3] for file in os.listdir(base) if file != "lib.rt"):
+        if (crate, name) not in LEFT_OUT:
+            text = open(f"{base}/{name}.rt").read()
+            cut = CUT.get((crate, name))
+            if cut:
+                text = text[: text.index(cut)]
+            text = "use crate::shim::{AllocError, Global, Vec};\n" + plain(crate, text)
+            modules.append(f"pub mod {name} {{\n{text}\n}}\n")
+    return "".join(modules)
+
+
+def copy(root):
+    around = open(f"{HERE}/plain_copy.rs").read()
+    head, tail = around.split("// The crates stand here.\n")
+    public = re.findall(r"^pub use [^;]*;", open(f"{root}/crates/vpg_regions/src/lib.rt").read(), flags=re.M)
+    crates = {
+        "vpg_regions": crate_text(root, "vpg_regions", None) + "\n".join(public).replace("pub use ", "pub use self::"),
+        "vpg_guess": crate_text(root, "vpg_guess", None),
+        "vpg_measure": crate_text(root, "vpg_measure", ["bounds", "lifts", "shape", "table"]) + MEASURE,
+    }
+    return head + "".join(f"pub mod {name} {{\n{text}\n}}\n" for name, text in crates.items()) + tail
+
+
+def games(folder, vertices):
+    """Each family, and then the hard games of `settling.py`: a name, a file, and whether it is a family."""
+    def family(name, count):
+        path = f"{folder}/{name}.{count}"
+        if not os.path.exists(path):
+            subprocess.run([sys.executable, f"{HERE}/families.py", name, str(count), path], check=True)
+        return f"{path}/game"
+
+    def hard(name, words):
+        words = [sys.executable, f"{HERE}/hard.py", *words, f"{folder}/{name}"]
+        subprocess.run(words, check=True, stderr=subprocess.DEVNULL)
+        return f"{folder}/{name}"
+
+    families = settling.FAMILIES.split()
+    for name in families:
+        yield name, family(name, vertices), True
+    for name, words in settling.HARD:
+        yield name, hard(name, words), False
+    for one, other, count in settling.UNIONS:
+        beside = family(other, count) if count else f"{folder}/{other}"
+        yield f"{one} and {other}", hard(f"{one} and {other}", ["union", f"{folder}/{one}", beside]), False
+    for one, other, edges in settling.JOINED:
+        beside = family(other, vertices) if other in families else f"{folder}/{other}"
+        words = ["joined", str(edges), f"{folder}/{one}", beside]
+        yield f"{one} joined with {other}", hard(f"{one} joined with {other}", words), False
+    yield "climbed", f"{HERE}/climbed.game", False
+
+
+def words_of(*command):
+    return subprocess.run(command, stdout=subprocess.PIPE, check=True).stdout.decode().split()
+
+
+def line(name, game, is_family, zielonka, runs, copies):
+    plain, zeros, lines, told = [], {}, {}, set()
+    for _ in range(runs):
+        if not plain or not plain[0][3].startswith("more"):
+            plain.append(words_of(zielonka, game, "2"))
+        for program in copies:
+            words = words_of(program, game, "zeros")
+            zeros.setdefault(program, []).append(float(words[0]))
+            told.add(("zeros", *words[1:]))
+            if is_family:
+                words = words_of(program, game, "line")
+                lines.setdefault(program, []).append((float(words[0]), float(words[3])))
+                told.add(("line", *words[1:3], *words[4:]))
+    least = min(float(words[1]) for words in plain)
+    row = f"| {name} | {least:.1f}{' more' if plain[0][3].startswith('more') else ''} |"
+    for program in copies:
+        first = min(zeros[program])
+        row += f" {first:.1f} | {first / max(least, 0.1):.1f} |" if is_family else f" {first:.1f} |"
+        if is_family:
+            one, again = (min(run[k] for run in lines[program]) for k in range(2))
+            row += f" {one:.1f} | {again:.1f} | {again / one:.2f} |"
+    differ = len(told) > (2 if is_family else 1) or any("open" in words for words in told)
+    print(row + (" !!" if differ else ""), flush=True)
+
+
+def main():
+    if len(sys.argv) == 4 and sys.argv[1] == "make":
+        open(sys.argv[3], "w").write(copy(sys.argv[2]))
+    elif len(sys.argv) > 5 and sys.argv[1] == "measure":
+        with tempfile.TemporaryDirectory() as folder:
+            for name, game, is_family in games(folder, sys.argv[3]):
+                line(name, game, is_family, sys.argv[2], int(sys.argv[4]), sys.argv[5:])
+    else:
+        sys.exit(__doc__)
+
+
+if __name__ == "__main__":
+    main()
