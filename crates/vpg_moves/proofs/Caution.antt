@@ -120,8 +120,8 @@ module _ (game : NamedGame) (is : IsGame game) (diagram : NamedDiagram) (ok : Is
     count = played.count ∙ ap length of_arena ∙ caution_count game is which known ∙ sym (graph_count game);
     inside = subst (λ (n : ℕ). All (λ m. IfSome m (λ w. w < n)) moves)
         (caution_count game is which known ∙ sym (graph_count game))
-        (played_inside (caution_for known which (graph_of game)) all vertex moves
-        (edges_inside (caution_for known which (graph_of game)) (caution_closed game is which known)) in_caution
+        (played_inside (caution_for known which (graph_of game)) all vertex moves in_caution
+        (edges_inside (caution_for known which (graph_of game)) (caution_closed game is which known))
         (subst (λ (g : Game). Wins g Player.Even (strategy_of all) vertex) of_arena wins));
     known = known;
     is_known = is_known;

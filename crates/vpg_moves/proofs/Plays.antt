@@ -1,5 +1,5 @@
 -- Moves that a play can come to win as all of them do.
-use Rattle.std.proofs.Common.{◌≡◌, ℕ, suc, ◌+◌, ◌<◌, ◌≤◌, ◌⊎◌, ◌↔◌, inl, inr, Bool, true, false, List, [], ◌∷◌, ◌++◌, length, get_or, Option, Some, None, refl, sym, ap, ◌∙◌, subst, arith}
+use Rattle.std.proofs.Common.{◌≡◌, ℕ, ◌+◌, ◌<◌, ◌≤◌, ◌⊎◌, inl, inr, Bool, true, false, List, [], ◌∷◌, ◌++◌, length, get_or, Option, Some, None, refl, sym, ap, ◌∙◌, subst, arith}
 use Rattle.std.proofs.lemmas.Bool.{cases_eq, cases_lt}
 use Rattle.std.specs.Prelude.{All, IfSome}
 use Rattle.std.proofs.lemmas.List.Elements.{All-from_get_or}
@@ -7,8 +7,7 @@ use Rattle.std.proofs.lemmas.List.{length-append, get_or_append_left, get_or_pas
 use Rattle.std.proofs.Math.Seq.{get_or-append_seam}
 use Rattle.vpg_game.specs.declared.player.Player.{Player}
 use Rattle.vpg_game.specs.declared.player.Player.TheVariants.{Even, Odd}
-use Rattle.vpg_game.specs.Players.{WinsAt}
-use Rattle.vpg_hope.specs.Games.{Game, HasEdge, owner_of, priority_of}
+use Rattle.vpg_hope.specs.Games.{Game, HasEdge, owner_of}
 use Rattle.vpg_hope.specs.Strategies.{AllowsMove, Reaches, here, onward, Walk, move, moves, Wins}
 use Rattle.vpg_measure.specs.Views.{strategy_of}
 use Rattle.vpg_hope.proofs.Edges.{AreEdgesInside}

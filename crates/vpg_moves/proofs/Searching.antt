@@ -1,16 +1,15 @@
 -- A search for the vertices that a play can come to.
-use Rattle.std.proofs.Common.{◌≡◌, ℕ, zero, suc, ◌+◌, ◌<◌, ◌≤◌, ◌⊎◌, ◌↔◌, inl, inr, Bool, true, false, cond, List, [], ◌∷◌, ◌++◌, length, get_or, set, take, replicate, Contains, count_by, sum_by, Option, Some, IsTrue, refl, sym, ap, ◌∙◌, subst, arith, append-nil, append_assoc}
-use Rattle.std.proofs.lemmas.Bool.{cases_eq, cases_lt, cases_Bool}
+use Rattle.std.proofs.Common.{◌≡◌, ℕ, zero, suc, ◌+◌, ◌<◌, ◌≤◌, ◌⊎◌, ◌↔◌, inl, inr, Bool, true, false, cond, List, [], ◌∷◌, ◌++◌, length, get_or, set, take, replicate, Contains, count_by, sum_by, Option, Some, refl, sym, ap, ◌∙◌, subst, arith, append-nil, append_assoc}
+use Rattle.std.proofs.lemmas.Bool.{cases_eq, cases_lt}
 use Rattle.std.proofs.lemmas.List.{take_all, length-append, length-set, get_or-set_same, get_or-set_other, get_or_append_left, get_or_past, take_more}
 use Rattle.std.proofs.lemmas.List.Elements.{Contains-append_left, Contains-append_right, Contains-append_cases}
 use Rattle.std.proofs.lemmas.List.Sums.{count_by-le-length, sum_by-set, sum_by-cons}
 use Rattle.vpg_guards.proofs.Noted.{any_default}
 use Rattle.vpg_game.specs.declared.player.Player.{Player}
-use Rattle.vpg_hope.specs.Games.{Game, HasEdge, owner_of, successors_of}
+use Rattle.vpg_hope.specs.Games.{Game, owner_of, successors_of}
 use Rattle.vpg_hope.specs.Strategies.{Strategy, AllowsMove, Reaches, here, onward}
 use Rattle.vpg_hope.proofs.Edges.{Contains-cases, Contains-first, not_in_nil}
 use Rattle.vpg_measure.specs.Views.{strategy_of}
-use Rattle.vpg_moves.specs.Played.{AreReached}
 use Rattle.vpg_moves.specs.Searched.{AreQueued, AreNoted, IsBegun}
 
 -- ---- marks

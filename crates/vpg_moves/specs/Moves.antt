@@ -1,6 +1,6 @@
 -- Moves that win in every product that is left, whatever is still open. This project's own; winning is the standard of
 -- parity games, progress tables are those of Jurdzinski 2000.
-use Rattle.std.specs.Prelude.{ℕ, ◌<◌, ⊤, All, Bool, IfSome, Option, List, length, replicate, slice_index}
+use Rattle.std.specs.Prelude.{◌≡◌, ℕ, ◌<◌, ⊤, All, Bool, IfSome, Option, List, length, replicate, slice_index}
 use Rattle.vpg_guards.specs.declared.tri.Tri.{Tri}
 use Rattle.vpg_guards.specs.Formula.{Formula, truth}
 use Rattle.vpg_guards.specs.Known.{kleene}

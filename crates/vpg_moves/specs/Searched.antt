@@ -1,5 +1,5 @@
 -- Vertices as a search finds them. This project's own.
-use Rattle.std.specs.Prelude.{◌≡◌, ◌↔◌, ℕ, Bool, true, false, List, [], ◌∷◌, ◌++◌, length, slice_index_or, Contains, count_by}
+use Rattle.std.specs.Prelude.{◌≡◌, ◌↔◌, ℕ, Bool, true, false, List, ◌++◌, length, slice_index_or, Contains, count_by}
 
 -- Those in the queue are marked, and no others; each stands there once.
 pub record AreQueued (marks : List Bool) (queue : List ℕ) : Type 0 where

@@ -35,7 +35,7 @@ fn caution(
     which: Which,
 ) -> Result<Arena, AllocError>
     requires { length known.now ≡ game.now.features }
-    ensures { IfOk result (λ arena. arena ≡ caution_for known.now which game.now) }
+    ensures { IfOk result (λ arena. arena ≡ caution_for known.now which (graph_of game.now)) }
 {
     match which {
         Which::Hopeful => Arena::cautious(alloc, game, known),

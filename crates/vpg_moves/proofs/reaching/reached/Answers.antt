@@ -1,4 +1,3 @@
-use Rattle.std.proofs.Common.{ap}
 use Rattle.vpg_moves.proofs.Searching.{begun, blank_queued}
 use Rattle.vpg_moves.proofs.reaching.reached.Goals as goal
 
