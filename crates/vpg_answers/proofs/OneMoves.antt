@@ -1,6 +1,5 @@
 -- Two lists of moves are one text.
-use Rattle.std.proofs.Common.{◌≡◌, ℕ, ◌<◌, ◌≤◌, Option, Some, None, List, length, get_or, slice_get, refl, sym, ap, ◌∙◌, subst, inl, inr}
-use Rattle.std.specs.Prelude.{◌↔◌, ◌⊎◌, slice_index}
+use Rattle.std.proofs.Common.{◌≡◌, ℕ, ◌<◌, Option, Some, None, List, length, get_or, refl, sym, ap, ◌∙◌, subst, inl, inr}
 use Rattle.std.proofs.Math.Nat.{le_antisymm}
 use Rattle.std.proofs.lemmas.List.{same_lists, get_or_default}
 use Rattle.std.proofs.lemmas.Option.{get_or_from_slice_get}
@@ -9,7 +8,7 @@ use Rattle.vpg_game.specs.declared.levels.Level.{Level}
 use Rattle.vpg_hope.specs.Games.{Game}
 use Rattle.vpg_measure.specs.Least.{IsLeastTable}
 use Rattle.vpg_measure.specs.Lifts.{AreChoices}
-use Rattle.vpg_measure.specs.TwoGames.{levels_for, top_for}
+use Rattle.vpg_measure.specs.TwoGames.{levels_for}
 use Rattle.vpg_measure.specs.declared.which.Which.{Which}
 use Rattle.vpg_moves.specs.Moves.{AreLeastMoves, AreWinning, NoneWinsUnder, NoneWins, caution_for}
 use Rattle.vpg_moves.specs.Played.{ArePlayed}
@@ -18,7 +17,7 @@ use Rattle.vpg_texts.specs.Scene.{Scene}
 use Rattle.vpg_texts.proofs.Planned.{known_is_one}
 use Rattle.vpg_why.specs.Explained.{choices}
 use Rattle.vpg_why.specs.declared.question.Limits.{Limits}
-use Rattle.vpg_answers.specs.Answers.{HasDoubt, TellsMoves, TellsWinning, verdict_for}
+use Rattle.vpg_answers.specs.Answers.{HasDoubt, TellsMoves, TellsWinning}
 use Rattle.vpg_answers.specs.Texts.{moves_text, moves_word}
 
 -- ---- lists that are the same everywhere
@@ -74,7 +73,7 @@ module _ (scene : Scene) (limits others : Limits) (mover : Which) (vertex : ℕ)
 
   -- moves that win show that not none do
   some_win : (moves : List (Option ℕ)) → AreWinning scene.game scene.lines (choices decisions) mover vertex moves → NoneWinsUnder scene.game scene.lines (choices decisions) mover vertex → ⊥
-  some_win moves a (known, (is_known, none)) =
+  some_win moves a (known, is_known, none) =
       subst (λ (k : List Tri). NoneWins scene.game mover k vertex) (known_is_one scene.lines (choices decisions) known a.known is_known a.is_known) none _ a.cautious
 
   winning_one : (one other : List ℕ) → TellsWinning scene limits mover vertex decisions one → TellsWinning scene others mover vertex decisions other → ¬ (HasDoubt one) → ¬ (HasDoubt other) → one ≡ other

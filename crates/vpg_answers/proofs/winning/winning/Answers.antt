@@ -1,4 +1,4 @@
-use Rattle.std.proofs.Common.{◌<◌, ◌∙◌, ℕ, All, List, Option, length, refl, sym, subst}
+use Rattle.std.proofs.Common.{◌<◌, ◌∙◌, ℕ, All, subst}
 use Rattle.std.specs.Prelude.{IfSome}
 use Rattle.vpg_game.proofs.Graphs.{same_count}
 use Rattle.vpg_texts.proofs.Shown.{on_ok}
