@@ -1,5 +1,7 @@
+pub mod Moving
 pub mod Offering
 pub mod One
+pub mod OneMoves
 pub mod OneOffers
 pub mod OneRepairs
 pub mod Repairing

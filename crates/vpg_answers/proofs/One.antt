@@ -12,7 +12,7 @@ use Rattle.vpg_script.specs.declared.command.PageQuestion.{PageQuestion}
 use Rattle.vpg_script.specs.declared.command.PageQuestion.TheVariants as whole
 use Rattle.vpg_script.specs.declared.command.VertexQuestion.{VertexQuestion}
 use Rattle.vpg_script.specs.declared.command.VertexQuestion.TheVariants as questions
-use Rattle.vpg_texts.specs.Scene.{Scene}
+use Rattle.vpg_texts.specs.Scene.{Scene, table_in}
 use Rattle.vpg_texts.specs.Text.{blank_number, choices_text}
 use Rattle.vpg_why.specs.Explained.{choices}
 use Rattle.vpg_why.specs.Suffices.{choice}
@@ -28,8 +28,9 @@ use Rattle.vpg_why.proofs.Next.{explanations_are_one}
 use Rattle.vpg_answers.specs.declared.query.Query.{Query}
 use Rattle.vpg_answers.specs.declared.query.Query.TheVariants as queries
 use Rattle.vpg_answers.specs.Texts.{verdict_word, verdict_line, other_line, lost_line, known_line, conflict_line, names_in, product_line}
-use Rattle.vpg_answers.specs.Answers.{MakeSo, IsReason, identifier_of, TellsVerdict, TellsVertex, TellsKnownBy, TellsFeature, TellsChoice, TellsProduct, TellsExample, TellsLost, TellsOfPage, TellsOfVertex, Tells, HasDoubt, lost_for}
+use Rattle.vpg_answers.specs.Answers.{MakeSo, IsReason, identifier_of, TellsVerdict, TellsVertex, TellsKnownBy, TellsFeature, TellsChoice, TellsProduct, TellsExample, TellsLost, TellsOfPage, TellsOfVertex, Tells, HasDoubt, lost_for, verdict_for}
 use Rattle.vpg_answers.specs.Laws.{AnswersAreOne}
+use Rattle.vpg_answers.proofs.OneMoves.{tells_moves_one}
 use Rattle.vpg_answers.proofs.OneOffers.{offers_one}
 use Rattle.vpg_answers.proofs.OneRepairs.{forced_one, repair_one}
 
@@ -194,6 +195,8 @@ module _ (scene : Scene) (limits others : Limits) (decisions : List Decision) (i
   of_vertex_one questions.Needs vertex hopeful dual one other a b sure also = forced_one scene limits others (aims.Won Hopeful vertex) decisions one other a b sure also
   of_vertex_one questions.Repair vertex hopeful dual one other a b sure also = repair_one scene limits others vertex decisions is named hopeful one other a b sure also
   of_vertex_one (questions.Lost which) vertex hopeful dual one other a b sure also = lost_one (aims.Won which vertex) one other a b sure also
+  of_vertex_one (questions.Moves mover) vertex hopeful dual one other a b sure also =
+      tells_moves_one scene limits others mover vertex decisions (table_in hopeful dual (verdict_for mover)) one other a b sure also
 
   of_page_one : (question : PageQuestion) (one other : List ℕ) → TellsOfPage scene limits question decisions one → TellsOfPage scene others question decisions other → ¬ (HasDoubt one) → ¬ (HasDoubt other) → one ≡ other
   of_page_one whole.Forced one other a b sure also = forced_one scene limits others aims.Any decisions one other a b sure also

@@ -3,12 +3,11 @@ use Rattle.std.proofs.Common.{◌≡◌, ◌≢◌, ℕ, zero, suc, ◌<◌, ◌
 use Rattle.std.specs.Prelude.{All, IsTrue, nat_eq, slice_index}
 use Rattle.std.proofs.lemmas.Bool.{eqb-false, eqb-true}
 use Rattle.std.specs.List.{AllByRecursion}
-use Rattle.vpg_diagram.specs.FeatureDiagram.{Line, feature_count}
+use Rattle.vpg_diagram.specs.FeatureDiagram.{feature_count}
 use Rattle.vpg_diagram.specs.declared.clause.Literal.{Literal}
 use Rattle.vpg_game.specs.Game.{graph_of, vertex_ids}
 use Rattle.vpg_measure.specs.Orders.{OrderView, IsOrder}
 use Rattle.vpg_measure.specs.TwoGames.{top_for}
-use Rattle.vpg_measure.specs.declared.which.Which.{Which}
 use Rattle.vpg_measure.specs.declared.which.Which.TheVariants.{Hopeful}
 use Rattle.vpg_partial.specs.TableLaws.{AreChoicesOf}
 use Rattle.vpg_partial.specs.declared.decision.Decision.{Decision}
@@ -18,14 +17,11 @@ use Rattle.vpg_why.specs.Explained.{choices}
 use Rattle.vpg_why.specs.Found.{AreFoundNeeds, AreNeedsExact}
 use Rattle.vpg_why.specs.Products.{NoneMeets}
 use Rattle.vpg_why.specs.Repaired.{IsRemedy, IsRemedyExact, IsRepair}
-use Rattle.vpg_why.specs.Suffices.{Suffice}
 use Rattle.vpg_why.specs.declared.forcing.Demand.{Demand}
 use Rattle.vpg_why.specs.declared.forcing.Demand.TheVariants as demands
 use Rattle.vpg_why.specs.declared.forcing.Forced.{Forced}
 use Rattle.vpg_why.specs.declared.question.Aim.{Aim}
 use Rattle.vpg_why.specs.declared.question.Limits.{Limits}
-use Rattle.vpg_why.specs.declared.question.Question.TheVariants as asks
-use Rattle.vpg_why.specs.declared.question.Shown.{Shown}
 use Rattle.vpg_why.specs.declared.repairing.Remedy.{Remedy}
 use Rattle.vpg_why.specs.declared.repairing.Remedy.TheVariants as remedies
 use Rattle.vpg_why.specs.declared.repairing.Retraction.{Retraction}

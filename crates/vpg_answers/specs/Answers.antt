@@ -1,11 +1,12 @@
 -- What answers say of a page. This project's own.
-use Rattle.std.specs.Prelude.{◌≡◌, ◌≢◌, ℕ, ◌<◌, ⊤, ◌⊎◌, Bool, true, false, List, [], ◌++◌, codes, length, slice_index, IsTrue}
+use Rattle.std.specs.Prelude.{◌≡◌, ◌≢◌, ℕ, ◌<◌, ⊤, ◌⊎◌, Bool, true, false, Option, List, [], ◌++◌, codes, length, slice_index, IsTrue}
 use Rattle.vpg_guards.specs.declared.tri.Tri.{Tri}
 use Rattle.vpg_diagram.specs.FeatureDiagram.{IsDiagram}
 use Rattle.vpg_diagram.specs.declared.clause.Literal.{Literal}
 use Rattle.vpg_measure.specs.TwoGames.{top_for}
 use Rattle.vpg_measure.specs.declared.which.Which.{Which}
 use Rattle.vpg_measure.specs.declared.which.Which.TheVariants.{Hopeful, Dual}
+use Rattle.vpg_moves.specs.Moves.{AreWinning, NoneWinsUnder, ChoicesSettleInCaution}
 use Rattle.vpg_partial.specs.KnownLaws.{IsRemaining}
 use Rattle.vpg_partial.specs.TableLaws.{AreChoicesOf, IsKnownTable}
 use Rattle.vpg_partial.specs.declared.decision.Decision.{Decision}
@@ -13,7 +14,7 @@ use Rattle.vpg_script.specs.declared.command.PageQuestion.{PageQuestion}
 use Rattle.vpg_script.specs.declared.command.PageQuestion.TheVariants as whole
 use Rattle.vpg_script.specs.declared.command.VertexQuestion.{VertexQuestion}
 use Rattle.vpg_script.specs.declared.command.VertexQuestion.TheVariants as questions
-use Rattle.vpg_texts.specs.Scene.{Scene}
+use Rattle.vpg_texts.specs.Scene.{Scene, table_in}
 use Rattle.vpg_why.specs.Explained.{choices, Explains}
 use Rattle.vpg_why.specs.Products.{MeetsIn, NoneMeetsIn, IsFirstIn, AreNeedsIn}
 use Rattle.vpg_why.specs.Repaired.{IsRepair}
@@ -26,7 +27,7 @@ use Rattle.vpg_why.specs.declared.question.Question.TheVariants as asks
 use Rattle.vpg_answers.specs.declared.offers.Offered.{Offered}
 use Rattle.vpg_answers.specs.declared.query.Query.{Query}
 use Rattle.vpg_answers.specs.declared.query.Query.TheVariants as queries
-use Rattle.vpg_answers.specs.Texts.{verdict_line, other_line, lost_head, lost_line, known_line, not_known_line, conflict_line, no_conflict_line, product_line, none_line, unsettled_line, offers_text, forced_text, singles_text, several_text}
+use Rattle.vpg_answers.specs.Texts.{verdict_line, other_line, lost_head, lost_line, known_line, not_known_line, conflict_line, no_conflict_line, product_line, none_line, unsettled_line, offers_text, forced_text, singles_text, several_text, moves_word, moves_text, depend_line}
 use Rattle.vpg_answers.specs.Offers.{AreOffers}
 use Rattle.vpg_answers.specs.Repairs.{AreSingles}
 use Rattle.vpg_answers.specs.Room.{RoundsSettle, SearchEnds}
@@ -183,6 +184,33 @@ TellsRepair scene limits vertex decisions hopeful text =
     ⊎ (¬ (slice_index hopeful vertex ≡ top_for Hopeful scene.game)
     × (text ≡ other_line Hopeful (identifier_of scene vertex)))
 
+-- ---- moves
+
+-- The table whose top says that the player wins whose moves are asked for: Even's for the first one, Odd's for the
+-- second.
+abbrev pub verdict_for : (mover : Which) → Which
+verdict_for Hopeful = Dual
+verdict_for Dual = Hopeful
+
+-- Moves that win in each product that is left; or none win against all that may still be there; or the limits leave no
+-- room.
+abbrev pub TellsWinning : Scene → Limits → (mover : Which) → (vertex : ℕ) → List Decision → (text : List ℕ) → Type 0
+TellsWinning scene limits mover vertex decisions text =
+    ((moves : List (Option ℕ)) × AreWinning scene.game scene.lines (choices decisions) mover vertex moves ×
+    (text ≡ moves_text (moves_word mover) scene.identifiers moves))
+    ⊎ (NoneWinsUnder scene.game scene.lines (choices decisions) mover vertex × (text ≡ depend_line (moves_word mover)))
+    ⊎ (¬ (ChoicesSettleInCaution limits.rounds scene.game scene.lines (choices decisions) mover)
+    × (text ≡ unsettled_line))
+
+-- The page's table has the top at the vertex, so that the player wins, and these moves do it; or it hasn't.
+abbrev pub TellsMoves : Scene → Limits → (mover : Which) → (vertex : ℕ) → List Decision → (table text : List ℕ) →
+    Type 0
+TellsMoves scene limits mover vertex decisions table text =
+    ((slice_index table vertex ≡ top_for (verdict_for mover) scene.game)
+    × TellsWinning scene limits mover vertex decisions text)
+    ⊎ (¬ (slice_index table vertex ≡ top_for (verdict_for mover) scene.game)
+    × (text ≡ other_line (verdict_for mover) (identifier_of scene vertex)))
+
 -- ---- any
 
 -- what is asked of a vertex
@@ -200,6 +228,8 @@ TellsOfVertex scene limits questions.Repair vertex decisions hopeful dual text =
     TellsRepair scene limits vertex decisions hopeful text
 TellsOfVertex scene limits (questions.Lost which) vertex decisions hopeful dual text =
     TellsLost scene limits (aims.Won which vertex) decisions text
+TellsOfVertex scene limits (questions.Moves mover) vertex decisions hopeful dual text =
+    TellsMoves scene limits mover vertex decisions (table_in hopeful dual (verdict_for mover)) text
 
 -- what is asked of the page as a whole: what each product has that is left, or which decisions leave none
 abbrev pub TellsOfPage : Scene → Limits → PageQuestion → List Decision → (text : List ℕ) → Type 0

@@ -1,5 +1,5 @@
 -- The texts of answers about a page. This project's own.
-use Rattle.std.specs.Prelude.{ℕ, zero, suc, Bool, true, false, if◌then◌else◌, List, [], ◌∷◌, ◌++◌, length, codes, map, flat_map, slice_index_or}
+use Rattle.std.specs.Prelude.{ℕ, zero, suc, Bool, true, false, if◌then◌else◌, Option, Some, None, List, [], ◌∷◌, ◌++◌, length, codes, count_by, is_some, map, flat_map, slice_index, slice_index_or}
 use Rattle.vpg_diagram.specs.declared.clause.Literal.{Literal}
 use Rattle.vpg_measure.specs.declared.which.Which.{Which}
 use Rattle.vpg_measure.specs.declared.which.Which.TheVariants.{Hopeful, Dual}
@@ -139,3 +139,32 @@ singles_text names listed exact = flat_map (λ d. choice_line (codes "repair") n
 -- decisions that are to be retracted together
 abbrev pub several_text : List (List ℕ) → List Decision → Bool → List ℕ
 several_text names given exact = codes "repair" ++ reason_text names given exact ++ codes "repairs 1\n"
+
+-- ---- moves
+
+-- what the lines of moves begin with: those of Even are a plan, those of Odd spoil
+abbrev pub moves_word : (mover : Which) → List ℕ
+moves_word Hopeful = codes "plan"
+moves_word Dual = codes "spoil"
+
+-- a vertex's identifier, and that of the one to move to
+abbrev pub move_line : (word identifiers : List ℕ) → ℕ → Option ℕ → List ℕ
+move_line word identifiers v None = []
+move_line word identifiers v (Some w) =
+    word ++ blank_number (slice_index identifiers v) ++ blank_number (slice_index identifiers w) ++ 10 ∷ []
+
+-- those of the first n vertices
+abbrev pub move_lines : (word identifiers : List ℕ) → List (Option ℕ) → ℕ → List ℕ
+move_lines word identifiers moves zero = []
+move_lines word identifiers moves (suc n) =
+    move_lines word identifiers moves n ++ move_line word identifiers n (slice_index_or moves n None)
+
+-- moves, and their number
+abbrev pub moves_text : (word identifiers : List ℕ) → List (Option ℕ) → List ℕ
+moves_text word identifiers moves =
+    move_lines word identifiers moves (length moves)
+    ++ word ++ codes "s" ++ blank_number (count_by is_some moves) ++ 10 ∷ []
+
+-- where no moves win against all that may still be there
+abbrev pub depend_line : (word : List ℕ) → List ℕ
+depend_line word = word ++ codes "s depend\n"

@@ -1,1 +1,3 @@
 pub mod Caution
+pub mod Plays
+pub mod Searching

@@ -4,14 +4,16 @@
 //! winner may win otherwise in each product. `winning_moves` finds moves that serve in all of them at once: those by
 //! which the player wins the cautious game (`vpg_hope`), where the player has the edges that are there in each product,
 //! and the opponent all that are there in some. Its table is raised by certified bounds and, where these do not settle
-//! it, by rounds of lifts.
+//! it, by rounds of lifts. Of the moves those are given that a play from the vertex can come to, by a search along them
+//! and all edges of the opponent.
 //!
 //! The layer above answers with them what a verdict rests on. `Which::Hopeful` asks for Even's moves, `Which::Dual` for
 //! Odd's.
 //!
-//! Definitions: `specs/Moves`.
+//! Definitions: `specs/Moves`, `specs/Played`, and `specs/Searched` for the search.
 #![tactic(auto)]
 
+mod reaching;
 mod settling;
 mod winning;
 

@@ -7,6 +7,7 @@ ghost use Rattle.vpg_measure.specs.TwoGames.{levels_for};
 ghost use Rattle.vpg_moves.specs.Moves.{caution_for, AreFound, SettlesInCaution, ChoicesSettleInCaution};
 ghost use Rattle.vpg_why.specs.Explained.{choices};
 
+use crate::reaching::played;
 use crate::settling::{least_table, moves_by};
 use std::alloc::{AllocError, Global};
 use vpg_game::GuardedGame;
@@ -18,7 +19,7 @@ use vpg_why::Limits;
 /// What was found of moves that win in every product that is left.
 #[derive(Drop)]
 pub enum Moves {
-    /// For each vertex the successor to move to, where there is one.
+    /// For each vertex the successor to move to, where it is the player's and a play can come to it; none elsewhere.
     Winning(Vec<Option<u32>>),
     /// No moves win against all that may still be there.
     Nothing,
@@ -34,7 +35,7 @@ fn caution(
     which: Which,
 ) -> Result<Arena, AllocError>
     requires { length known.now ≡ game.now.features }
-    ensures { IfOk result (λ arena. arena ≡ caution_for known.now which game.now) }
+    ensures { IfOk result (λ arena. arena ≡ caution_for known.now which (graph_of game.now)) }
 {
     match which {
         Which::Hopeful => Arena::cautious(alloc, game, known),
@@ -51,12 +52,12 @@ fn table_of(
     arena: &Arena,
     limits: Limits,
 ) -> Result<Option<Table>, AllocError>
-    requires arena { arena.now ≡ caution_for games.now.known which game.now }
+    requires arena { arena.now ≡ caution_for games.now.known which (graph_of game.now) }
     requires levels { games_levels which games.now ≡ levels_for which (graph_of game.now) }
     ensures least { IfOk result (λ found. IfSome found (λ table.
         IsLeastTable (games_levels which games.now) arena.now table)) }
     ensures settled { IfOk result (λ found. IsNone found →
-        SettlesInCaution limits.rounds game.now which games.now.known → ⊥) }
+        SettlesInCaution limits.rounds (graph_of game.now) which games.now.known → ⊥) }
 {
     let again = Shape::of_dual_of_dual(alloc, game)?;
     let dual_shape = match which {
@@ -67,7 +68,7 @@ fn table_of(
     Ok(found)
 }
 
-// The moves that the least progress table of the cautious game gives.
+// The moves that the least progress table of the cautious game gives, as far as a play can come to them.
 fn moves_at(
     alloc: Global,
     order: &Order,
@@ -79,14 +80,17 @@ fn moves_at(
 ) -> Result<Moves, AllocError>
     requires vertex { vertex < length order.now.game.vertices }
     requires games { ArePageGames order.now.game order.now.diagram (choices order.now.decisions) games.now }
-    requires arena { arena.now ≡ caution_for games.now.known which order.now.game }
+    requires arena { arena.now ≡ caution_for games.now.known which (graph_of order.now.game) }
     requires least { IsLeastTable (games_levels which games.now) arena.now table.now }
     ensures found { IfOk result
-        (AreFound order.now.game order.now.diagram (choices order.now.decisions) which vertex) }
+        (AreFound (graph_of order.now.game) order.now.diagram.lines (choices order.now.decisions) which vertex) }
     ensures settled { IfOk result (λ found. found ≢ Moves.Unsettled) }
 {
     match moves_by(alloc, games.shape(which), arena, table, vertex)? {
-        Some(moves) => Ok(Moves::Winning(moves)),
+        Some(moves) => {
+            let played = played(alloc, arena, &moves, vertex)?;
+            Ok(Moves::Winning(played))
+        }
         None => Ok(Moves::Nothing),
     }
 }
@@ -103,11 +107,11 @@ fn moves_in(
 ) -> Result<Moves, AllocError>
     requires vertex { vertex < length order.now.game.vertices }
     requires games { ArePageGames order.now.game order.now.diagram (choices order.now.decisions) games.now }
-    requires arena { arena.now ≡ caution_for games.now.known which order.now.game }
+    requires arena { arena.now ≡ caution_for games.now.known which (graph_of order.now.game) }
     ensures found { IfOk result
-        (AreFound order.now.game order.now.diagram (choices order.now.decisions) which vertex) }
+        (AreFound (graph_of order.now.game) order.now.diagram.lines (choices order.now.decisions) which vertex) }
     ensures settled { IfOk result (λ found.
-        SettlesInCaution limits.rounds order.now.game which games.now.known → found ≢ Moves.Unsettled) }
+        SettlesInCaution limits.rounds (graph_of order.now.game) which games.now.known → found ≢ Moves.Unsettled) }
 {
     match table_of(alloc, order.game(), games, which, arena, limits)? {
         Some(table) => {
@@ -130,9 +134,9 @@ fn moves_under(
     requires vertex { vertex < length order.now.game.vertices }
     requires games { ArePageGames order.now.game order.now.diagram (choices order.now.decisions) games.now }
     ensures found { IfOk result
-        (AreFound order.now.game order.now.diagram (choices order.now.decisions) which vertex) }
+        (AreFound (graph_of order.now.game) order.now.diagram.lines (choices order.now.decisions) which vertex) }
     ensures settled { IfOk result (λ found.
-        SettlesInCaution limits.rounds order.now.game which games.now.known → found ≢ Moves.Unsettled) }
+        SettlesInCaution limits.rounds (graph_of order.now.game) which games.now.known → found ≢ Moves.Unsettled) }
 {
     let arena = caution(alloc, order.game(), games.known(), which)?;
     moves_in(alloc, order, games, which, vertex, &arena, limits)
@@ -153,9 +157,10 @@ pub fn winning_moves(
 ) -> Result<Moves, AllocError>
     requires { vertex < length order.now.game.vertices }
     ensures found { IfOk result
-        (AreFound order.now.game order.now.diagram (choices order.now.decisions) which vertex) }
+        (AreFound (graph_of order.now.game) order.now.diagram.lines (choices order.now.decisions) which vertex) }
     ensures settled { IfOk result (λ found.
-        ChoicesSettleInCaution limits.rounds order.now.game order.now.diagram (choices order.now.decisions) which →
+        ChoicesSettleInCaution limits.rounds (graph_of order.now.game) order.now.diagram.lines
+        (choices order.now.decisions) which →
         found ≢ Moves.Unsettled) }
 {
     let found = moves_under(alloc, order, order.games(), which, vertex, limits)?;

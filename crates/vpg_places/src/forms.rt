@@ -223,7 +223,7 @@ pub static LINES: [Form; 8] = [
 ];
 
 /// The commands of scripts.
-pub static COMMANDS: [Form; 30] = [
+pub static COMMANDS: [Form; 31] = [
     Form {
         word: "select",
         written: "select F",
@@ -324,9 +324,9 @@ pub static COMMANDS: [Form; 30] = [
     },
     Form {
         word: "plan",
-        written: "plan",
-        parts: &[],
-        optional: 0,
+        written: "plan [V]",
+        parts: &[Part::Vertex],
+        optional: 1,
         rest: None,
     },
     Form {
@@ -416,6 +416,13 @@ pub static COMMANDS: [Form; 30] = [
     Form {
         word: "repair",
         written: "repair V",
+        parts: &[Part::Vertex],
+        optional: 0,
+        rest: None,
+    },
+    Form {
+        word: "spoil",
+        written: "spoil V",
         parts: &[Part::Vertex],
         optional: 0,
         rest: None,

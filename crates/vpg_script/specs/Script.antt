@@ -127,6 +127,7 @@ verb_of w =
     else if bytes_eq w (codes "won") then Some verbs.Won
     else if bytes_eq w (codes "forced") then Some verbs.Forced
     else if bytes_eq w (codes "empty") then Some verbs.Empty
+    else if bytes_eq w (codes "spoil") then Some verbs.Spoil
     else None
 
 -- a command without arguments
@@ -179,6 +180,8 @@ asked verbs.Needs w = of_vertex questions.Needs w
 asked verbs.Repair w = of_vertex questions.Repair w
 asked verbs.Lost w = of_vertex (questions.Lost Hopeful) w
 asked verbs.Won w = of_vertex (questions.Lost Dual) w
+asked verbs.Plan w = of_vertex (questions.Moves Hopeful) w
+asked verbs.Spoil w = of_vertex (questions.Moves Dual) w
 asked _ w = None
 
 -- with one

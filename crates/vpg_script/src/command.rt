@@ -57,6 +57,7 @@ pub enum Verb {
     Won,
     Forced,
     Empty,
+    Spoil,
 }
 
 /// What is asked of a vertex.
@@ -74,6 +75,8 @@ pub enum VertexQuestion {
     Repair,
     /// Why in no product that is left Even wins from it, for the first table, or Odd, for the second.
     Lost(Which),
+    /// Moves of Even, for the first table, or Odd, for the second, that win from it in every product that is left.
+    Moves(Which),
 }
 
 /// What is asked of the page as a whole.
@@ -318,6 +321,8 @@ fn verb_named(word: &[u8]) -> Option<Verb>
         Some(Verb::Forced)
     } else if same(word, b"empty") {
         Some(Verb::Empty)
+    } else if same(word, b"spoil") {
+        Some(Verb::Spoil)
     } else {
         None
     }
@@ -357,7 +362,8 @@ fn bare_command<'t>(verb: Verb) -> Option<Command<'t>>
         | Verb::Needs
         | Verb::Repair
         | Verb::Lost
-        | Verb::Won => None,
+        | Verb::Won
+        | Verb::Spoil => None,
     }
 }
 
@@ -408,6 +414,8 @@ fn asked(verb: Verb, word: &[u8]) -> Option<Inquiry>
         Verb::Repair => of_vertex(VertexQuestion::Repair, word),
         Verb::Lost => of_vertex(VertexQuestion::Lost(Which::Hopeful), word),
         Verb::Won => of_vertex(VertexQuestion::Lost(Which::Dual), word),
+        Verb::Plan => of_vertex(VertexQuestion::Moves(Which::Hopeful), word),
+        Verb::Spoil => of_vertex(VertexQuestion::Moves(Which::Dual), word),
         _ => None,
     }
 }

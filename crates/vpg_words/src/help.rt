@@ -50,6 +50,8 @@ harvest's number, N a number):
   offer V                what each further decision would make of V
   needs V                what every product has that is left and won at V
   repair V               what to retract so that V is possible
+  spoil V                moves of Odd that win at V in every product left;
+  plan V                 the same of Even
   forced                 what every product has that is left
   empty                  decisions that leave no product; else the first left
   # ..                   a comment

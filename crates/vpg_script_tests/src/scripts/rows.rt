@@ -639,6 +639,33 @@ static NEEDS_AND_REPAIRS: [Row; 3] = [
     },
 ];
 
+static MOVES: [Row; 2] = [
+    Row {
+        diagram: DIAGRAM,
+        game: GAME,
+        script: "\
+            plan / spoil 0 / plan 0 / exclude f / settle / spoil 0 / 2: spoil 1 / plan 0 / retract f / \
+            select f / settle / plan 0 / 2: plan 1 / spoil 0 / spoil 7 / plan 7",
+        answers: "\
+            refused NotFull / possible 0 / unsure 0 / done 1 / settled 2 / spoils 0 / possible 1 / unsure 0 / \
+            done 2 / done 3 / settled 3 / plan 0 1 / plans 1 / plan 0 1 / plans 1 / possible 0 / \
+            refused NoVertex / refused NoVertex",
+    },
+    // Moves along edges that are open are not made, but met: 0 to 2 and 4 to itself, and 1 to 3.
+    Row {
+        diagram: "root r / optional r a / optional r b / optional r c",
+        game: "0 1 1 1,2[c]; 1 1 0 0,3[a]; 2 0 1 2; 3 1 1 3; 4 0 0 4[b],5; 5 0 0 4,5[c];",
+        script: "\
+            spoil 0 / plan 4 / settle / spoil 0 / spoil 1 / spoil 4 / plan 2 / plan 4 / plan 5 / exclude a / \
+            settle / spoil 0 / select b / settle / plan 4 / plan 5 / plan",
+        answers: "\
+            possible 0 / unsure 4 / settled 6 / spoil 0 1 / spoil 3 3 / spoils 2 / spoil 0 1 / spoil 3 3 / \
+            spoils 2 / possible 4 / plans 0 / plan 4 5 / plan 5 4 / plans 2 / plan 4 5 / plan 5 4 / plans 2 / \
+            done 1 / settled 0 / spoil 0 1 / spoils 1 / done 2 / settled 0 / plan 4 4 / plans 1 / \
+            plan 4 4 / plan 5 4 / plans 2 / refused NotFull",
+    },
+];
+
 #[test]
 fn settling_and_showing(rt: HostRuntime) -> Result<(), Fail> {
     assert_eq!(rt; first_wrong(&rt, rt.alloc(), &SETTLING), None);
@@ -726,6 +753,12 @@ fn decisions_offered(rt: HostRuntime) -> Result<(), Fail> {
 #[test]
 fn needs_and_repairs_told(rt: HostRuntime) -> Result<(), Fail> {
     assert_eq!(rt; first_wrong(&rt, rt.alloc(), &NEEDS_AND_REPAIRS), None);
+    Ok(())
+}
+
+#[test]
+fn moves_told(rt: HostRuntime) -> Result<(), Fail> {
+    assert_eq!(rt; first_wrong(&rt, rt.alloc(), &MOVES), None);
     Ok(())
 }
 

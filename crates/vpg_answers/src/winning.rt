@@ -1,0 +1,166 @@
+//! Moves that win in every product that is left.
+ghost use Rattle.std.specs.Prelude.{◌≡◌, ◌↔◌, ◌<◌, ◌++◌, All, IfSome, IsTrue, OnOk, count_by, is_some, length, slice_index};
+ghost use Rattle.vpg_answers.specs.Answers.{Appends, TellsMoves, TellsWinning, verdict_for};
+ghost use Rattle.vpg_answers.specs.Texts.{depend_line, move_line, move_lines, moves_text, moves_word};
+ghost use Rattle.vpg_game.specs.Game.{graph_of, vertex_ids};
+ghost use Rattle.vpg_measure.specs.Orders.{order_table};
+ghost use Rattle.vpg_measure.specs.TwoGames.{top_for};
+ghost use Rattle.vpg_texts.specs.Scene.{scene_of, table_in};
+
+use crate::lines;
+use crate::reasons::identifier;
+use std::alloc::{AllocError, Global};
+use vpg_measure::{Order, Which};
+use vpg_moves::{Moves, winning_moves};
+use vpg_texts::blank_number;
+use vpg_why::Limits;
+
+/// What the lines of a player's moves begin with.
+fn word_of(mover: Which) -> &'static [u8]
+    ensures { result.now ≡ moves_word mover }
+{
+    match mover {
+        Which::Hopeful => b"plan",
+        Which::Dual => b"spoil",
+    }
+}
+
+/// The table whose top says that the player wins.
+fn verdict_for(mover: Which) -> Which
+    ensures { result ≡ verdict_for mover }
+{
+    match mover {
+        Which::Hopeful => Which::Dual,
+        Which::Dual => Which::Hopeful,
+    }
+}
+
+/// Whether the page's table has the top at the vertex.
+fn has_top(order: &Order, which: Which, vertex: u32) -> bool
+    requires { vertex < length order.now.game.vertices }
+    ensures { IsTrue result ↔
+        (slice_index (order_table which order.now) vertex ≡ top_for which (graph_of order.now.game)) }
+{
+    order.table(which).get(vertex) == order.shape(which).top()
+}
+
+/// The move at a vertex, where there is one.
+fn move_line(
+    word: &[u8],
+    order: &Order,
+    v: u32,
+    to: Option<u32>,
+    out: &mut Vec<u8>,
+) -> Result<(), AllocError>
+    requires v { v < length order.now.game.vertices }
+    requires to { IfSome to (λ w. w < length order.now.game.vertices) }
+    ensures { OnOk result
+        (out.new.items ≡ out.old.items ++ move_line word.now (vertex_ids order.now.game.vertices) v to) }
+{
+    match to {
+        None => Ok(()),
+        Some(w) => {
+            out.extend_from_slice(word)?;
+            blank_number(identifier(order, v) as u64, out)?;
+            blank_number(identifier(order, w) as u64, out)?;
+            out.extend_from_slice(b"\n")
+        }
+    }
+}
+
+/// The moves, in the order of the game.
+fn each(
+    word: &[u8],
+    order: &Order,
+    moves: &[Option<u32>],
+    out: &mut Vec<u8>,
+) -> Result<(), AllocError>
+    requires count { length moves.now ≡ length order.now.game.vertices }
+    requires inside { All (λ m. IfSome m (λ w. w < length order.now.game.vertices)) moves.now }
+    ensures { OnOk result (out.new.items ≡
+        out.old.items ++ move_lines word.now (vertex_ids order.now.game.vertices) moves.now (length moves.now)) }
+{
+    let count = order.game().vertices() as u32;
+    for v in 0..count {
+        move_line(word, order, v, moves[v as usize], out)?;
+    }
+    Ok(())
+}
+
+fn count(moves: &[Option<u32>]) -> usize
+    ensures { result ≡ count_by is_some moves.now }
+{
+    moves.iter().filter(|m| m.is_some()).count()
+}
+
+/// The moves, and their number.
+fn tell(
+    word: &[u8],
+    order: &Order,
+    moves: &[Option<u32>],
+    out: &mut Vec<u8>,
+) -> Result<(), AllocError>
+    requires count { length moves.now ≡ length order.now.game.vertices }
+    requires inside { All (λ m. IfSome m (λ w. w < length order.now.game.vertices)) moves.now }
+    ensures { OnOk result
+        (out.new.items ≡ out.old.items ++ moves_text word.now (vertex_ids order.now.game.vertices) moves.now) }
+{
+    each(word, order, moves, out)?;
+    out.extend_from_slice(word)?;
+    out.extend_from_slice(b"s")?;
+    blank_number(count(moves) as u64, out)?;
+    out.extend_from_slice(b"\n")
+}
+
+/// That no moves win against all that may still be there.
+fn depend(word: &[u8], out: &mut Vec<u8>) -> Result<(), AllocError>
+    ensures { OnOk result (out.new.items ≡ out.old.items ++ depend_line word.now) }
+{
+    out.extend_from_slice(word)?;
+    out.extend_from_slice(b"s depend\n")
+}
+
+/// How a player wins, where the page says so: Even for the first table, Odd for the second.
+fn winning(
+    alloc: Global,
+    order: &Order,
+    mover: Which,
+    vertex: u32,
+    limits: Limits,
+    out: &mut Vec<u8>,
+) -> Result<(), AllocError>
+    requires { vertex < length order.now.game.vertices }
+    ensures { OnOk result (Appends
+        (TellsWinning (scene_of order.now.game order.now.diagram) limits mover vertex order.now.decisions)
+        out.old.items out.new.items) }
+{
+    let word = word_of(mover);
+    match winning_moves(alloc, order, mover, vertex, limits)? {
+        Moves::Winning(moves) => tell(word, order, &moves, out),
+        Moves::Nothing => depend(word, out),
+        Moves::Unsettled => lines::unsettled(out),
+    }
+}
+
+/// Moves by which a player wins from the vertex in every product that is left: Even for the first table, where the page
+/// has the vertex sure, or Odd for the second, where it has it hopeless. Or that it hasn't.
+pub(crate) fn moves(
+    alloc: Global,
+    order: &Order,
+    mover: Which,
+    vertex: u32,
+    limits: Limits,
+    out: &mut Vec<u8>,
+) -> Result<(), AllocError>
+    requires { vertex < length order.now.game.vertices }
+    ensures { OnOk result (Appends
+        (TellsMoves (scene_of order.now.game order.now.diagram) limits mover vertex order.now.decisions
+        (table_in order.now.hopeful order.now.dual (verdict_for mover))) out.old.items out.new.items) }
+{
+    let verdict = verdict_for(mover);
+    if has_top(order, verdict, vertex) {
+        winning(alloc, order, mover, vertex, limits, out)
+    } else {
+        lines::other(verdict, identifier(order, vertex), out)
+    }
+}
