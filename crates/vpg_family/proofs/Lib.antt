@@ -1,3 +1,4 @@
+pub mod Choices
 pub mod Contradictions
 pub mod Counting
 pub mod Naming

@@ -1,9 +1,10 @@
 -- The picture of a family on the page that a script leaves. This project's own.
-use Rattle.std.specs.Prelude.{◌≡◌, ℕ, ◌<◌, Bool, true, false, nat_eq, List, [], ◌++◌, All, length, map, take, codes}
+use Rattle.std.specs.Prelude.{◌≡◌, ℕ, ◌<◌, ◌≤◌, Bool, true, false, nat_eq, List, [], ◌++◌, All, length, map, take, codes}
 use Rattle.std.specs.List.{starts_with}
 use Rattle.vpg_guards.specs.declared.tri.Tri.{Tri}
 use Rattle.vpg_diagram.specs.declared.clause.Literal.{Literal}
 use Rattle.vpg_diagram.specs.DiagramText.{NamedDiagram}
+use Rattle.vpg_diagram.specs.FeatureDiagram.{feature_count}
 use Rattle.vpg_game.specs.Game.{NamedGame}
 use Rattle.vpg_names.specs.Spelled.{Told}
 use Rattle.vpg_partial.specs.Known.{literal_of}
@@ -32,9 +33,10 @@ sight_drawing diagram game sight names = game_drawing diagram.names sight.known 
 -- This is what is drawn of the page in the picture of whose game, without names, something written ends from there on.
 pub record IsSight (diagram : NamedDiagram) (game : NamedGame) (written : List ℕ) (begins : ℕ) (known : List Tri)
     (decisions : List Decision) (verdicts : List Verdict) : Type 0 where
-  pub features : All (λ d. d.feature < game.features) decisions
+  pub features : All (λ d. d.feature < feature_count diagram.lines) decisions
   pub each : length verdicts ≡ length game.vertices
   pub known_is : IsKnownTable diagram.lines (map literal_of decisions) known
+  pub within : begins ≤ length written
   pub written_is : written ≡ take begins written
       ++ sight_drawing diagram game (sight_of known (map literal_of decisions) verdicts) []
 

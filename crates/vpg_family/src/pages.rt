@@ -3,14 +3,14 @@
 //! A run keeps no names of vertices, and writes no picture of a diagram. But its line `draw` tells all that is drawn of
 //! a page. So decisions and verdicts are read from that picture, which is then made once more from them and compared:
 //! where the two differ in a byte nothing is drawn.
-ghost use Rattle.std.specs.Prelude.{◌≡◌, ◌<◌, ◌++◌, [], All, IsTrue, length, map, take, IfOk, IfSome};
+ghost use Rattle.std.specs.Prelude.{◌≡◌, ◌↔◌, ◌<◌, ◌≤◌, ◌++◌, [], All, IsTrue, length, map, take, IfOk, IfSome};
 ghost use Rattle.std.specs.Str.{bytes_eq};
 ghost use Rattle.vpg_diagram.specs.FeatureDiagram.{feature_count};
 ghost use Rattle.vpg_draw.specs.FeatureDrawing.{feature_drawing};
 ghost use Rattle.vpg_draw.specs.GameDrawing.{game_drawing};
 ghost use Rattle.vpg_family.specs.Pages.{sight_of, IsSight, IsNamed, IsSightDrawn, IsRedrawn};
 ghost use Rattle.vpg_partial.specs.Known.{literal_of};
-ghost use Rattle.vpg_partial.specs.TableLaws.{AreChoicesOf, IsKnownTable};
+ghost use Rattle.vpg_partial.specs.TableLaws.{IsKnownTable};
 
 use crate::drawing::Subject;
 use crate::fault::Fault;
@@ -122,16 +122,16 @@ fn last_shown(
     })
 }
 
-/// Whether all decisions are of so many features.
-fn are_of(decisions: &[Decision], features: usize) -> bool
-    ensures { IsTrue result → All (λ d. d.feature < features) decisions.now }
+/// Whether each decision is of one of so many features.
+fn are_below(features: usize, decisions: &[Decision]) -> bool
+    ensures { IsTrue result ↔ All (λ d. d.feature < features) decisions.now }
 {
     decisions.iter().all(|d| (d.feature as usize) < features)
 }
 
 /// What decisions make known, where that is no contradiction.
 fn known_of(alloc: Global, diagram: &Diagram, decisions: &[Decision]) -> Result<Partial, Fault>
-    requires { AreChoicesOf diagram.now.lines (map literal_of decisions.now) }
+    requires { All (λ d. d.feature < feature_count diagram.now.lines) decisions.now }
     ensures { IfOk result (IsKnownTable diagram.now.lines (map literal_of decisions.now)) }
 {
     match known_under(alloc, diagram, decisions) {
@@ -143,7 +143,8 @@ fn known_of(alloc: Global, diagram: &Diagram, decisions: &[Decision]) -> Result<
 
 /// Where the end of a text begins that is another.
 fn end_of(text: &[u8], end: &[u8]) -> Option<usize>
-    ensures { IfSome result (λ at. text.now ≡ take at text.now ++ end.now) }
+    ensures within { IfSome result (λ at. at ≤ length text.now) }
+    ensures end { IfSome result (λ at. text.now ≡ take at text.now ++ end.now) }
 {
     let at = text.len().checked_sub(end.len())?;
     let (_, last) = text.split_at(at);
@@ -168,7 +169,7 @@ fn game_shown(
 ) -> Result<Vec<u8>, AllocError>
     requires features { game.now.features ≡ feature_count diagram.now.lines }
     requires known { length known.now ≡ feature_count diagram.now.lines }
-    requires decisions { All (λ d. d.feature < game.now.features) decisions.now }
+    requires decisions { All (λ d. d.feature < feature_count diagram.now.lines) decisions.now }
     requires verdicts { length verdicts.now ≡ length game.now.vertices }
     ensures { IfOk result (λ picture. picture.items ≡ game_drawing diagram.now.names known.now
         (map literal_of decisions.now) names.now.names verdicts.now game.now) }
@@ -220,9 +221,10 @@ fn begin_of(
 ) -> Result<usize, Fault>
     requires features { game.now.features ≡ feature_count diagram.now.lines }
     requires known { length known.now ≡ feature_count diagram.now.lines }
-    requires decisions { All (λ d. d.feature < game.now.features) shown.now.decisions.items }
+    requires decisions { All (λ d. d.feature < feature_count diagram.now.lines) shown.now.decisions.items }
     requires verdicts { length shown.now.verdicts.items ≡ length game.now.vertices }
-    ensures { IfOk result (λ at. written.now ≡ take at written.now ++ game_drawing diagram.now.names known.now
+    ensures within { IfOk result (λ at. at ≤ length written.now) }
+    ensures end { IfOk result (λ at. written.now ≡ take at written.now ++ game_drawing diagram.now.names known.now
         (map literal_of shown.now.decisions.items) [] shown.now.verdicts.items game.now) }
 {
     let none = VertexNames::none(alloc);
@@ -245,7 +247,8 @@ pub(crate) fn sight_in(
         it.verdicts.items) }
 {
     let shown = last_shown(alloc, diagram.names(), game.vertices(), written)?;
-    if !are_of(&shown.decisions, game.features()) || shown.verdicts.len() != game.vertices() {
+    let are_of_page = shown.verdicts.len() == game.vertices();
+    if !are_of_page || !are_below(diagram.features(), &shown.decisions) {
         return Err(Fault::LogFull);
     }
     let known = known_of(alloc, diagram, &shown.decisions)?;
@@ -297,7 +300,7 @@ fn sight_drawn(
 ) -> Result<Vec<u8>, AllocError>
     requires features { game.now.features ≡ feature_count diagram.now.lines }
     requires known { length sight.now.known ≡ feature_count diagram.now.lines }
-    requires decisions { All (λ d. d.feature < game.now.features) sight.now.decisions.items }
+    requires decisions { All (λ d. d.feature < feature_count diagram.now.lines) sight.now.decisions.items }
     requires verdicts { length sight.now.verdicts.items ≡ length game.now.vertices }
     ensures { IfOk result (λ picture. IsSightDrawn subject diagram.now game.now
         (sight_of sight.now.known (map literal_of sight.now.decisions.items) sight.now.verdicts.items)

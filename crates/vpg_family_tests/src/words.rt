@@ -474,7 +474,7 @@ fn told_texts(rt: HostRuntime) -> Result<(), Fail> {
 /// The most columns of a line of help.
 const COLUMNS: usize = 80;
 
-static HELPS: [&str; 7] = [
+static HELPS: [&str; 9] = [
     "-h",
     "--help",
     "run --help",
@@ -482,6 +482,8 @@ static HELPS: [&str; 7] = [
     "project --help",
     "check --help",
     "draw --help",
+    "desk --help",
+    "lint --help",
 ];
 
 /// Whether something is told of words, and no line of it is wider than a terminal.
