@@ -49,12 +49,16 @@ pub record IsNamed (diagram : NamedDiagram) (game : NamedGame) (names : List (Li
   pub written_is : written ≡ earlier ++ sight_drawing diagram game sight []
   pub text_is : text ≡ earlier ++ sight_drawing diagram game sight names
 
--- The picture of the game is that of the page with the names that the game's text tells, that of the diagram is drawn
--- from its text.
+-- the game on a page is drawn with the names that its text tells
+pub record IsGameSeen (diagram : NamedDiagram) (game : NamedGame) (sight : Sight) (text picture : List ℕ) : Type 0 where
+  pub names : Told
+  pub names_are : TellsNames text names
+  pub picture_is : picture ≡ sight_drawing diagram game sight names.names
+
+-- and the diagram from its text
 abbrev pub IsSightDrawn : Subject → NamedDiagram → NamedGame → Sight →
     (diagram_text game_text picture : List ℕ) → Type 0
-IsSightDrawn Game diagram game sight diagram_text game_text picture =
-    (names : Told) × TellsNames game_text names × (picture ≡ sight_drawing diagram game sight names.names)
+IsSightDrawn Game diagram game sight diagram_text game_text picture = IsGameSeen diagram game sight game_text picture
 IsSightDrawn Features diagram game sight diagram_text game_text picture =
     picture ≡ feature_drawing diagram.names sight.known sight.choices diagram_text
 

@@ -8,7 +8,7 @@ ghost use Rattle.std.specs.Str.{bytes_eq};
 ghost use Rattle.vpg_diagram.specs.FeatureDiagram.{feature_count};
 ghost use Rattle.vpg_draw.specs.FeatureDrawing.{feature_drawing};
 ghost use Rattle.vpg_draw.specs.GameDrawing.{game_drawing};
-ghost use Rattle.vpg_family.specs.Pages.{sight_of, IsSight, IsNamed, IsSightDrawn, IsRedrawn};
+ghost use Rattle.vpg_family.specs.Pages.{sight_of, IsSight, IsNamed, IsGameSeen, IsSightDrawn, IsRedrawn};
 ghost use Rattle.vpg_partial.specs.Known.{literal_of};
 ghost use Rattle.vpg_partial.specs.TableLaws.{IsKnownTable};
 
@@ -55,13 +55,20 @@ pub(crate) struct Seen {
 
 /// The last picture of a game in a text, and what stands behind it.
 fn last_picture(text: &[u8]) -> &[u8] {
-    let begins = |at: &usize| text
-        .get(*at..)
-        .is_some_and(|rest| rest.starts_with(OPENING));
-    match (0..text.len()).rev().find(begins) {
-        Some(at) => text.get(at..).unwrap_or(text),
-        None => text,
+    for at in (0..text.len()).rev() {
+        let rest = &text[at..];
+        if rest.starts_with(OPENING) {
+            return rest;
+        }
     }
+    text
+}
+
+/// What a picture of a game names behind the word `decisions`.
+fn label_of(picture: &[u8]) -> &[u8] {
+    let behind = picture.strip_prefix(OPENING).unwrap_or(picture);
+    let len = behind.iter().take_while(|b| **b != b'"').count();
+    behind.get(..len).unwrap_or(behind)
 }
 
 /// The decision that a word `+F` or `-F` names.
@@ -78,15 +85,13 @@ fn decision_of(names: &Names, word: &[u8]) -> Option<Decision> {
 
 /// The decisions that a picture of a game names.
 fn decisions_of(alloc: Global, names: &Names, picture: &[u8]) -> Result<Vec<Decision>, AllocError> {
-    let behind = picture.get(OPENING.len()..).unwrap_or(&[]);
-    let label = match behind.iter().position(|b| *b == b'"') {
-        Some(end) => behind.get(..end).unwrap_or(behind),
-        None => behind,
-    };
-    label
-        .split(|b| *b == b' ')
-        .filter_map(|word| decision_of(names, word))
-        .collect(alloc)
+    let mut decisions = Vec::new(alloc);
+    for word in label_of(picture).split(|b| *b == b' ') {
+        if let Some(decision) = decision_of(names, word) {
+            decisions.push(decision)?;
+        }
+    }
+    Ok(decisions)
 }
 
 /// The verdict that the line of a vertex shows.
@@ -100,12 +105,16 @@ fn verdict_of(line: &[u8]) -> Verdict {
 
 /// The verdicts that a picture of a game of so many vertices shows.
 fn verdicts_of(alloc: Global, picture: &[u8], vertices: usize) -> Result<Vec<Verdict>, AllocError> {
-    picture
-        .split(|b| *b == b'\n')
-        .skip(HEADING)
-        .take(vertices)
-        .map(|line| verdict_of(line))
-        .collect(alloc)
+    let mut verdicts = Vec::new(alloc);
+    let mut heading = HEADING;
+    for line in picture.split(|b| *b == b'\n') {
+        if heading > 0 {
+            heading -= 1;
+        } else if verdicts.len() < vertices {
+            verdicts.push(verdict_of(line))?;
+        }
+    }
+    Ok(verdicts)
 }
 
 /// What the last picture in a text shows of a page.
@@ -265,7 +274,43 @@ pub(crate) fn sight_in(
     })
 }
 
-/// The same with these names of the game's vertices: what was written before the picture, and the picture with names.
+/// What was written before a picture, and the picture with these names of the game's vertices.
+fn named_behind(
+    alloc: Global,
+    diagram: &Diagram,
+    game: &GuardedGame,
+    names: &VertexNames,
+    seen: &Seen,
+    before: &[u8],
+) -> Result<Vec<u8>, AllocError>
+    requires features { game.now.features ≡ feature_count diagram.now.lines }
+    requires known { length seen.now.known ≡ feature_count diagram.now.lines }
+    requires decisions { All (λ d. d.feature < feature_count diagram.now.lines) seen.now.decisions.items }
+    requires verdicts { length seen.now.verdicts.items ≡ length game.now.vertices }
+    ensures { IfOk result (λ text. text.items ≡ before.now ++ game_drawing diagram.now.names seen.now.known
+        (map literal_of seen.now.decisions.items) names.now.names seen.now.verdicts.items game.now) }
+{
+    let (decisions, verdicts) = (seen.decisions.as_slice(), seen.verdicts.as_slice());
+    let mut text = Vec::from_slice(alloc, before)?;
+    match game_shown(
+        alloc,
+        diagram,
+        game,
+        &seen.known,
+        decisions,
+        verdicts,
+        names,
+    ) {
+        Ok(picture) => {
+            text.extend_from_slice(&picture)?;
+            Ok(text)
+        }
+        Err(fault) => Err(fault),
+    }
+}
+
+/// What was written, with these names of the game's vertices in the picture in which it ends.
+#[tactic(auto, using(crate::proofs::Pages::named))]
 pub(crate) fn with_names(
     alloc: Global,
     diagram: &Diagram,
@@ -276,59 +321,78 @@ pub(crate) fn with_names(
     requires { game.now.features ≡ feature_count diagram.now.lines }
     ensures { IfOk result (λ text. IsNamed diagram.now game.now names.now.names written.now text.items) }
 {
-    let sight = sight_in(alloc, diagram, game, written)?;
-    let Seen {
-        decisions,
-        verdicts,
-        known,
-        begins,
-    } = &sight;
-    let picture = game_shown(alloc, diagram, game, known, decisions, verdicts, names)?;
-    let mut text = Vec::from_slice(alloc, &written[..*begins])?;
-    text.extend_from_slice(&picture)?;
-    Ok(text)
+    let seen = sight_in(alloc, diagram, game, written)?;
+    let (before, _) = written.split_at(seen.begins);
+    match named_behind(alloc, diagram, game, names, &seen, before) {
+        Ok(text) => Ok(text),
+        Err(_) => Err(Fault::Memory),
+    }
 }
 
-/// The picture of a page of which this is drawn.
+/// The picture of a game on a page, with the names that its text tells.
+fn game_seen(
+    alloc: Global,
+    diagram: &Diagram,
+    game: &GuardedGame,
+    seen: &Seen,
+    text: &[u8],
+) -> Result<Vec<u8>, AllocError>
+    requires features { game.now.features ≡ feature_count diagram.now.lines }
+    requires known { length seen.now.known ≡ feature_count diagram.now.lines }
+    requires decisions { All (λ d. d.feature < feature_count diagram.now.lines) seen.now.decisions.items }
+    requires verdicts { length seen.now.verdicts.items ≡ length game.now.vertices }
+    ensures { IfOk result (λ picture. IsGameSeen diagram.now game.now
+        (sight_of seen.now.known (map literal_of seen.now.decisions.items) seen.now.verdicts.items) text.now
+        picture.items) }
+{
+    let names = VertexNames::read(alloc, text)?;
+    let (decisions, verdicts) = (seen.decisions.as_slice(), seen.verdicts.as_slice());
+    match game_shown(
+        alloc,
+        diagram,
+        game,
+        &seen.known,
+        decisions,
+        verdicts,
+        &names,
+    ) {
+        Ok(picture) => Ok(picture),
+        Err(fault) => Err(fault),
+    }
+}
+
+/// The picture of a page of which this is seen.
 fn sight_drawn(
     alloc: Global,
     subject: Subject,
     diagram: &Diagram,
     game: &GuardedGame,
-    sight: &Seen,
+    seen: &Seen,
     texts: &Texts,
 ) -> Result<Vec<u8>, AllocError>
     requires features { game.now.features ≡ feature_count diagram.now.lines }
-    requires known { length sight.now.known ≡ feature_count diagram.now.lines }
-    requires decisions { All (λ d. d.feature < feature_count diagram.now.lines) sight.now.decisions.items }
-    requires verdicts { length sight.now.verdicts.items ≡ length game.now.vertices }
+    requires known { length seen.now.known ≡ feature_count diagram.now.lines }
+    requires decisions { All (λ d. d.feature < feature_count diagram.now.lines) seen.now.decisions.items }
+    requires verdicts { length seen.now.verdicts.items ≡ length game.now.vertices }
     ensures { IfOk result (λ picture. IsSightDrawn subject diagram.now game.now
-        (sight_of sight.now.known (map literal_of sight.now.decisions.items) sight.now.verdicts.items)
+        (sight_of seen.now.known (map literal_of seen.now.decisions.items) seen.now.verdicts.items)
         texts.now.diagram.items texts.now.game.items picture.items) }
 {
     match subject {
-        Subject::Game => {
-            let names = VertexNames::read(alloc, &texts.game)?;
-            let (decisions, verdicts) = (sight.decisions.as_slice(), sight.verdicts.as_slice());
-            game_shown(
-                alloc,
-                diagram,
-                game,
-                &sight.known,
-                decisions,
-                verdicts,
-                &names,
-            )
-        }
+        Subject::Game => match game_seen(alloc, diagram, game, seen, &texts.game) {
+            Ok(picture) => Ok(picture),
+            Err(fault) => Err(fault),
+        },
         Subject::Features => {
-            let decisions = sight.decisions.as_slice();
-            features_shown(alloc, diagram, &sight.known, decisions, &texts.diagram)
+            let decisions = seen.decisions.as_slice();
+            features_shown(alloc, diagram, &seen.known, decisions, &texts.diagram)
         }
     }
 }
 
 /// The picture of the page that a script left, of a family with these texts, from what the script wrote. Its last
 /// answer is the picture of the page's game without names. `LogFull` comes where it is none.
+#[tactic(auto, using(crate::proofs::Pages::redrawn))]
 pub fn redrawn(
     alloc: Global,
     subject: Subject,
@@ -341,8 +405,8 @@ pub fn redrawn(
     ensures { IfOk result (λ picture. IsRedrawn subject diagram.now game.now texts.now.diagram.items
         texts.now.game.items written.now picture.items) }
 {
-    let sight = sight_in(alloc, diagram, game, written)?;
-    match sight_drawn(alloc, subject, diagram, game, &sight, texts) {
+    let seen = sight_in(alloc, diagram, game, written)?;
+    match sight_drawn(alloc, subject, diagram, game, &seen, texts) {
         Ok(picture) => Ok(picture),
         Err(_) => Err(Fault::Memory),
     }

@@ -1,6 +1,5 @@
 //! Pictures among answers, with the names of vertices.
-ghost use Rattle.std.specs.Prelude.{◌≡◌, ◌×◌, ℕ, List, None, false, nat_eq, codes, OnOk};
-ghost use Rattle.std.specs.List.{starts_with};
+ghost use Rattle.std.specs.Prelude.{◌≡◌, ℕ, List, None, false, OnOk};
 ghost use Rattle.std.specs.Io.KnownBytes.{Appends};
 ghost use Rattle.vpg_diagram.specs.FeatureDiagram.{feature_count};
 ghost use Rattle.vpg_family.specs.Pages.{is_picture, IsPictured};

@@ -21,6 +21,7 @@ fn with_draw(alloc: Global, script: &[u8]) -> Result<Vec<u8>, AllocError>
 }
 
 /// What an office of a family writes for the lines of a script and a line `draw` behind them, and how they end.
+#[tactic(auto, using(crate::proofs::Draws::written))]
 fn answered<T: Threads + Wait + Sync>(
     rt: &T,
     alloc: Global,
@@ -38,11 +39,14 @@ fn answered<T: Threads + Wait + Sync>(
         is_strict: false,
         goes_on: false,
     };
-    let ending = run_script(rt, alloc, family, &mut reader, &mut writer, 1, plain)?;
-    Ok((ending, writer.into_writer()))
+    match run_script(rt, alloc, family, &mut reader, &mut writer, 1, plain) {
+        Ok(ending) => Ok((ending, writer.into_writer())),
+        Err(fault) => Err(fault),
+    }
 }
 
 /// The picture of a family, of which these are the texts, on the page that a script leaves, and how the script ends.
+#[tactic(auto, using(crate::proofs::Draws::drawn))]
 pub(crate) fn drawn_after<T: Threads + Wait + Sync>(
     rt: &T,
     alloc: Global,
@@ -58,6 +62,8 @@ pub(crate) fn drawn_after<T: Threads + Wait + Sync>(
     let game = family.game.clone()?;
     let diagram = family.diagram.clone()?;
     let (ending, written) = answered(rt, alloc, family, script)?;
-    let picture = redrawn(alloc, subject, &diagram, &game, texts, &written)?;
-    Ok((ending, picture))
+    match redrawn(alloc, subject, &diagram, &game, texts, &written) {
+        Ok(picture) => Ok((ending, picture)),
+        Err(fault) => Err(fault),
+    }
 }
