@@ -91,9 +91,10 @@ def typed(command, lines, work, environment):
         os.chdir(work)
         os.execvpe("sh", ["sh", "-c", command], environment)
     fcntl.ioctl(terminal, termios.TIOCSWINSZ, struct.pack("HHHH", 24, 80, 0, 0))
-    left, shown = [line.encode() + b"\n" for line in lines], b""
+    left, shown, seen = [line.encode() + b"\n" for line in lines], b"", 0
     while True:
-        ready, _, _ = select.select([terminal], [], [], 0 if shown.endswith(b"> ") else 2)
+        is_asked = len(shown) > seen and shown.endswith(b"> ")
+        ready, _, _ = select.select([terminal], [], [], 0 if is_asked else 2)
         if ready:
             try:
                 more = os.read(terminal, 65536)
@@ -103,6 +104,7 @@ def typed(command, lines, work, environment):
                 break
             shown += more
         else:
+            seen = len(shown)
             os.write(terminal, left.pop(0) if left else b"\x04")
     os.waitpid(child, 0)
     os.close(terminal)
