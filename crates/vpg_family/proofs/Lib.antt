@@ -2,4 +2,4 @@ pub mod Choices
 pub mod Contradictions
 pub mod Counting
 pub mod Naming
-pub mod Redrawn
+pub mod Sights

@@ -310,7 +310,7 @@ fn named_behind(
 }
 
 /// What was written, with these names of the game's vertices in the picture in which it ends.
-#[tactic(auto, using(crate::proofs::Redrawn::named))]
+#[tactic(auto, using(crate::proofs::Sights::named))]
 pub(crate) fn with_names(
     alloc: Global,
     diagram: &Diagram,
@@ -392,7 +392,7 @@ fn sight_drawn(
 
 /// The picture of the page that a script left, of a family with these texts, from what the script wrote. Its last
 /// answer is the picture of the page's game without names. `LogFull` comes where it is none.
-#[tactic(auto, using(crate::proofs::Redrawn::redrawn))]
+#[tactic(auto, using(crate::proofs::Sights::redrawn))]
 pub fn redrawn(
     alloc: Global,
     subject: Subject,
