@@ -9,10 +9,10 @@ use Rattle.vpgdesk.specs.Runs.{IsRun}
 use Rattle.vpgdesk.specs.Draws.{drawing_script, plain, AreWritten, IsDrawnAfter}
 
 -- devices that hold the script and nothing before the run, and what was written after it
-pub written : (diagram : NamedDiagram) (game : NamedGame) (script written : List ℕ) (ending : Ending) (input rest before after : Option (List ℕ))
+pub is_written : (diagram : NamedDiagram) (game : NamedGame) (script written : List ℕ) (ending : Ending) (input rest before after : Option (List ℕ))
     → IsRun plain diagram game 1 input rest before after (Ok ending)
     → input ≡ Some (drawing_script script) → before ≡ Some [] → Some written ≡ after → AreWritten diagram game script ending written
-written diagram game script written ending input rest before after run of_script empty is = (
+is_written diagram game script written ending input rest before after run of_script empty is = (
   rest,
   subst (λ (i : Option (List ℕ)). IsRun plain diagram game 1 i rest (Some []) (Some written) (Ok ending)) of_script
       (subst (λ (b : Option (List ℕ)). IsRun plain diagram game 1 input rest b (Some written) (Ok ending)) empty

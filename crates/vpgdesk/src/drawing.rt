@@ -21,7 +21,7 @@ fn with_draw(alloc: Global, script: &[u8]) -> Result<Vec<u8>, AllocError>
 }
 
 /// What an office of a family writes for the lines of a script and a line `draw` behind them, and how they end.
-#[tactic(auto, using(crate::proofs::Draws::written))]
+#[tactic(auto, using(crate::proofs::Draws::is_written))]
 fn answered<T: Threads + Wait + Sync>(
     rt: &T,
     alloc: Global,
