@@ -6,14 +6,21 @@
     python3 bench/tutorial.py --list        names the steps, and runs nothing
 
 A step is a file or a command. A file is an indented block after a paragraph that ends in "a file `NAME`:". A command is
-an indented line that begins with `$`; the lines below it are its answer, in which `..` stands for any lines. All is
-done in a new folder beside a link to `examples`. Answers that differ are printed, and the script ends with 1 then.
+an indented line that begins with `$`; the lines below it are its answer, in which `..` stands for any lines. Where an
+answer has lines that begin with `> ` they are typed at a terminal of 80 columns, each when it is asked for; so is the
+end of input behind `vpgdesk` alone. All is done in a new folder beside a link to `examples`. Answers that differ, and
+lines of a terminal that are wider, are printed, and the script ends with 1 then.
 """
+import fcntl
 import os
+import pty
 import re
+import select
+import struct
 import subprocess
 import sys
 import tempfile
+import termios
 
 ROOT = os.path.dirname(os.path.dirname(os.path.abspath(__file__)))
 TEXT = f"{ROOT}/docs/TUTORIAL.md"
@@ -72,6 +79,43 @@ def is_answer(expected, found):
     return re.fullmatch(pattern, "".join(line + "\n" for line in found)) is not None
 
 
+def is_typed(command, answer):
+    """Whether a step is done at a terminal."""
+    return command == "vpgdesk" or any(line.startswith("> ") for line in answer)
+
+
+def typed(command, lines, work, environment):
+    """What a terminal of 80 columns shows behind a command, where these lines are typed, and then the end of input."""
+    child, terminal = pty.fork()
+    if child == 0:
+        os.chdir(work)
+        os.execvpe("sh", ["sh", "-c", command], environment)
+    fcntl.ioctl(terminal, termios.TIOCSWINSZ, struct.pack("HHHH", 24, 80, 0, 0))
+    left, shown, seen = [line.encode() + b"\n" for line in lines], b"", 0
+    while True:
+        is_asked = len(shown) > seen and shown.endswith(b"> ")
+        ready, _, _ = select.select([terminal], [], [], 0 if is_asked else 2)
+        if ready:
+            try:
+                more = os.read(terminal, 65536)
+            except OSError:
+                more = b""
+            if not more:
+                break
+            shown += more
+        else:
+            seen = len(shown)
+            os.write(terminal, left.pop(0) if left else b"\x04")
+    os.waitpid(child, 0)
+    os.close(terminal)
+    return shown.decode().replace("\r\n", "\n").replace("^D\x08\x08", "")
+
+
+def wide(text):
+    """The lines that a terminal of 80 columns breaks."""
+    return [line for line in text.split("\n") if len(line) > 80]
+
+
 def follow(program):
     """Does each step, and yields what goes wrong."""
     with tempfile.TemporaryDirectory() as top:
@@ -91,6 +135,15 @@ def follow(program):
                     it.write(rest)
                 continue
             asked = {**os.environ, "PATH": f"{tools}:{os.environ['PATH']}"}
+            if is_typed(head, rest):
+                if not program:
+                    print(f"left out: {head}, at a terminal")
+                    continue
+                shown = typed(head, [line[2:] for line in rest if line.startswith("> ")], work, asked)
+                found = shown.rstrip("\n").split("\n")
+                if not is_answer(rest, found) or wide(shown):
+                    yield "\n".join([f"$ {head}", "expected:", *rest, "shown:", shown, "too wide:", *wide(shown)])
+                continue
             ran = subprocess.run(
                 ["sh", "-c", head], cwd=work, env=asked, stdout=subprocess.PIPE, stderr=subprocess.STDOUT, text=True
             )

@@ -1,3 +1,5 @@
+pub mod Choices
 pub mod Contradictions
 pub mod Counting
 pub mod Naming
+pub mod Sights

@@ -64,6 +64,7 @@ fault_text told.Write = codes "Write"
 fault_text (told.UnknownFeature name) = codes "UnknownFeature " ++ map shown_byte (string_bytes name)
 fault_text told.NotAProduct = codes "NotAProduct"
 fault_text told.Memory = codes "Memory"
+fault_text told.LogFull = codes "script LogFull"
 fault_text told.Stray = codes "script Stray"
 
 -- `vpgdesk: `, the fault, and a line feed

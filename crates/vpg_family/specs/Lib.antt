@@ -1,4 +1,5 @@
 pub mod Counts
 pub mod Families
 pub mod Faults
+pub mod Pages
 pub mod Pictures

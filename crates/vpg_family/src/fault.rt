@@ -30,6 +30,8 @@ pub enum Fault {
     /// The features that were named are no product.
     NotAProduct,
     Memory,
+    /// The line `draw` behind a script was refused, since the log was full.
+    LogFull,
     /// The office of a run had a call that no line of its script made.
     Stray,
 }

@@ -87,12 +87,29 @@ pub fn read_family<R: Files + AllocGlobal>(
     }
 }
 
+/// What is told of a script that cannot be opened, or read as a whole.
+fn no_script(error: Error) -> Fault
+    ensures { (result ≡ Fault.Memory) ⊎ (result ≡ Fault.ScriptUnreadable) }
+{
+    unreadable(error, Fault::ScriptUnreadable)
+}
+
 /// A script that is to be read.
 pub fn open_script<R: Files>(rt: &R, path: &str) -> Result<R::File, Fault>
     ensures refused { IfErr result (λ fault. (fault ≡ Fault.Memory) ⊎ (fault ≡ Fault.ScriptUnreadable)) }
 {
     match File::open(rt, path) {
         Ok(file) => Ok(file),
-        Err(error) => Err(unreadable(error, Fault::ScriptUnreadable)),
+        Err(error) => Err(no_script(error)),
+    }
+}
+
+/// The text of a script that is read as a whole.
+pub fn read_script<R: Files + AllocGlobal>(rt: &R, path: &str) -> Result<Vec<u8>, Fault>
+    ensures refused { IfErr result (λ fault. (fault ≡ Fault.Memory) ⊎ (fault ≡ Fault.ScriptUnreadable)) }
+{
+    match fs::read(rt, path) {
+        Ok(text) => Ok(text),
+        Err(error) => Err(no_script(error)),
     }
 }

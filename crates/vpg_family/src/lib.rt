@@ -2,12 +2,14 @@
 //!
 //! `read_family` takes the files of a diagram and a game. A `Family` counts itself (`counted`) and gives the plain game
 //! of one product (`projected`); `drawn` gives a picture of two texts, and `linted` warns of what looks wrong in them.
+//! `redrawn` gives the picture of a page that a script left, from what the script wrote, and `Pictured` is a sink that
+//! passes answers on with the names of vertices in pictures.
 //! Each fault of the program is a `Fault`, `line_of` is the line that tells of it, and `explained` are lines that say
 //! where and why.
 //! The crate knows no desk: scripts are carried out above it.
 //!
-//! `specs/Families` says which texts spell a family and which words name a product, `specs/Counts`, `specs/Pictures` and `specs/Faults` what is
-//! written. All are this project's own.
+//! `specs/Families` says which texts spell a family and which words name a product, `specs/Counts`, `specs/Pictures`,
+//! `specs/Pages` and `specs/Faults` what is written. All are this project's own.
 #![tactic(auto)]
 
 mod counts;
@@ -17,12 +19,16 @@ mod family;
 mod fault;
 mod files;
 mod linting;
+mod pages;
+mod pictured;
 mod telling;
 
 pub use drawing::{Subject, drawn};
 pub use explaining::explained;
 pub use family::{Family, conflict};
 pub use fault::Fault;
-pub use files::{Paths, Texts, open_script, read_family, read_texts};
+pub use files::{Paths, Texts, open_script, read_family, read_script, read_texts};
 pub use linting::linted;
+pub use pages::redrawn;
+pub use pictured::Pictured;
 pub use telling::line_of;

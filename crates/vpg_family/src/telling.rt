@@ -131,6 +131,7 @@ fn put_fault(fault: &Fault, out: &mut Vec<u8>) -> Result<(), AllocError>
         Fault::UnknownFeature { name } => put_unknown(name.as_bytes(), out),
         Fault::NotAProduct => out.extend_from_slice(b"NotAProduct"),
         Fault::Memory => out.extend_from_slice(b"Memory"),
+        Fault::LogFull => out.extend_from_slice(b"script LogFull"),
         Fault::Stray => out.extend_from_slice(b"script Stray"),
     }
 }

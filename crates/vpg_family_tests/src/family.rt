@@ -3,6 +3,7 @@
 mod explained;
 mod faults;
 mod files;
+mod pages;
 
 /// A root with two features, each of which may be left out.
 const DIAGRAM: &str = "root r\noptional r f\noptional r g\n";

@@ -1,9 +1,11 @@
-//! Tests of families in two files and of the words that the program is called with.
+//! Tests of families in two files, of the words that the program is called with, and of lines that are typed.
 //!
 //! A crate that has tests is proved once more with them, so the tests of the crates below stand here, in a crate that has nothing else.
 #![tactic(auto)]
 
 #[cfg(test)]
 mod family;
+#[cfg(test)]
+mod typing;
 #[cfg(test)]
 mod words;

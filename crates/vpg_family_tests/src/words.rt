@@ -18,6 +18,8 @@ enum Taken {
     Project(usize),
     Check,
     Draw(Subject),
+    /// On the page that a script leaves.
+    DrawAfter(Subject),
     Lint,
     /// Its faults are explained, with so many lifters.
     Explained(u32),
@@ -33,7 +35,7 @@ struct Call {
     taken: Taken,
 }
 
-static CALLS: [Call; 56] = [
+static CALLS: [Call; 59] = [
     Call {
         words: "",
         taken: Taken::BuiltIn,
@@ -111,7 +113,19 @@ static CALLS: [Call; 56] = [
         taken: Taken::Draw(Subject::Features),
     },
     Call {
-        words: "draw g d f",
+        words: "draw g d s",
+        taken: Taken::DrawAfter(Subject::Game),
+    },
+    Call {
+        words: "draw g --features d s",
+        taken: Taken::DrawAfter(Subject::Features),
+    },
+    Call {
+        words: "draw g d s x",
+        taken: Taken::Wrong,
+    },
+    Call {
+        words: "draw g d s --names",
         taken: Taken::Wrong,
     },
     Call {
@@ -293,6 +307,11 @@ fn task_taken(task: &Task<'_>) -> Taken {
         Task::Project { features, .. } => Taken::Project(features.len()),
         Task::Check { .. } => Taken::Check,
         Task::Lint { .. } => Taken::Lint,
+        Task::Draw {
+            subject,
+            script: Some(script),
+            ..
+        } if *script == "s" => Taken::DrawAfter(*subject),
         Task::Draw { subject, .. } => Taken::Draw(*subject),
     }
 }
@@ -455,7 +474,7 @@ fn told_texts(rt: HostRuntime) -> Result<(), Fail> {
 /// The most columns of a line of help.
 const COLUMNS: usize = 80;
 
-static HELPS: [&str; 7] = [
+static HELPS: [&str; 9] = [
     "-h",
     "--help",
     "run --help",
@@ -463,6 +482,8 @@ static HELPS: [&str; 7] = [
     "project --help",
     "check --help",
     "draw --help",
+    "desk --help",
+    "lint --help",
 ];
 
 /// Whether something is told of words, and no line of it is wider than a terminal.

@@ -92,6 +92,8 @@ pub(crate) const DIAGRAM_HELP: &str =
 
 pub(crate) const SCRIPT_HELP: &str = "One command a line, as `select f`, `settle` or `show`";
 
+pub(crate) const DRAWN_SCRIPT_HELP: &str = "Draw the page that the lines of this file leave";
+
 pub(crate) const LIFTERS_HELP: &str = "How many threads raise the tables, 1 to 64";
 
 pub(crate) const STRICT_HELP: &str = "End at the first line that is refused, with status 3";

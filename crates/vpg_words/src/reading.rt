@@ -1,7 +1,7 @@
 //! How words are read.
 use crate::help::{
-    ABOUT, AFTER, DIAGRAM_HELP, EXPLAIN_HELP, FEATURE_HELP, FEATURES_HELP, GAME_HELP,
-    KEEP_GOING_HELP, LIFTERS_HELP, NAMES_HELP, SCRIPT_HELP, SHORT_AFTER, STRICT_HELP,
+    ABOUT, AFTER, DIAGRAM_HELP, DRAWN_SCRIPT_HELP, EXPLAIN_HELP, FEATURE_HELP, FEATURES_HELP,
+    GAME_HELP, KEEP_GOING_HELP, LIFTERS_HELP, NAMES_HELP, SCRIPT_HELP, SHORT_AFTER, STRICT_HELP,
 };
 use crate::task::{Asked, Task};
 use clap::builder::ValueParser;
@@ -79,11 +79,9 @@ fn project_command<'a>(alloc: Global) -> Result<Command<'a>, AllocError> {
 }
 
 fn draw_command<'a>(alloc: Global) -> Result<Command<'a>, AllocError> {
-    explaining(alloc, "draw", "Draws the game as a Graphviz text")?.arg(flag(
-        alloc,
-        "features",
-        FEATURES_HELP,
-    ))
+    explaining(alloc, "draw", "Draws the game as a Graphviz text")?
+        .arg(Arg::new(alloc, "SCRIPT").help(DRAWN_SCRIPT_HELP))?
+        .arg(flag(alloc, "features", FEATURES_HELP))
 }
 
 /// A command, and one more within it.
@@ -223,6 +221,7 @@ fn task_of<'a>(
         "draw" => Ok(Some(Task::Draw {
             paths,
             subject: subject(matches),
+            script: matches.get_str("SCRIPT"),
         })),
         _ => Ok(None),
     }

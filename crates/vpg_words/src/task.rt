@@ -48,10 +48,11 @@ pub enum Task<'a> {
     Lint {
         paths: Paths<'a>,
     },
-    /// A picture of a family.
+    /// A picture of a family, on the page that a script leaves where there is one.
     Draw {
         paths: Paths<'a>,
         subject: Subject,
+        script: Option<&'a str>,
     },
 }
 
@@ -73,6 +74,7 @@ impl<'a> Task<'a> {
     pub fn script(&self) -> Option<&'a str> {
         match self {
             Task::Run { script, .. } => Some(*script),
+            Task::Draw { script, .. } => *script,
             _ => None,
         }
     }

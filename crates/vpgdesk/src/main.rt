@@ -3,7 +3,8 @@
 //! Without words it reads a script of commands from standard input, carries it out on a desk over the game and the
 //! diagram that are built in, and writes the answers to standard output. `run` does so with the files of a game, a
 //! diagram and a script, `project` writes the plain game of one product, `check` counts a game and tells its top
-//! measures, `lint` warns of what looks wrong in a family, and `draw` writes a picture.
+//! measures, `lint` warns of what looks wrong in a family, and `draw` writes a picture, of the page that a script leaves
+//! where one is named.
 //!
 //! The status is 0; 1 where the input is refused or something fails, and then one line on standard error, `vpgdesk: `
 //! and the fault, says what, and with `--explain` further lines behind it say where and why; 2 where the words are
@@ -17,11 +18,13 @@ ghost use Rattle.std.specs.Arc.{arc_value};
 ghost use Rattle.std.specs.Prelude.{◌≡◌, ◌≤◌, true, Err, IfOk, OnOk, OnErr};
 ghost use Rattle.vpg_diagram.specs.FeatureDiagram.{feature_count};
 
+mod drawing;
 mod ending;
 mod running;
 #[cfg(test)]
 mod tests;
 
+use crate::drawing::drawn_after;
 use crate::ending::{End, ended, refused_line, status};
 use crate::running::run_script;
 use clap::error::ErrorKind;
@@ -29,12 +32,13 @@ use std::alloc::{AllocError, Global};
 use std::cell::Cell;
 use std::io::IsTerminal;
 use std::process::ExitCode;
-use std::sync::Wait;
+use std::sync::{Arc, Wait};
 use std::thread::Threads;
 use std::{env, io};
+use vpg_diagram::Diagram;
 use vpg_family::{
-    Family, Fault, Paths, Subject, drawn, explained, line_of, linted, open_script, read_family,
-    read_texts,
+    Family, Fault, Paths, Pictured, Subject, drawn, explained, line_of, linted, open_script,
+    read_family, read_script, read_texts,
 };
 use vpg_game::GuardedGame;
 use vpg_names::VertexNames;
@@ -102,36 +106,35 @@ fn read_named(
     Ok((family, names))
 }
 
-/// Carries a script of a file out on a family, with the names of vertices beside its answers.
-fn run_named<T: Threads + Wait + Sync>(
+/// The game and the diagram of a family once more.
+fn shared(family: &Family) -> Result<(Arc<GuardedGame>, Arc<Diagram>), AllocError>
+    ensures game { IfOk result (λ both. arc_value both.0 ≡ arc_value family.now.game) }
+    ensures diagram { IfOk result (λ both. arc_value both.1 ≡ arc_value family.now.diagram) }
+{
+    Ok((family.game.clone()?, family.diagram.clone()?))
+}
+
+/// Carries a script of a file out on a family.
+fn run_file<T: Threads + Wait + Sync, W: Sink>(
     rt: &HostRuntime,
     threads: &T,
     alloc: Global,
-    paths: Paths<'_>,
+    family: Family,
     script: &str,
+    writer: &mut W,
     lifters: u32,
     manner: Manner,
 ) -> Result<End, Fault>
-    requires { (1 ≤ lifters) × (lifters ≤ 64) }
+    requires lifters { (1 ≤ lifters) × (lifters ≤ 64) }
+    requires features { (arc_value family.game).features ≡ feature_count (arc_value family.diagram).lines }
 {
-    let (family, names) = read_named(rt, alloc, paths)?;
-    let game = family.game.clone()?;
     let mut reader = Device::reader(open_script(rt, script)?);
-    let mut writer = Named::new(alloc, &game, &names, Device::writer(rt.stdout().lock()));
-    let ending = run_script(
-        threads,
-        alloc,
-        family,
-        &mut reader,
-        &mut writer,
-        lifters,
-        manner,
-    )?;
+    let ending = run_script(threads, alloc, family, &mut reader, writer, lifters, manner)?;
     Ok(ended(ending))
 }
 
-/// The same without names.
-fn run_bare<T: Threads + Wait + Sync>(
+/// Carries a script of a file out on a family of two files, with the names of vertices beside its answers or without.
+fn run_files<T: Threads + Wait + Sync>(
     rt: &HostRuntime,
     threads: &T,
     alloc: Global,
@@ -139,22 +142,32 @@ fn run_bare<T: Threads + Wait + Sync>(
     script: &str,
     lifters: u32,
     manner: Manner,
+    shows_names: bool,
 ) -> Result<End, Fault>
     requires { (1 ≤ lifters) × (lifters ≤ 64) }
 {
+    if shows_names {
+        let (family, names) = read_named(rt, alloc, paths)?;
+        let (game, diagram) = shared(&family)?;
+        let writer = Device::writer(rt.stdout().lock());
+        let writer = Pictured::new(alloc, &diagram, &game, &names, writer);
+        let mut named = Named::new(alloc, &game, &names, writer);
+        return run_file(
+            rt, threads, alloc, family, script, &mut named, lifters, manner,
+        );
+    }
     let family = read_family(rt, alloc, paths)?;
-    let mut reader = Device::reader(open_script(rt, script)?);
     let mut writer = Device::writer(rt.stdout().lock());
-    let ending = run_script(
+    run_file(
+        rt,
         threads,
         alloc,
         family,
-        &mut reader,
+        script,
         &mut writer,
         lifters,
         manner,
-    )?;
-    Ok(ended(ending))
+    )
 }
 
 /// The identifier where a game starts, where it is that of a vertex.
@@ -219,10 +232,11 @@ fn sit<T: Threads + Wait + Sync>(
     requires { (1 ≤ lifters) × (lifters ≤ 64) }
 {
     let (family, names) = read_named(rt, alloc, paths)?;
-    let game = family.game.clone()?;
+    let (game, diagram) = shared(&family)?;
     let start = start_of(&names, &game);
     let writer = Device::writer(rt.stdout().lock());
     if shows_names {
+        let writer = Pictured::new(alloc, &diagram, &game, &names, writer);
         let writer = Named::new(alloc, &game, &names, writer);
         return converse(rt, threads, alloc, family, start, lifters, writer);
     }
@@ -234,6 +248,23 @@ fn draw(rt: &HostRuntime, alloc: Global, paths: Paths<'_>, subject: Subject) -> 
     let texts = read_texts(rt, alloc, paths)?;
     let picture = drawn(alloc, subject, &texts.diagram, &texts.game)?;
     put(&mut Device::writer(rt.stdout().lock()), &picture)
+}
+
+/// Writes a picture of a family on the page that a script of a file leaves.
+fn draw_after<T: Threads + Wait + Sync>(
+    rt: &HostRuntime,
+    threads: &T,
+    alloc: Global,
+    paths: Paths<'_>,
+    subject: Subject,
+    script: &str,
+) -> Result<End, Fault> {
+    let texts = read_texts(rt, alloc, paths)?;
+    let family = Family::read(alloc, &texts.diagram, &texts.game)?;
+    let script = read_script(rt, script)?;
+    let (ending, picture) = drawn_after(threads, alloc, subject, &texts, family, &script)?;
+    put(&mut Device::writer(rt.stdout().lock()), &picture)?;
+    Ok(ended(ending))
 }
 
 /// Writes what looks wrong in a family.
@@ -266,10 +297,7 @@ fn carry_out<T: Threads + Wait + Sync>(
             };
             // The parser takes no other number of lifters.
             let lifters = (*lifters).clamp(1, 64);
-            if *names {
-                return run_named(rt, threads, alloc, *paths, script, lifters, manner);
-            }
-            run_bare(rt, threads, alloc, *paths, script, lifters, manner)
+            run_files(rt, threads, alloc, *paths, script, lifters, manner, *names)
         }
         Task::Desk {
             paths,
@@ -291,10 +319,19 @@ fn carry_out<T: Threads + Wait + Sync>(
             put(&mut Device::writer(rt.stdout().lock()), &text)?;
             Ok(End::Done)
         }
-        Task::Draw { paths, subject } => {
+        Task::Draw {
+            paths,
+            subject,
+            script: None,
+        } => {
             draw(rt, alloc, *paths, *subject)?;
             Ok(End::Done)
         }
+        Task::Draw {
+            paths,
+            subject,
+            script: Some(script),
+        } => draw_after(rt, threads, alloc, *paths, *subject, script),
         Task::Lint { paths } => {
             lint(rt, alloc, *paths)?;
             Ok(End::Done)

@@ -1,0 +1,86 @@
+-- The picture of a family on the page that a script leaves. This project's own.
+use Rattle.std.specs.Prelude.{◌≡◌, ℕ, ◌<◌, ◌≤◌, Bool, true, false, nat_eq, List, [], ◌++◌, All, length, map, take, codes}
+use Rattle.std.specs.List.{starts_with}
+use Rattle.vpg_guards.specs.declared.tri.Tri.{Tri}
+use Rattle.vpg_diagram.specs.declared.clause.Literal.{Literal}
+use Rattle.vpg_diagram.specs.DiagramText.{NamedDiagram}
+use Rattle.vpg_diagram.specs.FeatureDiagram.{feature_count}
+use Rattle.vpg_game.specs.Game.{NamedGame}
+use Rattle.vpg_names.specs.Spelled.{Told}
+use Rattle.vpg_partial.specs.Known.{literal_of}
+use Rattle.vpg_partial.specs.TableLaws.{IsKnownTable}
+use Rattle.vpg_partial.specs.declared.decision.Decision.{Decision}
+use Rattle.vpg_measure.specs.declared.verdict.Verdict.{Verdict}
+use Rattle.vpg_draw.specs.GameDrawing.{game_drawing}
+use Rattle.vpg_draw.specs.FeatureDrawing.{feature_drawing}
+use Rattle.vpg_family.specs.Pictures.{TellsNames}
+use Rattle.vpg_family.specs.declared.drawing.Subject.{Subject}
+use Rattle.vpg_family.specs.declared.drawing.Subject.TheVariants.{Game, Features}
+
+-- what is drawn of a page: its decisions, what they make known, and the verdicts of the vertices
+pub record Sight : Type 0 where
+  pub choices : List Literal
+  pub known : List Tri
+  pub verdicts : List Verdict
+
+abbrev pub sight_of : List Tri → List Literal → List Verdict → Sight
+sight_of known choices verdicts = record { choices = choices; known = known; verdicts = verdicts }
+
+-- the game on a page, with these names of its vertices
+abbrev pub sight_drawing : NamedDiagram → NamedGame → Sight → List (List ℕ) → List ℕ
+sight_drawing diagram game sight names = game_drawing diagram.names sight.known sight.choices names sight.verdicts game
+
+-- This is what is drawn of the page in the picture of whose game, without names, something written ends from there on.
+pub record IsSight (diagram : NamedDiagram) (game : NamedGame) (written : List ℕ) (begins : ℕ) (known : List Tri)
+    (decisions : List Decision) (verdicts : List Verdict) : Type 0 where
+  pub features : All (λ d. d.feature < feature_count diagram.lines) decisions
+  pub each : length verdicts ≡ length game.vertices
+  pub known_is : IsKnownTable diagram.lines (map literal_of decisions) known
+  pub within : begins ≤ length written
+  pub written_is : written ≡ take begins written
+      ++ sight_drawing diagram game (sight_of known (map literal_of decisions) verdicts) []
+
+-- What was written ends in the picture of the game on a page, without names; the text is the same with these names.
+pub record IsNamed (diagram : NamedDiagram) (game : NamedGame) (names : List (List ℕ))
+    (written text : List ℕ) : Type 0 where
+  pub sight : Sight
+  pub known_is : IsKnownTable diagram.lines sight.choices sight.known
+  pub earlier : List ℕ
+  pub written_is : written ≡ earlier ++ sight_drawing diagram game sight []
+  pub text_is : text ≡ earlier ++ sight_drawing diagram game sight names
+
+-- the game on a page is drawn with the names that its text tells
+pub record IsGameSeen (diagram : NamedDiagram) (game : NamedGame) (sight : Sight) (text picture : List ℕ) : Type 0 where
+  pub names : Told
+  pub names_are : TellsNames text names
+  pub picture_is : picture ≡ sight_drawing diagram game sight names.names
+
+-- and the diagram from its text
+abbrev pub IsSightDrawn : Subject → NamedDiagram → NamedGame → Sight →
+    (diagram_text game_text picture : List ℕ) → Type 0
+IsSightDrawn Game diagram game sight diagram_text game_text picture = IsGameSeen diagram game sight game_text picture
+IsSightDrawn Features diagram game sight diagram_text game_text picture =
+    picture ≡ feature_drawing diagram.names sight.known sight.choices diagram_text
+
+-- What was written ends in the picture of the game on a page, without names, and of this page the picture is made.
+pub record IsRedrawn (subject : Subject) (diagram : NamedDiagram) (game : NamedGame)
+    (diagram_text game_text written picture : List ℕ) : Type 0 where
+  pub sight : Sight
+  pub known_is : IsKnownTable diagram.lines sight.choices sight.known
+  pub earlier : List ℕ
+  pub written_is : written ≡ earlier ++ sight_drawing diagram game sight []
+  pub drawn : IsSightDrawn subject diagram game sight diagram_text game_text picture
+
+-- ---- answers that are passed on
+
+abbrev pub is_picture : List ℕ → Bool
+is_picture answer = starts_with nat_eq answer (codes "digraph game {\n")
+
+-- a picture with names, any other answer as it is
+abbrev pub PassesOn : Bool → NamedDiagram → NamedGame → List (List ℕ) → (answer text : List ℕ) → Type 0
+PassesOn true diagram game names answer text = IsNamed diagram game names answer text
+PassesOn false diagram game names answer text = text ≡ answer
+
+-- The text is the answer, the picture of a game with these names of vertices.
+abbrev pub IsPictured : NamedDiagram → NamedGame → List (List ℕ) → (answer text : List ℕ) → Type 0
+IsPictured diagram game names answer text = PassesOn (is_picture answer) diagram game names answer text

@@ -1,0 +1,413 @@
+//! Pictures of a family on the page that a script leaves.
+//!
+//! A run keeps no names of vertices, and writes no picture of a diagram. But its line `draw` tells all that is drawn of
+//! a page. So decisions and verdicts are read from that picture, which is then made once more from them and compared:
+//! where the two differ in a byte nothing is drawn.
+ghost use Rattle.std.specs.Prelude.{◌≡◌, ◌↔◌, ◌<◌, ◌≤◌, ◌++◌, [], All, IsTrue, length, map, take, IfOk, IfSome};
+ghost use Rattle.std.specs.Str.{bytes_eq};
+ghost use Rattle.vpg_diagram.specs.FeatureDiagram.{feature_count};
+ghost use Rattle.vpg_draw.specs.FeatureDrawing.{feature_drawing};
+ghost use Rattle.vpg_draw.specs.GameDrawing.{game_drawing};
+ghost use Rattle.vpg_family.specs.Pages.{sight_of, IsSight, IsNamed, IsGameSeen, IsSightDrawn, IsRedrawn};
+ghost use Rattle.vpg_partial.specs.Known.{literal_of};
+ghost use Rattle.vpg_partial.specs.TableLaws.{IsKnownTable};
+
+use crate::drawing::Subject;
+use crate::fault::Fault;
+use crate::files::Texts;
+use std::alloc::{AllocError, Global};
+use vpg_diagram::Diagram;
+use vpg_draw::{draw_features, draw_game};
+use vpg_game::GuardedGame;
+use vpg_guards::Names;
+use vpg_measure::{Verdict, known_under};
+use vpg_names::VertexNames;
+use vpg_partial::{Decision, Partial, PartialFault};
+
+/// How the picture of a game begins, up to the decisions.
+const OPENING: &[u8] = b"digraph game {\n  graph [label=\"decisions";
+
+/// How many lines of it come before those of the vertices.
+const HEADING: usize = 3;
+
+/// The colours of a vertex that is hopeless, sure, or both.
+const HOPELESS: &[u8] = b", fillcolor=mistyrose, color=firebrick];";
+
+const SURE: &[u8] = b", fillcolor=honeydew, color=darkgreen];";
+
+const BOTH: &[u8] = b", fillcolor=gainsboro, color=gray50];";
+
+/// What a picture of a game shows of a page: its decisions, and the verdicts of the vertices.
+#[derive(Drop)]
+struct Shown {
+    decisions: Vec<Decision>,
+    verdicts: Vec<Verdict>,
+}
+
+/// The same, what the decisions make known, and where the picture begins in what was written.
+#[derive(Drop)]
+pub(crate) struct Seen {
+    decisions: Vec<Decision>,
+    verdicts: Vec<Verdict>,
+    known: Partial,
+    begins: usize,
+}
+
+/// The last picture of a game in a text, and what stands behind it.
+fn last_picture(text: &[u8]) -> &[u8] {
+    for at in (0..text.len()).rev() {
+        let rest = &text[at..];
+        if rest.starts_with(OPENING) {
+            return rest;
+        }
+    }
+    text
+}
+
+/// What a picture of a game names behind the word `decisions`.
+fn label_of(picture: &[u8]) -> &[u8] {
+    let behind = picture.strip_prefix(OPENING).unwrap_or(picture);
+    let len = behind.iter().take_while(|b| **b != b'"').count();
+    behind.get(..len).unwrap_or(behind)
+}
+
+/// The decision that a word `+F` or `-F` names.
+fn decision_of(names: &Names, word: &[u8]) -> Option<Decision> {
+    let (sign, name) = word.split_first()?;
+    let feature = names.get(name)?;
+    Some(Decision {
+        serial: 0,
+        session: 0,
+        feature,
+        value: *sign == b'+',
+    })
+}
+
+/// The decisions that a picture of a game names.
+fn decisions_of(alloc: Global, names: &Names, picture: &[u8]) -> Result<Vec<Decision>, AllocError> {
+    let mut decisions = Vec::new(alloc);
+    for word in label_of(picture).split(|b| *b == b' ') {
+        if let Some(decision) = decision_of(names, word) {
+            decisions.push(decision)?;
+        }
+    }
+    Ok(decisions)
+}
+
+/// The verdict that the line of a vertex shows.
+fn verdict_of(line: &[u8]) -> Verdict {
+    let both = line.ends_with(BOTH);
+    Verdict {
+        hopeless: both || line.ends_with(HOPELESS),
+        sure: both || line.ends_with(SURE),
+    }
+}
+
+/// The verdicts that a picture of a game of so many vertices shows.
+fn verdicts_of(alloc: Global, picture: &[u8], vertices: usize) -> Result<Vec<Verdict>, AllocError> {
+    let mut verdicts = Vec::new(alloc);
+    let mut heading = HEADING;
+    for line in picture.split(|b| *b == b'\n') {
+        if heading > 0 {
+            heading -= 1;
+        } else if verdicts.len() < vertices {
+            verdicts.push(verdict_of(line))?;
+        }
+    }
+    Ok(verdicts)
+}
+
+/// What the last picture in a text shows of a page.
+fn last_shown(
+    alloc: Global,
+    names: &Names,
+    vertices: usize,
+    written: &[u8],
+) -> Result<Shown, AllocError> {
+    let picture = last_picture(written);
+    Ok(Shown {
+        decisions: decisions_of(alloc, names, picture)?,
+        verdicts: verdicts_of(alloc, picture, vertices)?,
+    })
+}
+
+/// Whether each decision is of one of so many features.
+fn are_below(features: usize, decisions: &[Decision]) -> bool
+    ensures { IsTrue result ↔ All (λ d. d.feature < features) decisions.now }
+{
+    decisions.iter().all(|d| (d.feature as usize) < features)
+}
+
+/// What decisions make known, where that is no contradiction.
+fn known_of(alloc: Global, diagram: &Diagram, decisions: &[Decision]) -> Result<Partial, Fault>
+    requires { All (λ d. d.feature < feature_count diagram.now.lines) decisions.now }
+    ensures { IfOk result (IsKnownTable diagram.now.lines (map literal_of decisions.now)) }
+{
+    match known_under(alloc, diagram, decisions) {
+        Ok(known) => Ok(known),
+        Err(PartialFault::Conflict { feature: _ }) => Err(Fault::LogFull),
+        Err(PartialFault::Memory) => Err(Fault::Memory),
+    }
+}
+
+/// Where the end of a text begins that is another.
+fn end_of(text: &[u8], end: &[u8]) -> Option<usize>
+    ensures within { IfSome result (λ at. at ≤ length text.now) }
+    ensures end { IfSome result (λ at. text.now ≡ take at text.now ++ end.now) }
+{
+    let at = text.len().checked_sub(end.len())?;
+    let (_, last) = text.split_at(at);
+    if same(last, end) { Some(at) } else { None }
+}
+
+fn same(a: &[u8], b: &[u8]) -> bool
+    ensures { result ≡ bytes_eq a.now b.now }
+{
+    a == b
+}
+
+/// The picture of the game on a page, with these names of its vertices.
+fn game_shown(
+    alloc: Global,
+    diagram: &Diagram,
+    game: &GuardedGame,
+    known: &Partial,
+    decisions: &[Decision],
+    verdicts: &[Verdict],
+    names: &VertexNames,
+) -> Result<Vec<u8>, AllocError>
+    requires features { game.now.features ≡ feature_count diagram.now.lines }
+    requires known { length known.now ≡ feature_count diagram.now.lines }
+    requires decisions { All (λ d. d.feature < feature_count diagram.now.lines) decisions.now }
+    requires verdicts { length verdicts.now ≡ length game.now.vertices }
+    ensures { IfOk result (λ picture. picture.items ≡ game_drawing diagram.now.names known.now
+        (map literal_of decisions.now) names.now.names verdicts.now game.now) }
+{
+    let features = diagram.names();
+    let mut picture = Vec::new(alloc);
+    draw_game(
+        alloc,
+        game,
+        features,
+        known,
+        decisions,
+        names,
+        verdicts,
+        &mut picture,
+    )?;
+    Ok(picture)
+}
+
+/// The picture of the diagram on a page, from its text.
+fn features_shown(
+    alloc: Global,
+    diagram: &Diagram,
+    known: &Partial,
+    decisions: &[Decision],
+    text: &[u8],
+) -> Result<Vec<u8>, AllocError>
+    requires known { length known.now ≡ feature_count diagram.now.lines }
+    requires decisions { All (λ d. d.feature < feature_count diagram.now.lines) decisions.now }
+    ensures { IfOk result (λ picture. picture.items ≡ feature_drawing diagram.now.names known.now
+        (map literal_of decisions.now) text.now) }
+{
+    let mut picture = Vec::new(alloc);
+    // The diagram has a name for each feature.
+    let _features = diagram.features();
+    draw_features(alloc, text, diagram, known, decisions, &mut picture)?;
+    Ok(picture)
+}
+
+/// Where the picture of the game on a page begins, without names, in which something written ends. Where it ends in
+/// another, the log was full.
+fn begin_of(
+    alloc: Global,
+    diagram: &Diagram,
+    game: &GuardedGame,
+    known: &Partial,
+    shown: &Shown,
+    written: &[u8],
+) -> Result<usize, Fault>
+    requires features { game.now.features ≡ feature_count diagram.now.lines }
+    requires known { length known.now ≡ feature_count diagram.now.lines }
+    requires decisions { All (λ d. d.feature < feature_count diagram.now.lines) shown.now.decisions.items }
+    requires verdicts { length shown.now.verdicts.items ≡ length game.now.vertices }
+    ensures within { IfOk result (λ at. at ≤ length written.now) }
+    ensures end { IfOk result (λ at. written.now ≡ take at written.now ++ game_drawing diagram.now.names known.now
+        (map literal_of shown.now.decisions.items) [] shown.now.verdicts.items game.now) }
+{
+    let none = VertexNames::none(alloc);
+    let (decisions, verdicts) = (shown.decisions.as_slice(), shown.verdicts.as_slice());
+    match game_shown(alloc, diagram, game, known, decisions, verdicts, &none) {
+        Ok(bare) => end_of(written, &bare).ok_or(Fault::LogFull),
+        Err(_) => Err(Fault::Memory),
+    }
+}
+
+/// What is drawn of the page in the picture of whose game, without names, something written ends.
+pub(crate) fn sight_in(
+    alloc: Global,
+    diagram: &Diagram,
+    game: &GuardedGame,
+    written: &[u8],
+) -> Result<Seen, Fault>
+    requires { game.now.features ≡ feature_count diagram.now.lines }
+    ensures { IfOk result (λ it. IsSight diagram.now game.now written.now it.begins it.known it.decisions.items
+        it.verdicts.items) }
+{
+    let shown = last_shown(alloc, diagram.names(), game.vertices(), written)?;
+    let are_of_page = shown.verdicts.len() == game.vertices();
+    if !are_of_page || !are_below(diagram.features(), &shown.decisions) {
+        return Err(Fault::LogFull);
+    }
+    let known = known_of(alloc, diagram, &shown.decisions)?;
+    let begins = begin_of(alloc, diagram, game, &known, &shown, written)?;
+    let Shown {
+        decisions,
+        verdicts,
+    } = shown;
+    Ok(Seen {
+        decisions,
+        verdicts,
+        known,
+        begins,
+    })
+}
+
+/// What was written before a picture, and the picture with these names of the game's vertices.
+fn named_behind(
+    alloc: Global,
+    diagram: &Diagram,
+    game: &GuardedGame,
+    names: &VertexNames,
+    seen: &Seen,
+    before: &[u8],
+) -> Result<Vec<u8>, AllocError>
+    requires features { game.now.features ≡ feature_count diagram.now.lines }
+    requires known { length seen.now.known ≡ feature_count diagram.now.lines }
+    requires decisions { All (λ d. d.feature < feature_count diagram.now.lines) seen.now.decisions.items }
+    requires verdicts { length seen.now.verdicts.items ≡ length game.now.vertices }
+    ensures { IfOk result (λ text. text.items ≡ before.now ++ game_drawing diagram.now.names seen.now.known
+        (map literal_of seen.now.decisions.items) names.now.names seen.now.verdicts.items game.now) }
+{
+    let (decisions, verdicts) = (seen.decisions.as_slice(), seen.verdicts.as_slice());
+    let mut text = Vec::from_slice(alloc, before)?;
+    match game_shown(
+        alloc,
+        diagram,
+        game,
+        &seen.known,
+        decisions,
+        verdicts,
+        names,
+    ) {
+        Ok(picture) => {
+            text.extend_from_slice(&picture)?;
+            Ok(text)
+        }
+        Err(fault) => Err(fault),
+    }
+}
+
+/// What was written, with these names of the game's vertices in the picture in which it ends.
+#[tactic(auto, using(crate::proofs::Sights::named))]
+pub(crate) fn with_names(
+    alloc: Global,
+    diagram: &Diagram,
+    game: &GuardedGame,
+    names: &VertexNames,
+    written: &[u8],
+) -> Result<Vec<u8>, Fault>
+    requires { game.now.features ≡ feature_count diagram.now.lines }
+    ensures { IfOk result (λ text. IsNamed diagram.now game.now names.now.names written.now text.items) }
+{
+    let seen = sight_in(alloc, diagram, game, written)?;
+    let (before, _) = written.split_at(seen.begins);
+    match named_behind(alloc, diagram, game, names, &seen, before) {
+        Ok(text) => Ok(text),
+        Err(_) => Err(Fault::Memory),
+    }
+}
+
+/// The picture of a game on a page, with the names that its text tells.
+fn game_seen(
+    alloc: Global,
+    diagram: &Diagram,
+    game: &GuardedGame,
+    seen: &Seen,
+    text: &[u8],
+) -> Result<Vec<u8>, AllocError>
+    requires features { game.now.features ≡ feature_count diagram.now.lines }
+    requires known { length seen.now.known ≡ feature_count diagram.now.lines }
+    requires decisions { All (λ d. d.feature < feature_count diagram.now.lines) seen.now.decisions.items }
+    requires verdicts { length seen.now.verdicts.items ≡ length game.now.vertices }
+    ensures { IfOk result (λ picture. IsGameSeen diagram.now game.now
+        (sight_of seen.now.known (map literal_of seen.now.decisions.items) seen.now.verdicts.items) text.now
+        picture.items) }
+{
+    let names = VertexNames::read(alloc, text)?;
+    let (decisions, verdicts) = (seen.decisions.as_slice(), seen.verdicts.as_slice());
+    match game_shown(
+        alloc,
+        diagram,
+        game,
+        &seen.known,
+        decisions,
+        verdicts,
+        &names,
+    ) {
+        Ok(picture) => Ok(picture),
+        Err(fault) => Err(fault),
+    }
+}
+
+/// The picture of a page of which this is seen.
+fn sight_drawn(
+    alloc: Global,
+    subject: Subject,
+    diagram: &Diagram,
+    game: &GuardedGame,
+    seen: &Seen,
+    texts: &Texts,
+) -> Result<Vec<u8>, AllocError>
+    requires features { game.now.features ≡ feature_count diagram.now.lines }
+    requires known { length seen.now.known ≡ feature_count diagram.now.lines }
+    requires decisions { All (λ d. d.feature < feature_count diagram.now.lines) seen.now.decisions.items }
+    requires verdicts { length seen.now.verdicts.items ≡ length game.now.vertices }
+    ensures { IfOk result (λ picture. IsSightDrawn subject diagram.now game.now
+        (sight_of seen.now.known (map literal_of seen.now.decisions.items) seen.now.verdicts.items)
+        texts.now.diagram.items texts.now.game.items picture.items) }
+{
+    match subject {
+        Subject::Game => match game_seen(alloc, diagram, game, seen, &texts.game) {
+            Ok(picture) => Ok(picture),
+            Err(fault) => Err(fault),
+        },
+        Subject::Features => {
+            let decisions = seen.decisions.as_slice();
+            features_shown(alloc, diagram, &seen.known, decisions, &texts.diagram)
+        }
+    }
+}
+
+/// The picture of the page that a script left, of a family with these texts, from what the script wrote. Its last
+/// answer is the picture of the page's game without names. `LogFull` comes where it is none.
+#[tactic(auto, using(crate::proofs::Sights::redrawn))]
+pub fn redrawn(
+    alloc: Global,
+    subject: Subject,
+    diagram: &Diagram,
+    game: &GuardedGame,
+    texts: &Texts,
+    written: &[u8],
+) -> Result<Vec<u8>, Fault>
+    requires { game.now.features ≡ feature_count diagram.now.lines }
+    ensures { IfOk result (λ picture. IsRedrawn subject diagram.now game.now texts.now.diagram.items
+        texts.now.game.items written.now picture.items) }
+{
+    let seen = sight_in(alloc, diagram, game, written)?;
+    match sight_drawn(alloc, subject, diagram, game, &seen, texts) {
+        Ok(picture) => Ok(picture),
+        Err(_) => Err(Fault::Memory),
+    }
+}

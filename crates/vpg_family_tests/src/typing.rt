@@ -1,0 +1,187 @@
+//! Lines that are typed: what is handed on as a script, and what is said beside the answers.
+ghost use Rattle.std.specs.Prelude.{◌≡◌, ◌≤◌, length, IfSome};
+
+use std::alloc::Global;
+use std::cell::Cell;
+use std::test::*;
+use vpg_script::{Device, Sink, Source};
+use vpg_terminal::{Ear, Heard, Setting, Typed};
+
+/// What is typed where the game starts at 7, the answers to the lines that are handed on, these lines, and what is
+/// said.
+struct Typing {
+    typed: &'static str,
+    answers: &'static [&'static str],
+    handed: &'static str,
+    said: &'static str,
+}
+
+static TYPINGS: [Typing; 9] = [
+    Typing {
+        typed: "",
+        answers: &[],
+        handed: "",
+        said: "> ",
+    },
+    Typing {
+        typed: "exclude f\r\n\nundo",
+        answers: &["done 1\n", "", "undone 1\n"],
+        handed: "exclude f\n\nundo\n",
+        said: "> > > > ",
+    },
+    Typing {
+        typed: "exclude f\n quit\t\nundo\n",
+        answers: &["done 1\n"],
+        handed: "exclude f\n",
+        said: "> > ",
+    },
+    Typing {
+        typed: "help undo\nhelp frob\nhelp\nhelp select f\n",
+        answers: &["", "", "", "refused Word\n"],
+        handed: "\n\n\nhelp select f\n",
+        said: ">   undo     takes back\n           a change\n> no such command; `help` lists them\n\
+            > select F, exclude F      decides\n  undo     takes back\n           a change\n\
+            > line:4:1: found `help`; expected a command\n  hint: is `keep` meant?\n> ",
+    },
+    // A refused decision is explained, under a label too.
+    Typing {
+        typed: "exclude f\n2: select g\nselect f\n",
+        answers: &[
+            "refused Conflict h\n",
+            "conflict -f +g\n",
+            "refused Conflict f\n",
+            "conflict +g -f\n",
+            "refused AlreadyDecided 1\n",
+        ],
+        handed: "exclude f\nwhy -f\n2: select g\nwhy +g\nselect f\n",
+        said: "> > > > ",
+    },
+    // The start is shown behind each settling, and where it is hopeless it is said why.
+    Typing {
+        typed: "settle\nsettle 3\nshow 7\n",
+        answers: &[
+            "settled 3\n",
+            "7 0 1 possible sure\n",
+            "unsettled 0\n",
+            "7 5 1 hopeless unsure\n",
+            "hopeless 7\nunsure 7\n",
+            "7 5 1 hopeless unsure\n",
+        ],
+        handed: "settle\nshow 7\nsettle 3\nshow 7\nwhy 7\nshow 7\n",
+        said: "> > > > ",
+    },
+    Typing {
+        typed: "settle x\n",
+        answers: &["refused Args\n"],
+        handed: "settle x\n",
+        said: "> line:1:8: found `x`; expected a number\n  hint: it is written `settle [N]`\n  \
+            hint: a number is digits alone\n> ",
+    },
+    Typing {
+        typed: "# help\nhelp: select f\n",
+        answers: &["", "refused Word\n"],
+        handed: "# help\nhelp: select f\n",
+        said: "> > line:2:1: found `help:`; expected a command\n  \
+            hint: a label is a number from 1 to 64 and `:`, with a blank behind it\n> ",
+    },
+    Typing {
+        typed: "settle\n",
+        answers: &["refused LogFull\n"],
+        handed: "settle\n",
+        said: "> > ",
+    },
+];
+
+/// What stands in for the list of commands.
+const COMMANDS: &str =
+    "select F, exclude F      decides\n  undo     takes back\n           a change";
+
+/// Answers a line that was handed on, as a run does.
+fn answer<W: Sink>(row: &Typing, lines: usize, writer: &mut W) -> Option<()> {
+    match row.answers.get(lines) {
+        Some(text) if !text.is_empty() => writer.put(text.as_bytes()).ok(),
+        _ => Some(()),
+    }
+}
+
+/// How often a row's lines are read at most.
+const MOST_READS: u32 = 1_000;
+
+/// A source, and how often it was read.
+#[derive(Drop)]
+struct Counted<R: Source> {
+    source: R,
+    reads: u32,
+    ghost counted: { R.calls source ≡ reads },
+}
+
+impl<R: Source + Drop> Counted<R> {
+    fn new(source: R) -> Counted<R>
+        requires { R.calls source ≡ 0 }
+    {
+        Counted { source, reads: 0 }
+    }
+
+    /// Reads into the buffer, where that does not fail and is not once too often.
+    fn fill(&mut self, buf: &mut [u8]) -> Option<usize>
+        ensures bound { IfSome result (λ n. n ≤ length buf.new) }
+        ensures len { length buf.new ≡ length buf.old }
+    {
+        if self.reads >= MOST_READS {
+            return None;
+        }
+        self.reads += 1;
+        self.source.fill(buf).ok()
+    }
+
+    fn into_source(self) -> R {
+        self.source
+    }
+}
+
+/// What is handed on of a row, and what is said, with so many bytes a read.
+fn typed(alloc: Global, row: &Typing, most: usize) -> Option<(Vec<u8>, Vec<u8>)> {
+    let heard = Cell::new(Heard::Nothing);
+    let setting = Setting {
+        commands: COMMANDS,
+        is_prompted: true,
+        start: Some(7),
+        heard: &heard,
+    };
+    let talk = Device::writer(Vec::new(alloc));
+    let reader = Device::reader(row.typed.as_bytes());
+    let mut lines = Counted::new(Typed::new(alloc, setting, reader, talk));
+    let mut writer = Ear::new(Device::writer(Vec::new(alloc)), &heard);
+    let mut handed = Vec::new(alloc);
+    let mut answered = 0usize;
+    let mut buf = [0u8; 64];
+    for _ in 0..MOST_READS {
+        let n = lines.fill(&mut buf[..most.min(64)])?;
+        if n == 0 {
+            let said = lines.into_source().into_talk().into_writer();
+            return Some((handed, said));
+        }
+        handed.extend_from_slice(&buf[..n]).ok()?;
+        if handed.last() == Some(&b'\n') {
+            answer(row, answered, &mut writer)?;
+            answered = answered.saturating_add(1);
+        }
+    }
+    None
+}
+
+fn holds(alloc: Global, row: &Typing, most: usize) -> bool {
+    typed(alloc, row, most).is_some_and(|(handed, said)| {
+        handed.as_slice() == row.handed.as_bytes() && said.as_slice() == row.said.as_bytes()
+    })
+}
+
+#[test]
+fn lines_that_are_typed(rt: HostRuntime) -> Result<(), Fail> {
+    for k in 0..TYPINGS.len() {
+        for most in [1, 64] {
+            assert!(rt; holds(rt.alloc(), &TYPINGS[k], most), "row {k}");
+        }
+    }
+    Ok(())
+}

@@ -1,0 +1,30 @@
+-- The picture of a family on the page that a script leaves.
+use Rattle.std.specs.Prelude.{ℕ, true, false, List, [], ◌++◌, Option, Some, Ok, codes}
+use Rattle.vpg_diagram.specs.DiagramText.{NamedDiagram}
+use Rattle.vpg_game.specs.Game.{NamedGame}
+use Rattle.vpg_script.specs.declared.serving.Manner.{Manner}
+use Rattle.vpg_script.specs.declared.serving.Ending.{Ending}
+use Rattle.vpg_family.specs.Pages.{IsRedrawn}
+use Rattle.vpg_family.specs.declared.drawing.Subject.{Subject}
+use Rattle.vpgdesk.specs.Runs.{IsRun}
+
+-- a script with a line `draw` behind it
+abbrev pub drawing_script : List ℕ → List ℕ
+drawing_script script = script ++ codes "\ndraw\n"
+
+-- each line is answered, and a fault ends the script
+abbrev pub plain : Manner
+plain = record { is_strict = false; goes_on = false }
+
+-- an office on the family writes this for the lines of the script and the line `draw` behind them, by one lifter
+abbrev pub AreWritten : NamedDiagram → NamedGame → (script : List ℕ) → Ending → (written : List ℕ) → Type 0
+AreWritten diagram game script ending written =
+    (rest : Option (List ℕ)) ×
+    IsRun plain diagram game 1 (Some (drawing_script script)) rest (Some []) (Some written) (Ok ending)
+
+-- What is written ends in the picture of the game on a page, and this page is drawn.
+abbrev pub IsDrawnAfter : Subject → NamedDiagram → NamedGame → (diagram_text game_text script : List ℕ) → Ending →
+    (picture : List ℕ) → Type 0
+IsDrawnAfter subject diagram game diagram_text game_text script ending picture =
+    (written : List ℕ) × AreWritten diagram game script ending written ×
+    IsRedrawn subject diagram game diagram_text game_text written picture

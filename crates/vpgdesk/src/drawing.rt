@@ -1,0 +1,69 @@
+//! Pictures of a family on the page that a script leaves.
+ghost use Rattle.std.specs.Arc.{arc_value};
+ghost use Rattle.std.specs.Prelude.{◌≡◌, IfOk};
+ghost use Rattle.vpg_diagram.specs.FeatureDiagram.{feature_count};
+ghost use Rattle.vpgdesk.specs.Draws.{drawing_script, AreWritten, IsDrawnAfter};
+
+use crate::running::run_script;
+use std::alloc::{AllocError, Global};
+use std::sync::Wait;
+use std::thread::Threads;
+use vpg_family::{Family, Fault, Subject, Texts, redrawn};
+use vpg_script::{Device, Ending, Manner};
+
+/// The text of a script with a line `draw` behind it.
+fn with_draw(alloc: Global, script: &[u8]) -> Result<Vec<u8>, AllocError>
+    ensures { IfOk result (λ text. text.items ≡ drawing_script script.now) }
+{
+    let mut text = Vec::from_slice(alloc, script)?;
+    text.extend_from_slice(b"\ndraw\n")?;
+    Ok(text)
+}
+
+/// What an office of a family writes for the lines of a script and a line `draw` behind them, and how they end.
+#[tactic(auto, using(crate::proofs::Draws::is_written))]
+fn answered<T: Threads + Wait + Sync>(
+    rt: &T,
+    alloc: Global,
+    family: Family,
+    script: &[u8],
+) -> Result<(Ending, Vec<u8>), Fault>
+    requires { (arc_value family.game).features ≡ feature_count (arc_value family.diagram).lines }
+    ensures { IfOk result (λ run. AreWritten (arc_value family.diagram) (arc_value family.game) script.now run.0
+        run.1.items) }
+{
+    let text = with_draw(alloc, script)?;
+    let mut reader = Device::reader(text.as_slice());
+    let mut writer = Device::writer(Vec::new(alloc));
+    let plain = Manner {
+        is_strict: false,
+        goes_on: false,
+    };
+    match run_script(rt, alloc, family, &mut reader, &mut writer, 1, plain) {
+        Ok(ending) => Ok((ending, writer.into_writer())),
+        Err(fault) => Err(fault),
+    }
+}
+
+/// The picture of a family, of which these are the texts, on the page that a script leaves, and how the script ends.
+#[tactic(auto, using(crate::proofs::Draws::drawn))]
+pub(crate) fn drawn_after<T: Threads + Wait + Sync>(
+    rt: &T,
+    alloc: Global,
+    subject: Subject,
+    texts: &Texts,
+    family: Family,
+    script: &[u8],
+) -> Result<(Ending, Vec<u8>), Fault>
+    requires { (arc_value family.game).features ≡ feature_count (arc_value family.diagram).lines }
+    ensures { IfOk result (λ drawn. IsDrawnAfter subject (arc_value family.diagram) (arc_value family.game)
+        texts.now.diagram.items texts.now.game.items script.now drawn.0 drawn.1.items) }
+{
+    let game = family.game.clone()?;
+    let diagram = family.diagram.clone()?;
+    let (ending, written) = answered(rt, alloc, family, script)?;
+    match redrawn(alloc, subject, &diagram, &game, texts, &written) {
+        Ok(picture) => Ok((ending, picture)),
+        Err(fault) => Err(fault),
+    }
+}
