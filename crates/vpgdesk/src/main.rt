@@ -3,8 +3,8 @@
 //! Without words it reads a script of commands from standard input, carries it out on a desk over the game and the
 //! diagram that are built in, and writes the answers to standard output. `run` does so with the files of a game, a
 //! diagram and a script, `project` writes the plain game of one product, `check` counts a game and tells its top
-//! measures, `lint` warns of what looks wrong in a family, and `draw` writes a picture, of the page that a script leaves
-//! where one is named.
+//! measures, `lint` warns of what looks wrong in a family, and `draw` writes a picture, of the page that a script
+//! leaves where one is named.
 //!
 //! The status is 0; 1 where the input is refused or something fails, and then one line on standard error, `vpgdesk: `
 //! and the fault, says what, and with `--explain` further lines behind it say where and why; 2 where the words are
