@@ -96,6 +96,11 @@ WARNINGS = re.compile(
     + rb"|: warning: [a-z ]+: [1-9][0-9]* more)\n)*warnings " + N + rb"\n\Z"
 )
 NAMED = re.compile(rb'(?: "[^"\x00-\x1f\x7f]*")+$', re.M)
+# the name of a vertex in a picture, in one line or several
+NAMED_VERTEX = re.compile(
+    rb'^(  ' + N + rb' \[shape=(?:diamond|box), label="' + N + rb" : " + N
+    + rb')\\n(?:[^"\\\x00-\x1f]|\\.)*(", fillcolor=)', re.M
+)
 OF_FAULTY_LINES = re.compile(rb"^refused (?:Word|Args|TooLong)$\n", re.M)
 # a lone `--` is as no word
 ANSWERING = (b"", b"--", b"run", b"desk")
@@ -104,7 +109,7 @@ ANSWERING = (b"", b"--", b"run", b"desk")
 def are_answers(words, out):
     """Whether these are answers to a script: where the words ask for it, to lines with a fault, and with names."""
     if b"--names" in words:
-        out = NAMED.sub(b"", out)
+        out = NAMED_VERTEX.sub(rb"\1\2", NAMED.sub(b"", out))
     if b"--keep-going" in words or b"desk" in words:
         out = OF_FAULTY_LINES.sub(b"", out)
     return ANSWERS.match(out)
