@@ -12,11 +12,13 @@
 //! measures what it takes.
 #![tactic(auto)]
 
-ghost use Rattle.std.specs.Prelude.{◌≡◌, ◌↔◌, ◌<◌, ◌≤◌, IsTrue, IfOk, All};
+ghost use Rattle.std.specs.Arc.{arc_value};
+ghost use Rattle.std.specs.Prelude.{◌≡◌, ◌≤◌, IfOk};
 ghost use Rattle.vpg_board.specs.Places.{vertices};
+ghost use Rattle.vpg_diagram.specs.FeatureDiagram.{feature_count};
 
-use anyhow::{Result, bail};
-use std::alloc::{AllocError, Global};
+use anyhow::{Context, Result, bail};
+use std::alloc::Global;
 use std::sync::atomic::{AtomicU64, Ordering};
 use std::sync::{Arc, Wait};
 use std::thread::Threads;
@@ -26,8 +28,7 @@ use vpg_diagram::Diagram;
 use vpg_game::GuardedGame;
 use vpg_guess::harvest_by_bounds;
 use vpg_measure::laws::orders::zeros_are_opening;
-use vpg_measure::{Harvest, Order, Refused, Table, Which};
-use vpg_partial::Decision;
+use vpg_measure::{Harvest, Order, Table, Which};
 
 const DIAGRAM: &[u8] = b"root r\noptional r f\noptional r g\n";
 
@@ -72,160 +73,159 @@ impl Gate for Count {
     }
 }
 
-/// Whether each decision is of one of this many features.
-fn are_below(features: usize, decisions: &[Decision]) -> bool
-    ensures { IsTrue result ↔ All (λ d. d.feature < features) decisions.now }
+/// The order of a game without decisions, with two tables of zeros. Nothing where there is no memory, or no order.
+fn zeros_over(alloc: Global, game: Arc<GuardedGame>, diagram: Arc<Diagram>) -> Option<Order>
+    requires { (arc_value game).features ≡ feature_count (arc_value diagram).lines }
 {
-    decisions.iter().all(|d| (d.feature as usize) < features)
-}
-
-/// The order of decisions with two tables of zeros, or nothing where game, diagram and decisions don't fit together.
-fn order_of(
-    alloc: Global,
-    game: GuardedGame,
-    diagram: Diagram,
-    decisions: Vec<Decision>,
-) -> Result<Option<Result<Order, Refused>>, AllocError> {
-    let features = diagram.features();
-    if game.features() != features || !are_below(features, &decisions) {
-        return Ok(None);
-    }
     let vertices = game.vertices() as u32;
     zeros_are_opening();
-    let hopeful = Table::zero(alloc, vertices)?;
-    let dual = Table::zero(alloc, vertices)?;
-    let game = Arc::new(alloc, game)?;
-    let diagram = Arc::new(alloc, diagram)?;
-    Ok(Some(Order::of(alloc, game, diagram, decisions, hopeful, dual)))
+    let hopeful = Table::zero(alloc, vertices).ok()?;
+    let dual = Table::zero(alloc, vertices).ok()?;
+    Order::of(alloc, game, diagram, Vec::new(alloc), hopeful, dual).ok()
+}
+
+fn diagram_of(alloc: Global) -> Result<Arc<Diagram>> {
+    let diagram = Diagram::read(alloc, DIAGRAM)?;
+    Ok(Arc::new(alloc, diagram)?)
+}
+
+/// The game that a text spells, by the names of a diagram.
+fn game_of(alloc: Global, text: &[u8], diagram: &Diagram) -> Result<Arc<GuardedGame>>
+    ensures { IfOk result (λ game. (arc_value game).features ≡ feature_count diagram.now.lines) }
+{
+    let game = GuardedGame::read(alloc, text, diagram.names())?;
+    Ok(Arc::new(alloc, game)?)
 }
 
 /// The order that a game's text spells, without decisions and from zero.
 fn opening_order(alloc: Global, text: &[u8]) -> Result<Order> {
-    let diagram = Diagram::read(alloc, DIAGRAM)?;
-    let game = GuardedGame::read(alloc, text, diagram.names())?;
-    match order_of(alloc, game, diagram, Vec::new(alloc))? {
-        Some(Ok(order)) => Ok(order),
-        _ => bail!("no order"),
-    }
+    let diagram = diagram_of(alloc)?;
+    let game = game_of(alloc, text, &diagram)?;
+    zeros_over(alloc, game, diagram).context("no order")
 }
 
-/// The harvest of so many sweeps at most, and how many there were.
+/// What is reached in so many sweeps at most. Where the settled ones do not end them, there are just so many.
 fn swept<G: Gate + Sync, T: Threads + Wait + Sync>(
     rt: &T,
     alloc: Global,
     order: Order,
     most: u64,
+    ends_settled: bool,
     lifters: u32,
     gate: &G,
     predecessors: &Predecessors,
-) -> Result<(Harvest, u64)>
+) -> Option<Reached>
     requires lifters { (1 ≤ lifters) × (lifters ≤ 64) }
     requires predecessors { predecessors.now.vertices ≡ vertices order }
 {
     let mut order = order;
     for done in 0..most {
-        let Ok(harvest) = sweep_along(rt, alloc, order, lifters, gate, predecessors) else {
-            bail!("no memory for a board");
-        };
-        if harvest.check() {
-            return Ok((harvest, done + 1));
+        let harvest = sweep_along(rt, alloc, order, lifters, gate, predecessors).ok()?;
+        if ends_settled && harvest.check() {
+            return Some(Reached {
+                harvest,
+                sweeps: done + 1,
+                lifts: 0,
+            });
         }
         order = harvest.again();
     }
-    Ok((Harvest::alone(order, 0), most))
-}
-
-/// The harvest of just so many sweeps, whether or not they settle the order before.
-fn swept_on<T: Threads + Wait + Sync>(
-    rt: &T,
-    alloc: Global,
-    order: Order,
-    lifters: u32,
-    most: u64,
-    predecessors: &Predecessors,
-) -> Result<Reached>
-    requires lifters { (1 ≤ lifters) × (lifters ≤ 64) }
-    requires predecessors { predecessors.now.vertices ≡ vertices order }
-{
-    let mut order = order;
-    for _ in 0..most {
-        let Ok(harvest) = sweep_along(rt, alloc, order, lifters, &OpenGate, predecessors) else {
-            bail!("no memory for a board");
-        };
-        order = harvest.again();
-    }
-    Ok(Reached {
+    Some(Reached {
         harvest: Harvest::alone(order, 0),
         sweeps: most,
         lifts: 0,
     })
 }
 
-/// The order swept so, without a count of lifts.
-fn uncounted<T: Threads + Wait + Sync>(
+/// What is reached by sweeps without hints.
+fn plain<T: Threads + Wait + Sync>(
     rt: &T,
     alloc: Global,
     order: Order,
     lifters: u32,
     most: u64,
-    predecessors: &Predecessors,
-) -> Result<Reached>
-    requires lifters { (1 ≤ lifters) × (lifters ≤ 64) }
-    requires predecessors { predecessors.now.vertices ≡ vertices order }
+) -> Option<Reached>
+    requires { (1 ≤ lifters) × (lifters ≤ 64) }
 {
-    let (harvest, sweeps) = swept(rt, alloc, order, most, lifters, &OpenGate, predecessors)?;
-    Ok(Reached {
-        harvest,
-        sweeps,
-        lifts: 0,
-    })
+    let predecessors = Predecessors::none(alloc, &order);
+    swept(
+        rt,
+        alloc,
+        order,
+        most,
+        false,
+        lifters,
+        &OpenGate,
+        &predecessors,
+    )
 }
 
-/// The order swept with hints, and each lift counted.
+/// What is reached by sweeps with hints, until they have settled the tables.
+fn hinted<G: Gate + Sync, T: Threads + Wait + Sync>(
+    rt: &T,
+    alloc: Global,
+    order: Order,
+    lifters: u32,
+    most: u64,
+    gate: &G,
+) -> Option<Reached>
+    requires { (1 ≤ lifters) × (lifters ≤ 64) }
+{
+    let predecessors = Predecessors::of_or_none(alloc, &order);
+    swept(rt, alloc, order, most, true, lifters, gate, &predecessors)
+}
+
+/// What is reached by sweeps with hints, each lift counted.
 fn counted<T: Threads + Wait + Sync>(
     rt: &T,
     alloc: Global,
     order: Order,
     lifters: u32,
     most: u64,
-) -> Result<Reached>
+) -> Option<Reached>
     requires { (1 ≤ lifters) × (lifters ≤ 64) }
 {
     let count = Count {
         lifts: AtomicU64::new(0),
     };
-    let predecessors = Predecessors::of_or_none(alloc, &order);
-    let (harvest, sweeps) = swept(rt, alloc, order, most, lifters, &count, &predecessors)?;
-    let lifts = count.lifts.load(Ordering::SeqCst);
-    Ok(Reached {
-        harvest,
-        sweeps,
-        lifts,
-    })
+    let mut reached = hinted(rt, alloc, order, lifters, most, &count)?;
+    reached.lifts = count.lifts.load(Ordering::SeqCst);
+    Some(reached)
 }
 
-/// The order raised by certified guesses, and swept from there where they don't settle it, each lift counted.
+/// A harvest that is reached without sweeps.
+fn unswept(harvest: Harvest) -> Reached {
+    Reached {
+        harvest,
+        sweeps: 0,
+        lifts: 0,
+    }
+}
+
+/// The harvest of certified guesses. Where they find no memory, that of the order as it is.
+fn by_bounds(alloc: Global, order: Order) -> Harvest {
+    match harvest_by_bounds(alloc, order, BUDGET) {
+        Ok(harvest) => harvest,
+        Err(order) => Harvest::alone(order, 0),
+    }
+}
+
+/// What is reached by certified guesses, and by sweeps from there where they don't settle the order, each lift counted.
 fn guessed<T: Threads + Wait + Sync>(
     rt: &T,
     alloc: Global,
     order: Order,
     lifters: u32,
     most: u64,
-) -> Result<Reached>
+) -> Option<Reached>
     requires { (1 ≤ lifters) × (lifters ≤ 64) }
 {
-    let harvest = match harvest_by_bounds(alloc, order, BUDGET) {
-        Ok(harvest) => harvest,
-        Err(order) => Harvest::alone(order, 0),
-    };
+    let harvest = by_bounds(alloc, order);
     if harvest.check() {
-        return Ok(Reached {
-            harvest,
-            sweeps: 0,
-            lifts: 0,
-        });
+        Some(unswept(harvest))
+    } else {
+        counted(rt, alloc, harvest.again(), lifters, most)
     }
-    counted(rt, alloc, harvest.again(), lifters, most)
 }
 
 /// Claims and lifts until nothing is left.
@@ -242,28 +242,30 @@ fn lift_all(board: &Board, seat: &mut Seat)
 }
 
 /// The harvest of a board of the order that one seat has lifted.
-fn seated(alloc: Global, order: Order) -> Result<Harvest> {
-    let Ok((board, seat)) = Board::open(alloc, order) else {
-        bail!("no memory for a board");
-    };
-    let mut seat = seat;
-    lift_all(&board, &mut seat);
-    match board.close(alloc, seat) {
-        Ok(harvest) => Ok(harvest),
-        Err(_) => bail!("no memory for a harvest"),
+fn seated(alloc: Global, order: Order) -> Option<Harvest> {
+    match Board::open(alloc, order) {
+        Ok((board, mut seat)) => {
+            lift_all(&board, &mut seat);
+            board.close(alloc, seat).ok()
+        }
+        Err(_) => None,
     }
 }
 
-/// The order so many times, each by a board of its own.
-fn seated_often(alloc: Global, order: Order, most: u64) -> Result<Harvest> {
+/// What is reached by so many boards, one behind the other.
+fn seated_often(alloc: Global, order: Order, most: u64) -> Option<Reached> {
     let mut order = order;
     for _ in 0..most {
         order = seated(alloc, order)?.again();
     }
-    Ok(Harvest::alone(order, 0))
+    Some(Reached {
+        harvest: Harvest::alone(order, 0),
+        sweeps: most,
+        lifts: 0,
+    })
 }
 
-/// The order raised as the words ask for.
+/// What is reached as the words ask for. Nothing where a board finds no memory.
 fn reach<T: Threads + Wait + Sync>(
     rt: &T,
     alloc: Global,
@@ -271,30 +273,16 @@ fn reach<T: Threads + Wait + Sync>(
     how: How,
     lifters: u32,
     most: u64,
-) -> Result<Reached>
+) -> Option<Reached>
     requires { (1 ≤ lifters) × (lifters ≤ 64) }
 {
     match how {
-        How::Alone => Ok(Reached {
-            harvest: Harvest::alone(order, most),
-            sweeps: 0,
-            lifts: 0,
-        }),
-        How::Plain => {
-            let predecessors = Predecessors::none(alloc, &order);
-            swept_on(rt, alloc, order, lifters, most, &predecessors)
-        }
-        How::Hinted => {
-            let predecessors = Predecessors::of_or_none(alloc, &order);
-            uncounted(rt, alloc, order, lifters, most, &predecessors)
-        }
+        How::Alone => Some(unswept(Harvest::alone(order, most))),
+        How::Plain => plain(rt, alloc, order, lifters, most),
+        How::Hinted => hinted(rt, alloc, order, lifters, most, &OpenGate),
         How::Counted => counted(rt, alloc, order, lifters, most),
         How::Guessed => guessed(rt, alloc, order, lifters, most),
-        How::Seated => Ok(Reached {
-            harvest: seated_often(alloc, order, most)?,
-            sweeps: most,
-            lifts: 0,
-        }),
+        How::Seated => seated_often(alloc, order, most),
     }
 }
 
@@ -309,24 +297,25 @@ fn sum_of(table: &Table) -> u64 {
 
 /// Tells what was reached, in one line.
 fn tell(rt: &HostRuntime, reached: &Reached) -> Result<()> {
-    print!(rt; "settled {}", reached.harvest.check())?;
-    print!(rt; " sweeps {} lifts {}", reached.sweeps, reached.lifts)?;
-    print!(rt; " sums {}", sum_of(reached.harvest.table(Which::Hopeful)))?;
-    println!(rt; " {}", sum_of(reached.harvest.table(Which::Dual)))?;
+    let (settled, sweeps, lifts) = (reached.harvest.check(), reached.sweeps, reached.lifts);
+    let hopeful = sum_of(reached.harvest.table(Which::Hopeful));
+    let dual = sum_of(reached.harvest.table(Which::Dual));
+    println!(rt; "settled {settled} sweeps {sweeps} lifts {lifts} sums {hopeful} {dual}")?;
     Ok(())
 }
 
 /// The way that a word asks for.
 fn how_of(word: &str) -> Result<How> {
-    match word {
-        "rounds" => Ok(How::Alone),
-        "sweeps" => Ok(How::Plain),
-        "hints" => Ok(How::Hinted),
-        "counted" => Ok(How::Counted),
-        "guesses" => Ok(How::Guessed),
-        "board" => Ok(How::Seated),
+    let how = match word {
+        "rounds" => How::Alone,
+        "sweeps" => How::Plain,
+        "hints" => How::Hinted,
+        "counted" => How::Counted,
+        "guesses" => How::Guessed,
+        "board" => How::Seated,
         _ => bail!("{word} is no way of settling"),
-    }
+    };
+    Ok(how)
 }
 
 /// The number that a word spells.
@@ -362,7 +351,7 @@ fn measure<T: Threads + Wait + Sync>(
 ) -> Result<()>
     requires { (1 ≤ lifters) × (lifters ≤ 64) }
 {
-    let reached = reach(threads, rt.alloc(), order, how, lifters, most)?;
+    let reached = reach(threads, rt.alloc(), order, how, lifters, most).context("no memory")?;
     tell(rt, &reached)
 }
 
@@ -375,20 +364,24 @@ fn order_of_file(rt: &HostRuntime, path: &str) -> Result<Order> {
 fn sweep_built_in<T: Threads + Wait + Sync>(rt: &HostRuntime, threads: &T) -> Result<()> {
     for lifters in 1..3 {
         let order = opening_order(rt.alloc(), GAME)?;
-        let reached = counted(threads, rt.alloc(), order, lifters, 1)?;
-        tell(rt, &reached)?;
+        measure(rt, threads, order, How::Counted, lifters, 1)?;
     }
     Ok(())
 }
 
-fn main(rt: HostRuntime) -> Result<()> {
-    let words: Vec<String> = env::args(&rt)?.collect(rt.alloc())?;
+/// Does what the words ask for.
+fn obey<T: Threads + Wait + Sync>(rt: &HostRuntime, threads: &T, words: &[String]) -> Result<()> {
     if words.len() < 4 {
-        return sweep_built_in(&rt, &rt);
+        return sweep_built_in(rt, threads);
     }
     let how = how_of(words[2].as_str())?;
     let most = number_of(words[3].as_str())?;
     let lifters = lifters_of(words.get(4))?;
-    let order = order_of_file(&rt, words[1].as_str())?;
-    measure(&rt, &rt, order, how, lifters, most)
+    let order = order_of_file(rt, words[1].as_str())?;
+    measure(rt, threads, order, how, lifters, most)
+}
+
+fn main(rt: HostRuntime) -> Result<()> {
+    let words: Vec<String> = env::args(&rt)?.collect(rt.alloc())?;
+    obey(&rt, &rt, words.as_slice())
 }

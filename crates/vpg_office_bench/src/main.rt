@@ -1,37 +1,52 @@
 //! Offices at work, to be measured from outside.
 //!
+//!     vpg_office_bench two-sessions
 //!     vpg_office_bench calls SESSIONS CALLS
 //!     vpg_office_bench changes GAME DIAGRAM FEATURE ROUNDS HOW READERS
 //!
-//! `calls`: 1 to 8 sessions, each in a thread of its own, make CALLS calls together on an office that is built in. It prints how many
-//! calls the log then has, whether those of each session stand in order and each place has one, and how many tokens `end` misses.
+//! `two-sessions`: on an office that is built in one session lifts while the other decides. Then the page is settled,
+//! the decision is taken back by its token, and the office is ended. Meanwhile a watcher in a third thread prints what
+//! is said of a vertex.
 //!
-//! `changes`: on an office on the files' game one session decides the feature of this number and undoes that, ROUNDS times: three calls
-//! a time. HOW is `alone` (no watch is ever opened), `idle` (READERS watches that nobody reads), `watches` (READERS watches, each read
-//! without pause in a thread of its own) or `mutex` (READERS threads read without pause what the session puts behind a mutex after each change: the
-//! same sheet). It prints how many calls the log has, how many reads there were, and how many tokens `end` misses.
+//! `calls`: 1 to 8 sessions, each in a thread of its own, make CALLS calls together on an office that is built in. It
+//! prints how many calls the log then has, whether those of each session stand in order and each place has one, and how
+//! many tokens `end` misses.
 //!
-//! A log takes 1,048,576 calls. Without words it does a little of both and prints no count of reads. `bench/offices.py` runs it, and measures what it takes.
+//! `changes`: on an office on the files' game one session decides the feature of this number and undoes that, ROUNDS
+//! times: three calls a time. HOW is `alone` (no watch is ever opened), `idle` (READERS watches that nobody reads),
+//! `watches` (READERS watches, each read without pause in a thread of its own) or `mutex` (READERS threads read without
+//! pause what the session puts behind a mutex after each change: the same sheet). It prints how many calls the log has,
+//! how many reads there were, and how many tokens `end` misses.
+//!
+//! A log takes 1,048,576 calls. Without words it does a little of each, and prints no count of reads.
+//! `bench/offices.py` runs it, and measures what it takes.
 #![tactic(auto)]
 
+mod day;
 mod reading;
+mod watcher;
+mod words;
 mod working;
 
 ghost use Rattle.std.specs.Arc.{arc_value};
 ghost use Rattle.std.specs.Prelude.{◌≡◌, ◌≤◌, IfOk, vec_len, vec_capacity};
 ghost use Rattle.vpg_diagram.specs.FeatureDiagram.{feature_count};
 
+use crate::day::work_in_two;
 use crate::reading::{change_and_look, change_and_read, change_unread};
+use crate::watcher::follow;
+use crate::words::task_of;
 use crate::working::{are_in_order, decide, joined, places_of_all};
-use anyhow::{Result, bail};
+use anyhow::{Context, Result};
 use std::alloc::Global;
 use std::marker::Brand;
+use std::sync::atomic::AtomicU64;
 use std::sync::{Arc, Wait};
-use std::thread::Threads;
+use std::thread::{Threads, join};
 use std::{env, fs};
 use vpg_diagram::Diagram;
 use vpg_game::GuardedGame;
-use vpg_office::{Front, Office, Site, Terms, Undo};
+use vpg_office::{Front, Office, Redo, Site, Terms, Undo};
 
 /// A feature for each of eight sessions.
 const DIAGRAM: &[u8] = b"root r\noptional r a\noptional r b\noptional r c\noptional r d
@@ -40,11 +55,11 @@ optional r e\noptional r f\noptional r g\noptional r h\n";
 const GAME: &[u8] = b"parity 1; 0 1 0 1[a],0; 1 2 1 0[b],1;";
 
 /// How many calls a log takes.
-const ROOM: u32 = 1_048_576;
+pub(crate) const ROOM: u32 = 1_048_576;
 
 /// Who reads while a session changes the page.
 #[derive(Clone, Copy)]
-enum How {
+pub(crate) enum How {
     Alone,
     Idle,
     Watches,
@@ -53,7 +68,8 @@ enum How {
 
 /// What is done on an office.
 #[derive(Clone, Copy)]
-enum Task {
+pub(crate) enum Task {
+    TwoSessions,
     Calls {
         sessions: u32,
         rounds: u32,
@@ -66,16 +82,27 @@ enum Task {
     },
 }
 
-/// What came of it.
+/// What came of the work.
+#[derive(Clone, Copy)]
+pub(crate) enum Done {
+    /// How many lifts the commit added, and whether the decision was made and taken back.
+    TwoSessions { added: Option<u32>, undone: bool },
+    /// Whether the calls of each session stand in order, and each place has one.
+    Calls { in_order: bool },
+    Changes { reads: u64 },
+}
+
+/// What came of a task.
 #[derive(Clone, Copy)]
 struct Told {
+    done: Done,
     calls: usize,
-    /// Whether the calls of each session stand in order, and each place has one.
-    in_order: bool,
-    reads: u64,
     /// How many tokens were out at the end and not handed in.
     further: u64,
 }
+
+/// What came of some work, and the tokens that are left.
+pub(crate) type Left<L> = (Option<Done>, Option<Undo<L>>, Option<Redo<L>>);
 
 /// Whether the calls of so many sessions, so many rounds each, stand in order.
 fn call_at_once<L: Terms + Send + Sync, R: Threads + Wait + Sync>(
@@ -84,10 +111,11 @@ fn call_at_once<L: Terms + Send + Sync, R: Threads + Wait + Sync>(
     office: &Office<L>,
     sessions: u32,
     rounds: u32,
-) -> Option<bool> {
+) -> Option<Done> {
     let places = places_of_all(rt, alloc, office, sessions, rounds)?;
     let last = joined(rt, office)?;
-    Some(are_in_order(places.as_slice(), last.front.len()))
+    let in_order = are_in_order(places.as_slice(), last.front.len());
+    Some(Done::Calls { in_order })
 }
 
 /// One session makes changes while others read: how many reads.
@@ -99,87 +127,142 @@ fn change<L: Terms + Send + Sync, R: Threads + Wait + Sync>(
     rounds: u32,
     how: How,
     readers: u32,
-) -> Option<u64> {
-    match how {
+) -> Option<Done> {
+    let reads = match how {
         How::Alone => change_unread(rt, alloc, office, feature, rounds, 0),
         How::Idle => change_unread(rt, alloc, office, feature, rounds, readers),
         How::Watches => change_and_read(rt, alloc, office, feature, rounds, readers),
         How::Mutex => change_and_look(rt, alloc, office, feature, rounds, readers),
+    };
+    match reads {
+        Some(reads) => Some(Done::Changes { reads }),
+        None => None,
     }
 }
 
-/// Does the task: whether its calls stand in order, and how many reads there were.
+/// The token of one more session that decides the feature 1.
+fn last_token<L: Terms, R: Wait>(rt: &R, alloc: Global, office: &Office<L>) -> Option<Undo<L>> {
+    let mut seat = joined(rt, office)?;
+    decide(rt, alloc, office, &mut seat, 1, true)
+}
+
+/// Does the task.
 fn carry_out<L: Terms + Send + Sync, R: Threads + Wait + Sync>(
     rt: &R,
     alloc: Global,
     office: &Office<L>,
     task: Task,
-) -> Option<(bool, u64)> {
-    match task {
-        Task::Calls { sessions, rounds } => {
-            let in_order = call_at_once(rt, alloc, office, sessions, rounds)?;
-            Some((in_order, 0))
-        }
+    seen: &AtomicU64,
+) -> Left<L> {
+    let done = match task {
+        Task::TwoSessions => return work_in_two(rt, alloc, office, seen),
+        Task::Calls { sessions, rounds } => call_at_once(rt, alloc, office, sessions, rounds),
         Task::Changes {
             feature,
             rounds,
             how,
             readers,
-        } => {
-            let reads = change(rt, alloc, office, feature, rounds, how, readers)?;
-            Some((true, reads))
-        }
-    }
+        } => change(rt, alloc, office, feature, rounds, how, readers),
+    };
+    (done, last_token(rt, alloc, office), None)
 }
 
-/// One more session decides the feature 1, and its token is handed in at the end: how many calls there were before, and how many tokens are missing.
+/// Ends the office with the tokens that are left.
 fn end<L: Terms, R: Wait>(
     rt: &R,
-    alloc: Global,
     office: Office<L>,
-    front: Front<L>,
+    front: &mut Front<L>,
     undos: Vec<Undo<L>>,
-) -> (usize, u64)
+    redos: Vec<Redo<L>>,
+    undo: Option<Undo<L>>,
+    redo: Option<Redo<L>>,
+) -> u64
     requires undos { (vec_len undos ≡ 0) × (1 ≤ vec_capacity undos) }
+    requires redos { (vec_len redos ≡ 0) × (1 ≤ vec_capacity redos) }
 {
-    let mut front = front;
     let mut undos = undos;
-    if let Some(seat) = joined(rt, &office) {
-        let mut seat = seat;
-        if let Some(token) = decide(rt, alloc, &office, &mut seat, 1) {
-            undos.push_reserved(token);
-        }
+    let mut redos = redos;
+    if let Some(undo) = undo {
+        undos.push_reserved(undo);
     }
-    let further = office.end(rt, &mut front, undos, Vec::new(alloc));
-    (front.len(), further)
+    if let Some(redo) = redo {
+        redos.push_reserved(redo);
+    }
+    office.end(rt, front, undos, redos)
 }
 
-/// Does the task on an office, and ends it.
+/// Does the task on an office, and ends it. Room for the tokens is made before there are any, since none can be let go.
 fn work<L: Terms + Send + Sync, R: Threads + Wait + Sync>(
     rt: &R,
     alloc: Global,
     office: Office<L>,
     front: Front<L>,
     task: Task,
+    seen: &AtomicU64,
 ) -> Option<Told> {
-    let done = carry_out(rt, alloc, &office, task);
     let mut front = front;
     let Ok(undos) = Vec::with_capacity(alloc, 1) else {
         let _further = office.end(rt, &mut front, Vec::new(alloc), Vec::new(alloc));
         return None;
     };
-    let (calls, further) = end(rt, alloc, office, front, undos);
-    let (in_order, reads) = done?;
-    Some(Told {
-        calls,
-        in_order,
-        reads,
-        further,
-    })
+    let Ok(redos) = Vec::with_capacity(alloc, 1) else {
+        let _further = office.end(rt, &mut front, undos, Vec::new(alloc));
+        return None;
+    };
+    let (done, undo, redo) = carry_out(rt, alloc, &office, task, seen);
+    let further = end(rt, office, &mut front, undos, redos, undo, redo);
+    let calls = front.len();
+    match done {
+        Some(done) => Some(Told {
+            done,
+            calls,
+            further,
+        }),
+        None => None,
+    }
 }
 
-/// Opens an office, does the task there, and ends it.
-fn open_and_work<L: Terms + Send + Sync, R: Threads + Wait + Sync>(
+/// Takes the office, and does the task there. A closure can't hold an office, since it might let it go.
+fn work_on<L: Terms + Send + Sync, R: Threads + Wait + Sync>(
+    rt: &R,
+    alloc: Global,
+    lent: &mut Option<Office<L>>,
+    front: Front<L>,
+    task: Task,
+    seen: &AtomicU64,
+) -> Option<Told> {
+    let office = lent.take()?;
+    work(rt, alloc, office, front, task, seen)
+}
+
+/// Does a task that a watcher follows.
+fn work_watched<L: Terms + Send + Sync, R: Threads + Wait + Sync + Print>(
+    rt: &R,
+    alloc: Global,
+    office: Office<L>,
+    front: Front<L>,
+    task: Task,
+) -> Option<Told> {
+    let mut last = front.copy();
+    let Ok(watch) = office.watch(rt, alloc) else {
+        let _further = office.end(rt, &mut last, Vec::new(alloc), Vec::new(alloc));
+        return None;
+    };
+    let seen = AtomicU64::new(0);
+    let mut lent = Some(office);
+    let (_printed, told) = join(
+        rt,
+        || follow(rt, watch, &seen),
+        || work_on(rt, alloc, &mut lent, front, task, &seen),
+    );
+    if let Some(office) = lent {
+        let _further = office.end(rt, &mut last, Vec::new(alloc), Vec::new(alloc));
+    }
+    told
+}
+
+/// Opens an office and does the task there. `L` says which row of calls and which ledger it has.
+fn open_and_work<L: Terms + Send + Sync, R: Threads + Wait + Sync + Print>(
     rt: &R,
     alloc: Global,
     site: Site,
@@ -194,7 +277,10 @@ fn open_and_work<L: Terms + Send + Sync, R: Threads + Wait + Sync>(
     requires room { (room ≡ L.limit) × (1 ≤ room) × (room ≤ 1048576) }
 {
     match Office::<L>::open(rt, alloc, site, game, diagram, room) {
-        Ok(office) => work(rt, alloc, office, Front::empty(), task),
+        Ok(office) => match task {
+            Task::TwoSessions => work_watched(rt, alloc, office, Front::empty(), task),
+            _ => work(rt, alloc, office, Front::empty(), task, &AtomicU64::new(0)),
+        },
         Err(_refused) => None,
     }
 }
@@ -206,13 +292,15 @@ fn diagram_of(alloc: Global, text: &[u8]) -> Result<Arc<Diagram>> {
 }
 
 /// The game that a text spells, by the names of a diagram.
-fn game_of(alloc: Global, text: &[u8], diagram: &Diagram) -> Result<Arc<GuardedGame>> {
+fn game_of(alloc: Global, text: &[u8], diagram: &Diagram) -> Result<Arc<GuardedGame>>
+    ensures { IfOk result (λ game. (arc_value game).features ≡ feature_count diagram.now.lines) }
+{
     let game = GuardedGame::read(alloc, text, diagram.names())?;
     Ok(Arc::new(alloc, game)?)
 }
 
-/// Does the task on an office on this game and diagram. Nothing comes of it where they don't fit together or something is lacking.
-fn told_on<R: Threads + Wait + Sync>(
+/// Does the task on an office on this game and diagram. Nothing comes of it where something is lacking.
+fn told_on<R: Threads + Wait + Sync + Print>(
     rt: &R,
     alloc: Global,
     game: Arc<GuardedGame>,
@@ -226,7 +314,7 @@ fn told_on<R: Threads + Wait + Sync>(
 }
 
 /// Does the task on an office on the game and diagram that these texts spell.
-fn told_of<R: Threads + Wait + Sync>(
+fn told_of<R: Threads + Wait + Sync + Print>(
     rt: &R,
     alloc: Global,
     game: &[u8],
@@ -235,66 +323,36 @@ fn told_of<R: Threads + Wait + Sync>(
 ) -> Result<Told> {
     let diagram = diagram_of(alloc, diagram)?;
     let game = game_of(alloc, game, &diagram)?;
-    if game.features() != diagram.features() {
-        bail!("the game is of another diagram");
-    }
-    match told_on(rt, alloc, game, diagram, task) {
-        Some(told) => Ok(told),
-        None => bail!("no office, no place or no memory"),
-    }
+    told_on(rt, alloc, game, diagram, task).context("no office, no place or no memory")
 }
 
-/// The number that a word spells, up to a most.
-fn number_of(word: &str, most: u32) -> Result<u32>
-    ensures { IfOk result (λ number. number ≤ most) }
-{
-    match word.parse::<u32>() {
-        Ok(number) if number <= most => Ok(number),
-        _ => bail!("{word} is no number up to {most}"),
+/// Tells how many lifts were added, where there are some.
+fn tell_added(rt: &HostRuntime, added: Option<u32>) -> Result<()> {
+    if let Some(added) = added {
+        println!(rt; "added {added}")?;
     }
+    Ok(())
 }
 
-/// The task that the words after `calls` name.
-fn calls_of(sessions: &str, calls: &str) -> Result<Task> {
-    let sessions = number_of(sessions, 8)?;
-    let calls = number_of(calls, ROOM - 8)?;
-    if sessions == 0 {
-        bail!("there are 1 to 8 sessions");
-    }
-    Ok(Task::Calls {
-        sessions,
-        rounds: calls / sessions / 4,
-    })
-}
-
-/// The task that the words after `changes GAME DIAGRAM` name.
-fn changes_of(feature: &str, rounds: &str, how: &str, readers: &str) -> Result<Task> {
-    let how = match how {
-        "alone" => How::Alone,
-        "idle" => How::Idle,
-        "watches" => How::Watches,
-        "mutex" => How::Mutex,
-        _ => bail!("{how} is no way of reading"),
-    };
-    Ok(Task::Changes {
-        feature: number_of(feature, 511)? as u16,
-        rounds: number_of(rounds, ROOM / 3 - 1)?,
-        how,
-        readers: number_of(readers, 63)?,
-    })
-}
-
-/// Tells what came of a task, but for reads, in one line.
+/// Tells what came of a task, but for reads.
 fn tell(rt: &HostRuntime, told: Told) -> Result<()> {
-    println!(rt;
-        "calls {} in order {} further {}",
-        told.calls, told.in_order, told.further
-    )?;
+    let Told {
+        done,
+        calls,
+        further,
+    } = told;
+    if let Done::TwoSessions { added, undone } = done {
+        tell_added(rt, added)?;
+        println!(rt; "undone {undone}\ncalls {calls}\nfurther {further}")?;
+        return Ok(());
+    }
+    let in_order = !matches!(done, Done::Calls { in_order: false });
+    println!(rt; "calls {calls} in order {in_order} further {further}")?;
     Ok(())
 }
 
 /// Does the task on what is built in, and tells of it.
-fn work_built_in<T: Threads + Wait + Sync>(
+fn work_built_in<T: Threads + Wait + Sync + Print>(
     rt: &HostRuntime,
     threads: &T,
     task: Task,
@@ -303,13 +361,17 @@ fn work_built_in<T: Threads + Wait + Sync>(
     tell(rt, told)
 }
 
-/// Does a little of both, on what is built in.
-fn work_on_both<T: Threads + Wait + Sync>(rt: &HostRuntime, threads: &T) -> Result<()> {
-    let calls = Task::Calls {
+/// A little of what sessions do without readers.
+const A_LITTLE: [Task; 2] = [
+    Task::TwoSessions,
+    Task::Calls {
         sessions: 8,
         rounds: 250,
-    };
-    work_built_in(rt, threads, calls)?;
+    },
+];
+
+/// Does a little of changes, with readers of each kind.
+fn change_a_little<T: Threads + Wait + Sync + Print>(rt: &HostRuntime, threads: &T) -> Result<()> {
     for how in [How::Alone, How::Idle, How::Watches, How::Mutex] {
         let changes = Task::Changes {
             feature: 1,
@@ -322,8 +384,24 @@ fn work_on_both<T: Threads + Wait + Sync>(rt: &HostRuntime, threads: &T) -> Resu
     Ok(())
 }
 
+/// Does a little of each, on what is built in.
+fn work_on_each<T: Threads + Wait + Sync + Print>(rt: &HostRuntime, threads: &T) -> Result<()> {
+    for task in A_LITTLE {
+        work_built_in(rt, threads, task)?;
+    }
+    change_a_little(rt, threads)
+}
+
+/// Tells how many reads there were, and what came of a task beside.
+fn tell_reads(rt: &HostRuntime, told: Told) -> Result<()> {
+    if let Done::Changes { reads } = told.done {
+        println!(rt; "reads {reads}")?;
+    }
+    tell(rt, told)
+}
+
 /// Does the task on the game and diagram of these files, and tells of it and of its reads.
-fn work_on_files<T: Threads + Wait + Sync>(
+fn work_on_files<T: Threads + Wait + Sync + Print>(
     rt: &HostRuntime,
     threads: &T,
     game: &str,
@@ -333,26 +411,23 @@ fn work_on_files<T: Threads + Wait + Sync>(
     let game = fs::read(rt, game)?;
     let diagram = fs::read(rt, diagram)?;
     let told = told_of(threads, rt.alloc(), &game, &diagram, task)?;
-    println!(rt; "reads {}", told.reads)?;
-    tell(rt, told)
+    tell_reads(rt, told)
 }
 
 /// Does what the words ask for.
-fn obey<T: Threads + Wait + Sync>(rt: &HostRuntime, threads: &T, words: &[String]) -> Result<()> {
-    if words.len() == 4 {
-        let task = calls_of(words[2].as_str(), words[3].as_str())?;
-        return work_built_in(rt, threads, task);
+fn obey<T: Threads + Wait + Sync + Print>(
+    rt: &HostRuntime,
+    threads: &T,
+    words: &[String],
+) -> Result<()> {
+    if words.len() < 2 {
+        return work_on_each(rt, threads);
     }
-    if words.len() < 8 {
-        return work_on_both(rt, threads);
+    let task = task_of(words)?;
+    if words.len() > 3 && matches!(task, Task::Changes { .. }) {
+        return work_on_files(rt, threads, words[2].as_str(), words[3].as_str(), task);
     }
-    let task = changes_of(
-        words[4].as_str(),
-        words[5].as_str(),
-        words[6].as_str(),
-        words[7].as_str(),
-    )?;
-    work_on_files(rt, threads, words[2].as_str(), words[3].as_str(), task)
+    work_built_in(rt, threads, task)
 }
 
 fn main(rt: HostRuntime) -> Result<()> {

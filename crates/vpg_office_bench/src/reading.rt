@@ -126,7 +126,7 @@ fn try_shown_changes<L: Terms, R: Wait>(
     let mut seat = joined(rt, office)?;
     let mut watch = office.watch(rt, alloc).ok()?;
     for _ in 0..rounds {
-        if let Some(token) = decide(rt, alloc, office, &mut seat, feature) {
+        if let Some(token) = decide(rt, alloc, office, &mut seat, feature, true) {
             show(rt, &mut watch, shown);
             undo(rt, alloc, office, &mut seat, token);
             show(rt, &mut watch, shown);

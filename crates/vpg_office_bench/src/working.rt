@@ -25,14 +25,11 @@ pub fn decide<L: Terms, R: Wait>(
     office: &Office<L>,
     seat: &mut Seat<L>,
     feature: u16,
+    value: bool,
 ) -> Option<Undo<L>> {
-    match seat
-        .session
-        .decide(rt, alloc, office, &mut seat.front, feature, true)
-    {
-        Ok(token) => Some(token),
-        Err(_fault) => None,
-    }
+    seat.session
+        .decide(rt, alloc, office, &mut seat.front, feature, value)
+        .ok()
 }
 
 /// The token of a retraction, unless it is refused.
@@ -43,13 +40,9 @@ fn retract<L: Terms, R: Wait>(
     seat: &mut Seat<L>,
     feature: u16,
 ) -> Option<Undo<L>> {
-    match seat
-        .session
+    seat.session
         .retract(rt, alloc, office, &mut seat.front, feature)
-    {
-        Ok(token) => Some(token),
-        Err(_fault) => None,
-    }
+        .ok()
 }
 
 /// Spends a token. A token can't be let go, so a call that is refused is made again: the log has to have room for it.
@@ -144,7 +137,7 @@ fn round<L: Terms, R: Wait>(
     feature: u16,
     places: &mut Places,
 ) -> Option<()> {
-    let token = decide(rt, alloc, office, seat, feature)?;
+    let token = decide(rt, alloc, office, seat, feature, true)?;
     places.note(seat.front.len());
     keep(rt, office, seat, token);
     places.note(seat.front.len());
@@ -201,7 +194,8 @@ pub fn places_of_all<L: Terms + Send + Sync, R: Threads + Wait + Sync>(
     .ok()
 }
 
-/// Whether the calls of each session stand in order, and the sum of all places is that of the first `calls` numbers from 1.
+/// Whether the calls of each session stand in order, and the sum of all places is that of the first `calls` numbers
+/// from 1.
 pub fn are_in_order(all: &[Option<Places>], calls: usize) -> bool {
     let mut in_order = true;
     let mut sum = 0u64;
@@ -226,7 +220,7 @@ fn try_changes<L: Terms, R: Wait>(
 ) -> Option<()> {
     let mut seat = joined(rt, office)?;
     for _ in 0..rounds {
-        if let Some(token) = decide(rt, alloc, office, &mut seat, feature) {
+        if let Some(token) = decide(rt, alloc, office, &mut seat, feature, true) {
             undo(rt, alloc, office, &mut seat, token);
         }
     }

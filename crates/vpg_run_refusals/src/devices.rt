@@ -96,7 +96,7 @@ fn reads_so_far<R: Threads + Wait + Sync>(
         calls: usize::MAX,
     };
     let ended = outcome(rt, alloc, family, 1, gives, takes);
-    ended == Some(Err(RunFault::Read))
+    matches!(ended, Some(Err(RunFault::Read)))
         && got.len() == written_after(calls)
         && ANSWERS.starts_with(&got)
 }
@@ -122,10 +122,11 @@ fn writes_so_far<R: Threads + Wait + Sync>(
         calls,
     };
     let ended = outcome(rt, alloc, family, 1, gives, takes);
-    if ended == Some(Ok(())) {
-        return got.as_slice() == ANSWERS;
+    match ended {
+        Some(Ok(())) => got.as_slice() == ANSWERS,
+        Some(Err(RunFault::Write)) => got.len() < ANSWERS.len() && ANSWERS.starts_with(&got),
+        _ => false,
     }
-    ended == Some(Err(RunFault::Write)) && got.len() < ANSWERS.len() && ANSWERS.starts_with(&got)
 }
 
 /// Whether a reader may fail at each of its calls.

@@ -27,11 +27,10 @@ impl Family {
     /// The game and the diagram of most examples.
     pub(crate) fn read(alloc: Global) -> Option<Family> {
         let diagram = Diagram::read(alloc, DIAGRAM).ok()?;
+        let diagram = Arc::new(alloc, diagram).ok()?;
         let game = GuardedGame::read(alloc, GAME, diagram.names()).ok()?;
-        Some(Family {
-            game: Arc::new(alloc, game).ok()?,
-            diagram: Arc::new(alloc, diagram).ok()?,
-        })
+        let game = Arc::new(alloc, game).ok()?;
+        Some(Family { game, diagram })
     }
 
     /// Whether nothing else has the game, as each office of it has.

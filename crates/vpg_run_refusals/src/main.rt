@@ -45,15 +45,42 @@ fn fail_devices<R: Threads + Wait + Sync + Print>(
     write_line(rt, "a writer of an answer a call", answers)
 }
 
-fn main(rt: HostRuntime) -> Result<()> {
-    let words: Vec<String> = env::args(&rt)?.collect(rt.alloc())?;
-    let mut heap = Heap::new(rt.alloc(), words.len())?;
-    let mut report = Report::new(rt.alloc())?;
-    let family = Family::read(rt.alloc()).context("no family")?;
-    scripts::refuse(&rt, &mut heap, &mut report, &family).context("no room")?;
-    report.write(&rt, &heap)?;
+/// Refuses runs memory, and has devices fail unless runs are marked.
+fn refuse<R: Threads + Wait + Sync + Print>(
+    rt: &R,
+    alloc: Global,
+    heap: &mut Heap,
+    report: &mut Report,
+    family: &Family,
+) -> Result<()> {
+    scripts::refuse(rt, heap, report, family).context("no room")?;
+    report.write(rt, heap)?;
     if !heap.is_marked() {
-        fail_devices(&rt, rt.alloc(), &family)?;
+        fail_devices(rt, alloc, family)?;
     }
     Ok(())
+}
+
+/// As `refuse`, over the family of most examples.
+fn over_family(rt: &HostRuntime, heap: &mut Heap, report: &mut Report) -> Result<()> {
+    let family = Family::read(rt.alloc()).context("no family")?;
+    refuse(rt, rt.alloc(), heap, report, &family)
+}
+
+/// How many words the program is called with.
+fn words_count(rt: &HostRuntime) -> Result<usize> {
+    let words: Vec<String> = env::args(rt)?.collect(rt.alloc())?;
+    Ok(words.len())
+}
+
+/// As `over_family`, with memory that is taken or marked.
+fn over_heap(rt: &HostRuntime, heap: &mut Heap) -> Result<()> {
+    let mut report = Report::new(rt.alloc())?;
+    over_family(rt, heap, &mut report)
+}
+
+fn main(rt: HostRuntime) -> Result<()> {
+    let words = words_count(&rt)?;
+    let mut heap = Heap::new(rt.alloc(), words)?;
+    over_heap(&rt, &mut heap)
 }

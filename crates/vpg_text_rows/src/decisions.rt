@@ -2,8 +2,7 @@
 
 ghost use Rattle.std.specs.Prelude.{◌↔◌, ◌<◌, IsTrue, All};
 
-use anyhow::{Context, Result, bail};
-use std::alloc::Global;
+use crate::line::Line;
 use vpg_diagram::Diagram;
 use vpg_guards::Names;
 use vpg_partial::{Decision, Partial};
@@ -15,23 +14,30 @@ pub(crate) fn are_below(features: usize, decisions: &[Decision]) -> bool
     decisions.iter().all(|d| (d.feature as usize) < features)
 }
 
-/// What the decisions make known, where each is of a feature of the diagram.
+/// What the decisions make known, where each is of a feature of the diagram; or in the line why not.
 pub(crate) fn close_checked(
-    alloc: Global,
     diagram: &Diagram,
     decisions: &[Decision],
-) -> Result<Partial> {
+    line: &mut Line,
+) -> Option<Partial> {
     if !are_below(diagram.features(), decisions) {
-        bail!("features");
+        line.put("features");
+        return None;
     }
-    Ok(Partial::close(alloc, diagram, decisions)?)
+    match Partial::close(line.alloc, diagram, decisions) {
+        Ok(known) => Some(known),
+        Err(fault) => {
+            line.show(&fault);
+            None
+        }
+    }
 }
 
 /// The decision of a word.
-fn decision_of(names: &Names, word: &[u8]) -> Result<Decision> {
-    let (sign, name) = word.split_first().context("word")?;
-    let feature = names.get(name).context("feature")?;
-    Ok(Decision {
+fn decision_of(names: &Names, word: &[u8]) -> Option<Decision> {
+    let (sign, name) = word.split_first()?;
+    let feature = names.get(name)?;
+    Some(Decision {
         serial: 1,
         session: 1,
         feature,
@@ -39,13 +45,21 @@ fn decision_of(names: &Names, word: &[u8]) -> Result<Decision> {
     })
 }
 
+/// Adds the decision of a word to a list.
+fn add(names: &Names, word: &[u8], decisions: &mut Vec<Decision>, line: &mut Line) {
+    match decision_of(names, word) {
+        Some(decision) => line.note(decisions.push(decision).is_ok()),
+        None => line.put("feature"),
+    }
+}
+
 /// The decisions of a row.
-pub(crate) fn decisions_of(alloc: Global, names: &Names, text: &[u8]) -> Result<Vec<Decision>> {
-    let mut decisions = Vec::new(alloc);
+pub(crate) fn decisions_of(names: &Names, text: &[u8], line: &mut Line) -> Vec<Decision> {
+    let mut decisions = Vec::new(line.alloc);
     for word in text.split(|sign| *sign == b' ') {
         if !word.is_empty() {
-            decisions.push(decision_of(names, word)?)?;
+            add(names, word, &mut decisions, line);
         }
     }
-    Ok(decisions)
+    decisions
 }

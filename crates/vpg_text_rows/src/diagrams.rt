@@ -2,29 +2,27 @@
 //!
 //! - `read DIAGRAM` is answered `read`, or the fault.
 //! - `names DIAGRAM` is answered the features in order, and how many there are.
-//! - `products DIAGRAM` is answered the products of a diagram of at most five features, each as a row of ones and zeros; the first
-//!   feature changes first.
+//! - `products DIAGRAM` is answered the products of a diagram of at most five features, each as a row of ones and zeros;
+//!   the first feature changes first.
 //! - `clauses DIAGRAM` is answered the clauses, each behind a bar: literals with the features' numbers.
 //! - `counts DIAGRAM` is answered the counts, each behind a bar: the parent, the range and the members.
 //! - `same DIAGRAM ~ DIAGRAM` asks whether both are the same.
 //! - `most-rules` is answered how many rules a diagram may have.
 
-use crate::text::{put_yes_or_no, two_of};
-use anyhow::{Result, bail};
-use std::alloc::Global;
-use std::fmt::Write;
+use crate::line::Line;
+use crate::text::two_of;
 use vpg_diagram::{Clause, Count, Diagram, MOST_RULES};
 use vpg_guards::Names;
 
 /// The features in order, and how many there are.
-fn put_names(names: &Names, line: &mut String) -> Result<()> {
+fn put_names(names: &Names, line: &mut Line) {
     for place in 0..512u16 {
         if (place as usize) < names.len() {
-            write!(line, "{} ", names.name(place))?;
+            line.put(names.name(place));
+            line.put(" ");
         }
     }
-    write!(line, "{}", names.len())?;
-    Ok(())
+    line.number(names.len() as u64);
 }
 
 /// The next set of features, with the root changing first. The empty set comes behind the full one.
@@ -43,107 +41,127 @@ fn is_product(diagram: &Diagram, set: &[bool]) -> bool {
 }
 
 /// Writes a set as ones and zeros.
-fn put_set(set: &[bool], line: &mut String) -> Result<()> {
-    line.push(' ')?;
+fn put_set(set: &[bool], line: &mut Line) {
+    line.put(" ");
     for value in set {
-        line.push(if *value { '1' } else { '0' })?;
+        line.put(if *value { "1" } else { "0" });
     }
-    Ok(())
 }
 
 /// The products among the first 32 sets.
-fn put_products(diagram: &Diagram, set: &mut [bool], line: &mut String) -> Result<()> {
+fn put_products(diagram: &Diagram, set: &mut [bool], line: &mut Line) {
     for _ in 0..32 {
         if is_product(diagram, set) {
-            put_set(set, line)?;
+            put_set(set, line);
         }
         next_set(set);
         if !set.contains(&true) {
             break;
         }
     }
-    Ok(())
 }
 
 /// Writes a clause.
-fn put_clause(clause: &Clause, line: &mut String) -> Result<()> {
-    line.push('|')?;
+fn put_clause(clause: &Clause, line: &mut Line) {
+    line.put("|");
     for literal in clause.literals() {
-        let sign = if literal.value { '+' } else { '-' };
-        write!(line, "{sign}{}", literal.feature)?;
+        line.put(if literal.value { "+" } else { "-" });
+        line.number(literal.feature as u64);
     }
-    Ok(())
+}
+
+/// Writes a count, but for its members.
+fn put_range(count: &Count, line: &mut Line) {
+    line.put("|");
+    line.number(count.parent() as u64);
+    line.put(" ");
+    line.number(count.low() as u64);
+    line.put(" to ");
+    line.number(count.high() as u64);
+    line.put(" of");
 }
 
 /// Writes a count.
-fn put_count(count: &Count, line: &mut String) -> Result<()> {
-    let parent = count.parent();
-    write!(line, "|{parent} {} to {} of", count.low(), count.high())?;
+fn put_count(count: &Count, line: &mut Line) {
+    put_range(count, line);
     for member in count.members() {
-        write!(line, " {member}")?;
+        line.put(" ");
+        line.number(*member as u64);
     }
-    Ok(())
 }
 
 /// Writes all clauses.
-fn put_clauses(diagram: &Diagram, line: &mut String) -> Result<()> {
+fn put_clauses(diagram: &Diagram, line: &mut Line) {
     for clause in diagram.clauses() {
-        put_clause(clause, line)?;
+        put_clause(clause, line);
     }
-    Ok(())
 }
 
 /// Writes all counts.
-fn put_counts(diagram: &Diagram, line: &mut String) -> Result<()> {
+fn put_counts(diagram: &Diagram, line: &mut Line) {
     for count in diagram.counts() {
-        put_count(count, line)?;
+        put_count(count, line);
     }
-    Ok(())
 }
 
 /// Writes all products.
-fn put_all_products(alloc: Global, diagram: &Diagram, line: &mut String) -> Result<()> {
-    let mut set = vec![in alloc; false; diagram.features()]?;
-    put_products(diagram, &mut set, line)
+fn put_all_products(diagram: &Diagram, line: &mut Line) {
+    let set = vec![in line.alloc; false; diagram.features()];
+    if let Some(mut set) = line.kept(set) {
+        put_products(diagram, &mut set, line);
+    }
 }
 
 /// Writes what is asked of a diagram.
-fn put(alloc: Global, asked: &str, diagram: &Diagram, line: &mut String) -> Result<()> {
+fn put(asked: &str, diagram: &Diagram, line: &mut Line) {
     match asked {
-        "read" => line.push_str("read")?,
-        "names" => put_names(diagram.names(), line)?,
-        "products" => put_all_products(alloc, diagram, line)?,
-        "clauses" => put_clauses(diagram, line)?,
-        "counts" => put_counts(diagram, line)?,
-        _ => bail!("no such word"),
+        "read" => line.put("read"),
+        "names" => put_names(diagram.names(), line),
+        "products" => put_all_products(diagram, line),
+        "clauses" => put_clauses(diagram, line),
+        "counts" => put_counts(diagram, line),
+        _ => line.put("no such word"),
     }
-    Ok(())
+}
+
+/// The diagram that a text spells, or its fault in the line.
+pub(crate) fn diagram_of(text: &[u8], line: &mut Line) -> Option<Diagram> {
+    match Diagram::read(line.alloc, text) {
+        Ok(diagram) => Some(diagram),
+        Err(fault) => {
+            line.show(&fault);
+            None
+        }
+    }
 }
 
 /// Answers a row of one diagram.
-fn told(alloc: Global, asked: &str, text: &[u8], line: &mut String) -> Result<()> {
-    let diagram = Diagram::read(alloc, text)?;
-    put(alloc, asked, &diagram, line)
+fn told(asked: &str, text: &[u8], line: &mut Line) {
+    if let Some(diagram) = diagram_of(text, line) {
+        put(asked, &diagram, line);
+    }
 }
 
 /// Writes whether a text spells this diagram.
-fn put_same(alloc: Global, diagram: &Diagram, text: &[u8], line: &mut String) -> Result<()> {
-    let other = Diagram::read(alloc, text)?;
-    put_yes_or_no(diagram.is_same(&other), line)
+fn put_same(diagram: &Diagram, text: &[u8], line: &mut Line) {
+    if let Some(other) = diagram_of(text, line) {
+        line.put_yes_or_no(diagram.is_same(&other));
+    }
 }
 
 /// Answers whether two texts spell the same diagram.
-fn compared(alloc: Global, text: &[u8], line: &mut String) -> Result<()> {
-    let (first, second) = two_of(text)?;
-    let diagram = Diagram::read(alloc, first)?;
-    put_same(alloc, &diagram, second, line)
+fn compared(text: &[u8], line: &mut Line) {
+    let (first, second) = two_of(text);
+    if let Some(diagram) = diagram_of(first, line) {
+        put_same(&diagram, second, line);
+    }
 }
 
 /// Answers a row.
-pub(crate) fn answer(alloc: Global, asked: &str, text: &[u8], line: &mut String) -> Result<()> {
+pub(crate) fn answer(asked: &str, text: &[u8], line: &mut Line) {
     match asked {
-        "same" => compared(alloc, text, line),
-        "most-rules" => Ok(write!(line, "{MOST_RULES}")?),
-        _ => told(alloc, asked, text, line),
+        "same" => compared(text, line),
+        "most-rules" => line.number(MOST_RULES as u64),
+        _ => told(asked, text, line),
     }
 }

@@ -2,7 +2,8 @@
 ghost use Rattle.std.specs.Prelude.{◌≡◌, IfOk, length};
 
 use crate::decisions::{are_below, close_checked, decisions_of};
-use anyhow::{Result, bail};
+use crate::line::Line;
+use anyhow::Result;
 use std::alloc::{AllocError, Global};
 use vpg_diagram::Diagram;
 use vpg_draw::{draw_features, draw_game};
@@ -58,37 +59,36 @@ fn verdicts(alloc: Global, vertices: usize) -> Result<Vec<Verdict>, AllocError>
     Ok(list)
 }
 
-/// Appends the picture of the game.
+/// Appends the picture of the game, and says whether there was memory for it.
 fn game_picture(
     alloc: Global,
     family: &Family,
     known: &Partial,
     decisions: &[Decision],
     out: &mut Vec<u8>,
-) -> Result<()> {
+) -> bool {
     let game = &family.game;
     let features = family.diagram.names();
-    let verdicts = verdicts(alloc, game.vertices())?;
-    if features.len() != game.features() || known.values().len() != game.features() {
-        bail!("features");
-    }
-    if !are_below(game.features(), decisions) {
-        bail!("features");
-    }
-    draw_game(
-        alloc,
-        game,
-        features,
-        known,
-        decisions,
-        &family.names,
-        &verdicts,
-        out,
-    )?;
-    Ok(())
+    let Ok(verdicts) = verdicts(alloc, game.vertices()) else {
+        return false;
+    };
+    features.len() == game.features()
+        && known.values().len() == game.features()
+        && are_below(game.features(), decisions)
+        && draw_game(
+            alloc,
+            game,
+            features,
+            known,
+            decisions,
+            &family.names,
+            &verdicts,
+            out,
+        )
+        .is_ok()
 }
 
-/// Appends the picture of the diagram.
+/// Appends the picture of the diagram, and says whether there was memory for it.
 fn feature_picture(
     alloc: Global,
     text: &[u8],
@@ -96,22 +96,38 @@ fn feature_picture(
     known: &Partial,
     decisions: &[Decision],
     out: &mut Vec<u8>,
-) -> Result<()> {
+) -> bool {
     let count = diagram.names().len();
-    if known.values().len() != count || !are_below(count, decisions) {
-        bail!("features");
-    }
-    draw_features(alloc, text, diagram, known, decisions, out)?;
-    Ok(())
+    known.values().len() == count
+        && are_below(count, decisions)
+        && draw_features(alloc, text, diagram, known, decisions, out).is_ok()
 }
 
-/// The pictures under the decisions of a row.
-pub fn pictures(alloc: Global, family: &Family, text: &[u8], row: &[u8]) -> Result<Vec<u8>> {
-    let diagram = &family.diagram;
-    let decisions = decisions_of(alloc, diagram.names(), row)?;
-    let known = close_checked(alloc, diagram, &decisions)?;
-    let mut out = Vec::new(alloc);
-    game_picture(alloc, family, &known, &decisions, &mut out)?;
-    feature_picture(alloc, text, diagram, &known, &decisions, &mut out)?;
-    Ok(out)
+/// Writes both pictures.
+fn put_pictures(
+    family: &Family,
+    text: &[u8],
+    known: &Partial,
+    decisions: &[Decision],
+    line: &mut Line,
+) {
+    let mut out = Vec::new(line.alloc);
+    line.note(game_picture(line.alloc, family, known, decisions, &mut out));
+    line.note(feature_picture(
+        line.alloc,
+        text,
+        &family.diagram,
+        known,
+        decisions,
+        &mut out,
+    ));
+    line.put_text(&out);
+}
+
+/// Writes the pictures under the decisions of a row.
+pub(crate) fn answer(family: &Family, text: &[u8], row: &[u8], line: &mut Line) {
+    let decisions = decisions_of(family.features(), row, line);
+    if let Some(known) = close_checked(&family.diagram, &decisions, line) {
+        put_pictures(family, text, &known, &decisions, line);
+    }
 }

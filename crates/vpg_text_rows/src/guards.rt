@@ -3,186 +3,193 @@
 //! - `read GUARD` is answered `read`, or the fault.
 //! - `write GUARD` is answered what is written of it.
 //! - `same GUARD ~ GUARD` asks whether both are the same.
-//! - `or GUARD ~ GUARD ~ GUARD` asks whether the last two joined by `or` are the first; `twice GUARD ~ GUARD` whether a copy of the last
-//!   joined with it by `and` is the first; `all GUARD ~ GUARD ~ GUARD` whether an `and` made of a list of the last two is the first.
+//! - `or GUARD ~ GUARD ~ GUARD` asks whether the last two joined by `or` are the first; `twice GUARD ~ GUARD` whether a
+//!   copy of the last joined with it by `and` is the first; `all GUARD ~ GUARD ~ GUARD` whether an `and` made of a list of
+//!   the last two is the first.
 //! - `known SIGNS ~ GUARD` is answered the value where a feature is known in (`+`), known out (`-`) or not known (`?`);
 //!   `holds SIGNS ~ GUARD` the truth in a set of features (`+` and `-`).
+ghost use Rattle.std.specs.Prelude.{IfSome, length};
+ghost use Rattle.vpg_guards.specs.Formula.{IsBelow};
+ghost use Rattle.vpg_guards.specs.View.{formula_of};
 
-use crate::names::names_of;
-use crate::text::{put_yes_or_no, set_of, two_of};
-use anyhow::{Result, bail};
-use std::alloc::Global;
-use std::fmt::Write;
+use crate::line::Line;
+use crate::text::{set_of, two_of};
 use vpg_guards::{Guard, Guards, Names, Tri, parse_guard};
 
+/// The guard that a text spells, or its fault in the line.
+fn guard_of(names: &Names, text: &[u8], line: &mut Line) -> Option<Guard>
+    ensures { IfSome result (λ guard. IsBelow (length names.now) (formula_of guard)) }
+{
+    match parse_guard(line.alloc, text, names) {
+        Ok(guard) => Some(guard),
+        Err(fault) => {
+            line.show(&fault);
+            None
+        }
+    }
+}
+
 /// Writes what is written of a guard.
-fn put_written(alloc: Global, names: &Names, text: &[u8], out: &mut Vec<u8>) -> Result<()> {
-    let guard = parse_guard(alloc, text, names)?;
-    guard.write(alloc, names, out)?;
-    Ok(())
+fn put_written(names: &Names, guard: &Guard, line: &mut Line)
+    requires { IsBelow (length names.now) (formula_of guard.now) }
+{
+    let mut out = Vec::new(line.alloc);
+    line.note(guard.write(line.alloc, names, &mut out).is_ok());
+    line.put_text(&out);
 }
 
-/// Writes bytes that are text.
-pub(crate) fn put_text(out: &[u8], line: &mut String) -> Result<()> {
-    line.push_str(std::str::from_utf8(out)?)?;
-    Ok(())
+/// What signs say of each feature.
+fn known_of(signs: &[u8], line: &mut Line) -> Vec<Tri> {
+    let mut known = Vec::new(line.alloc);
+    for sign in signs {
+        let value = match *sign {
+            b'+' => Tri::Yes,
+            b'-' => Tri::No,
+            _ => Tri::Unknown,
+        };
+        if *sign != b' ' {
+            line.note(known.push(value).is_ok());
+        }
+    }
+    known
 }
 
-/// What is written of a guard.
-fn written(alloc: Global, names: &Names, text: &[u8], line: &mut String) -> Result<()> {
-    let mut out = Vec::new(alloc);
-    put_written(alloc, names, text, &mut out)?;
-    put_text(&out, line)
+/// Writes the value of a guard.
+fn put_value(names: &Names, signs: &[u8], guard: &Guard, line: &mut Line)
+    requires { IsBelow (length names.now) (formula_of guard.now) }
+{
+    let known = known_of(signs, line);
+    if known.len() == names.len() {
+        line.debug(&guard.kleene(&known));
+    } else {
+        line.put("features");
+    }
 }
 
-/// Writes whether a text spells this guard.
-fn put_same(
-    alloc: Global,
-    names: &Names,
-    text: &[u8],
-    guard: &Guard,
-    line: &mut String,
-) -> Result<()> {
-    let other = parse_guard(alloc, text, names)?;
-    put_yes_or_no(other.is_same(guard), line)
+/// Writes the truth of a guard.
+fn put_truth(names: &Names, signs: &[u8], guard: &Guard, line: &mut Line)
+    requires { IsBelow (length names.now) (formula_of guard.now) }
+{
+    let set = set_of(signs, line);
+    if set.len() == names.len() {
+        line.put_yes_or_no(guard.eval(&set));
+    } else {
+        line.put("features");
+    }
+}
+
+/// Writes what is asked of a guard.
+fn put(names: &Names, asked: &str, signs: &[u8], guard: &Guard, line: &mut Line)
+    requires { IsBelow (length names.now) (formula_of guard.now) }
+{
+    match asked {
+        "read" => line.put("read"),
+        "write" => put_written(names, guard, line),
+        "known" => put_value(names, signs, guard, line),
+        _ => put_truth(names, signs, guard, line),
+    }
+}
+
+/// Answers a row of one guard.
+fn told(names: &Names, asked: &str, signs: &[u8], text: &[u8], line: &mut Line) {
+    if let Some(guard) = guard_of(names, text, line) {
+        put(names, asked, signs, &guard, line);
+    }
+}
+
+/// A guard joined with another by `or`.
+fn or(names: &Names, guard: Guard, text: &[u8], line: &mut Line) -> Option<Guard> {
+    match guard_of(names, text, line) {
+        Some(other) => {
+            let made = guard.or(line.alloc, other);
+            line.kept(made)
+        }
+        None => None,
+    }
 }
 
 /// Two guards joined by `or`.
-fn either(alloc: Global, names: &Names, text: &[u8]) -> Result<Guard> {
-    let (first, second) = two_of(text)?;
-    let guard = parse_guard(alloc, first, names)?;
-    let other = parse_guard(alloc, second, names)?;
-    Ok(guard.or(alloc, other)?)
+fn either(names: &Names, text: &[u8], line: &mut Line) -> Option<Guard> {
+    let (first, second) = two_of(text);
+    match guard_of(names, first, line) {
+        Some(guard) => or(names, guard, second, line),
+        None => None,
+    }
 }
 
 /// A guard and its copy, both of which have to hold.
-fn twice(alloc: Global, names: &Names, text: &[u8]) -> Result<Guard> {
-    let guard = parse_guard(alloc, text, names)?;
-    let copy = guard.copy(alloc)?;
-    Ok(copy.and(alloc, guard)?)
+fn and_itself(guard: Guard, line: &mut Line) -> Option<Guard> {
+    let copy = guard.copy(line.alloc);
+    match line.kept(copy) {
+        Some(copy) => {
+            let made = copy.and(line.alloc, guard);
+            line.kept(made)
+        }
+        None => None,
+    }
+}
+
+/// A guard and its copy, both of which have to hold.
+fn twice(names: &Names, text: &[u8], line: &mut Line) -> Option<Guard> {
+    match guard_of(names, text, line) {
+        Some(guard) => and_itself(guard, line),
+        None => None,
+    }
 }
 
 /// Adds guards to a list.
-fn add_parts(alloc: Global, names: &Names, text: &[u8], parts: &mut Vec<Guard>) -> Result<()> {
+fn add_parts(names: &Names, text: &[u8], parts: &mut Vec<Guard>, line: &mut Line) {
     for part in text.split(|sign| *sign == b'~') {
-        parts.push(parse_guard(alloc, part, names)?)?;
+        if let Some(guard) = guard_of(names, part, line) {
+            line.note(parts.push(guard).is_ok());
+        }
     }
-    Ok(())
 }
 
 /// An `and` of a list of guards, which goes through both forms of a list.
-fn all_of(alloc: Global, names: &Names, text: &[u8]) -> Result<Guard> {
-    let mut items = Vec::new(alloc);
-    add_parts(alloc, names, text, &mut items)?;
+fn all_of(names: &Names, text: &[u8], line: &mut Line) -> Option<Guard> {
+    let mut items = Vec::new(line.alloc);
+    add_parts(names, text, &mut items, line);
     let parts = Guards::new(items);
     if parts.as_slice().len() != 2 {
-        bail!("not two parts");
+        line.put("not two parts");
     }
-    Ok(Guard::All(Guards::new(parts.into_vec())))
+    Some(Guard::All(Guards::new(parts.into_vec())))
 }
 
 /// The guard that a row makes.
-fn made(alloc: Global, names: &Names, asked: &str, text: &[u8]) -> Result<Guard> {
+fn made(names: &Names, asked: &str, text: &[u8], line: &mut Line) -> Option<Guard> {
     match asked {
-        "or" => either(alloc, names, text),
-        "twice" => twice(alloc, names, text),
-        "all" => all_of(alloc, names, text),
-        _ => Ok(parse_guard(alloc, text, names)?),
+        "or" => either(names, text, line),
+        "twice" => twice(names, text, line),
+        "all" => all_of(names, text, line),
+        _ => guard_of(names, text, line),
+    }
+}
+
+/// Writes whether a text spells this guard.
+fn put_same(names: &Names, text: &[u8], guard: &Guard, line: &mut Line) {
+    if let Some(other) = guard_of(names, text, line) {
+        line.put_yes_or_no(other.is_same(guard));
     }
 }
 
 /// Answers whether a text spells the guard that a row makes.
-fn compared(
-    alloc: Global,
-    names: &Names,
-    asked: &str,
-    text: &[u8],
-    line: &mut String,
-) -> Result<()> {
-    let (first, rest) = two_of(text)?;
-    let guard = made(alloc, names, asked, rest)?;
-    put_same(alloc, names, first, &guard, line)
-}
-
-/// What signs say of each feature.
-fn known_of(alloc: Global, signs: &[u8]) -> Result<Vec<Tri>> {
-    let mut known = Vec::new(alloc);
-    for sign in signs {
-        match *sign {
-            b'+' => known.push(Tri::Yes)?,
-            b'-' => known.push(Tri::No)?,
-            b'?' => known.push(Tri::Unknown)?,
-            _ => {}
-        }
-    }
-    Ok(known)
-}
-
-/// Writes the value of a guard.
-fn put_value(
-    alloc: Global,
-    names: &Names,
-    known: &[Tri],
-    text: &[u8],
-    line: &mut String,
-) -> Result<()> {
-    if known.len() != names.len() {
-        bail!("features");
-    }
-    let guard = parse_guard(alloc, text, names)?;
-    write!(line, "{:?}", guard.kleene(known))?;
-    Ok(())
-}
-
-/// Writes the truth of a guard.
-fn put_truth(
-    alloc: Global,
-    names: &Names,
-    set: &[bool],
-    text: &[u8],
-    line: &mut String,
-) -> Result<()> {
-    if set.len() != names.len() {
-        bail!("features");
-    }
-    let guard = parse_guard(alloc, text, names)?;
-    put_yes_or_no(guard.eval(set), line)
-}
-
-/// Answers a row of the value of a guard.
-fn valued(alloc: Global, names: &Names, text: &[u8], line: &mut String) -> Result<()> {
-    let (signs, text) = two_of(text)?;
-    let known = known_of(alloc, signs)?;
-    put_value(alloc, names, &known, text, line)
-}
-
-/// Answers a row of the truth of a guard.
-fn holds(alloc: Global, names: &Names, text: &[u8], line: &mut String) -> Result<()> {
-    let (signs, text) = two_of(text)?;
-    let set = set_of(alloc, signs)?;
-    put_truth(alloc, names, &set, text, line)
-}
-
-/// Answers `read`, where a text spells a guard.
-fn read(alloc: Global, names: &Names, text: &[u8], line: &mut String) -> Result<()> {
-    parse_guard(alloc, text, names)?;
-    line.push_str("read")?;
-    Ok(())
-}
-
-/// Answers a row over the names.
-fn over(alloc: Global, names: &Names, asked: &str, text: &[u8], line: &mut String) -> Result<()> {
-    match asked {
-        "read" => read(alloc, names, text, line),
-        "write" => written(alloc, names, text, line),
-        "known" => valued(alloc, names, text, line),
-        "holds" => holds(alloc, names, text, line),
-        _ => compared(alloc, names, asked, text, line),
+fn compared(names: &Names, asked: &str, text: &[u8], line: &mut Line) {
+    let (first, rest) = two_of(text);
+    if let Some(guard) = made(names, asked, rest, line) {
+        put_same(names, first, &guard, line);
     }
 }
 
 /// Answers a row.
-pub(crate) fn answer(alloc: Global, asked: &str, text: &[u8], line: &mut String) -> Result<()> {
-    let names = names_of(alloc, b"a~b")?;
-    over(alloc, &names, asked, text, line)
+pub(crate) fn answer(names: &Names, asked: &str, text: &[u8], line: &mut Line) {
+    match asked {
+        "read" | "write" => told(names, asked, b"", text, line),
+        "known" | "holds" => {
+            let (signs, text) = two_of(text);
+            told(names, asked, signs, text, line);
+        }
+        _ => compared(names, asked, text, line),
+    }
 }

@@ -6,88 +6,75 @@
 //! - `at PLACE~NAME~..` is answered the name at the place.
 //! - `is NAME` asks whether it is the name of a feature.
 
-use crate::text::{number_of, put_yes_or_no, two_of};
-use anyhow::{Result, bail};
-use std::alloc::Global;
-use std::fmt::Write;
+use crate::line::Line;
+use crate::text::{number_of, two_of};
 use vpg_guards::{Names, is_feature_name};
 
 /// Adds a name, and writes the answer.
-fn add(alloc: Global, names: &mut Names, name: &[u8], line: &mut String) -> Result<()> {
-    match names.add(alloc, name) {
-        Ok(place) => write!(line, "{place}, ")?,
-        Err(fault) => write!(line, "{fault}, ")?,
+fn add(names: &mut Names, name: &[u8], line: &mut Line) {
+    match names.add(line.alloc, name) {
+        Ok(place) => line.number(place as u64),
+        Err(fault) => line.show(&fault),
     }
-    Ok(())
+    line.put(", ");
+}
+
+/// Adds names, and writes the answer to each, or to the last alone.
+fn add_all(names: &mut Names, text: &[u8], all: bool, line: &mut Line) {
+    for name in text.split(|sign| *sign == b'~') {
+        if !all {
+            line.text.clear();
+        }
+        add(names, name, line);
+    }
 }
 
 /// Adds names, and writes the answer to each, or to the last alone, and how many there are.
-fn put_added(
-    alloc: Global,
-    names: &mut Names,
-    text: &[u8],
-    all: bool,
-    line: &mut String,
-) -> Result<()> {
-    for name in text.split(|sign| *sign == b'~') {
-        if !all {
-            line.clear();
-        }
-        add(alloc, names, name, line)?;
+fn put_added(names: &mut Names, text: &[u8], all: bool, line: &mut Line) {
+    add_all(names, text, all, line);
+    line.number(names.len() as u64);
+    line.put(if names.is_empty() {
+        " names, empty"
+    } else {
+        " names"
+    });
+}
+
+/// Writes the name at a place.
+fn put_name(names: &Names, place: u32, line: &mut Line) {
+    if (place as usize) < names.len() && place <= 511 {
+        line.put(names.name(place as u16));
+    } else {
+        line.put("no name there");
     }
-    let empty = if names.is_empty() { ", empty" } else { "" };
-    write!(line, "{} names{empty}", names.len())?;
-    Ok(())
 }
 
-/// Adds names to none.
-fn added(alloc: Global, text: &[u8], all: bool, line: &mut String) -> Result<()> {
-    let mut names = Names::new(alloc)?;
-    put_added(alloc, &mut names, text, all, line)
-}
-
-/// Adds names, each of which has to be taken.
-fn add_all(alloc: Global, names: &mut Names, text: &[u8]) -> Result<()> {
-    for name in text.split(|sign| *sign == b'~') {
-        names.add(alloc, name)?;
-    }
-    Ok(())
-}
-
-/// The names of a text, parted by `~`.
-pub(crate) fn names_of(alloc: Global, text: &[u8]) -> Result<Names> {
-    let mut names = Names::new(alloc)?;
-    add_all(alloc, &mut names, text)?;
-    Ok(names)
-}
-
-/// Writes the place of a name, or the name at a place.
-fn put_found(asked: &str, names: &Names, word: &[u8], line: &mut String) -> Result<()> {
+/// Adds all names but the first, and looks that up.
+fn put_found(names: &mut Names, asked: &str, text: &[u8], line: &mut Line) {
+    let (word, others) = two_of(text);
+    add_all(names, others, true, line);
+    line.text.clear();
     if asked == "get" {
-        write!(line, "{:?}", names.get(word))?;
-        return Ok(());
+        line.debug(&names.get(word));
+    } else {
+        put_name(names, number_of(word), line);
     }
-    let place = number_of(word);
-    if place as usize >= names.len() || place > 511 {
-        bail!("no name there");
-    }
-    line.push_str(names.name(place as u16))?;
-    Ok(())
 }
 
-/// Looks up the first word among the others.
-fn found(alloc: Global, asked: &str, text: &[u8], line: &mut String) -> Result<()> {
-    let (word, others) = two_of(text)?;
-    let names = names_of(alloc, others)?;
-    put_found(asked, &names, word, line)
+/// Answers a row, beginning with no names.
+fn put(names: &mut Names, asked: &str, text: &[u8], line: &mut Line) {
+    match asked {
+        "add" => put_added(names, text, true, line),
+        "last" => put_added(names, text, false, line),
+        "is" => line.put_yes_or_no(is_feature_name(text)),
+        _ => put_found(names, asked, text, line),
+    }
 }
 
 /// Answers a row.
-pub(crate) fn answer(alloc: Global, asked: &str, text: &[u8], line: &mut String) -> Result<()> {
-    match asked {
-        "add" => added(alloc, text, true, line),
-        "last" => added(alloc, text, false, line),
-        "is" => put_yes_or_no(is_feature_name(text), line),
-        _ => found(alloc, asked, text, line),
+pub(crate) fn answer(asked: &str, text: &[u8], line: &mut Line) {
+    let made = Names::new(line.alloc);
+    if let Some(mut names) = line.kept(made) {
+        put(&mut names, asked, text, line);
     }
 }

@@ -1,110 +1,125 @@
 //! How a row writes a text.
 //!
-//! `/` is a line feed, and what can't be seen has its picture: `␉` a tab, `␋` a vertical tab, `␍` a carriage return, `␠` a blank at the end.
-//! `�` is a byte 255, which no text in UTF-8 has. `<N|PART>` is the part N times, one behind the other; in it `#` is the number of
-//! the repetition, from 0, `%` twice that, and `@` one more than twice that.
+//! `/` is a line feed, and what can't be seen has its picture: `␉` a tab, `␋` a vertical tab, `␍` a carriage return, `␠`
+//! a blank at the end. `�` is a byte 255, which no text in UTF-8 has. `<N|PART>` is the part N times, one behind the
+//! other; in it `#` is the number of the repetition, from 0, `%` twice that, and `@` one more than twice that.
 
-use anyhow::{Context, Result};
-use std::alloc::Global;
+use crate::line::Line;
+
+/// What a sign stands for.
+fn meant(sign: char) -> char {
+    match sign {
+        '/' => '\n',
+        '␉' => '\t',
+        '␋' => '\u{b}',
+        '␍' => '\r',
+        '␠' => ' ',
+        _ => sign,
+    }
+}
 
 /// Appends what a sign stands for.
-fn push_sign(text: &mut Vec<u8>, sign: char) -> Result<()> {
-    match sign {
-        '/' => text.push(b'\n')?,
-        '␉' => text.push(b'\t')?,
-        '␋' => text.push(11)?,
-        '␍' => text.push(b'\r')?,
-        '␠' => text.push(b' ')?,
-        '�' => text.push(255)?,
-        _ => text.extend_from_slice(sign.encode_utf8(&mut [0; 4]).as_bytes())?,
-    }
-    Ok(())
+fn push_sign(text: &mut Vec<u8>, sign: char, line: &mut Line) {
+    let done = if sign == '�' {
+        text.push(255).is_ok()
+    } else {
+        let mut room = [0; 4];
+        text.extend_from_slice(meant(sign).encode_utf8(&mut room).as_bytes())
+            .is_ok()
+    };
+    line.note(done);
 }
 
 /// Appends what stands outside of a repetition.
-fn push_plain(text: &mut Vec<u8>, writing: &str) -> Result<()> {
+fn push_plain(text: &mut Vec<u8>, writing: &str, line: &mut Line) {
     for sign in writing.chars() {
-        push_sign(text, sign)?;
+        push_sign(text, sign, line);
     }
-    Ok(())
 }
 
 /// Appends the digits of a number.
-fn push_number(alloc: Global, text: &mut Vec<u8>, number: u64) -> Result<()> {
-    let digits = format!(in alloc; "{number}")?;
-    text.extend_from_slice(digits.as_bytes())?;
-    Ok(())
+fn push_number(text: &mut Vec<u8>, number: u64, line: &mut Line) {
+    let mut digits = Line::new(line.alloc);
+    digits.number(number);
+    line.note(!digits.lacks && text.extend_from_slice(digits.text.as_bytes()).is_ok());
+}
+
+/// The number that a sign stands for in a repetition.
+fn number_at(sign: char, number: u64) -> Option<u64> {
+    match sign {
+        '#' => Some(number),
+        '%' => Some(number.saturating_mul(2)),
+        '@' => Some(number.saturating_mul(2).saturating_add(1)),
+        _ => None,
+    }
 }
 
 /// Appends the part for one repetition.
-fn push_part(alloc: Global, text: &mut Vec<u8>, part: &str, number: u64) -> Result<()> {
-    let even = number.saturating_mul(2);
+fn push_part(text: &mut Vec<u8>, part: &str, number: u64, line: &mut Line) {
     for sign in part.chars() {
-        match sign {
-            '#' => push_number(alloc, text, number)?,
-            '%' => push_number(alloc, text, even)?,
-            '@' => push_number(alloc, text, even.saturating_add(1))?,
-            _ => push_sign(text, sign)?,
+        match number_at(sign, number) {
+            Some(number) => push_number(text, number, line),
+            None => push_sign(text, sign, line),
         }
     }
-    Ok(())
+}
+
+/// Appends a part so often.
+fn push_parts(text: &mut Vec<u8>, part: &str, count: u64, line: &mut Line) {
+    for number in 0..count {
+        push_part(text, part, number, line);
+    }
 }
 
 /// Appends a repetition from behind its `<`, and what stands behind it.
-fn push_repeated(alloc: Global, text: &mut Vec<u8>, writing: &str) -> Result<()> {
-    let (count, rest) = writing.split_once('|').context("no number")?;
-    let (part, plain) = rest.split_once('>').context("no end")?;
-    for number in 0..count.parse::<u64>()? {
-        push_part(alloc, text, part, number)?;
+fn push_repeated(text: &mut Vec<u8>, writing: &str, line: &mut Line) {
+    let (count, rest) = writing.split_once('|').unwrap_or((writing, ""));
+    let (part, plain) = rest.split_once('>').unwrap_or((rest, ""));
+    match count.parse::<u64>() {
+        Ok(count) => push_parts(text, part, count, line),
+        Err(_) => line.put("no number: "),
     }
-    push_plain(text, plain)
+    push_plain(text, plain, line);
 }
 
 /// Appends the text that a row writes so.
-fn push_text(alloc: Global, text: &mut Vec<u8>, writing: &str) -> Result<()> {
+fn push_text(text: &mut Vec<u8>, writing: &str, line: &mut Line) {
     let mut is_first = true;
     for piece in writing.split('<') {
         if is_first {
-            push_plain(text, piece)?;
+            push_plain(text, piece, line);
         } else {
-            push_repeated(alloc, text, piece)?;
+            push_repeated(text, piece, line);
         }
         is_first = false;
     }
-    Ok(())
 }
 
 /// The text that a row writes so.
-pub(crate) fn spelled(alloc: Global, writing: &str) -> Result<Vec<u8>> {
-    let mut text = Vec::new(alloc);
-    push_text(alloc, &mut text, writing)?;
-    Ok(text)
+pub(crate) fn spelled(writing: &str, line: &mut Line) -> Vec<u8> {
+    let mut text = Vec::new(line.alloc);
+    push_text(&mut text, writing, line);
+    text
 }
 
 /// The two parts of a row's text, which stand beside the first `~`.
-pub(crate) fn two_of(text: &[u8]) -> Result<(&[u8], &[u8])> {
-    let place = text
-        .iter()
-        .position(|sign| *sign == b'~')
-        .context("one text")?;
-    Ok((&text[..place], &text[place + 1..]))
-}
-
-/// Writes a word for what holds, or doesn't.
-pub(crate) fn put_yes_or_no(holds: bool, line: &mut String) -> Result<()> {
-    line.push_str(if holds { "yes" } else { "no" })?;
-    Ok(())
+pub(crate) fn two_of(text: &[u8]) -> (&[u8], &[u8]) {
+    let place = text.iter().position(|sign| *sign == b'~');
+    match place {
+        Some(place) => (&text[..place], &text[place + 1..]),
+        None => (text, b""),
+    }
 }
 
 /// The set of the features with `+`.
-pub(crate) fn set_of(alloc: Global, signs: &[u8]) -> Result<Vec<bool>> {
-    let mut set = Vec::new(alloc);
+pub(crate) fn set_of(signs: &[u8], line: &mut Line) -> Vec<bool> {
+    let mut set = Vec::new(line.alloc);
     for sign in signs {
         if *sign != b' ' {
-            set.push(*sign == b'+')?;
+            line.note(set.push(*sign == b'+').is_ok());
         }
     }
-    Ok(set)
+    set
 }
 
 /// The number that the digits of a text spell.

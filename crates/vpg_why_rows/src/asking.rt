@@ -13,31 +13,44 @@
 //! | `offer +F V`, `without N V` | the verdicts of the vertex with one more decision; without the Nth |
 //! | `still N V`, `certain N V` | whether the vertex would be hopeless, or sure, without the Nth |
 //! | `repair V`, `expose V` | what to retract so that it is not hopeless any more; not sure any more |
-ghost use Rattle.std.specs.Prelude.{◌<◌, IfOk, length};
+ghost use Rattle.std.specs.Prelude.{◌<◌, IfSome, length};
 ghost use Rattle.vpg_diagram.specs.FeatureDiagram.{feature_count};
 ghost use Rattle.vpg_why.specs.Suffices.{IsAim};
 
+use crate::line::Line;
 use crate::page::{Texts, order_from};
 use crate::putting::{
     put_demand, put_found, put_offer, put_remedy, put_verdict, put_why, put_why_lost,
 };
-use anyhow::{Context, Result, bail};
-use std::alloc::Global;
 use vpg_measure::{Order, Which};
 use vpg_why::{
     Aim, Limits, find, look_ahead, look_back, needs, repair, stays_without, why, why_conflict,
     why_known, why_lost,
 };
 
-/// The vertex of an identifier.
-fn vertex_of(order: &Order, word: &str) -> Result<u32>
-    ensures { IfOk result (λ v. v < length order.now.game.vertices) }
-{
-    let vertex = order.game().find(word.parse::<u32>()?).context("vertex")?;
-    if (vertex as usize) < order.game().vertices() {
-        return Ok(vertex);
+/// The number of a word; or in the line why it has none.
+fn number_of(word: &str, line: &mut Line) -> Option<u32> {
+    match word.parse::<u32>() {
+        Ok(number) => Some(number),
+        Err(fault) => {
+            line.show(&fault);
+            None
+        }
     }
-    bail!("vertex")
+}
+
+/// The vertex of an identifier.
+fn vertex_of(order: &Order, word: &str, line: &mut Line) -> Option<u32>
+    ensures { IfSome result (λ v. v < length order.now.game.vertices) }
+{
+    let id = number_of(word, line)?;
+    match order.game().find(id) {
+        Some(vertex) if (vertex as usize) < order.game().vertices() => Some(vertex),
+        _ => {
+            line.put("vertex");
+            None
+        }
+    }
 }
 
 /// A feature and its value.
@@ -47,199 +60,203 @@ struct Choice {
     value: bool,
 }
 
-/// The choice of a word: `+F` or `-F`.
-fn choice_of(order: &Order, word: &str) -> Result<Choice>
-    ensures { IfOk result (λ choice. choice.feature < feature_count order.now.diagram.lines) }
+/// The choice that a word spells: `+F` or `-F`.
+fn choice_spelled(order: &Order, word: &str) -> Option<Choice> {
+    let (sign, name) = word.as_bytes().split_first()?;
+    let feature = order.diagram().names().get(name)?;
+    let value = *sign == b'+';
+    Some(Choice { feature, value })
+}
+
+/// The choice of a word.
+fn choice_of(order: &Order, word: &str, line: &mut Line) -> Option<Choice>
+    ensures { IfSome result (λ choice. choice.feature < feature_count order.now.diagram.lines) }
 {
-    let (sign, name) = word.as_bytes().split_first().context("word")?;
-    let feature = order.diagram().names().get(name).context("feature")?;
-    if (feature as usize) < order.diagram().features() {
-        return Ok(Choice {
-            feature,
-            value: *sign == b'+',
-        });
+    match choice_spelled(order, word) {
+        Some(choice) if (choice.feature as usize) < order.diagram().features() => Some(choice),
+        _ => {
+            line.put("feature");
+            None
+        }
     }
-    bail!("feature")
-}
-
-/// A product that is looked for: of one that wins at the vertex of a word, or of any.
-fn aim_of(order: &Order, word: &str, which: Which) -> Result<Aim>
-    ensures { IfOk result (λ aim. IsAim order.now.game aim) }
-{
-    let vertex = vertex_of(order, word)?;
-    Ok(Aim::Won { which, vertex })
-}
-
-fn ask_why(
-    alloc: Global,
-    order: &Order,
-    which: Which,
-    word: &str,
-    limits: Limits,
-    line: &mut String,
-) -> Result<()> {
-    let vertex = vertex_of(order, word)?;
-    let found = why(alloc, order, which, vertex, limits)?;
-    put_why(order.diagram(), found.as_ref(), line)
-}
-
-fn ask_known(alloc: Global, order: &Order, word: &str, line: &mut String) -> Result<()> {
-    let choice = choice_of(order, word)?;
-    let found = why_known(alloc, order, choice.feature, choice.value)?;
-    put_why(order.diagram(), found.as_ref(), line)
-}
-
-fn ask_against(alloc: Global, order: &Order, word: &str, line: &mut String) -> Result<()> {
-    let choice = choice_of(order, word)?;
-    let found = why_conflict(alloc, order, choice.feature, choice.value)?;
-    put_why(order.diagram(), found.as_ref(), line)
-}
-
-fn ask_lost(alloc: Global, order: &Order, aim: Aim, limits: Limits, line: &mut String) -> Result<()>
-    requires { IsAim order.now.game aim }
-{
-    let found = why_lost(alloc, order, aim, limits)?;
-    put_why_lost(order.diagram(), &found, line)
-}
-
-fn ask_example(
-    alloc: Global,
-    order: &Order,
-    aim: Aim,
-    limits: Limits,
-    line: &mut String,
-) -> Result<()>
-    requires { IsAim order.now.game aim }
-{
-    let found = find(alloc, order, aim, limits)?;
-    put_found(order.diagram(), &found, line)
-}
-
-fn ask_needs(
-    alloc: Global,
-    order: &Order,
-    aim: Aim,
-    limits: Limits,
-    line: &mut String,
-) -> Result<()>
-    requires { IsAim order.now.game aim }
-{
-    let found = needs(alloc, order, aim, limits)?;
-    put_demand(order.diagram(), &found, line)
-}
-
-fn ask_offer(
-    alloc: Global,
-    order: &Order,
-    words: &str,
-    limits: Limits,
-    line: &mut String,
-) -> Result<()> {
-    let (choice, vertex) = words.split_once(' ').context("vertex")?;
-    let Choice { feature, value } = choice_of(order, choice)?;
-    let vertex = vertex_of(order, vertex)?;
-    let found = look_ahead(alloc, order, feature, value, vertex, limits)?;
-    put_offer(found, line)
 }
 
 /// The place of the decision that a word numbers, from 1 on.
-fn place_of(order: &Order, word: &str) -> Result<usize>
-    ensures { IfOk result (λ place. place < length order.now.decisions) }
+fn place_of(order: &Order, word: &str, line: &mut Line) -> Option<usize>
+    ensures { IfSome result (λ place. place < length order.now.decisions) }
 {
-    let number = word.parse::<usize>()?;
+    let number = number_of(word, line)? as usize;
     if number == 0 || number > order.decisions().len() {
-        bail!("decision");
+        line.put("decision");
+        return None;
     }
-    Ok(number - 1)
+    Some(number - 1)
 }
 
-fn ask_stays(
-    alloc: Global,
+/// Of which table a word asks.
+fn which_of(asked: &str) -> Which {
+    match asked {
+        "sure" | "certain" | "expose" | "won" | "counterexample" | "fails" => Which::Dual,
+        _ => Which::Hopeful,
+    }
+}
+
+fn ask_why(order: &Order, which: Which, word: &str, limits: Limits, line: &mut Line) {
+    if let Some(vertex) = vertex_of(order, word, line) {
+        let found = why(line.alloc, order, which, vertex, limits);
+        if let Some(found) = line.kept(found) {
+            put_why(order.diagram(), found.as_ref(), line);
+        }
+    }
+}
+
+fn ask_known(order: &Order, word: &str, line: &mut Line) {
+    if let Some(choice) = choice_of(order, word, line) {
+        let found = why_known(line.alloc, order, choice.feature, choice.value);
+        if let Some(found) = line.kept(found) {
+            put_why(order.diagram(), found.as_ref(), line);
+        }
+    }
+}
+
+fn ask_against(order: &Order, word: &str, line: &mut Line) {
+    if let Some(choice) = choice_of(order, word, line) {
+        let found = why_conflict(line.alloc, order, choice.feature, choice.value);
+        if let Some(found) = line.kept(found) {
+            put_why(order.diagram(), found.as_ref(), line);
+        }
+    }
+}
+
+fn ask_lost(order: &Order, aim: Aim, limits: Limits, line: &mut Line)
+    requires { IsAim order.now.game aim }
+{
+    let found = why_lost(line.alloc, order, aim, limits);
+    if let Some(found) = line.kept(found) {
+        put_why_lost(order.diagram(), &found, line);
+    }
+}
+
+fn ask_example(order: &Order, aim: Aim, limits: Limits, line: &mut Line)
+    requires { IsAim order.now.game aim }
+{
+    let found = find(line.alloc, order, aim, limits);
+    if let Some(found) = line.kept(found) {
+        put_found(order.diagram(), &found, line);
+    }
+}
+
+fn ask_needs(order: &Order, aim: Aim, limits: Limits, line: &mut Line)
+    requires { IsAim order.now.game aim }
+{
+    let found = needs(line.alloc, order, aim, limits);
+    if let Some(found) = line.kept(found) {
+        put_demand(order.diagram(), &found, line);
+    }
+}
+
+/// Asks of products that meet an aim.
+fn ask_of_aim(order: &Order, asked: &str, aim: Aim, limits: Limits, line: &mut Line)
+    requires { IsAim order.now.game aim }
+{
+    match asked {
+        "lost" | "won" | "barren" => ask_lost(order, aim, limits, line),
+        "example" | "counterexample" | "product" => ask_example(order, aim, limits, line),
+        "needs" | "fails" | "forced" => ask_needs(order, aim, limits, line),
+        _ => line.put("word"),
+    }
+}
+
+/// Asks of products that win at the vertex of a word, for Even or for Odd.
+fn ask_of_winners(order: &Order, asked: &str, word: &str, limits: Limits, line: &mut Line) {
+    if let Some(vertex) = vertex_of(order, word, line) {
+        let which = which_of(asked);
+        ask_of_aim(order, asked, Aim::Won { which, vertex }, limits, line);
+    }
+}
+
+fn ask_offer(
     order: &Order,
-    which: Which,
-    words: &str,
+    choice: &str,
+    word: &str,
     limits: Limits,
-    line: &mut String,
-) -> Result<()> {
-    let (number, vertex) = words.split_once(' ').context("vertex")?;
-    let place = place_of(order, number)?;
-    let vertex = vertex_of(order, vertex)?;
-    let shown = stays_without(alloc, order, which, place, vertex, limits)?;
-    put_verdict(which, shown, line)
+    line: &mut Line,
+) -> Option<()> {
+    let Choice { feature, value } = choice_of(order, choice, line)?;
+    let vertex = vertex_of(order, word, line)?;
+    let found = look_ahead(line.alloc, order, feature, value, vertex, limits);
+    put_offer(line.kept(found)?, line);
+    Some(())
 }
 
 fn ask_without(
-    alloc: Global,
     order: &Order,
-    words: &str,
+    number: &str,
+    word: &str,
     limits: Limits,
-    line: &mut String,
-) -> Result<()> {
-    let (number, vertex) = words.split_once(' ').context("vertex")?;
-    let place = place_of(order, number)?;
-    let vertex = vertex_of(order, vertex)?;
-    let found = look_back(alloc, order, place, vertex, limits)?;
-    put_offer(found, line)
+    line: &mut Line,
+) -> Option<()> {
+    let place = place_of(order, number, line)?;
+    let vertex = vertex_of(order, word, line)?;
+    let found = look_back(line.alloc, order, place, vertex, limits);
+    put_offer(line.kept(found)?, line);
+    Some(())
 }
 
-fn ask_repair(
-    alloc: Global,
+fn ask_stays(
     order: &Order,
     which: Which,
+    number: &str,
     word: &str,
     limits: Limits,
-    line: &mut String,
-) -> Result<()> {
-    let vertex = vertex_of(order, word)?;
-    let found = repair(alloc, order, which, vertex, limits)?;
-    put_remedy(order.diagram(), &found, line)
+    line: &mut Line,
+) -> Option<()> {
+    let place = place_of(order, number, line)?;
+    let vertex = vertex_of(order, word, line)?;
+    let shown = stays_without(line.alloc, order, which, place, vertex, limits);
+    put_verdict(which, line.kept(shown)?, line);
+    Some(())
 }
 
-/// Asks of products that win at a vertex, for Even or for Odd.
-fn ask_of_products(
-    alloc: Global,
-    order: &Order,
-    asked: &str,
-    word: &str,
-    limits: Limits,
-    line: &mut String,
-) -> Result<()> {
-    let which = match asked {
-        "won" | "counterexample" | "fails" => Which::Dual,
-        _ => Which::Hopeful,
+/// Asks what two words say: a choice or the number of a decision, and a vertex.
+fn ask_of_two(order: &Order, asked: &str, words: &str, limits: Limits, line: &mut Line) {
+    let Some((first, word)) = words.split_once(' ') else {
+        line.put("vertex");
+        return;
     };
-    let aim = aim_of(order, word, which)?;
-    match asked {
-        "lost" | "won" => ask_lost(alloc, order, aim, limits, line),
-        "example" | "counterexample" => ask_example(alloc, order, aim, limits, line),
-        "needs" | "fails" => ask_needs(alloc, order, aim, limits, line),
-        _ => bail!("word"),
+    let _told = match asked {
+        "offer" => ask_offer(order, first, word, limits, line),
+        "without" => ask_without(order, first, word, limits, line),
+        _ => ask_stays(order, which_of(asked), first, word, limits, line),
+    };
+}
+
+fn ask_repair(order: &Order, which: Which, word: &str, limits: Limits, line: &mut Line) {
+    if let Some(vertex) = vertex_of(order, word, line) {
+        let found = repair(line.alloc, order, which, vertex, limits);
+        if let Some(found) = line.kept(found) {
+            put_remedy(order.diagram(), &found, line);
+        }
     }
 }
 
 /// Asks of a page.
-fn ask(alloc: Global, order: &Order, row: &str, limits: Limits, line: &mut String) -> Result<()> {
+fn ask(order: &Order, row: &str, limits: Limits, line: &mut Line) {
     let (asked, words) = row.split_once(' ').unwrap_or((row, ""));
     match asked {
-        "hopeless" => ask_why(alloc, order, Which::Hopeful, words, limits, line),
-        "sure" => ask_why(alloc, order, Which::Dual, words, limits, line),
-        "known" => ask_known(alloc, order, words, line),
-        "against" => ask_against(alloc, order, words, line),
-        "barren" => ask_lost(alloc, order, Aim::Any, limits, line),
-        "product" => ask_example(alloc, order, Aim::Any, limits, line),
-        "forced" => ask_needs(alloc, order, Aim::Any, limits, line),
-        "offer" => ask_offer(alloc, order, words, limits, line),
-        "without" => ask_without(alloc, order, words, limits, line),
-        "still" => ask_stays(alloc, order, Which::Hopeful, words, limits, line),
-        "certain" => ask_stays(alloc, order, Which::Dual, words, limits, line),
-        "repair" => ask_repair(alloc, order, Which::Hopeful, words, limits, line),
-        "expose" => ask_repair(alloc, order, Which::Dual, words, limits, line),
-        _ => ask_of_products(alloc, order, asked, words, limits, line),
+        "hopeless" | "sure" => ask_why(order, which_of(asked), words, limits, line),
+        "known" => ask_known(order, words, line),
+        "against" => ask_against(order, words, line),
+        "barren" | "product" | "forced" => ask_of_aim(order, asked, Aim::Any, limits, line),
+        "offer" | "without" | "still" | "certain" => ask_of_two(order, asked, words, limits, line),
+        "repair" | "expose" => ask_repair(order, which_of(asked), words, limits, line),
+        _ => ask_of_winners(order, asked, words, limits, line),
     }
 }
 
-/// Appends the answer to a row.
-pub(crate) fn answer(alloc: Global, texts: &Texts, row: &str, line: &mut String) -> Result<()> {
-    let order = order_from(alloc, texts)?;
-    ask(alloc, &order, row, texts.limits, line)
+/// Writes the answer to a row.
+pub(crate) fn answer(texts: &Texts, row: &str, line: &mut Line) {
+    if let Some(order) = order_from(texts, line) {
+        ask(&order, row, texts.limits, line);
+    }
 }

@@ -9,46 +9,58 @@
 #![tactic(auto)]
 
 mod asking;
+mod line;
 mod page;
 mod putting;
 
 use crate::asking::answer;
+use crate::line::Line;
 use crate::page::Texts;
-use anyhow::{Context, Result};
-use std::alloc::Global;
-use std::fmt::Write;
+use anyhow::{Context, Result, bail};
 use std::{env, fs};
 use vpg_why::Limits;
 
 /// The tables, in the order in which they are answered.
 const TABLES: [&str; 3] = ["small", "limits", "families"];
 
-/// The answer to a row, or its fault, in one line.
-fn answer_line(alloc: Global, texts: &Texts, row: &str) -> Result<String> {
-    let mut line = String::new(alloc);
-    if let Err(fault) = answer(alloc, texts, row, &mut line) {
-        write!(line, "{fault}")?;
+/// Makes a text that of a row.
+fn set_text(text: &mut Vec<u8>, writing: &str, line: &mut Line) {
+    text.clear();
+    for byte in writing.as_bytes() {
+        let meant = if *byte == b'/' { b'\n' } else { *byte };
+        line.note(text.push(meant).is_ok());
     }
-    Ok(line)
-}
-
-/// A text of a row.
-fn text_of(alloc: Global, writing: &str) -> Result<Vec<u8>> {
-    let text = writing.replace(alloc, '/', "\n")?;
-    Ok(Vec::from_slice(alloc, text.as_bytes())?)
 }
 
 /// The limits of a row.
-fn limits_of(writing: &str) -> Result<Limits> {
-    let mut words = writing.split(' ');
-    let budget = words.next().context("budget")?.parse::<u64>()?;
-    let rounds = words.next().context("rounds")?.parse::<u64>()?;
-    let trials = words.next().context("trials")?.parse::<u64>()?;
-    Ok(Limits {
-        budget,
-        rounds,
-        trials,
+fn limits_of(writing: &str) -> Option<Limits> {
+    let (budget, rest) = writing.split_once(' ')?;
+    let (rounds, trials) = rest.split_once(' ')?;
+    Some(Limits {
+        budget: budget.parse::<u64>().ok()?,
+        rounds: rounds.parse::<u64>().ok()?,
+        trials: trials.parse::<u64>().ok()?,
     })
+}
+
+/// Takes the limits of a row, which has three numbers.
+fn set_limits(texts: &mut Texts, writing: &str, line: &mut Line) {
+    match limits_of(writing) {
+        Some(limits) => texts.limits = limits,
+        None => line.put(" = no limits"),
+    }
+}
+
+/// Takes a row of texts or limits that the rows behind it are asked of; or answers that it says nothing of them.
+fn take(texts: &mut Texts, word: &str, rest: &str, line: &mut Line) -> bool {
+    match word {
+        "diagram" => set_text(&mut texts.diagram, rest, line),
+        "game" => set_text(&mut texts.game, rest, line),
+        "page" => set_text(&mut texts.page, rest, line),
+        "limits" => set_limits(texts, rest, line),
+        _ => return false,
+    }
+    true
 }
 
 /// Reads a file of a folder.
@@ -57,32 +69,47 @@ fn file_of(rt: &HostRuntime, folder: &str, name: &str) -> Result<Vec<u8>> {
     Ok(fs::read(rt, path.as_str())?)
 }
 
-/// Takes a row that says what the rows behind it are asked of; or answers that it says nothing of it.
-fn take(rt: &HostRuntime, texts: &mut Texts, row: &str) -> Result<bool> {
-    let alloc = rt.alloc();
-    let (word, rest) = row.split_once(' ').unwrap_or((row, ""));
-    match word {
-        "diagram" => texts.diagram = text_of(alloc, rest)?,
-        "game" => texts.game = text_of(alloc, rest)?,
-        "files" => {
-            texts.diagram = file_of(rt, rest, "diagram")?;
-            texts.game = file_of(rt, rest, "game")?;
-        }
-        "page" => texts.page = text_of(alloc, rest)?,
-        "limits" => texts.limits = limits_of(rest)?,
-        _ => return Ok(false),
-    }
-    Ok(true)
+/// Takes the texts of a folder.
+fn take_files(rt: &HostRuntime, texts: &mut Texts, folder: &str) -> Result<()> {
+    texts.diagram = file_of(rt, folder, "diagram")?;
+    texts.game = file_of(rt, folder, "game")?;
+    Ok(())
 }
 
-/// Writes a row with its answer, a row that says what is asked of, or a comment.
-fn carry_out_row(rt: &HostRuntime, texts: &mut Texts, row: &str) -> Result<()> {
-    if row.is_empty() || row.starts_with('#') || take(rt, texts, row)? {
-        println!(rt; "{row}")?;
-        return Ok(());
+/// Prints a row, with its answer behind it.
+fn print_row(rt: &HostRuntime, row: &str, line: &Line) -> Result<()> {
+    if line.lacks {
+        bail!("no memory");
     }
-    let line = answer_line(rt.alloc(), texts, row)?;
-    println!(rt; "{row} = {}", line.as_str())?;
+    println!(rt; "{row}{}", line.text.as_str())?;
+    Ok(())
+}
+
+/// Writes the answer behind a question; nothing behind a comment, or behind a row that says what is asked of.
+fn put_row(texts: &mut Texts, row: &str, line: &mut Line) {
+    let (word, rest) = row.split_once(' ').unwrap_or((row, ""));
+    if row.is_empty() || row.starts_with('#') || word == "files" || take(texts, word, rest, line) {
+        return;
+    }
+    line.put(" = ");
+    answer(texts, row, line);
+}
+
+/// Carries out a row.
+fn carry_out_row(rt: &HostRuntime, texts: &mut Texts, row: &str) -> Result<()> {
+    if let Some(folder) = row.strip_prefix("files ") {
+        take_files(rt, texts, folder)?;
+    }
+    let mut line = Line::new(rt.alloc());
+    put_row(texts, row, &mut line);
+    print_row(rt, row, &line)
+}
+
+/// Carries out rows.
+fn carry_out_rows(rt: &HostRuntime, texts: &mut Texts, rows: &str) -> Result<()> {
+    for row in rows.lines() {
+        carry_out_row(rt, texts, row)?;
+    }
     Ok(())
 }
 
@@ -90,10 +117,7 @@ fn carry_out_row(rt: &HostRuntime, texts: &mut Texts, row: &str) -> Result<()> {
 fn carry_out(rt: &HostRuntime, table: &str) -> Result<()> {
     let rows = fs::read_to_string(rt, table)?;
     let mut texts = Texts::new(rt.alloc());
-    for row in rows.lines() {
-        carry_out_row(rt, &mut texts, row)?;
-    }
-    Ok(())
+    carry_out_rows(rt, &mut texts, rows.as_str())
 }
 
 /// Carries out the tables that the words name.

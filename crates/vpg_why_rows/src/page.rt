@@ -1,7 +1,7 @@
 //! The page that rows speak of: the order of its decisions, with both tables settled.
 ghost use Rattle.std.specs.Prelude.{◌≡◌, ◌↔◌, ◌<◌, IsTrue, IfOk, All, length};
 
-use anyhow::{Context, Result, bail};
+use crate::line::Line;
 use std::alloc::{AllocError, Global};
 use std::sync::Arc;
 use vpg_diagram::Diagram;
@@ -67,10 +67,10 @@ fn order_of(
 }
 
 /// The decision of a word.
-fn decision_of(names: &Names, word: &[u8]) -> Result<Decision> {
-    let (sign, name) = word.split_first().context("word")?;
-    let feature = names.get(name).context("feature")?;
-    Ok(Decision {
+fn decision_of(names: &Names, word: &[u8]) -> Option<Decision> {
+    let (sign, name) = word.split_first()?;
+    let feature = names.get(name)?;
+    Some(Decision {
         serial: 1,
         session: 1,
         feature,
@@ -78,33 +78,87 @@ fn decision_of(names: &Names, word: &[u8]) -> Result<Decision> {
     })
 }
 
-/// The decisions of a row.
-fn decisions_of(alloc: Global, names: &Names, text: &[u8]) -> Result<Vec<Decision>> {
-    let mut decisions = Vec::new(alloc);
-    for word in text.split(|sign| *sign == b' ') {
-        if !word.is_empty() {
-            decisions.push(decision_of(names, word)?)?;
+/// Adds the decision of a word to a list; or says in the line that it has none.
+fn add(names: &Names, word: &[u8], decisions: &mut Vec<Decision>, line: &mut Line) -> bool {
+    match decision_of(names, word) {
+        Some(decision) => {
+            line.note(decisions.push(decision).is_ok());
+            true
+        }
+        None => {
+            line.put("feature");
+            false
         }
     }
-    Ok(decisions)
+}
+
+/// Adds the decisions of a row to a list; or says in the line that a word has none.
+fn add_all(names: &Names, text: &[u8], decisions: &mut Vec<Decision>, line: &mut Line) -> bool {
+    for word in text.split(|sign| *sign == b' ') {
+        if !word.is_empty() && !add(names, word, decisions, line) {
+            return false;
+        }
+    }
+    true
 }
 
 /// The order with both tables raised by certified bounds.
-fn raised(alloc: Global, order: Order, budget: u64) -> Result<Order> {
-    match harvest_by_bounds(alloc, order, budget) {
-        Ok(harvest) => Ok(harvest.again()),
-        Err(_) => bail!("Memory"),
+fn raised(order: Order, budget: u64, line: &mut Line) -> Option<Order> {
+    match harvest_by_bounds(line.alloc, order, budget) {
+        Ok(harvest) => Some(harvest.again()),
+        Err(_) => {
+            line.note(false);
+            None
+        }
     }
 }
 
-/// The page's order.
-pub(crate) fn order_from(alloc: Global, texts: &Texts) -> Result<Order> {
-    let diagram = Diagram::read(alloc, &texts.diagram)?;
-    let decisions = decisions_of(alloc, diagram.names(), &texts.page)?;
-    let game = GuardedGame::read(alloc, &texts.game, diagram.names())?;
-    match order_of(alloc, game, diagram, decisions)? {
-        Some(Ok(order)) => raised(alloc, order, 1 << 27),
-        Some(Err(refused)) => bail!("{}", refused.fault),
-        None => bail!("features"),
+/// The order of decisions, raised by certified bounds; or in the line why there is none.
+fn settled(
+    game: GuardedGame,
+    diagram: Diagram,
+    decisions: Vec<Decision>,
+    line: &mut Line,
+) -> Option<Order> {
+    match order_of(line.alloc, game, diagram, decisions) {
+        Ok(Some(Ok(order))) => raised(order, 1 << 27, line),
+        Ok(Some(Err(refused))) => {
+            line.show(&refused.fault);
+            None
+        }
+        Ok(None) => {
+            line.put("features");
+            None
+        }
+        Err(_) => {
+            line.note(false);
+            None
+        }
+    }
+}
+
+/// The page's order over a diagram.
+fn over(diagram: Diagram, texts: &Texts, line: &mut Line) -> Option<Order> {
+    let mut decisions = Vec::new(line.alloc);
+    if !add_all(diagram.names(), &texts.page, &mut decisions, line) {
+        return None;
+    }
+    match GuardedGame::read(line.alloc, &texts.game, diagram.names()) {
+        Ok(game) => settled(game, diagram, decisions, line),
+        Err(fault) => {
+            line.show(&fault);
+            None
+        }
+    }
+}
+
+/// The page's order; or in the line why there is none.
+pub(crate) fn order_from(texts: &Texts, line: &mut Line) -> Option<Order> {
+    match Diagram::read(line.alloc, &texts.diagram) {
+        Ok(diagram) => over(diagram, texts, line),
+        Err(fault) => {
+            line.show(&fault);
+            None
+        }
     }
 }

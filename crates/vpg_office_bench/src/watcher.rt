@@ -27,8 +27,8 @@ fn print_verdict<R: Print>(rt: &R, verdict: Verdict) -> io::Result<()> {
     println!(rt; "vertex 0 {hopeless} {sure}")
 }
 
-/// Prints the verdicts of vertex 0 as they change, and notes one more than the number of calls of the sheet that was read last. It ends
-/// when the office has ended, and says whether all was printed.
+/// Prints the verdicts of vertex 0 as they change, and notes one more than the number of calls of the sheet that was
+/// read last. It ends when the office has ended, and says whether all was printed.
 pub fn follow<L: Terms, R: Wait + Print>(rt: &R, watch: Watch<Front<L>>, seen: &AtomicU64) -> bool {
     let mut watch = watch;
     let mut last = None;
@@ -48,7 +48,8 @@ pub fn follow<L: Terms, R: Wait + Print>(rt: &R, watch: Watch<Front<L>>, seen: &
     unreachable!()
 }
 
-/// Waits until the watcher has read a sheet of so many calls, but not for ever: a sheet that finds no memory is not published.
+/// Waits until the watcher has read a sheet of so many calls, but not for ever: a sheet that finds no memory is not
+/// published.
 pub fn wait_for_watcher(seen: &AtomicU64, calls: usize) {
     for _ in 0..MOST_LOOKS {
         if seen.load(Ordering::SeqCst) > calls as u64 {

@@ -1,0 +1,127 @@
+//! A day of two sessions of one office, each in a thread of its own: one lifts while the other decides. Then the page
+//! is settled, and the decision is taken back by its token.
+
+use crate::watcher::wait_for_watcher;
+use crate::working::{Seat, decide, joined};
+use crate::{Done, Left};
+use std::alloc::Global;
+use std::sync::Wait;
+use std::sync::atomic::AtomicU64;
+use std::thread::{Threads, join};
+use vpg_measure::Harvest;
+use vpg_office::{Office, Redo, Returned, Terms, Undo};
+
+/// The feature that is decided.
+const FEATURE: u16 = 1;
+
+/// Takes an order, lifts until both tables are settled, and commits: how many lifts that added.
+fn lifts<L: Terms, R: Wait>(
+    rt: &R,
+    alloc: Global,
+    office: &Office<L>,
+    seat: &mut Seat<L>,
+) -> Option<u32> {
+    let order = seat.session.order(rt, alloc, office, &mut seat.front).ok()?;
+    let harvest = Harvest::alone(order, 1000);
+    seat.session
+        .commit(rt, alloc, office, &mut seat.front, harvest)
+        .ok()
+}
+
+/// As `lifts`, by a session of its own.
+fn lifts_once<L: Terms, R: Wait>(
+    rt: &R,
+    alloc: Global,
+    office: &Office<L>,
+    mut seat: Seat<L>,
+) -> Option<u32> {
+    lifts(rt, alloc, office, &mut seat)
+}
+
+/// One session lifts while the other decides the feature out.
+fn works<L: Terms + Send + Sync, R: Threads + Wait + Sync>(
+    rt: &R,
+    alloc: Global,
+    office: &Office<L>,
+    lifter: Seat<L>,
+    decider: &mut Seat<L>,
+) -> (Option<u32>, Option<Undo<L>>) {
+    let (lifted, decided) = join(
+        rt,
+        || lifts_once(rt, alloc, office, lifter),
+        || decide(rt, alloc, office, decider, FEATURE, false),
+    );
+    (lifted, decided)
+}
+
+/// Takes the decision back.
+fn undoes<L: Terms, R: Wait>(
+    rt: &R,
+    alloc: Global,
+    office: &Office<L>,
+    seat: &mut Seat<L>,
+    undo: Undo<L>,
+) -> (Option<Undo<L>>, Option<Redo<L>>) {
+    match seat.session.undo(rt, alloc, office, &mut seat.front, undo) {
+        Ok(redo) => (None, Some(redo)),
+        Err(returned) => {
+            let Returned {
+                fault: _fault,
+                value,
+            } = returned;
+            (Some(value), None)
+        }
+    }
+}
+
+/// Settles the page, and takes the decision back once the watcher has read what is said then.
+fn settles_and_undoes<L: Terms, R: Wait>(
+    rt: &R,
+    alloc: Global,
+    office: &Office<L>,
+    seat: &mut Seat<L>,
+    undo: Undo<L>,
+    seen: &AtomicU64,
+) -> (Option<Undo<L>>, Option<Redo<L>>) {
+    let _added = lifts(rt, alloc, office, seat);
+    wait_for_watcher(seen, seat.front.len());
+    let tokens = undoes(rt, alloc, office, seat, undo);
+    wait_for_watcher(seen, seat.front.len());
+    tokens
+}
+
+/// Two sessions work, and the decision is taken back: how many lifts were added, and the tokens that are left.
+fn work_of<L: Terms + Send + Sync, R: Threads + Wait + Sync>(
+    rt: &R,
+    alloc: Global,
+    office: &Office<L>,
+    lifter: Seat<L>,
+    decider: &mut Seat<L>,
+    seen: &AtomicU64,
+) -> Left<L> {
+    let (added, undo) = works(rt, alloc, office, lifter, decider);
+    let (undo, redo) = match undo {
+        Some(undo) => settles_and_undoes(rt, alloc, office, decider, undo, seen),
+        None => (None, None),
+    };
+    let undone = redo.is_some();
+    (Some(Done::TwoSessions { added, undone }), undo, redo)
+}
+
+/// Two sessions join and work. Nothing comes of it where one can't join.
+pub(crate) fn work_in_two<L: Terms + Send + Sync, R: Threads + Wait + Sync>(
+    rt: &R,
+    alloc: Global,
+    office: &Office<L>,
+    seen: &AtomicU64,
+) -> Left<L> {
+    wait_for_watcher(seen, 0);
+    let lifter = joined(rt, office);
+    let decider = joined(rt, office);
+    match (lifter, decider) {
+        (Some(lifter), Some(mut decider)) => {
+            work_of(rt, alloc, office, lifter, &mut decider, seen)
+        }
+        _ => (None, None, None),
+    }
+}
