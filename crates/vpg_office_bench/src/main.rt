@@ -36,7 +36,7 @@ use crate::day::work_in_two;
 use crate::reading::{change_and_look, change_and_read, change_unread};
 use crate::watcher::follow;
 use crate::words::task_of;
-use crate::working::{are_in_order, decide, joined, places_of_all};
+use crate::working::{are_in_order, calls_of, decide, joined, places_of_all};
 use anyhow::{Context, Result};
 use std::alloc::Global;
 use std::marker::Brand;
@@ -113,8 +113,8 @@ fn call_at_once<L: Terms + Send + Sync, R: Threads + Wait + Sync>(
     rounds: u32,
 ) -> Option<Done> {
     let places = places_of_all(rt, alloc, office, sessions, rounds)?;
-    let last = joined(rt, office)?;
-    let in_order = are_in_order(places.as_slice(), last.front.len());
+    let calls = calls_of(rt, office)?;
+    let in_order = are_in_order(places.as_slice(), calls);
     Some(Done::Calls { in_order })
 }
 
@@ -222,26 +222,24 @@ fn work<L: Terms + Send + Sync, R: Threads + Wait + Sync>(
     }
 }
 
-/// Takes the office, and does the task there. A closure can't hold an office, since it might let it go.
+/// Takes the office, and has two sessions work there. A closure can't hold an office, since it might let it go.
 fn work_on<L: Terms + Send + Sync, R: Threads + Wait + Sync>(
     rt: &R,
     alloc: Global,
     lent: &mut Option<Office<L>>,
     front: Front<L>,
-    task: Task,
     seen: &AtomicU64,
 ) -> Option<Told> {
     let office = lent.take()?;
-    work(rt, alloc, office, front, task, seen)
+    work(rt, alloc, office, front, Task::TwoSessions, seen)
 }
 
-/// Does a task that a watcher follows.
+/// Has two sessions work, which a watcher follows.
 fn work_watched<L: Terms + Send + Sync, R: Threads + Wait + Sync + Print>(
     rt: &R,
     alloc: Global,
     office: Office<L>,
     front: Front<L>,
-    task: Task,
 ) -> Option<Told> {
     let mut last = front.copy();
     let Ok(watch) = office.watch(rt, alloc) else {
@@ -253,7 +251,7 @@ fn work_watched<L: Terms + Send + Sync, R: Threads + Wait + Sync + Print>(
     let (_printed, told) = join(
         rt,
         || follow(rt, watch, &seen),
-        || work_on(rt, alloc, &mut lent, front, task, &seen),
+        || work_on(rt, alloc, &mut lent, front, &seen),
     );
     if let Some(office) = lent {
         let _further = office.end(rt, &mut last, Vec::new(alloc), Vec::new(alloc));
@@ -278,7 +276,7 @@ fn open_and_work<L: Terms + Send + Sync, R: Threads + Wait + Sync + Print>(
 {
     match Office::<L>::open(rt, alloc, site, game, diagram, room) {
         Ok(office) => match task {
-            Task::TwoSessions => work_watched(rt, alloc, office, Front::empty(), task),
+            Task::TwoSessions => work_watched(rt, alloc, office, Front::empty()),
             _ => work(rt, alloc, office, Front::empty(), task, &AtomicU64::new(0)),
         },
         Err(_refused) => None,

@@ -1,5 +1,5 @@
 //! Readers beside a session that changes the page: watchers, and readers of the same sheet behind a mutex.
-use crate::working::{change_often, decide, joined, undo};
+use crate::working::{Seat, change_often, decide, joined, undo};
 use std::alloc::{AllocError, Global};
 use std::sync::atomic::{AtomicU64, Ordering};
 use std::sync::{Arc, Mutex, Wait};
@@ -11,6 +11,21 @@ use vpg_watch::{Sheet, Watch};
 /// The sheet of an office that a session last put there.
 type Shown<L> = Mutex<Arc<Sheet<Front<L>>>>;
 
+/// Opens so many watches.
+fn open_watches<L: Terms, R: Wait>(
+    rt: &R,
+    alloc: Global,
+    office: &Office<L>,
+    count: u32,
+    watches: &mut Vec<Watch<Front<L>>>,
+) -> Option<()> {
+    for _ in 0..count {
+        let watch = office.watch(rt, alloc).ok()?;
+        watches.push(watch).ok()?;
+    }
+    Some(())
+}
+
 /// So many watches.
 fn watches<L: Terms, R: Wait>(
     rt: &R,
@@ -19,11 +34,10 @@ fn watches<L: Terms, R: Wait>(
     count: u32,
 ) -> Option<Vec<Watch<Front<L>>>> {
     let mut watches = Vec::new(alloc);
-    for _ in 0..count {
-        let watch = office.watch(rt, alloc).ok()?;
-        watches.push(watch).ok()?;
+    match open_watches(rt, alloc, office, count, &mut watches) {
+        Some(()) => Some(watches),
+        None => None,
     }
-    Some(watches)
 }
 
 /// Whether a watch reads a sheet that tells something.
@@ -114,6 +128,26 @@ fn show<L: Terms, R: Wait>(rt: &R, watch: &mut Watch<Front<L>>, shown: &Shown<L>
     }
 }
 
+/// A session makes changes, and each change's sheet is put behind the mutex.
+fn decide_and_show<L: Terms, R: Wait>(
+    rt: &R,
+    alloc: Global,
+    office: &Office<L>,
+    seat: &mut Seat<L>,
+    watch: &mut Watch<Front<L>>,
+    feature: u16,
+    rounds: u32,
+    shown: &Shown<L>,
+) {
+    for _ in 0..rounds {
+        if let Some(token) = decide(rt, alloc, office, seat, feature, true) {
+            show(rt, watch, shown);
+            undo(rt, alloc, office, seat, token);
+            show(rt, watch, shown);
+        }
+    }
+}
+
 /// A further session makes changes, and each change's sheet is put behind the mutex.
 fn try_shown_changes<L: Terms, R: Wait>(
     rt: &R,
@@ -125,13 +159,9 @@ fn try_shown_changes<L: Terms, R: Wait>(
 ) -> Option<()> {
     let mut seat = joined(rt, office)?;
     let mut watch = office.watch(rt, alloc).ok()?;
-    for _ in 0..rounds {
-        if let Some(token) = decide(rt, alloc, office, &mut seat, feature, true) {
-            show(rt, &mut watch, shown);
-            undo(rt, alloc, office, &mut seat, token);
-            show(rt, &mut watch, shown);
-        }
-    }
+    decide_and_show(
+        rt, alloc, office, &mut seat, &mut watch, feature, rounds, shown,
+    );
     Some(())
 }
 
@@ -182,8 +212,8 @@ pub fn change_and_read<L: Terms + Send + Sync, R: Threads + Wait + Sync>(
         || change_often(rt, alloc, office, feature, rounds, &ended),
         || read_all(rt, watches, &ended),
     );
-    changed?;
-    reads.ok()
+    let reads = reads.ok();
+    if changed.is_some() { reads } else { None }
 }
 
 /// The sheet that is shown now.
@@ -212,6 +242,6 @@ pub fn change_and_look<L: Terms + Send + Sync, R: Threads + Wait + Sync>(
         || look_all(rt, alloc, &shown, readers, &ended),
         || change_and_show(rt, alloc, office, feature, rounds, &shown, &ended),
     );
-    changed?;
-    reads.ok()
+    let reads = reads.ok();
+    if changed.is_some() { reads } else { None }
 }

@@ -210,7 +210,23 @@ pub fn are_in_order(all: &[Option<Places>], calls: usize) -> bool {
     in_order && sum.saturating_mul(2) == calls.saturating_mul(calls.saturating_add(1))
 }
 
-/// A further session decides a feature and undoes that so often: three calls a time.
+/// A session decides a feature and undoes that so often: three calls a time.
+fn decide_and_undo<L: Terms, R: Wait>(
+    rt: &R,
+    alloc: Global,
+    office: &Office<L>,
+    seat: &mut Seat<L>,
+    feature: u16,
+    rounds: u32,
+) {
+    for _ in 0..rounds {
+        if let Some(token) = decide(rt, alloc, office, seat, feature, true) {
+            undo(rt, alloc, office, seat, token);
+        }
+    }
+}
+
+/// A further session makes changes.
 fn try_changes<L: Terms, R: Wait>(
     rt: &R,
     alloc: Global,
@@ -219,12 +235,14 @@ fn try_changes<L: Terms, R: Wait>(
     rounds: u32,
 ) -> Option<()> {
     let mut seat = joined(rt, office)?;
-    for _ in 0..rounds {
-        if let Some(token) = decide(rt, alloc, office, &mut seat, feature, true) {
-            undo(rt, alloc, office, &mut seat, token);
-        }
-    }
+    decide_and_undo(rt, alloc, office, &mut seat, feature, rounds);
     Some(())
+}
+
+/// How many calls the log has.
+pub fn calls_of<L: Terms, R: Wait>(rt: &R, office: &Office<L>) -> Option<usize> {
+    let seat = joined(rt, office)?;
+    Some(seat.front.len())
 }
 
 /// A further session makes changes. Then it is told that this has ended.

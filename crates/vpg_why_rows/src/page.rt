@@ -1,8 +1,12 @@
 //! The page that rows speak of: the order of its decisions, with both tables settled.
-ghost use Rattle.std.specs.Prelude.{◌≡◌, ◌↔◌, ◌<◌, IsTrue, IfOk, All, length};
+ghost use Rattle.std.specs.Arc.{arc_value};
+ghost use Rattle.std.specs.Prelude.{◌≡◌, ◌↔◌, ◌<◌, IsTrue, IfSome, All, map};
+ghost use Rattle.vpg_diagram.specs.FeatureDiagram.{feature_count};
+ghost use Rattle.vpg_partial.specs.Known.{literal_of};
+ghost use Rattle.vpg_partial.specs.TableLaws.{AreChoicesOf};
 
 use crate::line::Line;
-use std::alloc::{AllocError, Global};
+use std::alloc::Global;
 use std::sync::Arc;
 use vpg_diagram::Diagram;
 use vpg_game::GuardedGame;
@@ -46,24 +50,12 @@ fn are_below(features: usize, decisions: &[Decision]) -> bool
     decisions.iter().all(|d| (d.feature as usize) < features)
 }
 
-/// The order of decisions with two tables of zeros, or nothing where game, diagram and decisions don't fit together.
-fn order_of(
-    alloc: Global,
-    game: GuardedGame,
-    diagram: Diagram,
-    decisions: Vec<Decision>,
-) -> Result<Option<Result<Order, Refused>>, AllocError> {
+/// Whether each decision is of a feature of the diagram.
+fn are_choices(diagram: &Diagram, decisions: &[Decision]) -> bool
+    ensures { IsTrue result → AreChoicesOf diagram.now.lines (map literal_of decisions.now) }
+{
     let features = diagram.features();
-    if game.features() != features || !are_below(features, &decisions) {
-        return Ok(None);
-    }
-    let vertices = game.vertices() as u32;
-    zeros_are_opening();
-    let hopeful = Table::zero(alloc, vertices)?;
-    let dual = Table::zero(alloc, vertices)?;
-    let game = Arc::new(alloc, game)?;
-    let diagram = Arc::new(alloc, diagram)?;
-    Ok(Some(Order::of(alloc, game, diagram, decisions, hopeful, dual)))
+    are_below(features, decisions)
 }
 
 /// The decision of a word.
@@ -102,62 +94,93 @@ fn add_all(names: &Names, text: &[u8], decisions: &mut Vec<Decision>, line: &mut
     true
 }
 
-/// The order with both tables raised by certified bounds.
-fn raised(order: Order, budget: u64, line: &mut Line) -> Option<Order> {
-    match harvest_by_bounds(line.alloc, order, budget) {
-        Ok(harvest) => Some(harvest.again()),
-        Err(_) => {
-            line.note(false);
-            None
-        }
-    }
-}
-
-/// The order of decisions, raised by certified bounds; or in the line why there is none.
-fn settled(
-    game: GuardedGame,
-    diagram: Diagram,
-    decisions: Vec<Decision>,
-    line: &mut Line,
-) -> Option<Order> {
-    match order_of(line.alloc, game, diagram, decisions) {
-        Ok(Some(Ok(order))) => raised(order, 1 << 27, line),
-        Ok(Some(Err(refused))) => {
-            line.show(&refused.fault);
-            None
-        }
-        Ok(None) => {
-            line.put("features");
-            None
-        }
-        Err(_) => {
-            line.note(false);
-            None
-        }
-    }
-}
-
-/// The page's order over a diagram.
-fn over(diagram: Diagram, texts: &Texts, line: &mut Line) -> Option<Order> {
+/// The decisions of a page, which are of features of the diagram; or in the line why there are none.
+fn decisions_of(diagram: &Diagram, text: &[u8], line: &mut Line) -> Option<Vec<Decision>>
+    ensures { IfSome result (λ list. AreChoicesOf diagram.now.lines (map literal_of list.items)) }
+{
     let mut decisions = Vec::new(line.alloc);
-    if !add_all(diagram.names(), &texts.page, &mut decisions, line) {
+    if !add_all(diagram.names(), text, &mut decisions, line) {
         return None;
     }
-    match GuardedGame::read(line.alloc, &texts.game, diagram.names()) {
-        Ok(game) => settled(game, diagram, decisions, line),
+    if !are_choices(diagram, &decisions) {
+        line.put("features");
+        return None;
+    }
+    Some(decisions)
+}
+
+/// The diagram that a text spells; or in the line why it spells none.
+fn diagram_of(text: &[u8], line: &mut Line) -> Option<Arc<Diagram>> {
+    match Diagram::read(line.alloc, text) {
+        Ok(diagram) => {
+            let shared = Arc::new(line.alloc, diagram).ok();
+            line.note(shared.is_some());
+            shared
+        }
         Err(fault) => {
             line.show(&fault);
             None
         }
+    }
+}
+
+/// The game that a text spells, by the names of a diagram; or in the line why it spells none.
+fn game_of(diagram: &Diagram, text: &[u8], line: &mut Line) -> Option<Arc<GuardedGame>>
+    ensures { IfSome result (λ game. (arc_value game).features ≡ feature_count diagram.now.lines) }
+{
+    match GuardedGame::read(line.alloc, text, diagram.names()) {
+        Ok(game) => {
+            let shared = Arc::new(line.alloc, game).ok();
+            line.note(shared.is_some());
+            shared
+        }
+        Err(fault) => {
+            line.show(&fault);
+            None
+        }
+    }
+}
+
+/// The order of decisions with two tables of zeros, unless it is refused. Nothing where there is no memory for these.
+fn zeros_over(
+    alloc: Global,
+    game: Arc<GuardedGame>,
+    diagram: Arc<Diagram>,
+    decisions: Vec<Decision>,
+) -> Option<Result<Order, Refused>>
+    requires features { (arc_value game).features ≡ feature_count (arc_value diagram).lines }
+    requires named { AreChoicesOf (arc_value diagram).lines (map literal_of decisions.items) }
+{
+    zeros_are_opening();
+    let vertices = game.vertices() as u32;
+    let hopeful = Table::zero(alloc, vertices).ok()?;
+    let dual = Table::zero(alloc, vertices).ok()?;
+    Some(Order::of(alloc, game, diagram, decisions, hopeful, dual))
+}
+
+/// The order with both tables raised by certified bounds.
+fn raised(order: Order, budget: u64, line: &mut Line) -> Option<Order> {
+    let harvest = harvest_by_bounds(line.alloc, order, budget).ok();
+    line.note(harvest.is_some());
+    match harvest {
+        Some(harvest) => Some(harvest.again()),
+        None => None,
     }
 }
 
 /// The page's order; or in the line why there is none.
 pub(crate) fn order_from(texts: &Texts, line: &mut Line) -> Option<Order> {
-    match Diagram::read(line.alloc, &texts.diagram) {
-        Ok(diagram) => over(diagram, texts, line),
-        Err(fault) => {
-            line.show(&fault);
+    let diagram = diagram_of(&texts.diagram, line)?;
+    let decisions = decisions_of(&diagram, &texts.page, line)?;
+    let game = game_of(&diagram, &texts.game, line)?;
+    match zeros_over(line.alloc, game, diagram, decisions) {
+        Some(Ok(order)) => raised(order, 1 << 27, line),
+        Some(Err(refused)) => {
+            line.show(&refused.fault);
+            None
+        }
+        None => {
+            line.note(false);
             None
         }
     }

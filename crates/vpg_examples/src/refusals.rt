@@ -1,24 +1,12 @@
-//! Runs of scripts that are refused memory, and runs whose reader or writer fails.
-//!
-//! A script with a line for each command is run with no memory at all, and with sixteen bytes more each time, until it
-//! is run to its end. What a run wrote before it ended in `Memory` is each time a prefix of the answers. Then a reader
-//! and a writer fail at each of their calls in turn. Behind each run the office is ended: nothing has the game any
-//! more.
-//!
-//! With a word after its name the program takes no memory from itself, marks each run for `bench/refused.py`, and has
-//! no device fail.
-#![tactic(auto)]
-
-mod devices;
-mod family;
-mod scripts;
+//! Runs that are refused memory, and runs whose reader or writer fails.
 
 use crate::family::Family;
+use crate::{devices, scripts};
 use anyhow::{Context, Result};
 use std::alloc::Global;
+use std::io;
 use std::sync::Wait;
 use std::thread::Threads;
-use std::{env, io};
 use vpg_scarce::{Heap, Report};
 
 /// Writes what came of runs over devices that fail.
@@ -67,20 +55,14 @@ fn over_family(rt: &HostRuntime, heap: &mut Heap, report: &mut Report) -> Result
     refuse(rt, rt.alloc(), heap, report, &family)
 }
 
-/// How many words the program is called with.
-fn words_count(rt: &HostRuntime) -> Result<usize> {
-    let words: Vec<String> = env::args(rt)?.collect(rt.alloc())?;
-    Ok(words.len())
-}
-
 /// As `over_family`, with memory that is taken or marked.
 fn over_heap(rt: &HostRuntime, heap: &mut Heap) -> Result<()> {
     let mut report = Report::new(rt.alloc())?;
     over_family(rt, heap, &mut report)
 }
 
-fn main(rt: HostRuntime) -> Result<()> {
-    let words = words_count(&rt)?;
+/// Refuses runs memory, and has devices fail. With a word, runs are marked, and no device fails.
+pub(crate) fn refuse_all(rt: &HostRuntime, words: usize) -> Result<()> {
     let mut heap = Heap::new(rt.alloc(), words)?;
-    over_heap(&rt, &mut heap)
+    over_heap(rt, &mut heap)
 }

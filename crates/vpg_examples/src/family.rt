@@ -1,6 +1,8 @@
 //! The family of most examples, and runs on it.
 
+ghost use Rattle.std.specs.Arc.{arc_value};
 ghost use Rattle.std.specs.Prelude.{◌≡◌};
+ghost use Rattle.vpg_diagram.specs.FeatureDiagram.{feature_count};
 
 use crate::devices::{Gives, Takes};
 use std::alloc::Global;
@@ -39,6 +41,23 @@ impl Family {
     }
 }
 
+/// Runs a script on a game. Its answers are in what the writer got.
+pub(crate) fn run_on<R: Threads + Wait + Sync, S: Source, T: Sink>(
+    rt: &R,
+    alloc: Global,
+    game: Arc<GuardedGame>,
+    diagram: Arc<Diagram>,
+    lifters: u32,
+    reader: &mut S,
+    writer: &mut T,
+) -> Result<(), RunFault>
+    requires features { (arc_value game).features ≡ feature_count (arc_value diagram).lines }
+    requires unread { S.calls reader.old ≡ 0 }
+{
+    let lifters = lifters.clamp(1, 64);
+    run(rt, alloc, game, diagram, reader, writer, lifters)
+}
+
 /// Runs a script on the family. Nothing where there is no run.
 fn carry_out<R: Threads + Wait + Sync, S: Source, T: Sink>(
     rt: &R,
@@ -55,8 +74,7 @@ fn carry_out<R: Threads + Wait + Sync, S: Source, T: Sink>(
     if game.features() != diagram.features() {
         return None;
     }
-    let lifters = lifters.clamp(1, 64);
-    Some(run(rt, alloc, game, diagram, reader, writer, lifters))
+    Some(run_on(rt, alloc, game, diagram, lifters, reader, writer))
 }
 
 /// How a run over these devices ends. Nothing where there is no run, or where its office is still there afterwards.
