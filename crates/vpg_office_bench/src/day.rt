@@ -23,9 +23,19 @@ fn lifts<L: Terms, R: Wait>(
 ) -> Option<u32> {
     let order = seat.session.order(rt, alloc, office, &mut seat.front).ok()?;
     let harvest = Harvest::alone(order, 1000);
-    seat.session
+    match seat
+        .session
         .commit(rt, alloc, office, &mut seat.front, harvest)
-        .ok()
+    {
+        Ok(added) => Some(added),
+        Err(returned) => {
+            let Returned {
+                fault: _fault,
+                value: _harvest,
+            } = returned;
+            None
+        }
+    }
 }
 
 /// As `lifts`, by a session of its own.

@@ -1,10 +1,14 @@
 //! The words that the program is called with.
 
+ghost use Rattle.std.specs.Prelude.{◌≤◌, IfOk};
+
 use crate::{How, ROOM, Task};
 use anyhow::{Result, bail};
 
 /// The number that a word spells, up to a most.
-fn number_of(word: &str, most: u32) -> Result<u32> {
+fn number_of(word: &str, most: u32) -> Result<u32>
+    ensures { IfOk result (λ number. number ≤ most) }
+{
     match word.parse::<u32>() {
         Ok(number) if number <= most => Ok(number),
         _ => bail!("{word} is no number up to {most}"),

@@ -15,4 +15,4 @@ choices_below lines decisions n e below =
     (All-map (λ (l : Literal). l.feature < n) literal_of decisions (recursion_from_All (λ (d : Decision). d.feature < n) decisions below))
 
 pub returns : goal.returns
-returns c = λ is. choices_below c.args.diagram.now.lines c.args.decisions.now c.features.result c.features.ensures.count (c.are_below.ensures.0 is)
+returns c = λ is. choices_below c.args.diagram.now.lines c.args.decisions.now c.features-features.result c.features-features.ensures.count (c.are_below.ensures.0 is)
