@@ -50,19 +50,32 @@ fn refuse<R: Threads + Wait + Sync + Print>(
 }
 
 /// As `refuse`, over the family of most examples.
-fn over_family(rt: &HostRuntime, heap: &mut Heap, report: &mut Report) -> Result<()> {
-    let family = Family::read(rt.alloc()).context("no family")?;
-    refuse(rt, rt.alloc(), heap, report, &family)
+fn over_family<R: Threads + Wait + Sync + Print>(
+    rt: &R,
+    alloc: Global,
+    heap: &mut Heap,
+    report: &mut Report,
+) -> Result<()> {
+    let family = Family::read(alloc).context("no family")?;
+    refuse(rt, alloc, heap, report, &family)
 }
 
 /// As `over_family`, with memory that is taken or marked.
-fn over_heap(rt: &HostRuntime, heap: &mut Heap) -> Result<()> {
-    let mut report = Report::new(rt.alloc())?;
-    over_family(rt, heap, &mut report)
+fn over_heap<R: Threads + Wait + Sync + Print>(
+    rt: &R,
+    alloc: Global,
+    heap: &mut Heap,
+) -> Result<()> {
+    let mut report = Report::new(alloc)?;
+    over_family(rt, alloc, heap, &mut report)
 }
 
 /// Refuses runs memory, and has devices fail. With a word, runs are marked, and no device fails.
-pub(crate) fn refuse_all(rt: &HostRuntime, words: usize) -> Result<()> {
-    let mut heap = Heap::new(rt.alloc(), words)?;
-    over_heap(rt, &mut heap)
+pub(crate) fn refuse_all<R: Threads + Wait + Sync + Print>(
+    rt: &R,
+    alloc: Global,
+    words: usize,
+) -> Result<()> {
+    let mut heap = Heap::new(alloc, words)?;
+    over_heap(rt, alloc, &mut heap)
 }
