@@ -151,6 +151,9 @@ def kind_of(words, status, out, err):
         if b"--strict" in words and STRICT.match(err):
             return "refused under --strict" if re.search(rb"^refused [^\n]*\n\Z", out, re.M) else None
         return "assertion failed" if failed and is_quiet(words, err) else None
+    # a script before the picture
+    if status == 3 and task == b"draw" and len(words) > 3 and PICTURE.match(out):
+        return None if err else "assertion failed"
     if status == 1 and are_answers(words, out):
         told = faults_in(words, err)
         return told[0] if told and len(told) == 1 else None
