@@ -152,7 +152,8 @@ def kind_of(words, status, out, err):
             return "refused under --strict" if re.search(rb"^refused [^\n]*\n\Z", out, re.M) else None
         return "assertion failed" if failed and is_quiet(words, err) else None
     # a script before the picture
-    if status == 3 and task == b"draw" and len(words) > 3 and PICTURE.match(out):
+    files = [word for word in words[1:] if not word.startswith(b"-")]
+    if status == 3 and task == b"draw" and len(files) > 2 and PICTURE.match(out):
         return None if err else "assertion failed"
     if status == 1 and are_answers(words, out):
         told = faults_in(words, err)

@@ -4,8 +4,7 @@
     hostile.py PROGRAM [WORD..]      the cases whose names have one of the words; all without one
 
 One line a case: bytes read, seconds of the processor, peak memory in MB, and how it ended. The status is 1 where a case
-ended in another way, took more than SECONDS for each million bytes that it read or said on standard error (and one more
-for all), or more than 1,000 MB.
+ended in another way, took more than SECONDS for each million bytes that it read (and one more for all), or more than 1,000 MB.
 """
 import os
 import resource
@@ -148,7 +147,7 @@ def main():
             size = len(game) + len(diagram) + len(script)
             status, text, seconds, memory = run(program, folder, words)
             right = status == expected[0] and expected[1] in (None, text)
-            right = right and seconds <= 1 + SECONDS * (size + len(text)) / 1_000_000 and memory <= MEMORY
+            right = right and seconds <= 1 + SECONDS * size / 1_000_000 and memory <= MEMORY
             bad += not right
             end = "as expected" if right else f"NOT AS EXPECTED: status {status}, {text[:120]!r}"
             print(f"{size:10} bytes {seconds:7.2f} s {memory:6.0f} MB  {title}: {end}", flush=True)
