@@ -18,7 +18,6 @@ use vpg_guards::{Index, Names};
 pub const HIGHEST_PRIORITY: u32 = 65_536;
 
 /// A guarded game. Vertices are numbered in the order of the file, features in the order of their names.
-#[derive(Drop)]
 pub struct GuardedGame {
     pub(crate) ids: IndexSet<u32>,
     pub(crate) vertices: Vec<Vertex>,
@@ -26,6 +25,19 @@ pub struct GuardedGame {
     pub(crate) tops: (u64, u64),
     // for each feature the vertices that have an edge whose guard names it
     pub(crate) naming: Index,
+}
+
+// Not derived, so that letting one go is one call: a derived way would be proved anew at each exit that owns one.
+impl Drop for GuardedGame {
+    fn drop(self) {
+        let GuardedGame {
+            ids: _,
+            vertices: _,
+            features: _,
+            tops: _,
+            naming: _,
+        } = self;
+    }
 }
 
 impl Model for GuardedGame {

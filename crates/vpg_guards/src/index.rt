@@ -45,9 +45,17 @@ impl Row {
 /// An index: for each feature, the numbers that were noted of it, as of the vertices or rules that name it.
 ///
 /// Clauses see it as the list of these lists, in the order of the features.
-#[derive(Drop)]
 pub struct Index {
     rows: Vec<Row>,
+}
+
+// Not derived, so that letting one go is one call: a derived way would be proved anew at each exit that owns one.
+impl Drop for Index {
+    fn drop(self) {
+        let Index {
+            rows: _,
+        } = self;
+    }
 }
 
 impl Model for Index {
