@@ -30,13 +30,19 @@ struct Row {
 /// A plain game: vertices in file order, each with its kept successors.
 ///
 /// Clauses see it as a list of vertices, which is a game of `specs/Games`.
-#[derive(Drop)]
 pub struct Arena {
     rows: Vec<Row>,
     // of all vertices, one after another: shared with the arenas made from this one
     shared: ArcSlice<u32>,
     // of the vertices that have others than there, and what they had before
     own: Vec<u32>,
+}
+
+// Not derived, so that letting one go is one call: a derived way would be proved anew at each exit that owns one.
+impl Drop for Arena {
+    fn drop(self) {
+        let Arena { rows: _, shared: _, own: _ } = self;
+    }
 }
 
 impl Model for Arena {

@@ -23,10 +23,16 @@ use vpg_hope::Arena;
 use vpg_partial::{Decision, Partial, PartialFault};
 
 /// The shape and the kept edges of one of the two games.
-#[derive(Drop)]
 struct SideGame {
     shape: Shape,
     arena: Arena,
+}
+
+// Not derived, so that letting one go is one call: a derived way would be proved anew at each exit that owns one.
+impl Drop for SideGame {
+    fn drop(self) {
+        let SideGame { shape: _, arena: _ } = self;
+    }
 }
 
 impl SideGame {
@@ -89,11 +95,17 @@ fn known_for(
 
 /// What the decisions of a page make of its game: what is known of each feature, and for each of the two tables the
 /// shape of its measures and the edges that its game keeps.
-#[derive(Drop)]
 pub struct PageGames {
     known: Partial,
     hopeful: SideGame,
     dual: SideGame,
+}
+
+// Not derived, so that letting one go is one call: a derived way would be proved anew at each exit that owns one.
+impl Drop for PageGames {
+    fn drop(self) {
+        let PageGames { known: _, hopeful: _, dual: _ } = self;
+    }
 }
 
 impl Model for PageGames {

@@ -13,13 +13,19 @@ use std::marker::Model;
 use vpg_game::{GuardedGame, Level, TOP_LIMIT, odd_counts};
 
 /// The levels of a game, greatest priority first.
-#[derive(Drop)]
 pub struct Shape {
     // from the least priority up
     levels: Vec<Level>,
     // of each priority up to the greatest, and of the next
     weights: Vec<u64>,
     top: u64,
+}
+
+// Not derived, so that letting one go is one call: a derived way would be proved anew at each exit that owns one.
+impl Drop for Shape {
+    fn drop(self) {
+        let Shape { levels: _, weights: _, top: _ } = self;
+    }
 }
 
 impl Model for Shape {

@@ -34,9 +34,16 @@ fn features_in(alloc: Global, values: &[Tri]) -> Result<Vec<bool>, AllocError>
 }
 
 /// What is known of each feature of a diagram, in the diagram's order.
-#[derive(Debug, Drop)]
+#[derive(Debug)]
 pub struct Partial {
     values: Vec<Tri>,
+}
+
+// Not derived, so that letting one go is one call: a derived way would be proved anew at each exit that owns one.
+impl Drop for Partial {
+    fn drop(self) {
+        let Partial { values: _ } = self;
+    }
 }
 
 impl Model for Partial {
