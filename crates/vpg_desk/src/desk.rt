@@ -37,7 +37,6 @@ fn with_note(order: Order, is_settled: bool) -> Order
 }
 
 /// A game and a diagram with the book of the pages that decisions and lifts made of them.
-#[derive(Drop)]
 pub struct Desk {
     pub(crate) game: Arc<GuardedGame>,
     pub(crate) diagram: Arc<Diagram>,
@@ -51,6 +50,23 @@ pub struct Desk {
     pub(crate) tokens: u64,
     // whether the present page is known to be settled
     pub(crate) is_noted: bool,
+}
+
+// Not derived, so that letting one go is one call: a derived way would be proved anew at each exit that owns one.
+impl Drop for Desk {
+    fn drop(self) {
+        let Desk {
+            game: _,
+            diagram: _,
+            games: _,
+            trail: _,
+            past: _,
+            future: _,
+            changes: _,
+            tokens: _,
+            is_noted: _,
+        } = self;
+    }
 }
 
 impl Model for Desk {

@@ -52,9 +52,7 @@ pub struct Index {
 // Not derived, so that letting one go is one call: a derived way would be proved anew at each exit that owns one.
 impl Drop for Index {
     fn drop(self) {
-        let Index {
-            rows: _,
-        } = self;
+        let Index { rows: _ } = self;
     }
 }
 

@@ -41,7 +41,11 @@ pub struct Arena {
 // Not derived, so that letting one go is one call: a derived way would be proved anew at each exit that owns one.
 impl Drop for Arena {
     fn drop(self) {
-        let Arena { rows: _, shared: _, own: _ } = self;
+        let Arena {
+            rows: _,
+            shared: _,
+            own: _,
+        } = self;
     }
 }
 

@@ -15,10 +15,16 @@ use vpg_game::{GuardedGame, Player};
 /// A plain game with the identifiers of its vertices: what is left of a guarded game in a product.
 ///
 /// Clauses see it as an `IdentifiedGame` of `specs/Plain`.
-#[derive(Drop)]
 pub struct PlainGame {
     ids: Vec<u32>,
     arena: Arena,
+}
+
+// Not derived, so that letting one go is one call: a derived way would be proved anew at each exit that owns one.
+impl Drop for PlainGame {
+    fn drop(self) {
+        let PlainGame { ids: _, arena: _ } = self;
+    }
 }
 
 impl Model for PlainGame {

@@ -104,7 +104,11 @@ pub struct PageGames {
 // Not derived, so that letting one go is one call: a derived way would be proved anew at each exit that owns one.
 impl Drop for PageGames {
     fn drop(self) {
-        let PageGames { known: _, hopeful: _, dual: _ } = self;
+        let PageGames {
+            known: _,
+            hopeful: _,
+            dual: _,
+        } = self;
     }
 }
 

@@ -30,7 +30,6 @@ use vpg_partial::Decision;
 
 /// The game, the diagram, the decisions and both tables of a page, with all that lifters need: the page's games, and
 /// room for two raised tables. It may hold a note that its tables are progress tables; then `check` looks at no edge.
-#[derive(Drop)]
 pub struct Order {
     game: Arc<GuardedGame>,
     diagram: Arc<Diagram>,
@@ -42,6 +41,23 @@ pub struct Order {
     dual_room: Table,
     // whether the tables are known to be progress tables
     is_noted: bool,
+}
+
+// Not derived, so that letting one go is one call: a derived way would be proved anew at each exit that owns one.
+impl Drop for Order {
+    fn drop(self) {
+        let Order {
+            game: _,
+            diagram: _,
+            decisions: _,
+            games: _,
+            hopeful: _,
+            dual: _,
+            hopeful_room: _,
+            dual_room: _,
+            is_noted: _,
+        } = self;
+    }
 }
 
 impl Model for Order {

@@ -24,7 +24,11 @@ pub struct Shape {
 // Not derived, so that letting one go is one call: a derived way would be proved anew at each exit that owns one.
 impl Drop for Shape {
     fn drop(self) {
-        let Shape { levels: _, weights: _, top: _ } = self;
+        let Shape {
+            levels: _,
+            weights: _,
+            top: _,
+        } = self;
     }
 }
 

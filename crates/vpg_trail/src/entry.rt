@@ -55,7 +55,6 @@ impl Assumed {
 }
 
 /// A decision, or a rise of one vertex in one table.
-#[derive(Drop)]
 pub enum Entry {
     Decide(Decision),
     Lift {
@@ -65,6 +64,22 @@ pub enum Entry {
         new: u64,
         under: Arc<Assumed>,
     },
+}
+
+// Not derived, so that letting one go is one call: a derived way would be proved anew at each exit that owns one.
+impl Drop for Entry {
+    fn drop(self) {
+        match self {
+            Entry::Decide(_) => {}
+            Entry::Lift {
+                table: _,
+                vertex: _,
+                old: _,
+                new: _,
+                under: _,
+            } => {}
+        }
+    }
 }
 
 impl Entry {

@@ -97,12 +97,23 @@ impl Entries {
 }
 
 /// A page by itself: its decisions, its two tables, and the entries that give them.
-#[derive(Drop)]
 pub struct Page {
     pub decisions: Decisions,
     pub hopeful: Table,
     pub dual: Table,
     pub entries: Entries,
+}
+
+// Not derived, so that letting one go is one call: a derived way would be proved anew at each exit that owns one.
+impl Drop for Page {
+    fn drop(self) {
+        let Page {
+            decisions: _,
+            hopeful: _,
+            dual: _,
+            entries: _,
+        } = self;
+    }
 }
 
 ghost use Rattle.vpg_trail.specs.Shown.{entry_of};
