@@ -3,7 +3,9 @@ pub mod Offering
 pub mod One
 pub mod OneMoves
 pub mod OneOffers
+pub mod OneParts
 pub mod OneRepairs
+pub mod Pictures
 pub mod Repairing
 pub mod Telling
 pub mod Trying
