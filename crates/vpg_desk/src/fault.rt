@@ -24,21 +24,11 @@ pub enum OpenFault {
 }
 
 /// A desk that isn't opened, with what was handed in.
+#[derive(Drop)]
 pub struct OpenRefused {
     pub fault: OpenFault,
     pub game: Arc<GuardedGame>,
     pub diagram: Arc<Diagram>,
-}
-
-// Not derived, so that letting one go is one call: a derived way would be proved anew at each exit that owns one.
-impl Drop for OpenRefused {
-    fn drop(self) {
-        let OpenRefused {
-            fault: _,
-            game: _,
-            diagram: _,
-        } = self;
-    }
 }
 
 /// Why a feature isn't decided. `Memory` comes last, and only where a growth was refused.
@@ -115,16 +105,10 @@ pub struct RedoRefused {
 }
 
 /// A desk that isn't closed since tokens of it are out, and their number.
+#[derive(Drop)]
 pub struct TokensOut {
     pub tokens: u64,
     pub desk: Desk,
-}
-
-// Not derived, so that letting one go is one call: a derived way would be proved anew at each exit that owns one.
-impl Drop for TokensOut {
-    fn drop(self) {
-        let TokensOut { tokens: _, desk: _ } = self;
-    }
 }
 
 /// Why a harvest isn't committed. `Memory` comes last, and only where a growth was refused.
@@ -141,19 +125,10 @@ pub enum CommitFault {
 }
 
 /// A harvest that isn't committed.
+#[derive(Drop)]
 pub struct CommitRefused {
     pub fault: CommitFault,
     pub harvest: Harvest,
-}
-
-// Not derived, so that letting one go is one call: a derived way would be proved anew at each exit that owns one.
-impl Drop for CommitRefused {
-    fn drop(self) {
-        let CommitRefused {
-            fault: _,
-            harvest: _,
-        } = self;
-    }
 }
 
 impl From<AllocError> for OpenFault {

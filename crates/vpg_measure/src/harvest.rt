@@ -14,20 +14,11 @@ use std::marker::Model;
 ///
 /// No call on it takes memory: its tables stand in the order's room. It may hold a note that they are progress tables;
 /// then `check` looks at no edge.
+#[derive(Drop)]
 pub struct Harvest {
     order: Order,
     // whether the tables are known to be progress tables
     is_noted: bool,
-}
-
-// Not derived, so that letting one go is one call: a derived way would be proved anew at each exit that owns one.
-impl Drop for Harvest {
-    fn drop(self) {
-        let Harvest {
-            order: _,
-            is_noted: _,
-        } = self;
-    }
 }
 
 impl Model for Harvest {

@@ -77,6 +77,7 @@ impl Model for Order {
 }
 
 /// An order that is refused, with all that was handed in.
+#[derive(Drop)]
 pub struct Refused {
     pub fault: OrderFault,
     pub game: Arc<GuardedGame>,
@@ -84,20 +85,6 @@ pub struct Refused {
     pub decisions: Vec<Decision>,
     pub hopeful: Table,
     pub dual: Table,
-}
-
-// Not derived, so that letting one go is one call: a derived way would be proved anew at each exit that owns one.
-impl Drop for Refused {
-    fn drop(self) {
-        let Refused {
-            fault: _,
-            game: _,
-            diagram: _,
-            decisions: _,
-            hopeful: _,
-            dual: _,
-        } = self;
-    }
 }
 
 // Room for the two tables of a game.

@@ -10,15 +10,9 @@ use vpg_measure::Which;
 use vpg_partial::Decision;
 
 /// The decisions that a lift rests on, without their serials, in the order of the page that they were read from.
+#[derive(Drop)]
 pub struct Assumed {
     literals: Vec<Literal>,
-}
-
-// Not derived, so that letting one go is one call: a derived way would be proved anew at each exit that owns one.
-impl Drop for Assumed {
-    fn drop(self) {
-        let Assumed { literals: _ } = self;
-    }
 }
 
 impl Model for Assumed {

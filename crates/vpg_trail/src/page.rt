@@ -9,15 +9,9 @@ use vpg_measure::Table;
 use vpg_partial::Decision;
 
 /// Decisions in their order.
+#[derive(Drop)]
 pub struct Decisions {
     decisions: Vec<Decision>,
-}
-
-// Not derived, so that letting one go is one call: a derived way would be proved anew at each exit that owns one.
-impl Drop for Decisions {
-    fn drop(self) {
-        let Decisions { decisions: _ } = self;
-    }
 }
 
 impl Model for Decisions {
@@ -52,15 +46,9 @@ impl Decisions {
 }
 
 /// Entries in their order; contracts see what they assume as lists.
+#[derive(Drop)]
 pub struct Entries {
     items: Vec<Entry>,
-}
-
-// Not derived, so that letting one go is one call: a derived way would be proved anew at each exit that owns one.
-impl Drop for Entries {
-    fn drop(self) {
-        let Entries { items: _ } = self;
-    }
 }
 
 impl Model for Entries {
