@@ -77,7 +77,7 @@ labels_of ids names line =
     else beside (name_of ids names (first_word line)))
 
 -- a line with what stands beside it
-abbrev pub named_line : (ids : List ℕ) (names : List (List ℕ)) → List ℕ → List ℕ
+unfoldable pub named_line : (ids : List ℕ) (names : List (List ℕ)) → List ℕ → List ℕ
 named_line ids names line = line ++ labels_of ids names line
 
 abbrev pub is_line_end : ℕ → Bool
