@@ -98,7 +98,13 @@ WARNINGS = re.compile(
     rb"\A(?:[^\x00-\x1f\x7f]*(?::[1-9][0-9]*:[1-9][0-9]*: warning: [^\x00-\x1f\x7f]+"
     + rb"|: warning: [a-z ]+: [1-9][0-9]* more)\n)*warnings " + N + rb"\n\Z"
 )
-NAMED = re.compile(rb'(?: "[^"\x00-\x1f\x7f]*")+$', re.M)
+# lines about a move, or a vertex, with names behind them
+QUOTED = rb' "[^"\x00-\x1f\x7f]*"'
+NAMED = re.compile(
+    rb"^((?:plan|spoil) " + N + rb" " + N + rb")" + QUOTED + QUOTED
+    + rb'$|^((?:(?:hopeful|dual|hopeless|possible|sure|unsure|lost|won) )?' + N + rb'(?: [^"\n]*)?)' + QUOTED + rb"$",
+    re.M,
+)
 # the name of a vertex in a picture, in one line or several
 NAMED_VERTEX = re.compile(
     rb'^(  ' + N + rb' \[shape=(?:diamond|box), label="' + N + rb" : " + N
@@ -112,7 +118,7 @@ ANSWERING = (b"", b"--", b"run", b"desk")
 def are_answers(words, out):
     """Whether these are answers to a script: where the words ask for it, to lines with a fault, and with names."""
     if b"--names" in words:
-        out = NAMED_VERTEX.sub(rb"\1\2", NAMED.sub(b"", out))
+        out = NAMED_VERTEX.sub(rb"\1\2", NAMED.sub(rb"\1\2", out))
     if b"--keep-going" in words or b"desk" in words:
         out = OF_FAULTY_LINES.sub(b"", out)
     return ANSWERS.match(out)
@@ -193,6 +199,8 @@ def examples():
 def random_family(rng):
     diagram, names = oracle.random_diagram(rng)
     game, ids = oracle.random_game(rng, names)
+    if rng.random() < 0.5:
+        game = oracle.with_random_names(rng, game)
     return tuple(text.encode() for text in (game, diagram, oracle.random_script(rng, names, ids)))
 
 

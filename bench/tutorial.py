@@ -2,7 +2,7 @@
 """Does what docs/TUTORIAL.md says, and compares the answers with those that stand in it.
 
     python3 bench/tutorial.py PROGRAM       with this vpgdesk, as crates/vpgdesk/out/vpgdesk
-    python3 bench/tutorial.py --oracle      with bench/oracle.py: `vpgdesk run` without options; the rest is left out
+    python3 bench/tutorial.py --oracle      with bench/oracle.py: `run`, with `--names` too; the rest is left out
     python3 bench/tutorial.py --list        names the steps, and runs nothing
 
 A step is a file or a command. A file is an indented block after a paragraph that ends in "a file `NAME`:". A command is
@@ -26,8 +26,9 @@ ROOT = os.path.dirname(os.path.dirname(os.path.abspath(__file__)))
 TEXT = f"{ROOT}/docs/TUTORIAL.md"
 FILE = re.compile(r"\ba\s+file\s+`(\w+)`[^.]*:$")
 ORACLE = """#!/bin/sh
-[ "$1" = run ] && [ "${{2#-}}" = "$2" ] || exit 9
-exec "{python}" "{root}/bench/oracle.py" "$2" "$3" "$4"
+[ "$1" = run ] && shift || exit 9
+[ "$1" = --names ] || [ "${{1#-}}" = "$1" ] || exit 9
+exec "{python}" "{root}/bench/oracle.py" "$@"
 """
 
 

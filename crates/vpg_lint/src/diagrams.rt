@@ -6,12 +6,12 @@ ghost use Rattle.vpg_lint.specs.Messages.{line_of_fault};
 use crate::faulty::Faulty;
 use crate::hints::{Kind, MARK, put_text_hint};
 use crate::message::{Message, put_found, put_hint, put_hint_line, put_hint_with};
-use crate::naming::{nearest_of, nearest_text};
+use crate::naming::{nearest_form, nearest_of};
 use std::alloc::{AllocError, Global};
 use vpg_diagram::DiagramFault;
 use vpg_places::{
     Declared, Departure, Form, LINES, Line, Part, declared_of, find, form_of, line_at,
-    names_before, words_of, words_of_forms,
+    names_before, words_of,
 };
 
 /// The rule for names.
@@ -31,8 +31,7 @@ fn put_kind_hint(alloc: Global, word: &[u8], out: &mut Vec<u8>) -> Result<(), Al
     if is_remark(word) {
         return put_hint(b"a diagram has no comments", out);
     }
-    let kinds = words_of_forms(alloc, &LINES)?;
-    if let Some(kind) = nearest_text(alloc, &kinds, word)? {
+    if let Some(kind) = nearest_form(alloc, &LINES, word)? {
         if kind.as_bytes() != word {
             return put_hint_with(b"is ", kind.as_bytes(), b" meant?", out);
         }

@@ -4,6 +4,7 @@ ghost use Rattle.std.specs.Prelude.{◌<◌, IfOk, IfSome, length};
 use std::alloc::{AllocError, Global};
 use strsim::levenshtein;
 use vpg_guards::{LONGEST_NAME, Names};
+use vpg_places::{Form, begins_character};
 
 /// The most edits that lead from a word to a name that is told.
 const MOST_EDITS: usize = 3;
@@ -24,6 +25,26 @@ fn text_of(word: &[u8]) -> Option<&str> {
     str::from_utf8(word).ok()
 }
 
+/// How many characters of a text begin with a byte that another text lacks.
+fn lacking(text: &str, other: &str) -> usize {
+    let mut count = 0usize;
+    for b in text.as_bytes() {
+        if begins_character(*b) && !other.as_bytes().contains(b) {
+            count = count.saturating_add(1);
+        }
+    }
+    count
+}
+
+/// How many edits lead from a word to a text, where they are fewer than a limit, and else at least the limit.
+fn edits_below(alloc: Global, limit: usize, word: &str, text: &str) -> Result<usize, AllocError> {
+    // Each character that the other text lacks takes an edit of its own.
+    if lacking(word, text) >= limit || lacking(text, word) >= limit {
+        return Ok(limit);
+    }
+    levenshtein(alloc, word, text)
+}
+
 /// Of the names that few edits lead to, fewer than half the word's bytes, the first with the fewest.
 pub fn nearest(alloc: Global, names: &Names, word: &str) -> Result<Option<u16>, AllocError>
     ensures { IfOk result (λ found. IfSome found (λ f. f < length names.now)) }
@@ -35,7 +56,7 @@ pub fn nearest(alloc: Global, names: &Names, word: &str) -> Result<Option<u16>, 
     let mut fewest = too_many_edits(word);
     let count = names.len() as u16;
     for f in 0..count {
-        let edits = levenshtein(alloc, word, names.name(f))?;
+        let edits = edits_below(alloc, fewest, word, names.name(f))?;
         if edits < fewest {
             fewest = edits;
             found = Some(f);
@@ -57,7 +78,7 @@ pub(crate) fn nearest_of<'t>(
     let mut fewest = too_many_edits(word);
     for other in words {
         if let Some(name) = text_of(other) {
-            let edits = levenshtein(alloc, word, name)?;
+            let edits = edits_below(alloc, fewest, word, name)?;
             if edits < fewest {
                 fewest = edits;
                 found = Some(*other);
@@ -67,18 +88,18 @@ pub(crate) fn nearest_of<'t>(
     Ok(found)
 }
 
-/// The edits that lead from a word to a text. Letters count alike, whether large or small, where nothing else differs.
-fn edits_to(alloc: Global, word: &str, text: &str) -> Result<usize, AllocError> {
+/// The same edits. Letters count alike, whether large or small, where nothing else differs.
+fn edits_to(alloc: Global, limit: usize, word: &str, text: &str) -> Result<usize, AllocError> {
     if text.as_bytes().eq_ignore_ascii_case(word.as_bytes()) {
         return Ok(0);
     }
-    levenshtein(alloc, word, text)
+    edits_below(alloc, limit, word, text)
 }
 
-/// The same of some texts.
-pub(crate) fn nearest_text(
+/// The same of the words that begin these forms.
+pub(crate) fn nearest_form(
     alloc: Global,
-    texts: &[&'static str],
+    forms: &[Form],
     word: &[u8],
 ) -> Result<Option<&'static str>, AllocError> {
     let mut found = None;
@@ -86,11 +107,11 @@ pub(crate) fn nearest_text(
         return Ok(found);
     };
     let mut fewest = too_many_edits(word);
-    for text in texts {
-        let edits = edits_to(alloc, word, text)?;
+    for form in forms {
+        let edits = edits_to(alloc, fewest, word, form.word)?;
         if edits < fewest {
             fewest = edits;
-            found = Some(*text);
+            found = Some(form.word);
         }
     }
     Ok(found)

@@ -6,9 +6,9 @@ use crate::diagrams::{NAME_RULE, is_less};
 use crate::faulty::Faulty;
 use crate::hints::{Kind, MARK, put_text_hint};
 use crate::message::{Message, put_hint, put_hint_with};
-use crate::naming::nearest_text;
+use crate::naming::nearest_form;
 use std::alloc::{AllocError, Global};
-use vpg_places::{COMMANDS, Departure, Form, Line, Part, form_of, words_of, words_of_forms};
+use vpg_places::{COMMANDS, Departure, Form, Line, Part, form_of, words_of};
 
 /// The most bytes of a line.
 const LONGEST_LINE: usize = 4096;
@@ -39,8 +39,7 @@ fn put_command_hint(alloc: Global, word: &[u8], out: &mut Vec<u8>) -> Result<(),
         );
     }
     let word = word.strip_prefix(&MARK).unwrap_or(word);
-    let commands = words_of_forms(alloc, &COMMANDS)?;
-    match nearest_text(alloc, &commands, word)? {
+    match nearest_form(alloc, &COMMANDS, word)? {
         Some(command) if command.as_bytes() == word => Ok(()),
         Some(command) => put_hint_with(b"is ", command.as_bytes(), b" meant?", out),
         None => put_hint(b"`vpgdesk --help` lists the commands", out),

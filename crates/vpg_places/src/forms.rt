@@ -1,6 +1,5 @@
 //! The forms of the lines of a diagram, and of the commands of scripts.
 use crate::lines::Word;
-use std::alloc::{AllocError, Global};
 use vpg_guards::is_feature_name;
 
 /// What stands at a place of a line.
@@ -451,13 +450,4 @@ pub fn form_of(forms: &[Form], word: &[u8]) -> Option<Form> {
         }
     }
     None
-}
-
-/// The words that begin these forms.
-pub fn words_of_forms(alloc: Global, forms: &[Form]) -> Result<Vec<&'static str>, AllocError> {
-    let mut words = Vec::new(alloc);
-    for form in forms {
-        words.push(form.word)?;
-    }
-    Ok(words)
 }

@@ -16,7 +16,7 @@ mod place;
 mod scanning;
 
 pub use declared::{Declared, declared_of, find, names_before};
-pub use forms::{COMMANDS, Departure, Form, LINES, Part, form_of, words_of_forms};
+pub use forms::{COMMANDS, Departure, Form, LINES, Part, form_of};
 pub use lines::{Line, Word, line_at, lines_of, words_of};
 pub use place::{Place, begins_character, place_of};
 pub use scanning::{Last, Number, Scan, numbers_of, start_at};

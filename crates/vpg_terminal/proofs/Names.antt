@@ -1,10 +1,12 @@
--- Vertices by their identifiers, and numbers that are capped.
-use Rattle.std.proofs.Common.{◌≡◌, ℕ, zero, suc, ◌+◌, ◌*◌, ◌<◌, min, Bool, true, false, cond, List, [], ◌∷◌, length, Option, Some, None, refl, sym, ap, ◌∙◌, subst, arith, eq-eqb}
-use Rattle.std.specs.Prelude.{◌==◌, not, nat_lt, slice_get, slice_index_or, position, IfSome}
+-- Vertices by their identifiers, numbers that are capped, and lines with their names.
+use Rattle.std.proofs.Common.{◌≡◌, ℕ, zero, suc, ◌+◌, ◌*◌, ◌<◌, min, Bool, true, false, cond, List, [], ◌∷◌, ◌++◌, length, Option, Some, None, refl, sym, ap, ◌∙◌, subst, arith, eq-eqb}
+use Rattle.std.specs.Prelude.{Result, Ok, Err, OnOk, ◌==◌, not, nat_lt, slice_get, slice_index_or, position, IfSome}
 use Rattle.std.specs.List.{position_or_len}
+use Rattle.std.proofs.lemmas.List.{append_assoc}
 use Rattle.std.proofs.lemmas.List.Quantifiers.{position-Some}
 use Rattle.std.proofs.lemmas.Bool.{eqb-true}
 use Rattle.std.proofs.lemmas.Bool.Decides.{nat_tests}
+use Rattle.vpg_terminal.specs.Naming.{labels_of, named_line}
 
 pub capped : (above v w d : ℕ) → v ≡ min above w → min above (v * 10 + d) ≡ min above (w * 10 + d)
 capped above v w d h = omega arith
@@ -47,3 +49,12 @@ vertex_found ids id result found held = go (position (λ n. n == id) ids) refl
     go (Some i) is =
         let at = position-Some (λ (n : ℕ). n == id) ids i 0 is in
         is ∙ sym (held i (found_at id i ids at.0 at.1))
+
+-- ---- a line and its names
+
+pub line_named : {A B : Type 0} (result : Result A B) (ids : List ℕ) (names : List (List ℕ)) (line before once twice : List ℕ) → once ≡ before ++ line
+    → OnOk result (twice ≡ once ++ labels_of ids names line) → OnOk result (twice ≡ before ++ named_line ids names line)
+unfolding named_line
+line_named (Ok x) ids names line before once twice first second =
+    second ∙ (ap (λ (b : List ℕ). b ++ labels_of ids names line) first ∙ append_assoc before line (labels_of ids names line))
+line_named (Err e) ids names line before once twice first second = tt

@@ -46,19 +46,38 @@ beside name = if is_empty name then [] else quoted name
 abbrev pub beside_both : List ℕ → List ℕ → List ℕ
 beside_both name other = if is_empty name && is_empty other then [] else quoted name ++ quoted other
 
--- What stands beside a line. The first word of a line of `show` is a vertex, the second one of a lift of `trail`, and
--- the second and the third of a line of `plan`.
+-- The lines about a move: those of `plan` and `plan V`, and those of `spoil V`.
+abbrev pub is_of_move : List ℕ → Bool
+is_of_move word = bytes_eq word (codes "plan") || bytes_eq word (codes "spoil")
+
+-- The lines whose second word is a vertex: a lift of `trail`, a verdict with its reason, and what holds in all products
+-- that are left.
+abbrev pub is_of_lift : List ℕ → Bool
+is_of_lift word = bytes_eq word (codes "hopeful") || bytes_eq word (codes "dual")
+
+abbrev pub is_of_verdict : List ℕ → Bool
+is_of_verdict word =
+    (bytes_eq word (codes "hopeless") || bytes_eq word (codes "possible")) ||
+    (bytes_eq word (codes "sure") || bytes_eq word (codes "unsure"))
+
+abbrev pub is_of_fact : List ℕ → Bool
+is_of_fact word = bytes_eq word (codes "lost") || bytes_eq word (codes "won")
+
+abbrev pub is_of_vertex : List ℕ → Bool
+is_of_vertex word = is_of_lift word || (is_of_verdict word || is_of_fact word)
+
+-- What stands beside a line. The second and the third word of a line about a move are vertices, the second one of those
+-- above, and the first one of a line of `show` or `changed`.
 abbrev pub labels_of : (ids : List ℕ) (names : List (List ℕ)) → List ℕ → List ℕ
 labels_of ids names line =
-    if bytes_eq (first_word line) (codes "plan")
+    if is_of_move (first_word line)
     then beside_both (name_of ids names (first_word (behind_word line)))
     (name_of ids names (first_word (behind_word (behind_word line))))
-    else (if bytes_eq (first_word line) (codes "hopeful") || bytes_eq (first_word line) (codes "dual")
-    then beside (name_of ids names (first_word (behind_word line)))
+    else (if is_of_vertex (first_word line) then beside (name_of ids names (first_word (behind_word line)))
     else beside (name_of ids names (first_word line)))
 
 -- a line with what stands beside it
-abbrev pub named_line : (ids : List ℕ) (names : List (List ℕ)) → List ℕ → List ℕ
+unfoldable pub named_line : (ids : List ℕ) (names : List (List ℕ)) → List ℕ → List ℕ
 named_line ids names line = line ++ labels_of ids names line
 
 abbrev pub is_line_end : ℕ → Bool
@@ -70,6 +89,14 @@ named_lines ids names [] = []
 named_lines ids names (line ∷ lines) =
     named_line ids names line ++ flat_map (λ other. 10 ∷ named_line ids names other) lines
 
--- a text with what stands beside each of its lines
+-- Whether lines are those of `count`, whose second words are numbers of vertices: the second line is about those that
+-- are possible. That of `why V` is about being sure.
+abbrev pub is_count : List (List ℕ) → Bool
+is_count [] = false
+is_count (line ∷ []) = false
+is_count (line ∷ next ∷ lines) = bytes_eq (first_word next) (codes "possible")
+
+-- a text with what stands beside each of its lines; that of `count` as it is
 abbrev pub named_text : (ids : List ℕ) (names : List (List ℕ)) → List ℕ → List ℕ
-named_text ids names text = named_lines ids names (slice_split is_line_end text)
+named_text ids names text =
+    if is_count (slice_split is_line_end text) then text else named_lines ids names (slice_split is_line_end text)

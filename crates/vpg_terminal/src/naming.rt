@@ -6,7 +6,7 @@ ghost use Rattle.std.specs.List.{list_all, prefix_len, slice_split};
 ghost use Rattle.std.specs.Str.Parse.{digits_value};
 ghost use Rattle.vpg_game.specs.Game.{vertex_ids};
 ghost use Rattle.vpg_script.specs.Script.{number_of, largest_identifier};
-ghost use Rattle.vpg_terminal.specs.Naming.{is_within_word, first_word, behind_word, name_of, is_empty, shown_byte, quoted, beside, beside_both, labels_of, named_line, is_line_end, named_lines, named_text};
+ghost use Rattle.vpg_terminal.specs.Naming.{is_within_word, first_word, behind_word, name_of, is_empty, shown_byte, quoted, beside, beside_both, is_of_move, is_of_lift, is_of_verdict, is_of_fact, is_of_vertex, labels_of, named_line, is_line_end, named_lines, is_count, named_text};
 
 use std::alloc::{AllocError, Global};
 use vpg_game::GuardedGame;
@@ -167,6 +167,37 @@ fn same(a: &[u8], b: &[u8]) -> bool
     a == b
 }
 
+fn is_of_move(word: &[u8]) -> bool
+    ensures { result ≡ is_of_move word.now }
+{
+    same(word, b"plan") || same(word, b"spoil")
+}
+
+fn is_of_lift(word: &[u8]) -> bool
+    ensures { result ≡ is_of_lift word.now }
+{
+    same(word, b"hopeful") || same(word, b"dual")
+}
+
+fn is_of_verdict(word: &[u8]) -> bool
+    ensures { result ≡ is_of_verdict word.now }
+{
+    (same(word, b"hopeless") || same(word, b"possible"))
+        || (same(word, b"sure") || same(word, b"unsure"))
+}
+
+fn is_of_fact(word: &[u8]) -> bool
+    ensures { result ≡ is_of_fact word.now }
+{
+    same(word, b"lost") || same(word, b"won")
+}
+
+fn is_of_vertex(word: &[u8]) -> bool
+    ensures { result ≡ is_of_vertex word.now }
+{
+    is_of_lift(word) || (is_of_verdict(word) || is_of_fact(word))
+}
+
 /// Appends what stands beside a line.
 fn put_labels(
     game: &GuardedGame,
@@ -179,11 +210,11 @@ fn put_labels(
 {
     let first = first_word(line);
     let rest = behind_word(line);
-    if same(first, b"plan") {
+    if is_of_move(first) {
         let from = name_of(game, names, first_word(rest));
         let to = name_of(game, names, first_word(behind_word(rest)));
         put_both(from, to, out)
-    } else if same(first, b"hopeful") || same(first, b"dual") {
+    } else if is_of_vertex(first) {
         put_beside(name_of(game, names, first_word(rest)), out)
     } else {
         put_beside(name_of(game, names, first), out)
@@ -265,6 +296,16 @@ fn lines(alloc: Global, text: &[u8]) -> Result<Vec<&[u8]>, AllocError>
     text.split(|b| is_line_end(*b)).collect(alloc)
 }
 
+/// Whether lines are those of `count`, whose numbers are no identifiers.
+fn is_count(lines: &[&[u8]]) -> bool
+    ensures { result ≡ is_count (map (λ w. w.now) lines.now) }
+{
+    match lines {
+        [_, next, ..] => same(first_word(next), b"possible"),
+        _ => false,
+    }
+}
+
 /// The text of an answer with the names of vertices beside its lines.
 pub fn named_text(
     alloc: Global,
@@ -276,6 +317,9 @@ pub fn named_text(
         (λ named. named.items ≡ named_text (vertex_ids game.now.vertices) names.now.names text.now) }
 {
     let lines = lines(alloc, text)?;
+    if is_count(&lines) {
+        return Vec::from_slice(alloc, text);
+    }
     let mut named = Vec::new(alloc);
     put_lines(game, names, &lines, &mut named)?;
     Ok(named)
