@@ -19,6 +19,10 @@
 //! how many reads there were, and how many tokens `end` misses.
 //!
 //! A log takes 1,048,576 calls. Without words it does a little of each, and prints no count of reads.
+//!
+//! A call that is refused, and a sheet that is left out where the watcher has to read it, end a task: all threads come
+//! to their end, all tokens are handed in as the office is ended, and the program ends with status 1 and a word on
+//! standard error, which says how many tokens `end` missed. What it has written by then is a beginning of its output.
 //! `bench/offices.py` runs it, and measures what it takes.
 #![tactic(auto)]
 
@@ -37,7 +41,7 @@ use crate::reading::{change_and_look, change_and_read, change_unread};
 use crate::watcher::follow;
 use crate::words::task_of;
 use crate::working::{are_in_order, calls_of, decide, joined, places_of_all};
-use anyhow::{Context, Result};
+use anyhow::{Context, Result, bail};
 use std::alloc::Global;
 use std::marker::Brand;
 use std::sync::atomic::AtomicU64;
@@ -85,24 +89,35 @@ pub(crate) enum Task {
 /// What came of the work.
 #[derive(Clone, Copy)]
 pub(crate) enum Done {
-    /// How many lifts the commit added, and whether the decision was made and taken back.
-    TwoSessions { added: Option<u32>, undone: bool },
+    /// How many lifts the commit added, and whether the token of the decision taken back is held.
+    TwoSessions { added: u32, undone: bool },
     /// Whether the calls of each session stand in order, and each place has one.
     Calls { in_order: bool },
     Changes { reads: u64 },
 }
 
+/// Why some work was not done to its end.
+#[derive(Clone, Copy)]
+pub(crate) enum Stopped {
+    /// A call was refused.
+    Refused,
+    /// The watcher read no sheet of a change: it was left out.
+    Unseen,
+    /// The watcher could not print.
+    Unprinted,
+}
+
 /// What came of a task.
 #[derive(Clone, Copy)]
 struct Told {
-    done: Done,
+    done: Result<Done, Stopped>,
     calls: usize,
     /// How many tokens were out at the end and not handed in.
     further: u64,
 }
 
 /// What came of some work, and the tokens that are left.
-pub(crate) type Left<L> = (Option<Done>, Option<Undo<L>>, Option<Redo<L>>);
+pub(crate) type Left<L> = (Result<Done, Stopped>, Option<Undo<L>>, Option<Redo<L>>);
 
 /// Whether the calls of so many sessions, so many rounds each, stand in order.
 fn call_at_once<L: Terms + Send + Sync, R: Threads + Wait + Sync>(
@@ -164,7 +179,10 @@ fn carry_out<L: Terms + Send + Sync, R: Threads + Wait + Sync>(
             readers,
         } => change(rt, alloc, office, feature, rounds, how, readers),
     };
-    (done, last_token(rt, alloc, office), None)
+    match last_token(rt, alloc, office) {
+        Some(token) => (done.ok_or(Stopped::Refused), Some(token), None),
+        None => (Err(Stopped::Refused), None, None),
+    }
 }
 
 /// Ends the office with the tokens that are left.
@@ -212,14 +230,11 @@ fn work<L: Terms + Send + Sync, R: Threads + Wait + Sync>(
     let (done, undo, redo) = carry_out(rt, alloc, &office, task, seen);
     let further = end(rt, office, &mut front, undos, redos, undo, redo);
     let calls = front.len();
-    match done {
-        Some(done) => Some(Told {
-            done,
-            calls,
-            further,
-        }),
-        None => None,
-    }
+    Some(Told {
+        done,
+        calls,
+        further,
+    })
 }
 
 /// Takes the office, and has two sessions work there. A closure can't hold an office, since it might let it go.
@@ -232,6 +247,17 @@ fn work_on<L: Terms + Send + Sync, R: Threads + Wait + Sync>(
 ) -> Option<Told> {
     let office = lent.take()?;
     work(rt, alloc, office, front, Task::TwoSessions, seen)
+}
+
+/// What came of a task that a watcher followed, where it printed all that it read.
+fn printed(told: Told, is_printed: bool) -> Told {
+    if is_printed {
+        return told;
+    }
+    Told {
+        done: Err(Stopped::Unprinted),
+        ..told
+    }
 }
 
 /// Has two sessions work, which a watcher follows.
@@ -248,7 +274,7 @@ fn work_watched<L: Terms + Send + Sync, R: Threads + Wait + Sync + Print>(
     };
     let seen = AtomicU64::new(0);
     let mut lent = Some(office);
-    let (_printed, told) = join(
+    let (is_printed, told) = join(
         rt,
         || follow(rt, watch, &seen),
         || work_on(rt, alloc, &mut lent, front, &seen),
@@ -256,7 +282,7 @@ fn work_watched<L: Terms + Send + Sync, R: Threads + Wait + Sync + Print>(
     if let Some(office) = lent {
         let _further = office.end(rt, &mut last, Vec::new(alloc), Vec::new(alloc));
     }
-    told
+    Some(printed(told?, is_printed))
 }
 
 /// Opens an office and does the task there. `L` says which row of calls and which ledger it has.
@@ -321,27 +347,26 @@ fn told_of<R: Threads + Wait + Sync + Print>(
 ) -> Result<Told> {
     let diagram = diagram_of(alloc, diagram)?;
     let game = game_of(alloc, game, &diagram)?;
-    told_on(rt, alloc, game, diagram, task).context("no office, no place or no memory")
+    told_on(rt, alloc, game, diagram, task).context("no office, no watch or no room for tokens")
 }
 
-/// Tells how many lifts were added, where there are some.
-fn tell_added(rt: &HostRuntime, added: Option<u32>) -> Result<()> {
-    if let Some(added) = added {
-        println!(rt; "added {added}")?;
+/// What was done to its end.
+fn done_of(told: Told) -> Result<Done> {
+    let further = told.further;
+    match told.done {
+        Ok(done) => Ok(done),
+        Err(Stopped::Refused) => bail!("a call was refused, further {further}"),
+        Err(Stopped::Unseen) => bail!("the sheet of a change was not read, further {further}"),
+        Err(Stopped::Unprinted) => bail!("the watcher could not print, further {further}"),
     }
-    Ok(())
 }
 
 /// Tells what came of a task, but for reads.
 fn tell(rt: &HostRuntime, told: Told) -> Result<()> {
-    let Told {
-        done,
-        calls,
-        further,
-    } = told;
+    let done = done_of(told)?;
+    let Told { calls, further, .. } = told;
     if let Done::TwoSessions { added, undone } = done {
-        tell_added(rt, added)?;
-        println!(rt; "undone {undone}\ncalls {calls}\nfurther {further}")?;
+        println!(rt; "added {added}\nundone {undone}\ncalls {calls}\nfurther {further}")?;
         return Ok(());
     }
     let in_order = !matches!(done, Done::Calls { in_order: false });
@@ -392,7 +417,7 @@ fn work_on_each<T: Threads + Wait + Sync + Print>(rt: &HostRuntime, threads: &T)
 
 /// Tells how many reads there were, and what came of a task beside.
 fn tell_reads(rt: &HostRuntime, told: Told) -> Result<()> {
-    if let Done::Changes { reads } = told.done {
+    if let Ok(Done::Changes { reads }) = told.done {
         println!(rt; "reads {reads}")?;
     }
     tell(rt, told)

@@ -128,7 +128,7 @@ fn show<L: Terms, R: Wait>(rt: &R, watch: &mut Watch<Front<L>>, shown: &Shown<L>
     }
 }
 
-/// A session makes changes, and each change's sheet is put behind the mutex.
+/// A session makes changes, and each change's sheet is put behind the mutex, unless a call is refused.
 fn decide_and_show<L: Terms, R: Wait>(
     rt: &R,
     alloc: Global,
@@ -138,14 +138,16 @@ fn decide_and_show<L: Terms, R: Wait>(
     feature: u16,
     rounds: u32,
     shown: &Shown<L>,
-) {
+) -> Option<()> {
     for _ in 0..rounds {
-        if let Some(token) = decide(rt, alloc, office, seat, feature, true) {
-            show(rt, watch, shown);
-            undo(rt, alloc, office, seat, token);
-            show(rt, watch, shown);
+        let token = decide(rt, alloc, office, seat, feature, true)?;
+        show(rt, watch, shown);
+        if !undo(rt, alloc, office, seat, token) {
+            return None;
         }
+        show(rt, watch, shown);
     }
+    Some(())
 }
 
 /// A further session makes changes, and each change's sheet is put behind the mutex.
@@ -161,8 +163,7 @@ fn try_shown_changes<L: Terms, R: Wait>(
     let mut watch = office.watch(rt, alloc).ok()?;
     decide_and_show(
         rt, alloc, office, &mut seat, &mut watch, feature, rounds, shown,
-    );
-    Some(())
+    )
 }
 
 /// As `change_often`; each change's sheet is put behind the mutex.
@@ -207,10 +208,11 @@ pub fn change_and_read<L: Terms + Send + Sync, R: Threads + Wait + Sync>(
 ) -> Option<u64> {
     let watches = watches(rt, alloc, office, readers)?;
     let ended = AtomicU64::new(0);
-    let (changed, reads) = join(
+    // what comes first here goes last where no thread can be made
+    let (reads, changed) = join(
         rt,
-        || change_often(rt, alloc, office, feature, rounds, &ended),
         || read_all(rt, watches, &ended),
+        || change_often(rt, alloc, office, feature, rounds, &ended),
     );
     let reads = reads.ok();
     if changed.is_some() { reads } else { None }

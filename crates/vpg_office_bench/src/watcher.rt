@@ -48,13 +48,14 @@ pub fn follow<L: Terms, R: Wait + Print>(rt: &R, watch: Watch<Front<L>>, seen: &
     unreachable!()
 }
 
-/// Waits until the watcher has read a sheet of so many calls, but not for ever: a sheet that finds no memory is not
-/// published.
-pub fn wait_for_watcher(seen: &AtomicU64, calls: usize) {
+/// Waits until the watcher has read a sheet of so many calls, but not for ever: a sheet that finds no memory is left
+/// out, and is not made later. What it says can be read nowhere else, so then the watcher's lines can't be whole.
+pub fn is_read(seen: &AtomicU64, calls: usize) -> bool {
     for _ in 0..MOST_LOOKS {
         if seen.load(Ordering::SeqCst) > calls as u64 {
-            return;
+            return true;
         }
         yield_now();
     }
+    false
 }

@@ -81,22 +81,26 @@ fn forget<L: Terms, R: Wait>(rt: &R, office: &Office<L>, seat: &mut Seat<L>, tok
     unreachable!()
 }
 
-/// Takes a decision back by its token, and spends what is left.
+/// Takes a decision back by its token, and spends what is left: whether it was taken back.
 pub fn undo<L: Terms, R: Wait>(
     rt: &R,
     alloc: Global,
     office: &Office<L>,
     seat: &mut Seat<L>,
     token: Undo<L>,
-) {
+) -> bool {
     match seat.session.undo(rt, alloc, office, &mut seat.front, token) {
-        Ok(token) => forget(rt, office, seat, token),
+        Ok(token) => {
+            forget(rt, office, seat, token);
+            true
+        }
         Err(returned) => {
             let Returned {
                 fault: _fault,
                 value,
             } = returned;
             keep(rt, office, seat, value);
+            false
         }
     }
 }
@@ -148,22 +152,20 @@ fn round<L: Terms, R: Wait>(
     Some(())
 }
 
-/// So many rounds on the feature of the session's number, and the places of their calls.
+/// So many rounds on the feature of the session's number, and the places of their calls, unless one is refused.
 fn rounds_of<L: Terms, R: Wait>(
     rt: &R,
     alloc: Global,
     office: &Office<L>,
     seat: &mut Seat<L>,
     rounds: u32,
-) -> Places {
+) -> Option<Places> {
     let mut places = Places::none();
     let feature = seat.session.number() as u16;
     for _ in 0..rounds {
-        if round(rt, alloc, office, seat, feature, &mut places).is_none() {
-            return places;
-        }
+        round(rt, alloc, office, seat, feature, &mut places)?;
     }
-    places
+    Some(places)
 }
 
 /// The places of the calls of a further session that makes so many rounds.
@@ -174,7 +176,7 @@ fn places_of<L: Terms, R: Wait>(
     rounds: u32,
 ) -> Option<Places> {
     let mut seat = joined(rt, office)?;
-    Some(rounds_of(rt, alloc, office, &mut seat, rounds))
+    rounds_of(rt, alloc, office, &mut seat, rounds)
 }
 
 /// The places of the calls of so many sessions, each in a thread of its own.
@@ -210,7 +212,7 @@ pub fn are_in_order(all: &[Option<Places>], calls: usize) -> bool {
     in_order && sum.saturating_mul(2) == calls.saturating_mul(calls.saturating_add(1))
 }
 
-/// A session decides a feature and undoes that so often: three calls a time.
+/// A session decides a feature and undoes that so often: three calls a time, unless one is refused.
 fn decide_and_undo<L: Terms, R: Wait>(
     rt: &R,
     alloc: Global,
@@ -218,12 +220,14 @@ fn decide_and_undo<L: Terms, R: Wait>(
     seat: &mut Seat<L>,
     feature: u16,
     rounds: u32,
-) {
+) -> Option<()> {
     for _ in 0..rounds {
-        if let Some(token) = decide(rt, alloc, office, seat, feature, true) {
-            undo(rt, alloc, office, seat, token);
+        let token = decide(rt, alloc, office, seat, feature, true)?;
+        if !undo(rt, alloc, office, seat, token) {
+            return None;
         }
     }
+    Some(())
 }
 
 /// A further session makes changes.
@@ -235,8 +239,7 @@ fn try_changes<L: Terms, R: Wait>(
     rounds: u32,
 ) -> Option<()> {
     let mut seat = joined(rt, office)?;
-    decide_and_undo(rt, alloc, office, &mut seat, feature, rounds);
-    Some(())
+    decide_and_undo(rt, alloc, office, &mut seat, feature, rounds)
 }
 
 /// How many calls the log has.
