@@ -114,27 +114,27 @@ fn swept<G: Gate + Sync, T: Threads + Wait + Sync>(
     lifters: u32,
     gate: &G,
     predecessors: &Predecessors,
-) -> Option<Reached>
+) -> Reached
     requires lifters { (1 ≤ lifters) × (lifters ≤ 64) }
     requires predecessors { predecessors.now.vertices ≡ vertices order }
 {
     let mut order = order;
     for done in 0..most {
-        let harvest = sweep_along(rt, alloc, order, lifters, gate, predecessors).ok()?;
+        let harvest = sweep_along(rt, alloc, order, lifters, gate, predecessors);
         if ends_settled && harvest.check() {
-            return Some(Reached {
+            return Reached {
                 harvest,
                 sweeps: done + 1,
                 lifts: 0,
-            });
+            };
         }
         order = harvest.again();
     }
-    Some(Reached {
+    Reached {
         harvest: Harvest::alone(order, 0),
         sweeps: most,
         lifts: 0,
-    })
+    }
 }
 
 /// What is reached by sweeps without hints.
@@ -144,7 +144,7 @@ fn plain<T: Threads + Wait + Sync>(
     order: Order,
     lifters: u32,
     most: u64,
-) -> Option<Reached>
+) -> Reached
     requires { (1 ≤ lifters) × (lifters ≤ 64) }
 {
     let predecessors = Predecessors::none(alloc, &order);
@@ -168,7 +168,7 @@ fn hinted<G: Gate + Sync, T: Threads + Wait + Sync>(
     lifters: u32,
     most: u64,
     gate: &G,
-) -> Option<Reached>
+) -> Reached
     requires { (1 ≤ lifters) × (lifters ≤ 64) }
 {
     let predecessors = Predecessors::of_or_none(alloc, &order);
@@ -182,15 +182,15 @@ fn counted<T: Threads + Wait + Sync>(
     order: Order,
     lifters: u32,
     most: u64,
-) -> Option<Reached>
+) -> Reached
     requires { (1 ≤ lifters) × (lifters ≤ 64) }
 {
     let count = Count {
         lifts: AtomicU64::new(0),
     };
-    let mut reached = hinted(rt, alloc, order, lifters, most, &count)?;
+    let mut reached = hinted(rt, alloc, order, lifters, most, &count);
     reached.lifts = count.lifts.load(Ordering::SeqCst);
-    Some(reached)
+    reached
 }
 
 /// A harvest that is reached without sweeps.
@@ -217,12 +217,12 @@ fn guessed<T: Threads + Wait + Sync>(
     order: Order,
     lifters: u32,
     most: u64,
-) -> Option<Reached>
+) -> Reached
     requires { (1 ≤ lifters) × (lifters ≤ 64) }
 {
     let harvest = by_bounds(alloc, order);
     if harvest.check() {
-        Some(unswept(harvest))
+        unswept(harvest)
     } else {
         counted(rt, alloc, harvest.again(), lifters, most)
     }
@@ -265,7 +265,7 @@ fn seated_often(alloc: Global, order: Order, most: u64) -> Option<Reached> {
     })
 }
 
-/// What is reached as the words ask for. Nothing where a board finds no memory.
+/// What is reached as the words ask for. Nothing where a board that one seat lifts finds no memory.
 fn reach<T: Threads + Wait + Sync>(
     rt: &T,
     alloc: Global,
@@ -278,10 +278,10 @@ fn reach<T: Threads + Wait + Sync>(
 {
     match how {
         How::Alone => Some(unswept(Harvest::alone(order, most))),
-        How::Plain => plain(rt, alloc, order, lifters, most),
-        How::Hinted => hinted(rt, alloc, order, lifters, most, &OpenGate),
-        How::Counted => counted(rt, alloc, order, lifters, most),
-        How::Guessed => guessed(rt, alloc, order, lifters, most),
+        How::Plain => Some(plain(rt, alloc, order, lifters, most)),
+        How::Hinted => Some(hinted(rt, alloc, order, lifters, most, &OpenGate)),
+        How::Counted => Some(counted(rt, alloc, order, lifters, most)),
+        How::Guessed => Some(guessed(rt, alloc, order, lifters, most)),
         How::Seated => seated_often(alloc, order, most),
     }
 }

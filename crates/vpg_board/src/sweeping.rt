@@ -1,6 +1,6 @@
 //! Sweeps: lifters in threads of their own.
 
-ghost use Rattle.std.specs.Prelude.{◌≡◌, ℕ, ◌+◌, ◌<◌, ◌≤◌, slice_index, sum, IfOk, IfErr, OnErr, IfSome, IfNone};
+ghost use Rattle.std.specs.Prelude.{◌≡◌, ℕ, ◌+◌, ◌<◌, ◌≤◌, slice_index, sum, IfOk, IfErr, IfSome, IfNone};
 ghost use Rattle.std.specs.Thread.{IsSync};
 ghost use Rattle.vpg_hope.specs.Arena.{vertex_at};
 ghost use Rattle.vpg_measure.specs.Lifts.{lift_of, IsBelowTable};
@@ -195,14 +195,42 @@ fn work_with_hints<J: Vertices + Send + Sync, G: Gate + Sync, R: Threads + Wait 
     work_together(rt, board, gate, lifters, seat, predecessors, crew)
 }
 
+// The same on a board, by as many lifters as are asked for. For want of memory the order comes back.
+fn sweep_on_board<G: Gate + Sync, R: Threads + Wait + Sync>(
+    rt: &R,
+    alloc: Global,
+    order: Order,
+    lifters: u32,
+    gate: &G,
+    predecessors: &Predecessors,
+) -> Result<Harvest, Order>
+    requires { predecessors.now.vertices ≡ vertices order }
+    ensures order { IfOk result (λ harvest. IsSameOrder harvest.order order) }
+    ensures lifted { IfOk result (λ harvest. (which : Which) (v : ℕ) → v < vertices order →
+        lift_of (order_levels which order) (order_table which order)
+        (vertex_at (order_arena which order) v) ≤ slice_index (harvest_table which harvest) v) }
+    ensures above { IfOk result
+        (λ harvest. (which : Which) → IsBelowTable (order_table which order) (harvest_table which harvest)) }
+    ensures harvest { IfOk result IsHarvest }
+    ensures moved { IfOk result
+        (λ harvest. ¬ IsSettledHarvest harvest →
+        sum order.hopeful + sum order.dual < sum harvest.hopeful + sum harvest.dual) }
+    ensures back { IfErr result (λ returned. returned ≡ order) }
+{
+    let (board, seat) = Board::open(alloc, order)?;
+    let seat = work_with_hints::<Brand, G, R>(rt, alloc, &board, gate, lifters, seat, predecessors);
+    board.close(alloc, seat)
+}
+
 /// Lifts each vertex of both tables of the order at least once, by 1 to 64 lifters at once: the calling thread is
 /// lifter 1, the others get threads of their own. Where the machine has no thread for one, the calling thread does its
 /// work. After a raise the lifter hints at the vertices that keep an edge to the raised one, for itself and for one
-/// other, and behind each claim it lifts at most 16 hinted vertices. Out of memory the order comes back; where
-/// only hints found none, they are left out.
+/// other, and behind each claim it lifts at most 16 hinted vertices.
 ///
-/// One lifter shares its tables with nobody: it raises them in the order's room, without a board, and always brings a
-/// harvest.
+/// It always brings a harvest. One lifter shares its tables with nobody: it raises them in the order's room, without a
+/// board. Several need memory for their board, at its opening and at its close. Where there is none the calling thread
+/// alone sweeps the order from its tables, and the gate is called again, if the close was refused. Where hints found
+/// none, they are left out.
 ///
 /// A sweep whose harvest has no greater value than its order proves the order settled.
 pub fn sweep<G: Gate + Sync, R: Threads + Wait + Sync>(
@@ -211,27 +239,22 @@ pub fn sweep<G: Gate + Sync, R: Threads + Wait + Sync>(
     order: Order,
     lifters: u32,
     gate: &G,
-) -> Result<Harvest, Order>
+) -> Harvest
     requires lifters { (1 ≤ lifters) × (lifters ≤ 64) }
-    ensures order { IfOk result (λ harvest. IsSameOrder harvest.order order) }
+    ensures order { IsSameOrder result.order order }
 
     // At every vertex of both tables it is on or above the lift of the order's table.
-    ensures lifted { IfOk result (λ harvest. (which : Which) (v : ℕ) → v < vertices order →
+    ensures lifted { (which : Which) (v : ℕ) → v < vertices order →
         lift_of (order_levels which order) (order_table which order)
-        (vertex_at (order_arena which order) v) ≤ slice_index (harvest_table which harvest) v) }
+        (vertex_at (order_arena which order) v) ≤ slice_index (harvest_table which result) v }
 
     // On or above the order's tables, and below every progress table of its games.
-    ensures above { IfOk result
-        (λ harvest. (which : Which) → IsBelowTable (order_table which order) (harvest_table which harvest)) }
-    ensures harvest { IfOk result IsHarvest }
+    ensures above { (which : Which) → IsBelowTable (order_table which order) (harvest_table which result) }
+    ensures harvest { IsHarvest result }
 
     // A harvest that does not check has risen, in sum: so where nothing rose the order was settled.
-    ensures moved { IfOk result
-        (λ harvest. ¬ IsSettledHarvest harvest →
-        sum order.hopeful + sum order.dual < sum harvest.hopeful + sum harvest.dual) }
-    ensures back { IfErr result (λ returned. returned ≡ order) }
-    // One lifter never gives it back.
-    ensures several { OnErr result (1 < lifters) }
+    ensures moved { ¬ IsSettledHarvest result →
+        sum order.hopeful + sum order.dual < sum result.hopeful + sum result.dual }
 {
     let predecessors = Predecessors::of_or_none(alloc, &order);
     sweep_along(rt, alloc, order, lifters, gate, &predecessors)
@@ -245,33 +268,29 @@ pub fn sweep_along<G: Gate + Sync, R: Threads + Wait + Sync>(
     lifters: u32,
     gate: &G,
     predecessors: &Predecessors,
-) -> Result<Harvest, Order>
+) -> Harvest
     requires predecessors { predecessors.now.vertices ≡ vertices order }
     requires lifters { (1 ≤ lifters) × (lifters ≤ 64) }
-    ensures order { IfOk result (λ harvest. IsSameOrder harvest.order order) }
+    ensures order { IsSameOrder result.order order }
 
     // At every vertex of both tables it is on or above the lift of the order's table.
-    ensures lifted { IfOk result (λ harvest. (which : Which) (v : ℕ) → v < vertices order →
+    ensures lifted { (which : Which) (v : ℕ) → v < vertices order →
         lift_of (order_levels which order) (order_table which order)
-        (vertex_at (order_arena which order) v) ≤ slice_index (harvest_table which harvest) v) }
+        (vertex_at (order_arena which order) v) ≤ slice_index (harvest_table which result) v }
 
     // On or above the order's tables, and below every progress table of its games.
-    ensures above { IfOk result
-        (λ harvest. (which : Which) → IsBelowTable (order_table which order) (harvest_table which harvest)) }
-    ensures harvest { IfOk result IsHarvest }
+    ensures above { (which : Which) → IsBelowTable (order_table which order) (harvest_table which result) }
+    ensures harvest { IsHarvest result }
 
     // A harvest that does not check has risen, in sum: so where nothing rose the order was settled.
-    ensures moved { IfOk result
-        (λ harvest. ¬ IsSettledHarvest harvest →
-        sum order.hopeful + sum order.dual < sum harvest.hopeful + sum harvest.dual) }
-    ensures back { IfErr result (λ returned. returned ≡ order) }
-    // One lifter never gives it back.
-    ensures several { OnErr result (1 < lifters) }
+    ensures moved { ¬ IsSettledHarvest result →
+        sum order.hopeful + sum order.dual < sum result.hopeful + sum result.dual }
 {
     if lifters == 1 {
-        return Ok(sweep_alone::<Brand, G>(alloc, order, gate, predecessors));
+        return sweep_alone::<Brand, G>(alloc, order, gate, predecessors);
     }
-    let (board, seat) = Board::open(alloc, order)?;
-    let seat = work_with_hints::<Brand, G, R>(rt, alloc, &board, gate, lifters, seat, predecessors);
-    board.close(alloc, seat)
+    match sweep_on_board(rt, alloc, order, lifters, gate, predecessors) {
+        Ok(harvest) => harvest,
+        Err(order) => sweep_alone::<Brand, G>(alloc, order, gate, predecessors),
+    }
 }

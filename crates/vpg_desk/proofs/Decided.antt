@@ -1,5 +1,5 @@
 -- What a desk answers to a decide, and what an accepted one leaves.
-use Rattle.std.proofs.Common.{◌≡◌, ℕ, ◌+◌, ◌<◌, ◌≤◌, Bool, List, [], ◌∷◌, ◌++◌, Some, None, IfSome, IsTrue, refl, sym, ap, ◌∙◌, subst, arith, Vec, Global}
+use Rattle.std.proofs.Common.{◌≡◌, ℕ, ◌+◌, ◌<◌, ◌≤◌, Bool, List, [], ◌∷◌, ◌++◌, not, Some, None, inl, inr, IfSome, IsTrue, refl, sym, ap, ◌∙◌, subst, arith, Vec, Global}
 use Rattle.std.specs.Arc.{arc_value}
 use Rattle.std.specs.declared.sync.Arc.{Arc}
 use Rattle.std.specs.List.{AllByRecursion}
@@ -9,6 +9,7 @@ use Rattle.vpg_diagram.specs.Clauses.{clauses_of, counts_of}
 use Rattle.vpg_measure.specs.Games.{GamesView, ArePageGames}
 use Rattle.vpg_guards.specs.declared.tri.Tri.{Tri}
 use Rattle.vpg_partial.specs.Known.{NamesConflict}
+use Rattle.vpg_partial.specs.KnownTable.{literals_in}
 use Rattle.vpg_partial.specs.TableLaws.{IsKnownTable, AreChoicesOf}
 use Rattle.vpg_trail.specs.Page.{Literal, Decision, Entry as Step, Decided, literal_of, decisions_of, choices_of, decision_on}
 use Rattle.vpg_trail.specs.Shown.{Track}
@@ -20,7 +21,7 @@ use Rattle.vpg_desk.specs.declared.cuts.Cut.{Cut}
 use Rattle.vpg_desk.proofs.Changing.{end_cut, decided_stands}
 use Rattle.vpg_desk.specs.Desk.{family_of}
 use Rattle.vpg_desk.specs.DeskFields.{setting_in, book_in, notes_in, desk_of, IsDesk}
-use Rattle.vpg_desk.specs.Faults.{decide_refusal, ClosesWith}
+use Rattle.vpg_desk.specs.Faults.{decide_refusal, ClosesWith, KnownRefusesNone}
 use Rattle.vpg_desk.specs.Notes.{NotesHold}
 use Rattle.vpg_desk.specs.Setting.{HasConflict}
 use Rattle.vpg_desk.specs.State.{Replies, IsStep, IsReached}
@@ -28,7 +29,7 @@ use Rattle.vpg_desk.specs.declared.desk.Desk.TheInside.{Inside}
 use Rattle.vpg_desk.specs.declared.fault.DecideFault.{DecideFault}
 use Rattle.vpg_desk.specs.declared.fault.DecideFault.TheVariants.{UnknownFeature as IsUnknown, AlreadyDecided as IsDecided, Conflict as InConflict, TooManyChanges as IsTooMany, Memory}
 use Rattle.vpg_desk.proofs.Answering.{tells}
-use Rattle.vpg_desk.proofs.Deciding.{choices_inside, one_more_inside, known_no_conflict, named_has_conflict}
+use Rattle.vpg_desk.proofs.Deciding.{choices_inside, not_outside, one_more_inside, known_no_conflict, named_has_conflict, against_known, as_known}
 use Rattle.vpg_desk.proofs.Noted.{noted_with}
 use Rattle.vpg_desk.proofs.Reaching.{reached_step, reached_limits}
 
@@ -58,6 +59,28 @@ module _ (d : Inside) (i : IsDesk d) where
     module _ (known_feature : f < feature_count (arc_value d.diagram).lines) where
       pub decide_already : (x : Decision) → decision_on f d.trail.entries ≡ Some x → Replies (desk_of d) (Decide f value) (Refused (AlreadyDecided x.serial))
       decide_already x e = (Some (AlreadyDecided x.serial), ((known_feature, (x, (e, refl))), refl))
+
+      module _ (fresh : decision_on f d.trail.entries ≡ None) where
+        -- the page shows the feature the other way
+        pub decide_known_other : IsTrue (literals_in (arc_value d.games).known (record { feature = f; value = not value })) → Replies (desk_of d) (Decide f value) (Refused (Conflict f))
+        decide_known_other k =
+            (Some (Conflict f), ((known_feature, fresh, inr (against_known (arc_value d.diagram).lines (choices_of d.trail.entries) f value (i.games.known.known_only (record { feature = f; value = not value }) k)), refl), refl))
+
+        -- the page shows it the same way, so nothing more becomes known
+        still_none : IsTrue (literals_in (arc_value d.games).known (record { feature = f; value = value })) → HasConflict (setting_in d) (with_choice (book_in d) f value) → ⊥
+        still_none k (inl outside) = not_outside (setting_in d) (with_choice (book_in d) f value) (one_more_inside (setting_in d) (choices_of d.trail.entries) (record { feature = f; value = value }) consistent known_feature) outside
+        still_none k (inr c) = consistent (inr (as_known (arc_value d.diagram).lines (choices_of d.trail.entries) (record { feature = f; value = value }) (i.games.known.known_only (record { feature = f; value = value }) k) c))
+
+        pub decide_known_same : IsTrue (literals_in (arc_value d.games).known (record { feature = f; value = value })) → d.changes ≡ 1048576 → Replies (desk_of d) (Decide f value) (Refused TooManyChanges)
+        decide_known_same k e = (Some TooManyChanges, ((known_feature, fresh, still_none k, omega (arith, e)), refl))
+
+        -- neither
+        pub decide_not_known : ¬ (IsTrue (literals_in (arc_value d.games).known (record { feature = f; value = not value }))) →
+            (IsTrue (literals_in (arc_value d.games).known (record { feature = f; value = value })) → d.changes ≡ 1048576 → ⊥) → KnownRefusesNone (desk_of d) f value
+        decide_not_known other room = record {
+          not_other = λ k. other (i.games.known.all_known (record { feature = f; value = not value }) k);
+          room = λ k. let n = room (i.games.known.all_known (record { feature = f; value = value }) k) in omega (arith, limits.1, n);
+        }
 
       module _ (fresh : decision_on f d.trail.entries ≡ None) (made : Decision) (on_f : made.feature ≡ f) (its_value : made.value ≡ value) where
         choices : choices_of (d.trail.entries ++ Decided made ∷ []) ≡ with_choice (book_in d) f value

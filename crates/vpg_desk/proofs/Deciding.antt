@@ -1,5 +1,5 @@
 -- What the closure of some choices says of their conflicts, and what opening a desk needs.
-use Rattle.std.proofs.Common.{◌≡◌, ℕ, ◌<◌, ◌≤◌, ◌⊎◌, inl, inr, true, false, List, [], ◌∷◌, ◌++◌, Contains, sym, ◌∙◌, subst, arith}
+use Rattle.std.proofs.Common.{◌≡◌, ℕ, ◌<◌, ◌≤◌, ◌⊎◌, inl, inr, Bool, true, false, not, IsTrue, List, [], ◌∷◌, ◌++◌, Contains, sym, ◌∙◌, subst, arith}
 use Rattle.std.proofs.lemmas.Bool.{cases_lt}
 use Rattle.vpg_guards.specs.declared.tri.Tri.{Tri}
 use Rattle.vpg_guards.specs.Formula.{IsBelow}
@@ -7,14 +7,14 @@ use Rattle.vpg_diagram.specs.declared.clause.Literal.{Literal}
 use Rattle.vpg_diagram.specs.FeatureDiagram.{Line, feature_count}
 use Rattle.vpg_diagram.specs.Clauses.{clauses_of, counts_of, feature_in}
 use Rattle.vpg_diagram.specs.DiagramText.{NamedDiagram, IsNamedDiagram}
-use Rattle.vpg_diagram.proofs.Lists.{All-contained, All-from_contained, All-append}
+use Rattle.vpg_diagram.proofs.Lists.{All-contained, All-from_contained, All-append, All-back}
 use Rattle.vpg_game.specs.Guarded.{AllGuards}
 use Rattle.vpg_game.specs.Game.{NamedGame, IsGame, graph_of}
 use Rattle.vpg_game.proofs.Graphs.{games_have_graphs}
 use Rattle.vpg_partial.specs.Known.{NamesConflict}
-use Rattle.vpg_partial.specs.KnownLaws.{HasConflictOf}
+use Rattle.vpg_partial.specs.KnownLaws.{HasConflictOf, IsKnownOf}
 use Rattle.vpg_partial.specs.TableLaws.{IsKnownTable, AreChoicesOf}
-use Rattle.vpg_partial.proofs.KnownLemmas.{conflict_named}
+use Rattle.vpg_partial.proofs.KnownLemmas.{conflict_named, known_of_front}
 use Rattle.vpg_partial.proofs.ClauseSteps.{not_both_in}
 use Rattle.vpg_desk.specs.Setting.{Setting, IsSetting, HasConflict, IsOutside}
 
@@ -56,6 +56,26 @@ known_no_conflict setting choices known inside t (inr c) = known_is_consistent s
 pub named_has_conflict : (setting : Setting) (choices : List Literal) (f : ℕ) → NamesConflict (clauses_of setting.lines) (counts_of setting.lines) choices f →
     HasConflict setting choices
 named_has_conflict setting choices f named = inr (conflict_named (clauses_of setting.lines) (counts_of setting.lines) choices f named)
+
+-- a choice is known
+own_choice : (lines : List Line) (choices : List Literal) (l : Literal) → IsKnownOf lines (choices ++ l ∷ []) l
+own_choice lines choices l known closed held = (All-back (λ (d : Literal). IsTrue (known d)) choices (l ∷ []) held).0
+
+-- a choice against what is known is a conflict
+pub against_known : (lines : List Line) (choices : List Literal) (f : ℕ) (value : Bool) → IsKnownOf lines choices (record { feature = f; value = not value }) →
+    HasConflictOf lines (choices ++ record { feature = f; value = value } ∷ [])
+against_known lines choices f true k =
+    (f, own_choice lines choices (record { feature = f; value = true }), known_of_front (clauses_of lines) (counts_of lines) choices (record { feature = f; value = true } ∷ []) (record { feature = f; value = false }) k)
+against_known lines choices f false k =
+    (f, known_of_front (clauses_of lines) (counts_of lines) choices (record { feature = f; value = false } ∷ []) (record { feature = f; value = true }) k, own_choice lines choices (record { feature = f; value = false }))
+
+-- a choice of what is known anyway adds no conflict
+pub as_known : (lines : List Line) (choices : List Literal) (l : Literal) → IsKnownOf lines choices l → HasConflictOf lines (choices ++ l ∷ []) → HasConflictOf lines choices
+as_known lines choices l k (f, one, other) = (
+  f,
+  (λ known closed held. one known closed (All-append (λ (d : Literal). IsTrue (known d)) choices (l ∷ []) held (k known closed held, tt))),
+  (λ known closed held. other known closed (All-append (λ (d : Literal). IsTrue (known d)) choices (l ∷ []) held (k known closed held, tt))),
+)
 
 -- a game and a diagram of as many features, without a conflict of the diagram alone
 pub setting_stands : (game : NamedGame) (diagram : NamedDiagram) → IsGame game → IsNamedDiagram diagram → game.features ≡ feature_count diagram.lines →

@@ -1,13 +1,15 @@
 -- The refusals of the book that faults tell.
-use Rattle.std.specs.Prelude.{◌≡◌, ℕ, List, [], Option, Some, None, ⊤}
+use Rattle.std.specs.Prelude.{◌≡◌, ℕ, ◌<◌, Bool, not, List, [], Option, Some, None, ⊤}
 use Rattle.vpg_diagram.specs.Clauses.{clauses_of, counts_of}
 use Rattle.vpg_diagram.specs.FeatureDiagram.{Line}
 use Rattle.vpg_diagram.specs.declared.clause.Literal.{Literal}
 use Rattle.vpg_partial.specs.Known.{NamesConflict}
-use Rattle.vpg_partial.specs.KnownLaws.{HasConflictOf}
+use Rattle.vpg_partial.specs.KnownLaws.{HasConflictOf, IsKnownOf}
+use Rattle.vpg_trail.specs.Page.{choices_of}
 use Rattle.vpg_desk.specs.declared.fault.OpenFault.{OpenFault}
 use Rattle.vpg_desk.specs.declared.fault.OpenFault.TheVariants.{AtLimit, Conflict as OpensInConflict, Memory as NoMemory}
-use Rattle.vpg_desk.specs.Book.{Refusal, UnknownFeature, AlreadyDecided, Conflict, TooManyChanges, NotDecided, Sealed, NotNewest, Overtaken, NotNext}
+use Rattle.vpg_desk.specs.Book.{Refusal, UnknownFeature, AlreadyDecided, Conflict, TooManyChanges, NotDecided, Sealed, NotNewest, Overtaken, NotNext, most_changes}
+use Rattle.vpg_desk.specs.State.{DeskState}
 use Rattle.vpg_desk.specs.declared.fault.DecideFault.{DecideFault}
 use Rattle.vpg_desk.specs.declared.fault.DecideFault.TheVariants.{UnknownFeature as IsUnknown, AlreadyDecided as IsDecided, Conflict as HasConflict, TooManyChanges as IsTooMany, Memory}
 use Rattle.vpg_desk.specs.declared.fault.RetractFault.{RetractFault}
@@ -50,6 +52,14 @@ ClosesWith lines choices feature (HasConflict f) =
     (f ≡ feature) × ((g : ℕ) × NamesConflict (clauses_of lines) (counts_of lines) choices g)
 ClosesWith lines choices feature Memory = ⊤
 ClosesWith lines choices feature _ = ⊥
+
+-- What is known on the present page refuses no such decision of a feature: it isn't known the other way, and where it
+-- is known the same way there is room for one more change.
+pub record KnownRefusesNone (state : DeskState) (feature : ℕ) (value : Bool) : Type 0 where
+  pub not_other : ¬ (IsKnownOf state.diagram.lines (choices_of state.book.present)
+      (record { feature = feature; value = not value }))
+  pub room : IsKnownOf state.diagram.lines (choices_of state.book.present)
+      (record { feature = feature; value = value }) → state.book.changes < most_changes
 
 -- why the closure of no decision gives none: the diagram alone has a conflict, which names the root
 abbrev pub OpensWith : List Line → OpenFault → Type 0

@@ -1,10 +1,11 @@
 //! Deciding a feature.
 ghost use Rattle.std.specs.Arc.{arc_value};
-ghost use Rattle.std.specs.Prelude.{◌≡◌, ◌<◌, ◌++◌, ◌∷◌, [], length, map, None, IfOk, IfErr, IsTrue, OnOk, OnErr, IfSome};
+ghost use Rattle.std.specs.Prelude.{◌≡◌, ◌<◌, ◌++◌, ◌∷◌, [], length, map, None, IfOk, IfErr, IsTrue, OnOk, OnErr, IfSome, IfNone};
 ghost use Rattle.std.specs.List.{AllByRecursion};
 ghost use Rattle.vpg_diagram.specs.FeatureDiagram.{feature_count};
 ghost use Rattle.vpg_game.specs.Game.{IsAtLimit, graph_of};
 ghost use Rattle.vpg_guards.specs.Known.{kleene};
+ghost use Rattle.vpg_partial.specs.KnownTable.{is_known_as};
 ghost use Rattle.vpg_measure.specs.Games.{AreGamesOf, ArePageGames};
 ghost use Rattle.vpg_measure.specs.TwoGames.{IsProgressOf};
 ghost use Rattle.vpg_trail.specs.Page.{Decided, Which as Side, choices_of, decisions_of, decision_on, table_of};
@@ -20,9 +21,21 @@ use std::alloc::{AllocError, Global};
 use std::sync::Arc;
 use vpg_diagram::Diagram;
 use vpg_game::GuardedGame;
+use vpg_guards::Tri;
 use vpg_measure::{OrderFault, PageGames};
 use vpg_partial::Decision;
 use vpg_trail::{Entry, Trail, decided, decisions_among};
+
+/// Whether what is known of a feature is this value.
+fn is_known(known: Tri, value: bool) -> bool
+    ensures { result ≡ is_known_as known value }
+{
+    match known {
+        Tri::No => !value,
+        Tri::Unknown => false,
+        Tri::Yes => value,
+    }
+}
 
 /// The games with one decision more, from those at present.
 fn games_with(
@@ -92,14 +105,16 @@ fn push_decision(
 
 impl Desk {
     ghost use Rattle.vpg_desk.specs.Book.{Decide, Changed, Refused};
-    ghost use Rattle.vpg_desk.specs.Faults.{decide_refusal};
+    ghost use Rattle.vpg_desk.specs.Faults.{decide_refusal, KnownRefusesNone};
     ghost use Rattle.vpg_desk.specs.State.{IsStep, Replies};
 
     /// Decides a feature in or out, as the next change, and gives the change's token. A feature that is known but not
     /// decided may be decided the same way. Refused, in this order: the diagram has no such feature; it is decided
     /// already; the decision contradicts the diagram and the present decisions; the desk has made its most changes;
-    /// out of memory. It takes memory to tell whether there is a contradiction, so want of it may come in the place of
-    /// the last two. A refusal changes nothing.
+    /// out of memory. What is known on the present page is asked first, without memory: known the other way, a feature
+    /// contradicts it, and known the same way it doesn't. Of a feature of which nothing is known yet it takes memory to
+    /// tell whether there is a contradiction, so want of it may come in the place of the last two. A refusal changes
+    /// nothing.
     pub fn decide(
         &mut self,
         alloc: Global,
@@ -115,6 +130,8 @@ impl Desk {
         ensures last { IfErr result
             (λ fault. fault ≡ DecideFault.Memory → (feature < feature_count self.old.diagram.lines) ×
             (decision_on feature self.old.book.present ≡ None)) }
+        ensures known { IfErr result
+            (λ fault. fault ≡ DecideFault.Memory → KnownRefusesNone self.old feature value) }
         ensures err { OnErr result (self.new ≡ self.old) }
     {
         if feature as usize >= self.diagram.features() {
@@ -124,6 +141,9 @@ impl Desk {
             return Err(DecideFault::AlreadyDecided {
                 serial: decision.serial,
             });
+        }
+        if let Some(fault) = self.refused_as_known(feature, value) {
+            return Err(fault);
         }
         let serial = self.changes + 1;
         let decision = Decision {
@@ -153,6 +173,26 @@ impl Desk {
         self.changes = serial;
         self.tokens += 1;
         Ok(Undo::of(serial))
+    }
+
+    /// Why a feature that is not decided cannot be decided so, as far as what is known on the present page tells.
+    fn refused_as_known(&self, feature: u16, value: bool) -> Option<DecideFault>
+        requires feature { feature < feature_count self.now.diagram.lines }
+        requires fresh { decision_on feature self.now.book.present ≡ None }
+        ensures refused { IfSome result
+            (λ fault. IfSome (decide_refusal fault)
+            (λ refusal. Replies self.now (Decide feature value) (Refused refusal))) }
+        ensures not_memory { IfSome result (λ fault. ¬ (fault ≡ DecideFault.Memory)) }
+        ensures none { IfNone result (KnownRefusesNone self.now feature value) }
+    {
+        let known = self.games.known().value(feature);
+        if is_known(known, !value) {
+            return Some(DecideFault::Conflict { feature });
+        }
+        if is_known(known, value) && self.changes == MOST_CHANGES {
+            return Some(DecideFault::TooManyChanges);
+        }
+        None
     }
 
     /// Whether the present page is known to be settled, and both its tables are so under these games of the same game

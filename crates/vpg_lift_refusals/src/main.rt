@@ -1,9 +1,9 @@
 //! Boards and sweeps that are refused memory.
 //!
 //! As in `vpg_refusals`, each call is made with no memory at all, and with sixteen bytes more each time. A board is
-//! opened and closed until that is done. A sweep is made up to more memory than it takes: with little it has no board,
-//! with more no hints, and a thread is refused where the process cannot get its stack. Each time the order comes back
-//! with its tables unchanged, or a harvest of it is made.
+//! opened and closed until that is done: each time the order comes back with its tables unchanged, or a harvest of it
+//! is made. A sweep is made with none, and up to more memory than it takes: with little it has no board, with more no
+//! hints, and a thread is refused where the process cannot get its stack. It is done each time.
 //!
 //! With a word after its name the program takes no memory from itself, and marks each call for `bench/refused.py`.
 #![tactic(auto)]

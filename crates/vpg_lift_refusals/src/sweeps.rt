@@ -1,28 +1,20 @@
 //! Sweeps by one lifter and by several.
 
-use crate::orders::{first_order, let_go, values_of};
+use crate::orders::{first_order, let_go};
 use std::alloc::Global;
 use std::sync::Wait;
 use std::thread::Threads;
 use vpg_board::{OpenGate, sweep};
 use vpg_measure::Order;
-use vpg_scarce::{End, Heap, MOST_TRIES, Report, Told, more};
+use vpg_scarce::{Heap, MOST_TRIES, Report, Told, more};
 
 /// More memory than a sweep by two lifters takes, hints and all.
 const PLENTY: usize = 1 << 16;
 
-/// The order after a sweep of it, and how that ended.
-fn swept<R: Threads + Wait + Sync>(
-    rt: &R,
-    alloc: Global,
-    order: Order,
-    lifters: u32,
-) -> (Order, End) {
+/// The order after a sweep of it.
+fn swept<R: Threads + Wait + Sync>(rt: &R, alloc: Global, order: Order, lifters: u32) -> Order {
     let lifters = lifters.clamp(1, 64);
-    match sweep(rt, alloc, order, lifters, &OpenGate) {
-        Ok(harvest) => (harvest.again(), End::Done),
-        Err(order) => (order, End::Memory),
-    }
+    sweep(rt, alloc, order, lifters, &OpenGate).again()
 }
 
 /// Sweeps an order with so much memory. A method of `Trial` can't: what is handed to threads is not proved below one
@@ -33,14 +25,14 @@ fn swept_within<R: Threads + Wait + Sync>(
     order: Order,
     lifters: u32,
     bytes: usize,
-) -> (Order, End) {
+) -> Order {
     heap.leave(bytes);
     let swept = swept(rt, heap.alloc(), order, lifters);
     heap.relax();
     swept
 }
 
-/// What comes of sweeping again and again with more and more memory, up to so many bytes, and the order then.
+/// What comes of sweeping again and again with more and more memory, from none up to so many bytes, and the order then.
 fn swept_through<R: Threads + Wait + Sync>(
     rt: &R,
     heap: &mut Heap,
@@ -49,18 +41,11 @@ fn swept_through<R: Threads + Wait + Sync>(
     most: usize,
 ) -> (Order, Told) {
     let mut order = order;
-    let mut told = Told::TakesNone;
     let mut bytes = 0;
     for _ in 0..MOST_TRIES {
-        let before = values_of(&order);
-        let (next, end) = swept_within(rt, heap, order, lifters, bytes);
-        order = next;
-        match end {
-            End::Done if bytes >= most || heap.is_marked() => return (order, told),
-            End::Done => {}
-            End::Memory if values_of(&order) == before => told = Told::Unchanged,
-            End::Memory => return (order, Told::Changed),
-            End::Otherwise => return (order, Told::Otherwise),
+        order = swept_within(rt, heap, order, lifters, bytes);
+        if bytes >= most || heap.is_marked() {
+            return (order, Told::TakesNone);
         }
         bytes = more(bytes);
     }

@@ -10,7 +10,7 @@ use std::test::*;
 use std::thread;
 use std::thread::Threads;
 use vpg_board::{Gate, OpenGate, sweep};
-use vpg_measure::{Harvest, Order};
+use vpg_measure::Order;
 
 const MOST_TURNS: u64 = 1_000_000;
 
@@ -100,25 +100,6 @@ impl Gate for Relay {
     }
 }
 
-/// The harvest of a sweep of the small game, where there is memory.
-fn swept<G: Gate + Sync, R: Threads + Wait + Sync>(
-    rt: &R,
-    alloc: Global,
-    order: Order,
-    lifters: u32,
-    gate: &G,
-) -> Result<Harvest, Fail>
-    requires { (1 ≤ lifters) × (lifters ≤ 64) }
-{
-    match sweep(rt, alloc, order, lifters, gate) {
-        Ok(harvest) => Ok(harvest),
-        Err(order) => {
-            let_go(order);
-            Err("no harvest")?
-        }
-    }
-}
-
 /// Whether a sweep of an order has the progress tables of the small game, and the order of its tables.
 fn settled_by<G: Gate + Sync, R: Threads + Wait + Sync>(
     rt: &R,
@@ -126,12 +107,12 @@ fn settled_by<G: Gate + Sync, R: Threads + Wait + Sync>(
     order: Order,
     lifters: u32,
     gate: &G,
-) -> Result<(bool, Order), Fail>
+) -> (bool, Order)
     requires { (1 ≤ lifters) × (lifters ≤ 64) }
 {
-    let harvest = swept(rt, alloc, order, lifters, gate)?;
+    let harvest = sweep(rt, alloc, order, lifters, gate);
     let settled = is_settled_small(&harvest);
-    Ok((settled, harvest.again()))
+    (settled, harvest.again())
 }
 
 /// Whether a sweep with a gate settles the small game, and another one leaves it so.
@@ -144,8 +125,8 @@ fn settles<G: Gate + Sync, R: Threads + Wait + Sync>(
     requires { (1 ≤ lifters) × (lifters ≤ 64) }
 {
     let order = small(alloc, &[])?;
-    let (first, order) = settled_by(rt, alloc, order, lifters, gate)?;
-    let (second, order) = settled_by(rt, alloc, order, lifters, gate)?;
+    let (first, order) = settled_by(rt, alloc, order, lifters, gate);
+    let (second, order) = settled_by(rt, alloc, order, lifters, gate);
     let_go(order);
     Ok(first && second)
 }

@@ -234,15 +234,12 @@ fn decide_at_gate<L: Terms, R: Wait + Abort + AllocGlobal>(
     token
 }
 
-fn sweep_at_gate<R: Threads + Wait + Abort + AllocGlobal + Sync>(
+fn sweep_at_gate<R: Threads + Wait + AllocGlobal + Sync>(
     rt: &R,
     order: Order,
     gate: &Waiting,
 ) -> Harvest {
-    match sweep(rt, rt.alloc(), order, 1, gate) {
-        Ok(harvest) => harvest,
-        Err(_) => panic!(rt; "no harvest"),
-    }
+    sweep(rt, rt.alloc(), order, 1, gate)
 }
 
 /// A session decides while another's order is swept, which waits for it.

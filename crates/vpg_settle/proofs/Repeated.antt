@@ -60,6 +60,14 @@ module _ (order : OrderView) (harvest : HarvestView) (sweeps : ℕ) (is_order : 
   pub rounds_sweep : IsSweptOrder order sweeps harvest
   rounds_sweep = record { lawful = lawful; page = same_page harvest.order order same; above = above; moved = moved_enough (moves Hopeful) (moves Dual) }
 
+-- ---- one sweep
+
+-- it is on or above the order's tables, and where it isn't settled its sum has risen
+pub one_sweeps : (order : OrderView) (harvest : HarvestView) → IsSameOrder harvest.order order → IsHarvest harvest →
+    ((which : Which) → IsBelowTable (order_table which order) (harvest_table which harvest)) →
+    (¬ IsSettledHarvest harvest → sum order.hopeful + sum order.dual < sum harvest.hopeful + sum harvest.dual) → IsSweptOrder order 1 harvest
+one_sweeps order harvest same lawful above rises = record { lawful = lawful; page = same_page harvest.order order same; above = above; moved = λ u. let r = rises u in omega arith }
+
 -- ---- one after another
 
 -- the tables of the order that a harvest came of, seen from its own order

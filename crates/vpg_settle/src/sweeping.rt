@@ -59,26 +59,7 @@ pub struct SweptHarvest {
     pub sweeps: u64,
 }
 
-/// The order after one sweep. Where a board finds no memory, one lifter makes a round.
-fn swept_once<G: Gate + Sync, T: Threads + Wait + Sync>(
-    rt: &T,
-    alloc: Global,
-    order: Order,
-    lifters: u32,
-    gate: &G,
-    predecessors: &Predecessors,
-) -> Harvest
-    requires lifters { (1 ≤ lifters) × (lifters ≤ 64) }
-    requires predecessors { predecessors.now.vertices ≡ vertices order }
-    ensures { IsSweptOrder order 1 result }
-{
-    match sweep_along(rt, alloc, order, lifters, gate, predecessors) {
-        Ok(harvest) => harvest,
-        Err(order) => by_rounds(order, 1),
-    }
-}
-
-/// The same. Here alone a sweep is known to be one, by so many lifters.
+/// The order after one sweep. Here alone a sweep is known to be one, by so many lifters.
 fn sweep<G: Gate + Sync, T: Threads + Wait + Sync>(
     rt: &T,
     alloc: Global,
@@ -92,7 +73,7 @@ fn sweep<G: Gate + Sync, T: Threads + Wait + Sync>(
     ensures swept { IsSweptOrder order 1 result }
     ensures by { IsSweptBy lifters order result }
 {
-    swept_once(rt, alloc, order, lifters, gate, predecessors)
+    sweep_along(rt, alloc, order, lifters, gate, predecessors)
 }
 
 /// Sweeps an order until a sweep settles it, and so many times at most. The order that they left comes back where none

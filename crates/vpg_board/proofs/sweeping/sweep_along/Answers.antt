@@ -1,22 +1,21 @@
-use Rattle.vpg_board.proofs.Swept as swept
-use Rattle.vpg_board.proofs.Working.{works_open}
+use Rattle.std.proofs.Common.{ℕ, ◌+◌, ◌<◌, ◌≤◌, subst}
+use Rattle.std.specs.Prelude.{slice_index, sum}
+use Rattle.vpg_hope.specs.Arena.{vertex_at}
+use Rattle.vpg_measure.specs.declared.which.Which.{Which}
+use Rattle.vpg_measure.specs.Lifts.{lift_of}
+use Rattle.vpg_measure.specs.Orders.{OrderView, IsSettledHarvest, order_levels, order_arena, order_table, harvest_table}
+use Rattle.vpg_board.specs.Places.{vertices}
 use Rattle.vpg_board.proofs.sweeping.sweep_along.Goals as goal
 
-pub work_with_hints-seat-requires-clause-works : goal.work_with_hints-seat-requires-clause-works
-work_with_hints-seat-requires-clause-works g c κs within =
-    let o = c.in_ok-board.ensures in works_open c.in_ok-board.board c.in_ok-board.seat o.is_order o.seat o.safe
+-- a board that found no memory gave the order back as it was
+pub returns-in-Err-clause-lifted : goal.returns-in-Err-clause-lifted
+returns-in-Err-clause-lifted g c =
+    let harvest = c.sweep_alone-in-Err.result in
+    subst (λ (o : OrderView). (which : Which) (v : ℕ) → v < vertices o → lift_of (order_levels which o) (order_table which o) (vertex_at (order_arena which o) v) ≤ slice_index (harvest_table which harvest) v)
+    c.in-Err.ensures.back c.sweep_alone-in-Err.ensures.lifted
 
-pub returns-clause-lifted : goal.returns-clause-lifted
-returns-clause-lifted g c =
-    let o = c.in_ok-board.ensures in let e = c.close.ensures in
-    swept.ok_of _ _ _ _ c.close.result (λ h. swept.lifted c.args.order c.in_ok-board.board o.order c.in_ok-board.seat c.work_with_hints-seat.result o.seat c.work_with_hints-seat.ensures h) e.order e.seen e.harvest
-
-pub returns-clause-above : goal.returns-clause-above
-returns-clause-above g c =
-    let o = c.in_ok-board.ensures in let e = c.close.ensures in
-    swept.ok_of _ _ _ _ c.close.result (λ h. swept.above c.args.order c.in_ok-board.board o.order c.in_ok-board.seat c.work_with_hints-seat.result o.seat c.work_with_hints-seat.ensures h) e.order e.seen e.harvest
-
-pub returns-clause-moved : goal.returns-clause-moved
-returns-clause-moved g c =
-    let o = c.in_ok-board.ensures in let e = c.close.ensures in
-    swept.ok_of _ _ _ _ c.close.result (λ h. swept.moved c.args.order c.in_ok-board.board o.order c.in_ok-board.seat c.work_with_hints-seat.result o.seat c.work_with_hints-seat.ensures h) e.order e.seen e.harvest
+pub returns-in-Err-clause-moved : goal.returns-in-Err-clause-moved
+returns-in-Err-clause-moved g c =
+    let harvest = c.sweep_alone-in-Err.result in
+    subst (λ (o : OrderView). ¬ IsSettledHarvest harvest → sum o.hopeful + sum o.dual < sum harvest.hopeful + sum harvest.dual)
+    c.in-Err.ensures.back c.sweep_alone-in-Err.ensures.moved

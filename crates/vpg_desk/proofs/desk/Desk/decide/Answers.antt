@@ -142,3 +142,14 @@ returns-in_err-push_decision-clause-err c =
     on_err c.from_residual-in_err-push_decision.result
     ((λ k. record { game = arc_value c.self.inside.game; diagram = arc_value c.self.inside.diagram; book = book_of (cut_book (c.in_err-push_decision.ensures.err_past k) (c.in_err-push_decision.ensures.err_trail k).entries c.self.inside.future.items c.self.inside.changes c.self.inside.tokens) })
     ∙ c.self.view_is)
+
+-- what is known on the page refused nothing
+
+pub refused_as_known-requires-clause-feature : goal.refused_as_known-requires-clause-feature
+refused_as_known-requires-clause-feature c =
+    subst (λ (s : DeskState). c.args.feature < feature_count s.diagram.lines) c.self.view_is
+    (subst (λ (n : ℕ). c.args.feature < n) (count (goal.at.refused_as_known-requires-clause-feature c).After-features) c.if-feature-features.false)
+
+pub refused_as_known-requires-clause-fresh : goal.refused_as_known-requires-clause-fresh
+refused_as_known-requires-clause-fresh c =
+    subst (λ (s : DeskState). decision_on c.args.feature s.book.present ≡ None) c.self.view_is (sym (c.in_default.ensures ∙ ap (decision_on c.args.feature) c.entries.ensures.entries))
