@@ -60,10 +60,13 @@ JOINED = [
 ]
 
 
-def run(words):
+def limited():
+    resource.setrlimit(resource.RLIMIT_CPU, (LIMIT, LIMIT))
+
+
+def run(words, before=limited):
     """Processor milliseconds of a run, its output, its peak memory in megabytes; no output where the limit ended it."""
-    limit = lambda: resource.setrlimit(resource.RLIMIT_CPU, (LIMIT, LIMIT))
-    child = subprocess.Popen([str(word) for word in words], stdout=subprocess.PIPE, preexec_fn=limit)
+    child = subprocess.Popen([str(word) for word in words], stdout=subprocess.PIPE, preexec_fn=before)
     output = child.stdout.read().decode()
     _, status, used = os.wait4(child.pid, 0)
     child.returncode = status
@@ -163,7 +166,8 @@ def line(name, file, is_family, folder, zielonka, runs, programs):
     tried = [kind(program)(program, folder, file, is_family) for program in programs]
     for _ in range(runs):
         if not more:
-            words = run([zielonka, file, 2])[1].split()
+            # under a limit a process reads its own time by ticks
+            words = run([zielonka, file, 2], None)[1].split()
             plain.append(float(words[1]))
             more = words[3].startswith("more")
         for each in tried:
