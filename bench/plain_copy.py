@@ -3,6 +3,7 @@
 
     plain_copy.py make ROOT FILE                          # writes FILE, to be compiled by `rustc -O --edition 2024`
     plain_copy.py measure ZIELONKA VERTICES RUNS COPY..   # beside plain Zielonka: all families, and hard games
+    plain_copy.py compare COUNT COPY COPY..               # tables of so many small games of all families
 
 `make` takes the functions of vpg_regions and vpg_guess under ROOT, and of vpg_measure what those use, without clauses,
 and puts `plain_copy.rs` around them. `COPY GAME zeros` raises both tables of a game from zeros; `COPY GAME line` does
@@ -12,13 +13,16 @@ time, whether all is settled, and a number that is the same for the same tables.
 `measure` prints one line for each game, each figure the least of RUNS runs, in turns: the recursion on both games
 (`zielonka.rs`), and for each COPY zeros, in milliseconds and times the recursion, and for families a line, and again,
 with its share of the line. `!!` stands where something is not settled, or two COPY do not have the same tables.
+`compare` prints the games whose tables differ, or are open, and how many games there were.
 """
 import os
+import random
 import re
 import subprocess
 import sys
 import tempfile
 
+import families
 import settling
 
 HERE = os.path.dirname(os.path.abspath(__file__))
@@ -70,7 +74,7 @@ def plain(crate, text):
     lines = text.split("\n")
     lines = without(lines, lambda line: line.startswith("ghost use"), lambda text: text.endswith(";"))
     lines = without(lines, lambda line: re.match(r"(requires|ensures)\b.*\{", line) is not None, is_balanced)
-    lines = without(lines, lambda line: line.startswith("impl Model for"), is_balanced)
+    lines = without(lines, lambda line: re.match(r"impl(<.*?>)? (Model|Drop) for", line) is not None, is_balanced)
     left_out = ("#[tactic", "#![tactic", "#[derive(Drop)]", "#[error", "//!", "use thiserror")
     lines = [line.replace("///", "//") for line in lines if not line.strip().startswith(left_out)]
     text = "\n".join(lines).replace(", Error)]", ")]").replace("\nfn raise_within", "\npub fn raise_within")
@@ -114,34 +118,6 @@ def copy(root):
     return head + "".join(f"pub mod {name} {{\n{text}\n}}\n" for name, text in crates.items()) + tail
 
 
-def games(folder, vertices):
-    """Each family, and then the hard games of `settling.py`: a name, a file, and whether it is a family."""
-    def family(name, count):
-        path = f"{folder}/{name}.{count}"
-        if not os.path.exists(path):
-            subprocess.run([sys.executable, f"{HERE}/families.py", name, str(count), path], check=True)
-        return f"{path}/game"
-
-    def hard(name, words):
-        words = [sys.executable, f"{HERE}/hard.py", *words, f"{folder}/{name}"]
-        subprocess.run(words, check=True, stderr=subprocess.DEVNULL)
-        return f"{folder}/{name}"
-
-    families = settling.FAMILIES.split()
-    for name in families:
-        yield name, family(name, vertices), True
-    for name, words in settling.HARD:
-        yield name, hard(name, words), False
-    for one, other, count in settling.UNIONS:
-        beside = family(other, count) if count else f"{folder}/{other}"
-        yield f"{one} and {other}", hard(f"{one} and {other}", ["union", f"{folder}/{one}", beside]), False
-    for one, other, edges in settling.JOINED:
-        beside = family(other, vertices) if other in families else f"{folder}/{other}"
-        words = ["joined", str(edges), f"{folder}/{one}", beside]
-        yield f"{one} joined with {other}", hard(f"{one} joined with {other}", words), False
-    yield "climbed", f"{HERE}/climbed.game", False
-
-
 def words_of(*command):
     return subprocess.run(command, stdout=subprocess.PIPE, check=True).stdout.decode().split()
 
@@ -171,12 +147,40 @@ def line(name, game, is_family, zielonka, runs, copies):
     print(row + (" !!" if differ else ""), flush=True)
 
 
+def tables(program, game):
+    """What a copy says of a game's tables: no times."""
+    zeros, lines = words_of(program, game, "zeros"), words_of(program, game, "line")
+    return zeros[1], zeros[2], *lines[1:3], *lines[4:]
+
+
+def small_game(family, vertices, seed, file):
+    rows = families.FAMILIES[family](vertices, random.Random(seed))
+    lines = [f"{v} {priority} {owner} {successors};\n" for v, priority, owner, successors in rows]
+    with open(file, "w") as out:
+        out.write("".join([f"parity {len(lines) - 1};\n", *lines]))
+
+
+def compare(file, count, copies):
+    rng = random.Random(count)
+    names = list(families.FAMILIES)
+    for seed in range(count):
+        family, vertices = names[seed % len(names)], rng.choice([64, 100, 150, 300, 1000, 3000])
+        small_game(family, vertices, seed, file)
+        told = {tables(program, file) for program in copies}
+        if len(told) > 1 or any("open" in words for words in told):
+            print(f"{family} of {vertices}, seed {seed}: {told}", flush=True)
+    print(f"{count} games compared")
+
+
 def main():
-    if len(sys.argv) == 4 and sys.argv[1] == "make":
+    if len(sys.argv) > 4 and sys.argv[1] == "compare":
+        with tempfile.TemporaryDirectory() as folder:
+            compare(f"{folder}/game", int(sys.argv[2]), sys.argv[3:])
+    elif len(sys.argv) == 4 and sys.argv[1] == "make":
         open(sys.argv[3], "w").write(copy(sys.argv[2]))
     elif len(sys.argv) > 5 and sys.argv[1] == "measure":
         with tempfile.TemporaryDirectory() as folder:
-            for name, game, is_family in games(folder, sys.argv[3]):
+            for name, game, is_family in settling.games(folder, sys.argv[3]):
                 line(name, game, is_family, sys.argv[2], int(sys.argv[4]), sys.argv[5:])
     else:
         sys.exit(__doc__)

@@ -319,11 +319,14 @@ impl Page {
         ([hopeful, dual], one && other)
     }
 
-    /// As a line `settle`: a sweep comes first.
+    /// As a line `settle`: a sweep comes first where the tables are of zeros.
     fn settled(&self, tables: &[Table; 2]) -> ([Table; 2], bool) {
         let mut swept = [0, 1].map(|k| tables[k].copy(Global).unwrap());
         if self.is_settled(&swept) {
             return (swept, true);
+        }
+        if tables.iter().any(|table| table.values().iter().any(|value| *value != 0)) {
+            return self.guessed(tables);
         }
         for k in 0..2 {
             settle_alone(&self.shapes[k], &self.arenas[k], &mut swept[k], 1);

@@ -13,7 +13,7 @@ use vpg_measure::{Shape, Table};
 use vpg_regions::{Budget, PerVertex};
 
 /// Where more than one in so many of the vertices wait, they are looked at in the order of the vertices.
-const DENSE: usize = 64;
+const DENSE: usize = 32;
 
 /// Rounds go on while the number of waiting vertices falls by one in so many.
 const FALL: usize = 16;
@@ -32,6 +32,30 @@ const MOST: u32 = 8;
 
 /// How often a vertex rises in the first turn before it is taken to climb.
 const CLIMBS: u8 = 2;
+
+/// A hurried turn ends behind so many looks for each vertex that waits, and for a few more.
+const LOOKS_EACH: u64 = 128;
+
+const FEW: u64 = 16;
+
+/// How many edges and vertices a turn of lifts looks at while as many wait as before, until it ends.
+#[derive(Clone, Copy)]
+pub(crate) struct Patience {
+    pub(crate) most: u64,
+    /// Whether it is less where few wait, since they go round soon.
+    pub(crate) is_hurried: bool,
+}
+
+impl Patience {
+    // Where so many wait.
+    fn at(self, count: usize) -> u64 {
+        if !self.is_hurried {
+            return self.most;
+        }
+        let waiting = (count as u64).saturating_add(FEW);
+        self.most.min(waiting.saturating_mul(LOOKS_EACH))
+    }
+}
 
 /// The vertices that are to be looked at: those whose lift may exceed their value. And how often each rose in this
 /// turn, and in which turn each was found to move last.
@@ -64,6 +88,35 @@ impl Waiting {
         let mut waiting = Waiting::none(alloc, ground.graph.vertices())?;
         waiting.add_all(ground, table);
         Ok(waiting)
+    }
+
+    /// Those wait that a round of lifts left, which raised these vertices, in this order: what comes behind a vertex
+    /// has seen it rise.
+    pub(crate) fn behind_round(
+        alloc: Global,
+        ground: &GuessGround,
+        table: &[u64],
+        risen: &[u32],
+    ) -> Result<Waiting, AllocError> {
+        let mut waiting = Waiting::none(alloc, ground.graph.vertices())?;
+        for v in risen {
+            waiting.wake_before(ground, table, *v);
+        }
+        Ok(waiting)
+    }
+
+    // Those that move to v and don't come behind it are to be looked at where that may raise them.
+    fn wake_before(&mut self, ground: &GuessGround, table: &[u64], v: u32) {
+        let value = value_in(table, v);
+        for u in ground.graph.predecessors(v) {
+            if *u <= v
+                && !self.waits.get(*u)
+                && ground.even.limit(*u, value_in(table, *u)) <= value
+            {
+                self.waits.set(*u, true);
+                self.count = self.count.saturating_add(1);
+            }
+        }
     }
 
     // None waits.
@@ -291,6 +344,35 @@ fn lift_vertex(shape: &Shape, arena: &Arena, table: &mut Table, v: u32) -> bool
     }
 }
 
+// How many edges a vertex keeps.
+fn kept_count(arena: &Arena, v: u32) -> usize {
+    if v < arena.vertices() {
+        arena.kept(v).len()
+    } else {
+        0
+    }
+}
+
+/// Lifts each vertex once, in the order of the vertices, and gives those that rose.
+#[tactic(auto, using(crate::proofs::Kept::kept_then))]
+pub(crate) fn lift_each(
+    alloc: Global,
+    shape: &Shape,
+    arena: &Arena,
+    table: &mut Table,
+) -> Result<Vec<u32>, AllocError>
+    requires { IsTableOf shape.now arena.now table.old }
+    ensures { IsRaisedFrom shape.now arena.now table.old table.new }
+{
+    let mut risen = Vec::new(alloc);
+    for v in 0..arena.vertices() {
+        if lift_vertex(shape, arena, table, v) {
+            risen.push(v)?;
+        }
+    }
+    Ok(risen)
+}
+
 // Lifts a vertex once, if it waits.
 fn look(
     shape: &Shape,
@@ -305,7 +387,7 @@ fn look(
     ensures { IsRaisedFrom shape.now arena.now table.old table.new }
 {
     if waiting.takes(v) {
-        budget.spend(ground.graph.successors(v).len().saturating_add(1));
+        budget.spend(kept_count(arena, v).saturating_add(1));
         if ground.would_rise(arena, table.values(), v) && lift_vertex(shape, arena, table, v) {
             waiting.wake(ground, table.values(), v)?;
         }
@@ -383,7 +465,7 @@ fn lift_waiting(
     ground: &GuessGround,
     waiting: &mut Waiting,
     table: &mut Table,
-    patience: u64,
+    patience: Patience,
     budget: &mut Budget,
 ) -> Result<(), AllocError>
     requires { IsTableOf shape.now arena.now table.old }
@@ -399,7 +481,7 @@ fn lift_waiting(
         if waiting.count < least.saturating_sub(least / FALL) {
             least = waiting.count;
             left = budget.left();
-        } else if budget.left().saturating_add(patience) < left {
+        } else if budget.left().saturating_add(patience.at(waiting.count)) < left {
             break;
         }
     }
@@ -454,7 +536,7 @@ pub(crate) fn lift_remaining(
     waiting: &mut Waiting,
     table: &mut Table,
     looks: u64,
-    patience: u64,
+    patience: Patience,
     budget: &mut Budget,
 ) -> Result<(), AllocError>
     requires { IsTableOf shape.now arena.now table.old }

@@ -14,6 +14,10 @@ pub(crate) struct Scale {
     priorities: PerVertex<u32>,
     // what one more counts at each priority
     weights: PerVertex<u64>,
+    // the same where the other player wins if that priority recurs, and else nothing
+    steps: PerVertex<u64>,
+    // the weights less these
+    gaps: PerVertex<u64>,
 }
 
 // One of each vertex's priorities, each raised by this; and the greatest.
@@ -46,14 +50,24 @@ impl Scale {
         };
         let (priorities, greatest) = priorities_of(alloc, arena, raise)?;
         let mut weights = PerVertex::of(alloc, greatest.saturating_add(1), 1)?;
+        let mut steps = PerVertex::of(alloc, greatest.saturating_add(1), 0)?;
+        let mut gaps = PerVertex::of(alloc, greatest.saturating_add(1), 0)?;
         for priority in 0..=greatest {
-            weights.set(priority, shape.weight(u64::from(priority)));
+            let weight = shape.weight(u64::from(priority));
+            weights.set(priority, weight);
+            if priority % 2 == 1 {
+                steps.set(priority, weight);
+            } else {
+                gaps.set(priority, weight);
+            }
         }
         Ok(Scale {
             player,
             top: shape.top(),
             priorities,
             weights,
+            steps,
+            gaps,
         })
     }
 
@@ -71,6 +85,8 @@ impl Scale {
             top: self.top,
             priorities,
             weights: self.weights.copy(alloc)?,
+            steps: self.steps.copy(alloc)?,
+            gaps: self.gaps.copy(alloc)?,
         })
     }
 
@@ -80,12 +96,7 @@ impl Scale {
 
     /// What one more counts at a vertex where the other player wins if its priority recurs; else nothing.
     pub(crate) fn step(&self, v: u32) -> u64 {
-        let priority = self.priorities.get(v);
-        if priority % 2 == 1 {
-            self.weights.get(priority)
-        } else {
-            0
-        }
+        self.steps.get(self.priorities.get(v))
     }
 
     /// Whether the other player wins where the priority of this vertex recurs.
@@ -113,8 +124,7 @@ impl Scale {
     /// values at the top.
     pub(crate) fn limit(&self, v: u32, own: u64) -> u64 {
         if own < self.top {
-            let gap = self.weight(v).saturating_sub(self.step(v));
-            own.saturating_add(gap)
+            own.saturating_add(self.gaps.get(self.priorities.get(v)))
         } else {
             u64::MAX
         }

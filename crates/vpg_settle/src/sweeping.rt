@@ -15,7 +15,8 @@ use vpg_measure::{Harvest, Order, Table, Which};
 /// A line with so small a number asks for sweeps alone.
 pub const FEW_SWEEPS: u64 = 4;
 
-/// The sweeps that come before a guess: a small change is settled by them.
+/// The sweeps that come before a guess at tables of zeros: a simple game is settled by them. A guess at others begins
+/// with a round of lifts itself.
 pub const FIRST_SWEEPS: u64 = 1;
 
 /// How many edges and vertices a guess at both tables may look at, in all its parts together.
@@ -300,10 +301,15 @@ fn by_guesses<G: Gate + Sync, T: Threads + Wait + Sync>(
     }
 }
 
-/// The order swept this many times at most, by this many lifters at once, unless it is settled as it stands. Where the
-/// first sweep doesn't settle it, its tables are raised by guesses before the others. The first goes without hints: one
-/// lifter's then raises what a round raises. It never fails: where a board, a hint or a guess finds no memory, the
-/// sweeps go on without. The lifters call the gate.
+/// Whether a table has a value above zero: then its page was settled before, mostly, and a change is what is left.
+fn has_risen(table: &Table) -> bool {
+    table.values().iter().any(|value| *value != 0)
+}
+
+/// The order swept this many times at most, by this many lifters at once, unless it is settled as it stands. Its tables
+/// are raised by guesses before the sweeps; or behind a first one where they are of zeros, and it doesn't settle them.
+/// That one goes without hints: one lifter's then raises what a round raises. It never fails: where a board, a hint or
+/// a guess finds no memory, the sweeps go on without. The lifters call the gate.
 ///
 /// A guess has one budget for both tables; when it is spent, what is known until then is certified and raised. With two
 /// lifters or more each table has a thread and half of the budget. Sweeps follow, up to the number. From `MANY_SWEEPS`
@@ -338,6 +344,9 @@ pub fn swept<G: Gate + Sync, T: Threads + Wait + Sync>(
     let plain = Predecessors::none(alloc, &order);
     if sweeps <= FEW_SWEEPS {
         return by_sweeps(rt, alloc, order, sweeps, lifters, gate, &plain);
+    }
+    if has_risen(order.hopeful()) || has_risen(order.dual()) {
+        return by_guesses(rt, alloc, order, sweeps, lifters, gate);
     }
     match sweep_often(rt, alloc, order, FIRST_SWEEPS, lifters, gate, &plain) {
         Ok(swept) => swept,
