@@ -3,6 +3,7 @@
 
     refused.py PROGRAM GAME DIAGRAM SCRIPT      of a script
     refused.py PROGRAM --random CASES [SEED]    of random families with their scripts, each by one lifter or by several
+    refused.py --pairs PROGRAM GAME DIAGRAM SCRIPT  of a script, two growths in one run
     refused.py --calls PROGRAM                  of each call that vpg_refusals or another such program makes
     refused.py --any PROGRAM [WORD..]           of any program that ends by itself
 
@@ -10,8 +11,9 @@ A run is made once for each of its allocations (calls of malloc and realloc), wi
 before them, built with cc.
 
 Of a script the output has to be that of the whole run, where it did without the memory, or what was written before
-`vpgdesk: Memory`. Of another program (`--any`) it has to be the whole output, or a status other than 0 and no signal.
-It prints how often each came, with which allocations, and the first run that ended otherwise.
+`vpgdesk: Memory`. Of another program (`--any`) it has to be the whole output, or a beginning of it and a status other
+than 0 and no signal. It prints how often each came, with which allocations, and the first run that ended otherwise.
+With `--pairs` each growth is refused together with each later one that the run still makes.
 
 Of calls the program has to say of each that nothing changed. For it is marked: before each call and after it it
 allocates a block of a size that nothing else has. The table has for each call how many growths it makes on its row, how
@@ -40,12 +42,13 @@ LIBRARY = r"""
 #define ENDS 7654323
 static _Atomic long own[CALLS], *counts = own;
 static _Atomic long call = 0, active = 1;
-static long refused_call = 0, refused = -1;
+static long refused_call = 0, refused = -1, also_refused = -1;
 static void *(*real_malloc)(size_t), *(*real_realloc)(void *, size_t);
 static void begin(void) {
     real_realloc = dlsym(RTLD_NEXT, "realloc");
     real_malloc = dlsym(RTLD_NEXT, "malloc");
     if (getenv("REFUSED")) refused = atol(getenv("REFUSED"));
+    if (getenv("ALSO_REFUSED")) also_refused = atol(getenv("ALSO_REFUSED"));
     if (getenv("REFUSED_CALL")) refused_call = atol(getenv("REFUSED_CALL"));
     if (getenv("MARKED")) active = 0;
     if (getenv("COUNTS")) {
@@ -59,7 +62,8 @@ static int is_refused(size_t bytes) {
     if (bytes == BEGINS && getenv("MARKED")) { call++; active = 1; return 0; }
     if (bytes == ENDS && getenv("MARKED")) { active = 0; return 0; }
     if (!active || call >= CALLS) return 0;
-    if (atomic_fetch_add(&counts[call], 1) + 1 != refused || call != refused_call) return 0;
+    long number = atomic_fetch_add(&counts[call], 1) + 1;
+    if (call != refused_call || (number != refused && number != also_refused)) return 0;
     errno = ENOMEM;
     return 1;
 }
@@ -91,17 +95,30 @@ class Refuser:
             self.command, capture_output=True, text=True, env=environment, stdin=subprocess.DEVNULL, timeout=600
         )
 
-    def whole(self):
-        """The run without a refusal, and how many allocations each call made."""
+    def counted_run(self, **more):
+        """A run, and how many allocations each call made in it."""
         with open(self.counted, "wb") as out:
             out.write(bytes(8 * CALLS))
-        whole = self.run(COUNTS=self.counted)
+        ran = self.run(COUNTS=self.counted, **more)
         with open(self.counted, "rb") as file:
             got = file.read()
-        counts = [int.from_bytes(got[8 * i : 8 * i + 8], sys.byteorder) for i in range(CALLS)]
+        return ran, [int.from_bytes(got[8 * i : 8 * i + 8], sys.byteorder) for i in range(CALLS)]
+
+    def whole(self):
+        """The run without a refusal, and how many allocations each call made."""
+        whole, counts = self.counted_run()
         if whole.returncode != 0 or not any(counts):
             sys.exit(f"the whole run: status {whole.returncode}, {sum(counts)} allocations\n{whole.stderr}")
         return whole, counts
+
+
+def judged(refuser, is_right, whole, got, what):
+    """How a run ended. Where that is not right, it ends all."""
+    end = is_right(whole, got)
+    if end is None:
+        output = f"{got.stdout}{got.stderr}\nof {refuser.command}"
+        sys.exit(f"allocation {what} refused: status {got.returncode}\n{output}")
+    return end
 
 
 def refuse_each(refuser, is_right):
@@ -110,17 +127,29 @@ def refuse_each(refuser, is_right):
     ends = collections.defaultdict(list)
     for n in range(1, counts[0] + 1):
         got = refuser.run(REFUSED=str(n))
-        end = is_right(whole, got)
-        if end is None:
-            output = f"{got.stdout}{got.stderr}\nof {refuser.command}"
-            sys.exit(f"allocation {n} of {counts[0]} refused: status {got.returncode}\n{output}")
-        ends[end].append(n)
+        ends[judged(refuser, is_right, whole, got, f"{n} of {counts[0]}")].append(n)
     return counts[0], ends
+
+
+def refuse_pairs(refuser):
+    """Of each growth and each later one of the run in which it is refused: how often each end came."""
+    whole, whole_counts = refuser.whole()
+    ends = collections.Counter()
+    for n in range(1, whole_counts[0] + 1):
+        got, counts = refuser.counted_run(REFUSED=str(n))
+        judged(refuser, of_script, whole, got, n)
+        for m in range(n + 1, counts[0] + 1):
+            got = refuser.run(REFUSED=str(n), ALSO_REFUSED=str(m))
+            ends[judged(refuser, of_script, whole, got, f"{n} and {m}")] += 1
+    return ends
+
+
+WHOLE = "the whole output"
 
 
 def of_script(whole, got):
     if (got.returncode, got.stdout) == (whole.returncode, whole.stdout):
-        return "the whole output"
+        return WHOLE
     if got.returncode == 1 and got.stderr == "vpgdesk: Memory\n" and whole.stdout.startswith(got.stdout):
         return "Memory"
     return None
@@ -128,8 +157,10 @@ def of_script(whole, got):
 
 def of_any(whole, got):
     if (got.returncode, got.stdout) == (whole.returncode, whole.stdout):
-        return "the whole output"
-    return f"status {got.returncode}" if got.returncode > 0 else None
+        return WHOLE
+    if got.returncode <= 0 or not whole.stdout.startswith(got.stdout):
+        return None
+    return f"status {got.returncode} ({got.stderr.splitlines()[0] if got.stderr else 'no word'})"
 
 
 def tell(allocations, ends):
@@ -214,6 +245,11 @@ def main():
         calls(os.path.abspath(words[1]))
     elif len(words) in (3, 4) and words[1] == "--random":
         random_families(os.path.abspath(words[0]), int(words[2]), words[3] if len(words) == 4 else "1")
+    elif len(words) == 5 and words[0] == "--pairs":
+        with tempfile.TemporaryDirectory() as room:
+            ends = refuse_pairs(Refuser(room, [os.path.abspath(words[1]), "run", *words[2:]]))
+            told = "".join(f"{end} {count}, " for end, count in sorted(ends.items()))
+            print(f"{sum(ends.values())} pairs of allocations, both refused: {told}0 wrong ends")
     elif len(words) >= 2 and words[0] == "--any":
         with tempfile.TemporaryDirectory() as room:
             tell(*refuse_each(Refuser(room, [os.path.abspath(words[1]), *words[2:]]), of_any))

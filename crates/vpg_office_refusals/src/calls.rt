@@ -41,8 +41,8 @@ pub(crate) enum Call {
     Open,
     /// Closes the office.
     Close,
-    /// Ends the office.
-    End,
+    /// Ends the office, and hands so many tokens in.
+    End(usize),
 }
 
 impl Call {
@@ -50,8 +50,16 @@ impl Call {
     pub(crate) fn is_logged(self) -> bool {
         match self {
             Call::Look(look) => look.is_logged(),
-            Call::Open | Call::Close | Call::End => false,
+            Call::Open | Call::Close | Call::End(_) => false,
             _ => true,
+        }
+    }
+
+    /// How many tokens are held as the office is ended or closed.
+    pub(crate) fn tokens(self) -> usize {
+        match self {
+            Call::End(tokens) => tokens,
+            _ => 0,
         }
     }
 }
@@ -169,7 +177,7 @@ fn other<L: Terms, R: Wait>(
     match call {
         Call::Look(look) => looked(rt, alloc, office, seat, look),
         // which is made once all else is done
-        Call::Close | Call::End => End::Done,
+        Call::Close | Call::End(_) => End::Done,
         _ => End::Otherwise,
     }
 }

@@ -148,7 +148,9 @@ fn open_and_end<R: Wait>(rt: &R, heap: &mut Heap, report: &mut Report, family: &
         row("Office::watch", DECIDED, Call::Look(Look::Watch)),
         row("Watch::read of an office", WATCHED, Call::Look(Look::Read)),
         row("Office::close", LIFTED, Call::Close),
-        row("Office::end", DECIDED, Call::End),
+        row("Office::end", LIFTED, Call::End(0)),
+        row("Office::end with an Undo", DECIDED, Call::End(1)),
+        row("Office::end with a Redo", UNDONE, Call::End(1)),
     ];
     refuse_each(rt, heap, report, family, &rows);
 }

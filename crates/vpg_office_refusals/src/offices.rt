@@ -1,6 +1,6 @@
 //! Offices of which one call is made with little memory, each try on an office of its own.
 
-ghost use Rattle.std.specs.Prelude.{◌<◌, length};
+ghost use Rattle.std.specs.Prelude.{◌≡◌, ◌<◌, ◌≤◌, length, vec_len, vec_capacity};
 
 use crate::calls::{Call, Held, Seat, made, serial_of, spend};
 use crate::looks::{Look, is_page, looked, page, shown};
@@ -223,7 +223,7 @@ fn try_call<L: Terms, R: Wait>(
     }
 }
 
-/// Makes the call at a seat, and spends the token that is held then.
+/// Makes the call at a seat, and spends the token that is held then, unless it is to be handed in.
 fn try_at<L: Terms, R: Wait>(
     rt: &R,
     heap: &mut Heap,
@@ -231,25 +231,28 @@ fn try_at<L: Terms, R: Wait>(
     seat: Seat<L>,
     row: &Row,
     bytes: usize,
-) -> Outcome
+) -> (Held<L>, Outcome)
     requires { 0 < length L.game.vertices }
 {
     let mut seat = seat;
     let held = prepare(rt, heap.alloc(), office, &mut seat, row);
     fill_up(rt, heap, office, &mut seat);
     let (held, tried) = try_call(rt, heap, office, &mut seat, held, row, bytes);
+    if row.call.tokens() > 0 {
+        return (held, tried);
+    }
     spend(rt, office, &mut seat, held);
-    tried
+    (Held::Nothing, tried)
 }
 
-/// Joins an office, and makes the call.
+/// Joins an office, and makes the call: the token that is left, and what came of it.
 fn try_on<L: Terms, R: Wait>(
     rt: &R,
     heap: &mut Heap,
     office: &Office<L>,
     row: &Row,
     bytes: usize,
-) -> Outcome
+) -> (Held<L>, Outcome)
     requires { 0 < length L.game.vertices }
 {
     match office.join(rt) {
@@ -262,7 +265,7 @@ fn try_on<L: Terms, R: Wait>(
             };
             try_at(rt, heap, office, seat, row, bytes)
         }
-        Err(_) => NOT_TRIED,
+        Err(_) => (Held::Nothing, NOT_TRIED),
     }
 }
 
@@ -277,24 +280,73 @@ fn close<L: Terms, R: Wait>(rt: &R, alloc: Global, office: Office<L>, front: &mu
     }
 }
 
-/// Ends an office with no memory, or closes it: whether no token is missed.
+/// A list with room for one thing. Memory is ample, so it is had at the first try.
+fn room<R: Wait, T>(rt: &R, alloc: Global) -> Vec<T>
+    ensures { (vec_len result ≡ 0) × (1 ≤ vec_capacity result) }
+{
+    for _ in rt.forever() {
+        if let Ok(room) = Vec::with_capacity(alloc, 1) {
+            return room;
+        }
+    }
+    unreachable!()
+}
+
+/// Ends an office with no memory, and hands in what is held: how many tokens are missed.
+fn end_with<L: Terms, R: Wait>(
+    rt: &R,
+    heap: &mut Heap,
+    office: Office<L>,
+    front: &mut Front<L>,
+    held: Held<L>,
+) -> u64 {
+    let mut undos = room(rt, heap.alloc());
+    let mut redos = room(rt, heap.alloc());
+    match held {
+        Held::Nothing => {}
+        Held::Undo(token) => undos.push_reserved(token),
+        Held::Redo(token) => redos.push_reserved(token),
+    }
+    heap.leave(0);
+    let further = office.end(rt, front, undos, redos);
+    heap.relax();
+    further
+}
+
+/// Closes an office with no memory: how many tokens were out.
+fn close_without<L: Terms, R: Wait>(
+    rt: &R,
+    heap: &mut Heap,
+    office: Office<L>,
+    front: &mut Front<L>,
+) -> u64 {
+    heap.leave(0);
+    let out = close(rt, heap.alloc(), office, front);
+    heap.relax();
+    out
+}
+
+/// Ends an office with no memory, or closes it where nothing is held: whether no token is missed.
 fn end<L: Terms, R: Wait>(
     rt: &R,
     heap: &mut Heap,
     office: Office<L>,
     front: Front<L>,
+    held: Held<L>,
     closes: bool,
 ) -> bool {
     let mut front = front;
-    let alloc = heap.alloc();
-    heap.leave(0);
-    let further = if closes {
-        close(rt, alloc, office, &mut front)
-    } else {
-        office.end(rt, &mut front, Vec::new(alloc), Vec::new(alloc))
+    let missed = match held {
+        Held::Nothing => {
+            if closes {
+                close_without(rt, heap, office, &mut front)
+            } else {
+                end_with(rt, heap, office, &mut front, Held::Nothing)
+            }
+        }
+        held => end_with(rt, heap, office, &mut front, held),
     };
-    heap.relax();
-    further == 0
+    missed == 0
 }
 
 impl<R: Wait> Work<R> for Try<'_> {
@@ -309,18 +361,20 @@ impl<R: Wait> Work<R> for Try<'_> {
         _diagram: Arc<Diagram>,
     ) -> Outcome {
         let Try { heap, row, bytes } = self;
-        let tried = if matches!(row.call, Call::Open) {
+        let (held, tried) = if matches!(row.call, Call::Open) {
             heap.relax();
-            OPENED
+            (Held::Nothing, OPENED)
         } else if game.vertices() > 0 {
             try_on(rt, heap, &office, row, bytes)
         } else {
-            NOT_TRIED
+            (Held::Nothing, NOT_TRIED)
         };
-        let ended = end(rt, heap, office, front, matches!(row.call, Call::Close));
+        let is_held = serial_of(&held).is_some() as usize == row.call.tokens();
+        let closes = matches!(row.call, Call::Close);
+        let ended = end(rt, heap, office, front, held, closes);
         Outcome {
             end: tried.end,
-            holds: tried.holds && ended,
+            holds: tried.holds && is_held && ended,
         }
     }
 }
