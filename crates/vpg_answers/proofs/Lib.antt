@@ -1,8 +1,10 @@
+pub mod Drawing
 pub mod Moving
 pub mod Offering
 pub mod One
 pub mod OneMoves
 pub mod OneOffers
+pub mod OneParts
 pub mod OneRepairs
 pub mod Repairing
 pub mod Telling

@@ -32,6 +32,7 @@ use Rattle.vpg_answers.specs.Answers.{MakeSo, IsReason, identifier_of, TellsVerd
 use Rattle.vpg_answers.specs.Laws.{AnswersAreOne}
 use Rattle.vpg_answers.proofs.OneMoves.{tells_moves_one}
 use Rattle.vpg_answers.proofs.OneOffers.{offers_one}
+use Rattle.vpg_answers.proofs.OneParts.{tells_part_one}
 use Rattle.vpg_answers.proofs.OneRepairs.{forced_one, repair_one}
 
 -- ---- doubts
@@ -197,6 +198,7 @@ module _ (scene : Scene) (limits others : Limits) (decisions : List Decision) (i
   of_vertex_one (questions.Lost which) vertex hopeful dual one other a b sure also = lost_one (aims.Won which vertex) one other a b sure also
   of_vertex_one (questions.Moves mover) vertex hopeful dual one other a b sure also =
       tells_moves_one scene limits others mover vertex decisions (table_in hopeful dual (verdict_for mover)) one other a b sure also
+  of_vertex_one questions.Draw vertex hopeful dual one other a b sure also = tells_part_one scene limits others vertex decisions hopeful dual one other a b sure also
 
   of_page_one : (question : PageQuestion) (one other : List ℕ) → TellsOfPage scene limits question decisions one → TellsOfPage scene others question decisions other → ¬ (HasDoubt one) → ¬ (HasDoubt other) → one ≡ other
   of_page_one whole.Forced one other a b sure also = forced_one scene limits others aims.Any decisions one other a b sure also

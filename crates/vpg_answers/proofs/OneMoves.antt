@@ -63,7 +63,7 @@ module _ (scene : Scene) (limits others : Limits) (mover : Which) (vertex : ℕ)
       (subst (λ (t : List ℕ). AreChoices (levels_for mover scene.game) (caution_for known mover scene.game) t other)
       (tables_one (levels_for mover scene.game) (caution_for known mover scene.game) b.table a.table b.least a.least) b.chosen)
 
-  moves_one : (one other : List (Option ℕ)) → AreWinning scene.game scene.lines (choices decisions) mover vertex one → AreWinning scene.game scene.lines (choices decisions) mover vertex other → one ≡ other
+  pub moves_one : (one other : List (Option ℕ)) → AreWinning scene.game scene.lines (choices decisions) mover vertex one → AreWinning scene.game scene.lines (choices decisions) mover vertex other → one ≡ other
   moves_one one other a b =
       let known : b.known ≡ a.known = known_same one other a b in
       let all : b.all ≡ a.all = least_one a.known b.all a.all (subst (λ (k : List Tri). AreLeastMoves scene.game mover k vertex b.all) known b.least) a.least in
@@ -72,7 +72,7 @@ module _ (scene : Scene) (limits others : Limits) (mover : Which) (vertex : ℕ)
       (subst (λ (k : List Tri). ArePlayed (caution_for k mover scene.game) b.all vertex other) known b.played))
 
   -- moves that win show that not none do
-  some_win : (moves : List (Option ℕ)) → AreWinning scene.game scene.lines (choices decisions) mover vertex moves → NoneWinsUnder scene.game scene.lines (choices decisions) mover vertex → ⊥
+  pub some_win : (moves : List (Option ℕ)) → AreWinning scene.game scene.lines (choices decisions) mover vertex moves → NoneWinsUnder scene.game scene.lines (choices decisions) mover vertex → ⊥
   some_win moves a (known, is_known, none) =
       subst (λ (k : List Tri). NoneWins scene.game mover k vertex) (known_is_one scene.lines (choices decisions) known a.known is_known a.is_known) none _ a.cautious
 

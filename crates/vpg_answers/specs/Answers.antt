@@ -29,6 +29,7 @@ use Rattle.vpg_answers.specs.declared.query.Query.{Query}
 use Rattle.vpg_answers.specs.declared.query.Query.TheVariants as queries
 use Rattle.vpg_answers.specs.Texts.{verdict_line, other_line, lost_head, lost_line, known_line, not_known_line, conflict_line, no_conflict_line, product_line, none_line, unsettled_line, offers_text, forced_text, singles_text, several_text, moves_word, moves_text, depend_line}
 use Rattle.vpg_answers.specs.Offers.{AreOffers}
+use Rattle.vpg_answers.specs.Parts.{TellsPart}
 use Rattle.vpg_answers.specs.Repairs.{AreSingles}
 use Rattle.vpg_answers.specs.Room.{RoundsSettle, SearchEnds}
 
@@ -230,6 +231,8 @@ TellsOfVertex scene limits (questions.Lost which) vertex decisions hopeful dual 
     TellsLost scene limits (aims.Won which vertex) decisions text
 TellsOfVertex scene limits (questions.Moves mover) vertex decisions hopeful dual text =
     TellsMoves scene limits mover vertex decisions (table_in hopeful dual (verdict_for mover)) text
+TellsOfVertex scene limits questions.Draw vertex decisions hopeful dual text =
+    TellsPart scene limits vertex decisions hopeful dual text
 
 -- what is asked of the page as a whole: what each product has that is left, or which decisions leave none
 abbrev pub TellsOfPage : Scene → Limits → PageQuestion → List Decision → (text : List ℕ) → Type 0

@@ -5,7 +5,7 @@ ghost use Rattle.vpg_diagram.specs.FeatureDiagram.{feature_count};
 ghost use Rattle.vpg_texts.specs.Scene.{scene_of};
 
 use crate::query::Query;
-use crate::{examples, losses, needs, offers, reasons, repairs, winning};
+use crate::{drawing, examples, losses, needs, offers, reasons, repairs, winning};
 use std::alloc::{AllocError, Global};
 use vpg_measure::{Order, Which};
 use vpg_script::{PageQuestion, VertexQuestion};
@@ -40,6 +40,7 @@ fn of_vertex(
             losses::loss(alloc, order, Aim::Won { which, vertex }, limits, out)
         }
         VertexQuestion::Moves(mover) => winning::moves(alloc, order, mover, vertex, limits, out),
+        VertexQuestion::Draw => drawing::part(alloc, order, vertex, limits, out),
     }
 }
 

@@ -4,7 +4,7 @@
 //! page, or a `VertexQuestion`. Those are: why the vertex has its verdicts, which product is left and won or lost at
 //! it, what each further decision would make of it, what every product has that is left and won at it, what to retract
 //! so that it is possible, why it is lost (or won) in every product that is left, by which moves Odd (or Even) wins
-//! from it in all of them. Or it is a `PageQuestion`: what every product has that is left, and which decisions leave
+//! from it in all of them, and a picture of what can be reached from it, by such moves where there are some. Or it is a `PageQuestion`: what every product has that is left, and which decisions leave
 //! none. The crate of scripts has these questions, since its lines spell them. This one asks the crates of reasons and
 //! of moves below, and appends the lines. The layer above answers lines of scripts by it; it changes nothing.
 //!
@@ -13,11 +13,12 @@
 //! needless; ` or more`, lines to which others may belong; `some product`, one that need not be the first;
 //! `unsettled`, what was not shown.
 //!
-//! The texts are defined in `specs/Texts`, what they say of a page in `specs/Answers`, `specs/Offers` and
-//! `specs/Repairs`, when limits leave room in `specs/Room`. All are this project's own.
+//! The texts are defined in `specs/Texts`, what they say of a page in `specs/Answers`, `specs/Offers`, `specs/Repairs`
+//! and `specs/Parts`, when limits leave room in `specs/Room`. All are this project's own.
 #![tactic(auto)]
 
 mod answering;
+mod drawing;
 mod examples;
 pub mod laws;
 mod lines;

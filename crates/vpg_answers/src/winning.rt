@@ -36,7 +36,7 @@ fn verdict_for(mover: Which) -> Which
 }
 
 /// Whether the page's table has the top at the vertex.
-fn has_top(order: &Order, which: Which, vertex: u32) -> bool
+pub(crate) fn has_top(order: &Order, which: Which, vertex: u32) -> bool
     requires { vertex < length order.now.game.vertices }
     ensures { IsTrue result ↔
         (slice_index (order_table which order.now) vertex ≡ top_for which (graph_of order.now.game)) }

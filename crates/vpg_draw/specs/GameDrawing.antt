@@ -32,11 +32,14 @@ abbrev pub name_line : List ℕ → List ℕ
 name_line [] = []
 name_line (b ∷ name) = codes "\\n" ++ wrapped 0 (b ∷ name)
 
-abbrev pub vertex_text : NamedVertex → List ℕ → Verdict → List ℕ
-vertex_text v name verdict =
+-- its line, up to the colours
+abbrev pub vertex_start : NamedVertex → List ℕ → List ℕ
+vertex_start v name =
     codes "  " ++ decimal v.id ++ codes " [shape=" ++ shape_text v.owner
     ++ codes ", label=\"" ++ decimal v.id ++ codes " : " ++ decimal v.priority ++ name_line name ++ codes "\""
-    ++ colours_text verdict.hopeless verdict.sure
+
+abbrev pub vertex_text : NamedVertex → List ℕ → Verdict → List ℕ
+vertex_text v name verdict = vertex_start v name ++ colours_text verdict.hopeless verdict.sure
 
 -- what a look-up past the end gives
 abbrev pub no_verdict : Verdict
@@ -63,10 +66,14 @@ abbrev pub guard_label : List (List ℕ) → Formula → List ℕ
 guard_label names always = []
 guard_label names g = codes "label=\"" ++ guard_text names g ++ codes "\", "
 
-abbrev pub edge_text : List (List ℕ) → List Tri → List NamedVertex → ℕ → GuardedEdge Formula → List ℕ
-edge_text names known vertices id e =
+-- its line, up to the style
+abbrev pub edge_start : List (List ℕ) → List NamedVertex → ℕ → GuardedEdge Formula → List ℕ
+edge_start names vertices id e =
     codes "  " ++ decimal id ++ codes " -> " ++ decimal (slice_index (vertex_ids vertices) e.to) ++ codes " ["
-    ++ guard_label names e.guard ++ style_text (kleene known e.guard)
+    ++ guard_label names e.guard
+
+abbrev pub edge_text : List (List ℕ) → List Tri → List NamedVertex → ℕ → GuardedEdge Formula → List ℕ
+edge_text names known vertices id e = edge_start names vertices id e ++ style_text (kleene known e.guard)
 
 abbrev pub edges_text : List (List ℕ) → List Tri → List NamedVertex → NamedVertex → List ℕ
 edges_text names known vertices v = flat_map (edge_text names known vertices v.id) v.edges

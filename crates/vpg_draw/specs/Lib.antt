@@ -1,3 +1,4 @@
 pub mod Labels
 pub mod GameDrawing
 pub mod FeatureDrawing
+pub mod PartDrawing

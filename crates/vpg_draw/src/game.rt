@@ -5,7 +5,7 @@ ghost use Rattle.vpg_guards.specs.Known.{kleene};
 ghost use Rattle.vpg_guards.specs.View.{formula_of};
 ghost use Rattle.vpg_game.specs.Game.{vertex_ids, no_vertex};
 ghost use Rattle.vpg_partial.specs.Known.{literal_of};
-ghost use Rattle.vpg_draw.specs.GameDrawing.{shape_text, colours_text, name_line, vertex_text, no_verdict, vertices_text, style_text, guard_label, edge_text, edges_text, all_edges_text, opening_text, defaults_text, heading_text, game_drawing};
+ghost use Rattle.vpg_draw.specs.GameDrawing.{shape_text, colours_text, name_line, vertex_start, vertex_text, no_verdict, vertices_text, style_text, guard_label, edge_start, edge_text, edges_text, all_edges_text, opening_text, defaults_text, heading_text, game_drawing};
 
 use crate::labels::{choices, number, wrapped};
 use std::alloc::{AllocError, Global};
@@ -24,7 +24,7 @@ fn shape(owner: Player, out: &mut Vec<u8>) -> Result<(), AllocError>
     }
 }
 
-fn colours(verdict: Verdict, out: &mut Vec<u8>) -> Result<(), AllocError>
+pub(crate) fn colours(verdict: Verdict, out: &mut Vec<u8>) -> Result<(), AllocError>
     ensures { OnOk result (out.new.items ≡ out.old.items ++ colours_text verdict.hopeless verdict.sure) }
 {
     match (verdict.hopeless, verdict.sure) {
@@ -47,12 +47,36 @@ fn name_line(name: &[u8], out: &mut Vec<u8>) -> Result<(), AllocError>
 }
 
 /// The identifier of a vertex.
-fn identifier(game: &GuardedGame, v: u32) -> u32
+pub(crate) fn identifier(game: &GuardedGame, v: u32) -> u32
     requires { v < length game.now.vertices }
     ensures list { result ≡ slice_index (vertex_ids game.now.vertices) v }
     ensures vertex { result ≡ (slice_index_or game.now.vertices v no_vertex).id }
 {
     game.id(v)
+}
+
+/// Appends the line of a vertex, up to its colours.
+pub(crate) fn vertex_start(
+    game: &GuardedGame,
+    v: u32,
+    name: &[u8],
+    out: &mut Vec<u8>,
+) -> Result<(), AllocError>
+    requires { v < length game.now.vertices }
+    ensures { OnOk result
+        (out.new.items ≡ out.old.items ++ vertex_start (slice_index_or game.now.vertices v no_vertex) name.now) }
+{
+    let id = identifier(game, v);
+    out.extend_from_slice(b"  ")?;
+    number(id, out)?;
+    out.extend_from_slice(b" [shape=")?;
+    shape(game.owner(v), out)?;
+    out.extend_from_slice(b", label=\"")?;
+    number(id, out)?;
+    out.extend_from_slice(b" : ")?;
+    number(game.priority(v), out)?;
+    name_line(name, out)?;
+    out.extend_from_slice(b"\"")
 }
 
 /// Appends the line of a vertex.
@@ -67,17 +91,7 @@ fn vertex(
     ensures { OnOk result (out.new.items ≡ out.old.items
         ++ vertex_text (slice_index_or game.now.vertices v no_vertex) name.now verdict) }
 {
-    let id = identifier(game, v);
-    out.extend_from_slice(b"  ")?;
-    number(id, out)?;
-    out.extend_from_slice(b" [shape=")?;
-    shape(game.owner(v), out)?;
-    out.extend_from_slice(b", label=\"")?;
-    number(id, out)?;
-    out.extend_from_slice(b" : ")?;
-    number(game.priority(v), out)?;
-    name_line(name, out)?;
-    out.extend_from_slice(b"\"")?;
+    vertex_start(game, v, name, out)?;
     colours(verdict, out)
 }
 
@@ -99,7 +113,7 @@ fn vertices(
     Ok(())
 }
 
-fn style(value: Tri, out: &mut Vec<u8>) -> Result<(), AllocError>
+pub(crate) fn style(value: Tri, out: &mut Vec<u8>) -> Result<(), AllocError>
     ensures { OnOk result (out.new.items ≡ out.old.items ++ style_text value) }
 {
     match value {
@@ -129,6 +143,28 @@ fn guard_label(
     out.extend_from_slice(b"\", ")
 }
 
+/// Appends the line of an edge, up to its style.
+pub(crate) fn edge_start(
+    alloc: Global,
+    features: &Names,
+    game: &GuardedGame,
+    id: u32,
+    edge: &Edge,
+    out: &mut Vec<u8>,
+) -> Result<(), AllocError>
+    requires to { edge.now.to < length game.now.vertices }
+    requires guard { IsBelow (length features.now) edge.now.guard }
+    ensures { OnOk result (out.new.items ≡ out.old.items
+        ++ edge_start features.now game.now.vertices id edge.now) }
+{
+    out.extend_from_slice(b"  ")?;
+    number(id, out)?;
+    out.extend_from_slice(b" -> ")?;
+    number(identifier(game, edge.to()), out)?;
+    out.extend_from_slice(b" [")?;
+    guard_label(alloc, features, edge.guard(), out)
+}
+
 /// Appends the line of an edge.
 fn edge(
     alloc: Global,
@@ -145,14 +181,8 @@ fn edge(
     ensures { OnOk result (out.new.items ≡ out.old.items
         ++ edge_text features.now known.now game.now.vertices id edge.now) }
 {
-    out.extend_from_slice(b"  ")?;
-    number(id, out)?;
-    out.extend_from_slice(b" -> ")?;
-    number(identifier(game, edge.to()), out)?;
-    out.extend_from_slice(b" [")?;
-    let guard = edge.guard();
-    guard_label(alloc, features, guard, out)?;
-    style(guard.kleene(known), out)
+    edge_start(alloc, features, game, id, edge, out)?;
+    style(edge.guard().kleene(known), out)
 }
 
 /// Appends the lines of the edges of a vertex.
@@ -207,7 +237,7 @@ fn opening(out: &mut Vec<u8>) -> Result<(), AllocError>
 }
 
 #[tactic(auto, unfolding(crate::specs::GameDrawing::defaults_text))]
-fn defaults(out: &mut Vec<u8>) -> Result<(), AllocError>
+pub(crate) fn defaults(out: &mut Vec<u8>) -> Result<(), AllocError>
     ensures { OnOk result (out.new.items ≡ out.old.items ++ defaults_text) }
 {
     out.extend_from_slice(b"\", labelloc=t, rankdir=LR];\n  node [style=filled];\n")

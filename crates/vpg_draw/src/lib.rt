@@ -3,16 +3,21 @@
 //! `draw_game` draws vertices by owner, priority and verdict, and edges by their guards and whether they are kept. The
 //! same arguments give the same text, byte for byte. No text that comes in can leave its quotes.
 //!
+//! `draw_part` draws some of the vertices, with one of them told from the others, and of their edges those that may be
+//! there. Where moves of a player are listed, these stand for all edges of that player.
+//!
 //! `draw_features` draws the features by what is known of them, and the lines of a diagram's text as edges and groups.
 //!
-//! `specs/Labels` says what stands between quotes, `specs/GameDrawing` and `specs/FeatureDrawing` what the pictures
-//! are. Graphviz's documentation has the language; the choice of shapes and colours is this project's own, with the
+//! `specs/Labels` says what stands between quotes, `specs/GameDrawing`, `specs/PartDrawing` and `specs/FeatureDrawing`
+//! what the pictures are. Graphviz's documentation has the language; the choice of shapes and colours is this project's own, with the
 //! owners' shapes of PGSolver.
 #![tactic(auto)]
 
 mod features;
 mod game;
 mod labels;
+mod part;
 
 pub use features::draw_features;
 pub use game::draw_game;
+pub use part::draw_part;

@@ -4,12 +4,20 @@ use Rattle.std.proofs.lemmas.Bool.{cases_eq, cases_lt}
 use Rattle.std.proofs.lemmas.List.{take_all, length-append, length-set, get_or-set_same, get_or-set_other, get_or_append_left, get_or_past, take_more}
 use Rattle.std.proofs.lemmas.List.Elements.{Contains-append_left, Contains-append_right, Contains-append_cases}
 use Rattle.std.proofs.lemmas.List.Sums.{count_by-le-length, sum_by-set, sum_by-cons}
+use Rattle.std.specs.Prelude.{◌≢◌}
+use Rattle.vpg_guards.specs.declared.tri.Tri.{Tri}
+use Rattle.vpg_guards.specs.Formula.{Formula}
+use Rattle.vpg_guards.specs.Known.{kleene}
 use Rattle.vpg_guards.proofs.Noted.{any_default}
 use Rattle.vpg_game.specs.declared.player.Player.{Player}
+use Rattle.vpg_game.specs.Game.{vertex_in}
+use Rattle.vpg_game.specs.Guarded.{GuardedEdge, GuardedGame}
 use Rattle.vpg_hope.specs.Games.{Game, owner_of, successors_of}
-use Rattle.vpg_hope.specs.Strategies.{Strategy, AllowsMove, Reaches, here, onward}
+use Rattle.vpg_hope.specs.Strategies.{Strategy, AllowsMove, Reaches}
+use Rattle.vpg_hope.specs.Strategies as plays
 use Rattle.vpg_hope.proofs.Edges.{Contains-cases, Contains-first, not_in_nil}
 use Rattle.vpg_measure.specs.Views.{strategy_of}
+use Rattle.vpg_moves.specs.Reachable.{MayStep, Leads, here, onward}
 use Rattle.vpg_moves.specs.Searched.{AreQueued, AreNoted, IsBegun}
 
 -- ---- marks
@@ -54,7 +62,7 @@ marked_set : (marks : List Bool) (w v : ℕ) → w < length marks → (v ≡ w) 
 marked_set marks w v less (inl e) m = ap (λ k. get_or (set marks w true) k false) e ∙ get_or-set_same marks w true false less
 marked_set marks w v less (inr n) m = get_or-set_other marks w v true false n ∙ m
 
-only : (w v : ℕ) → Contains (w ∷ []) v → v ≡ w
+only : {X : Type 0} (w v : X) → Contains (w ∷ []) v → v ≡ w
 only w v c = at (Contains-cases w [] v c)
   where
     at : (w ≡ v) ⊎ Contains [] v → v ≡ w
@@ -201,43 +209,108 @@ module _ (successors : List ℕ) (owner : Player) (choice : Option ℕ) (marks :
       from : (w : ℕ) → AllowsMove game Player.Even (strategy_of moves) v w → IsAllowedIn (take n successors) owner choice w
       from w a = (subst (λ (xs : List ℕ). Contains xs w) (sym (take_all n successors all ∙ same)) a.0, λ o. chosen ∙ a.1 (sym own ∙ o))
 
+-- ---- the steps of a vertex
+
+-- one of these edges, which may be taken, leads there
+abbrev pub IsTaken : List (GuardedEdge Formula) → List Tri → Option Player → Player → Option ℕ → ℕ → Type 0
+IsTaken edges known mover owner choice w =
+    (e : GuardedEdge Formula) × Contains edges e × (kleene known e.guard ≢ Tri.No) × (e.to ≡ w) × (mover ≡ Some owner → choice ≡ Some w)
+
+module _ (edges : List (GuardedEdge Formula)) (known : List Tri) (mover : Option Player) (owner : Player) (choice : Option ℕ) (marks : List Bool) (queue : List ℕ) where
+  -- where the first so many edges lead was noted
+  abbrev pub HaveTaken : ℕ → List Bool → List ℕ → Type 0
+  HaveTaken n now queue_now = AreNoted (IsTaken (take n edges) known mover owner choice) marks queue now queue_now
+
+  pub taken_begun : AreQueued marks queue → HaveTaken 0 marks queue
+  taken_begun is = noted_none (IsTaken (take 0 edges) known mover owner choice) marks queue is (λ v t. not_in_nil t.0 t.1)
+
+  module _ (i : ℕ) (inside : i < length edges) (e : GuardedEdge Formula) (is : e ≡ get_or edges i e) (now : List Bool) (queue_now : List ℕ) (noted : HaveTaken i now queue_now) where
+    split : take (i + 1) edges ≡ take i edges ++ e ∷ []
+    split = take_more edges i e inside ∙ ap (λ (f : GuardedEdge Formula). take i edges ++ f ∷ []) (sym is)
+
+    sooner : (v : ℕ) → IsTaken (take i edges) known mover owner choice v → IsTaken (take (i + 1) edges) known mover owner choice v
+    sooner v t = (t.0, subst (λ (fs : List (GuardedEdge Formula)). Contains fs t.0) (sym split) (Contains-append_left (take i edges) (e ∷ []) t.0 t.1), t.2, t.3, t.4)
+
+    sooner_or : (v : ℕ) → IsTaken (take (i + 1) edges) known mover owner choice v → IsTaken (take i edges) known mover owner choice v ⊎ IsTaken (e ∷ []) known mover owner choice v
+    sooner_or v t = at (Contains-append_cases (take i edges) (e ∷ []) t.0 (subst (λ (fs : List (GuardedEdge Formula)). Contains fs t.0) split t.1))
+      where
+        at : Contains (take i edges) t.0 ⊎ Contains (e ∷ []) t.0 → IsTaken (take i edges) known mover owner choice v ⊎ IsTaken (e ∷ []) known mover owner choice v
+        at (inl c) = inl (t.0, c, t.2, t.3, t.4)
+        at (inr c) = inr (t.0, c, t.2, t.3, t.4)
+
+    pub taken_next : (next : List Bool) (queue_next : List ℕ) → kleene known e.guard ≢ Tri.No → (mover ≡ Some owner → choice ≡ Some e.to) → AreNoted (λ v. v ≡ e.to) now queue_now next queue_next → HaveTaken (i + 1) next queue_next
+    taken_next next queue_next may listed more = noted_more (IsTaken (take i edges) known mover owner choice) (IsTaken (take (i + 1) edges) known mover owner choice) e.to marks now next queue queue_now queue_next
+        (e, subst (λ (fs : List (GuardedEdge Formula)). Contains fs e) (sym split) (Contains-append_right (take i edges) (e ∷ []) e (Contains-first e [])), may, refl, listed)
+        sooner (λ v t. at v (sooner_or v t)) noted more
+      where
+        at : (v : ℕ) → IsTaken (take i edges) known mover owner choice v ⊎ IsTaken (e ∷ []) known mover owner choice v → IsTaken (take i edges) known mover owner choice v ⊎ (v ≡ e.to)
+        at v (inl t) = inl t
+        at v (inr t) = inr (sym t.3 ∙ ap (λ (f : GuardedEdge Formula). f.to) (only e t.0 t.1))
+
+    pub untaken_next : ((kleene known e.guard ≢ Tri.No) × (mover ≡ Some owner → choice ≡ Some e.to) → ⊥) → HaveTaken (i + 1) now queue_now
+    untaken_next not = noted_same sooner (λ v t. at v (sooner_or v t)) noted
+      where
+        at : (v : ℕ) → IsTaken (take i edges) known mover owner choice v ⊎ IsTaken (e ∷ []) known mover owner choice v → IsTaken (take i edges) known mover owner choice v
+        at v (inl t) = t
+        at v (inr t) =
+            let same : t.0 ≡ e = only e t.0 t.1 in
+            absurd (not (subst (λ (f : GuardedEdge Formula). kleene known f.guard ≢ Tri.No) same t.2, λ o. t.4 o ∙ ap Some (sym t.3 ∙ ap (λ (f : GuardedEdge Formula). f.to) same)))
+
+  -- where all of them lead is where a step leads
+  pub all_taken : (game : GuardedGame Formula) (moves : List (Option ℕ)) (v n : ℕ) (now : List Bool) (queue_now : List ℕ) → length edges ≤ n → edges ≡ (vertex_in game v).edges →
+      owner ≡ (vertex_in game v).owner → choice ≡ strategy_of moves v → HaveTaken n now queue_now → AreNoted (MayStep game known mover moves v) marks queue now queue_now
+  all_taken game moves v n now queue_now all same own chosen noted = noted_same to from noted
+    where
+      to : (w : ℕ) → IsTaken (take n edges) known mover owner choice w → MayStep game known mover moves v w
+      to w t = record {
+        edge = t.0;
+        its = subst (λ (fs : List (GuardedEdge Formula)). Contains fs t.0) (take_all n edges all ∙ same) t.1;
+        may_be = t.2;
+        leads = t.3;
+        listed = λ o. sym chosen ∙ t.4 (o ∙ ap Some (sym own));
+      }
+
+      from : (w : ℕ) → MayStep game known mover moves v w → IsTaken (take n edges) known mover owner choice w
+      from w s = (s.edge, subst (λ (fs : List (GuardedEdge Formula)). Contains fs s.edge) (sym (take_all n edges all ∙ same)) s.its, s.may_be, s.leads, λ o. chosen ∙ s.listed (o ∙ ap Some own))
+
 -- ---- the search
 
-pub record IsSearching (game : Game) (strategy : Strategy) (first : ℕ) (marks : List Bool) (queue : List ℕ) (done : ℕ) : Type 0 where
-  pub count : length marks ≡ length game
+-- by these steps, among so many vertices
+pub record IsSearching (Step : ℕ → ℕ → Type 0) (size first : ℕ) (marks : List Bool) (queue : List ℕ) (done : ℕ) : Type 0 where
+  pub count : length marks ≡ size
   pub queued : AreQueued marks queue
   pub starts : IsMarked marks first
-  pub found : (v : ℕ) → Contains queue v → Reaches game Player.Even strategy first v
-  pub visited : (k : ℕ) → k < done → k < length queue → (w : ℕ) → AllowsMove game Player.Even strategy (get_or queue k 0) w → IsMarked marks w
+  pub found : (v : ℕ) → Contains queue v → Leads Step first v
+  pub visited : (k : ℕ) → k < done → k < length queue → (w : ℕ) → Step (get_or queue k 0) w → IsMarked marks w
 
-module _ (game : Game) (strategy : Strategy) (first : ℕ) where
-  pub searching_begun : (marks : List Bool) (queue : List ℕ) → length marks ≡ length game → IsBegun first marks queue → IsSearching game strategy first marks queue 0
+module _ (Step : ℕ → ℕ → Type 0) (size first : ℕ) where
+  pub searching_begun : (marks : List Bool) (queue : List ℕ) → length marks ≡ size → IsBegun first marks queue → IsSearching Step size first marks queue 0
   searching_begun marks queue same is = record {
     count = same;
     queued = is.queued;
     starts = (is.queued.marked first).1 ((is.alone first).1 refl);
-    found = λ v c. subst (λ k. Reaches game Player.Even strategy first k) (sym ((is.alone v).0 c)) here;
+    found = λ v c. subst (λ k. Leads Step first k) (sym ((is.alone v).0 c)) here;
     visited = λ k l. absurd (omega arith);
   }
 
-  last : {v u w : ℕ} → Reaches game Player.Even strategy v u → AllowsMove game Player.Even strategy u w → Reaches game Player.Even strategy v w
+  last : {v u w : ℕ} → Leads Step v u → Step u w → Leads Step v w
   last here a = onward a here
   last (onward b r) a = onward b (last r a)
 
-  module _ (marks : List Bool) (queue : List ℕ) (place : ℕ) (is : IsSearching game strategy first marks queue place) where
+  module _ (marks : List Bool) (queue : List ℕ) (place : ℕ) (is : IsSearching Step size first marks queue place) where
     -- what is found is in the game
-    pub queued_inside : (k d : ℕ) → k < length queue → get_or queue k d < length game
+    pub queued_inside : (k d : ℕ) → k < length queue → get_or queue k d < size
     queued_inside k d l = at (cases_lt (get_or queue k d) (length marks))
       where
         there : IsMarked marks (get_or queue k d)
         there = (is.queued.marked (get_or queue k d)).1 (k, l, any_default queue k (get_or queue k d) d l)
 
-        at : (get_or queue k d < length marks) ⊎ (length marks ≤ get_or queue k d) → get_or queue k d < length game
+        at : (get_or queue k d < length marks) ⊎ (length marks ≤ get_or queue k d) → get_or queue k d < size
         at (inl less) = subst (λ n. get_or queue k d < n) is.count less
         at (inr past) = absurd (clash (get_or queue k d) marks (get_or_past marks (get_or queue k d) false past) there)
 
     -- all are visited
-    pub nothing_next : length queue ≤ place → IsSearching game strategy first marks queue (place + 1)
+    pub nothing_next : length queue ≤ place → IsSearching Step size first marks queue (place + 1)
     nothing_next all = record {
       count = is.count;
       queued = is.queued;
@@ -247,8 +320,8 @@ module _ (game : Game) (strategy : Strategy) (first : ℕ) where
     }
 
     -- one more is visited
-    pub visited_next : (next : List Bool) (queue_next : List ℕ) → place < length queue → AreNoted (AllowsMove game Player.Even strategy (get_or queue place 0)) marks queue next queue_next →
-        IsSearching game strategy first next queue_next (place + 1)
+    pub visited_next : (next : List Bool) (queue_next : List ℕ) → place < length queue → AreNoted (Step (get_or queue place 0)) marks queue next queue_next →
+        IsSearching Step size first next queue_next (place + 1)
     visited_next next queue_next there noted = record {
       count = noted.count ∙ is.count;
       queued = noted.queued;
@@ -263,16 +336,16 @@ module _ (game : Game) (strategy : Strategy) (first : ℕ) where
             any : get_or queue place (get_or queue place 0) ≡ get_or queue place 0
             any = any_default queue place (get_or queue place 0) 0 there
 
-        found : (v : ℕ) → Contains queue v ⊎ Contains noted.added v → Reaches game Player.Even strategy first v
+        found : (v : ℕ) → Contains queue v ⊎ Contains noted.added v → Leads Step first v
         found v (inl c) = is.found v c
         found v (inr c) = last (is.found (get_or queue place 0) at_place) (noted.each v c)
 
         before : (k : ℕ) → k < length queue → get_or queue_next k 0 ≡ get_or queue k 0
         before k l = ap (λ (q : List ℕ). get_or q k 0) noted.extended ∙ get_or_append_left queue noted.added 0 k l
 
-        visited : (k w : ℕ) → k < place + 1 → (k ≡ place) ⊎ (k ≡ place → ⊥) → AllowsMove game Player.Even strategy (get_or queue_next k 0) w → IsMarked next w
-        visited k w l (inl e) a = noted.noted w (subst (λ v. AllowsMove game Player.Even strategy v w) (ap (λ j. get_or queue_next j 0) e ∙ before place there) a)
-        visited k w l (inr n) a = kept_marks is.queued noted w (is.visited k (smaller l n) (inside (smaller l n)) w (subst (λ v. AllowsMove game Player.Even strategy v w) (before k (inside (smaller l n))) a))
+        visited : (k w : ℕ) → k < place + 1 → (k ≡ place) ⊎ (k ≡ place → ⊥) → Step (get_or queue_next k 0) w → IsMarked next w
+        visited k w l (inl e) a = noted.noted w (subst (λ v. Step v w) (ap (λ j. get_or queue_next j 0) e ∙ before place there) a)
+        visited k w l (inr n) a = kept_marks is.queued noted w (is.visited k (smaller l n) (inside (smaller l n)) w (subst (λ v. Step v w) (before k (inside (smaller l n))) a))
           where
             smaller : k < place + 1 → (k ≡ place → ⊥) → k < place
             smaller a b = omega arith
@@ -281,21 +354,40 @@ module _ (game : Game) (strategy : Strategy) (first : ℕ) where
             inside s = omega (arith, s, there)
 
     -- nothing else can be come to
-    closed : length marks ≤ place → (v u : ℕ) → IsMarked marks v → Reaches game Player.Even strategy v u → IsMarked marks u
+    closed : length marks ≤ place → (v u : ℕ) → IsMarked marks v → Leads Step v u → IsMarked marks u
     closed all v u m r = along r m
       where
         few : length queue ≤ place
         few = omega (arith, is.queued.count, count_by-le-length (λ (b : Bool). b) marks, all)
 
-        next : (v w : ℕ) → AllowsMove game Player.Even strategy v w → Contains queue v → IsMarked marks w
-        next v w allowed c = is.visited c.0 (omega (arith, few, c.1)) c.1 w (subst (λ x. AllowsMove game Player.Even strategy x w) (sym c.2 ∙ any_default queue c.0 v 0 c.1) allowed)
+        next : (v w : ℕ) → Step v w → Contains queue v → IsMarked marks w
+        next v w allowed c = is.visited c.0 (omega (arith, few, c.1)) c.1 w (subst (λ x. Step x w) (sym c.2 ∙ any_default queue c.0 v 0 c.1) allowed)
 
-        along : {a b : ℕ} → Reaches game Player.Even strategy a b → IsMarked marks a → IsMarked marks b
+        along : {a b : ℕ} → Leads Step a b → IsMarked marks a → IsMarked marks b
         along here m = m
         along (onward {v} {w} {u} allowed rest) m = along rest (next v w allowed ((is.queued.marked v).0 m))
 
-    pub searched : length marks ≤ place → (v : ℕ) → IsMarked marks v ↔ Reaches game Player.Even strategy first v
+    pub searched : length marks ≤ place → (v : ℕ) → IsMarked marks v ↔ Leads Step first v
     searched all v = (λ m. is.found v ((is.queued.marked v).0 m), λ r. closed all first v is.starts r)
+
+-- steps that a strategy allows are those of a play
+leads_is_reaches : (game : Game) (strategy : Strategy) (v w : ℕ) → Leads (AllowsMove game Player.Even strategy) v w ↔ Reaches game Player.Even strategy v w
+leads_is_reaches game strategy v w = (λ l. to l, λ r. from r)
+  where
+    to : {a b : ℕ} → Leads (AllowsMove game Player.Even strategy) a b → Reaches game Player.Even strategy a b
+    to here = plays.here
+    to (onward s l) = plays.onward s (to l)
+
+    from : {a b : ℕ} → Reaches game Player.Even strategy a b → Leads (AllowsMove game Player.Even strategy) a b
+    from plays.here = here
+    from (plays.onward s r) = onward s (from r)
+
+-- what was found is what a play comes to
+pub searched_plays : (game : Game) (strategy : Strategy) (first : ℕ) (marks : List Bool) → ((v : ℕ) → IsMarked marks v ↔ Leads (AllowsMove game Player.Even strategy) first v) →
+    (v : ℕ) → IsMarked marks v ↔ Reaches game Player.Even strategy first v
+searched_plays game strategy first marks found v =
+    let same = leads_is_reaches game strategy first v in
+    (λ m. same.0 ((found v).0 m), λ r. (found v).1 (same.1 r))
 
 -- where the first one was noted, and nothing before
 pub begun : (marks later_marks : List Bool) (queue later_queue : List ℕ) (first : ℕ) → queue ≡ [] → AreNoted (λ v. v ≡ first) marks queue later_marks later_queue → IsBegun first later_marks later_queue

@@ -8,13 +8,15 @@
 //! and all edges of the opponent.
 //!
 //! The layer above answers with them what a verdict rests on. `Which::Hopeful` asks for Even's moves, `Which::Dual` for
-//! Odd's.
+//! Odd's. `reachable` tells which vertices can be reached over edges that may be there, by such moves or by any.
 //!
-//! Definitions: `specs/Moves`, `specs/Played`, and `specs/Searched` for the search.
+//! Definitions: `specs/Moves`, `specs/Played` and `specs/Reachable`, and `specs/Searched` for the search.
 #![tactic(auto)]
 
 mod reaching;
 mod settling;
+mod stepping;
 mod winning;
 
+pub use stepping::reachable;
 pub use winning::{Moves, winning_moves};

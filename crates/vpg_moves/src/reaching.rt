@@ -24,7 +24,7 @@ fn allows(owner: Player, choice: Option<u32>, w: u32) -> bool
 }
 
 // Marks a vertex that is not marked yet, and puts it last.
-fn note(marks: &mut Vec<bool>, queue: &mut Vec<u32>, w: u32) -> Result<(), AllocError>
+pub(crate) fn note(marks: &mut Vec<bool>, queue: &mut Vec<u32>, w: u32) -> Result<(), AllocError>
     requires queued { AreQueued marks.old.items queue.old.items }
     requires inside { w < length marks.old.items }
     ensures { OnOk result (AreNoted (λ v. v ≡ w) marks.old.items queue.old.items marks.new.items queue.new.items) }

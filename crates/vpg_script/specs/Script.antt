@@ -182,6 +182,7 @@ asked verbs.Lost w = of_vertex (questions.Lost Hopeful) w
 asked verbs.Won w = of_vertex (questions.Lost Dual) w
 asked verbs.Plan w = of_vertex (questions.Moves Hopeful) w
 asked verbs.Spoil w = of_vertex (questions.Moves Dual) w
+asked verbs.Draw w = of_vertex questions.Draw w
 asked _ w = None
 
 -- with one

@@ -77,6 +77,8 @@ pub enum VertexQuestion {
     Lost(Which),
     /// Moves of Even, for the first table, or Odd, for the second, that win from it in every product that is left.
     Moves(Which),
+    /// A picture of what can be reached from it.
+    Draw,
 }
 
 /// What is asked of the page as a whole.
@@ -416,6 +418,7 @@ fn asked(verb: Verb, word: &[u8]) -> Option<Inquiry>
         Verb::Won => of_vertex(VertexQuestion::Lost(Which::Dual), word),
         Verb::Plan => of_vertex(VertexQuestion::Moves(Which::Hopeful), word),
         Verb::Spoil => of_vertex(VertexQuestion::Moves(Which::Dual), word),
+        Verb::Draw => of_vertex(VertexQuestion::Draw, word),
         _ => None,
     }
 }

@@ -18,7 +18,7 @@ use Rattle.vpg_texts.specs.Scene.{scene_of}
 use Rattle.vpg_texts.proofs.Shown.{on_ok}
 
 -- vertices under their own identifiers are these vertices
-named_again : (vertices : List NamedVertex) → vertices ≡ named_vertices (vertex_ids vertices) (map unnamed vertices)
+pub named_again : (vertices : List NamedVertex) → vertices ≡ named_vertices (vertex_ids vertices) (map unnamed vertices)
 named_again [] = refl
 named_again (v ∷ vertices) = ap (λ (vs : List NamedVertex). v ∷ vs) (named_again vertices)
 

@@ -10,7 +10,8 @@
 //! no guard, and `draw_over`, which writes the picture of the game. A game with a priority of 65,536 has no dual and so
 //! no page: it is answered as for want of memory. `look_over` is all of them but `put_known_over`, by a `Lookup` of a
 //! script: it also writes the lines of some vertices, and whether an assertion holds. `verdicts_over` gives the
-//! verdicts of a page, and `put_changed` writes which of them are other than some that were seen earlier.
+//! verdicts of a page, `verdicts_by` those of two tables, and `put_changed` writes which of them are other than some
+//! that were seen earlier.
 //!
 //! The texts are defined in `specs/Text`, `specs/Sights` and `specs/Changed`, what they tell of a page in
 //! `specs/Scene`, `specs/Picture` and `specs/Plan`. All are this project's own.
@@ -23,7 +24,7 @@ mod text;
 
 pub use showing::{
     PlanFault, count, count_over, draw_over, look_over, plan, plan_over, products, products_over,
-    put_changed, put_known, put_known_over, show, show_over, trail, verdicts_over,
+    put_changed, put_known, put_known_over, show, show_over, trail, verdicts_by, verdicts_over,
 };
 pub use sights::has_vertices;
 pub use text::{blank_name, blank_number};

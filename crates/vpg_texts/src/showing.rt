@@ -16,7 +16,7 @@ mod page;
 mod pictures;
 mod plans;
 
-pub use changes::{put_changed, verdicts_over};
+pub use changes::{put_changed, verdicts_by, verdicts_over};
 pub use counts::{count, count_over};
 pub use entries::trail;
 pub use feature::{put_known, put_known_over};

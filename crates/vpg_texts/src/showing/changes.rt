@@ -8,11 +8,27 @@ ghost use Rattle.vpg_texts.specs.Changed.{changed_text, verdicts_by};
 use crate::changed;
 use std::alloc::{AllocError, Global};
 use vpg_game::GuardedGame;
-use vpg_measure::{PageGames, Verdict, Which};
+use vpg_measure::{PageGames, Table, Verdict, Which};
 use vpg_trail::Page;
 
-/// What a page's tables say of each vertex, in file order. The tables have one number for each vertex, and the games
-/// are those of this game: no guard and no edge is looked at.
+/// What two tables say of each vertex, in file order. They have one number for each vertex, and the games are those of
+/// this game: no guard and no edge is looked at.
+pub fn verdicts_by(
+    alloc: Global,
+    games: &PageGames,
+    game: &GuardedGame,
+    hopeful: &Table,
+    dual: &Table,
+) -> Result<Vec<Verdict>, AllocError>
+    requires levels { (which : Which) → games_levels which games.now ≡ levels_for which (graph_of game.now) }
+    requires hopeful { length hopeful.now ≡ length game.now.vertices }
+    requires dual { length dual.now ≡ length game.now.vertices }
+    ensures { IfOk result (λ verdicts. verdicts.items ≡ verdicts_by (graph_of game.now) hopeful.now dual.now) }
+{
+    changed::verdicts(alloc, games, game, hopeful, dual)
+}
+
+/// What a page's tables say of each vertex, in file order.
 pub fn verdicts_over(
     alloc: Global,
     games: &PageGames,
@@ -25,7 +41,7 @@ pub fn verdicts_over(
     ensures { IfOk result (λ verdicts.
         verdicts.items ≡ verdicts_by (graph_of game.now) page.now.hopeful page.now.dual) }
 {
-    changed::verdicts(alloc, games, game, &page.hopeful, &page.dual)
+    verdicts_by(alloc, games, game, &page.hopeful, &page.dual)
 }
 
 /// Appends a line for each vertex whose present verdicts are other than what was seen of it, in file order: its

@@ -1,0 +1,151 @@
+//! Pictures of what matters at a vertex.
+ghost use Rattle.std.specs.Prelude.{◌≡◌, ◌<◌, OnOk, length};
+ghost use Rattle.vpg_answers.specs.Answers.{Appends};
+ghost use Rattle.vpg_answers.specs.Parts.{DrawsWinning, IsPartDrawn, TellsPart};
+ghost use Rattle.vpg_diagram.specs.FeatureDiagram.{feature_count};
+ghost use Rattle.vpg_measure.specs.Games.{ArePageGames};
+ghost use Rattle.vpg_partial.specs.TableLaws.{AreChoicesOf};
+ghost use Rattle.vpg_texts.specs.Scene.{scene_of};
+ghost use Rattle.vpg_why.specs.Explained.{choices};
+ghost use Rattle.vpg_why.specs.Products.{loser};
+
+use crate::lines;
+use crate::winning::has_top;
+use std::alloc::{AllocError, Global};
+use vpg_diagram::Diagram;
+use vpg_draw::draw_part;
+use vpg_game::{GuardedGame, Player};
+use vpg_measure::{Order, PageGames, Table, Which};
+use vpg_moves::{Moves, reachable, winning_moves};
+use vpg_names::VertexNames;
+use vpg_partial::Decision;
+use vpg_texts::verdicts_by;
+use vpg_why::Limits;
+
+/// The player whose moves are asked for.
+fn player(mover: Which) -> Player
+    ensures { result ≡ loser mover }
+{
+    match mover {
+        Which::Hopeful => Player::Even,
+        Which::Dual => Player::Odd,
+    }
+}
+
+/// The picture of what can be reached from the vertex, where the mover makes the listed moves, over what the decisions
+/// make of the game.
+fn part_over(
+    alloc: Global,
+    game: &GuardedGame,
+    diagram: &Diagram,
+    games: &PageGames,
+    decisions: &[Decision],
+    hopeful: &Table,
+    dual: &Table,
+    vertex: u32,
+    mover: Option<Player>,
+    moves: &[Option<u32>],
+    out: &mut Vec<u8>,
+) -> Result<(), AllocError>
+    requires features { game.now.features ≡ feature_count diagram.now.lines }
+    requires games { ArePageGames game.now diagram.now (choices decisions.now) games.now }
+    requires named { AreChoicesOf diagram.now.lines (choices decisions.now) }
+    requires hopeful { length hopeful.now ≡ length game.now.vertices }
+    requires dual { length dual.now ≡ length game.now.vertices }
+    requires vertex { vertex < length game.now.vertices }
+    ensures { OnOk result (Appends
+        (IsPartDrawn (scene_of game.now diagram.now) vertex decisions.now hopeful.now dual.now mover moves.now)
+        out.old.items out.new.items) }
+{
+    let marks = reachable(alloc, game, games.known(), mover, moves, vertex)?;
+    let verdicts = verdicts_by(alloc, games, game, hopeful, dual)?;
+    let names = VertexNames::none(alloc);
+    draw_part(
+        alloc,
+        game,
+        diagram.names(),
+        games.known(),
+        decisions,
+        &names,
+        &verdicts,
+        vertex,
+        &marks,
+        mover,
+        moves,
+        out,
+    )
+}
+
+/// The picture of what can be reached from the vertex, where the mover makes the listed moves.
+fn drawn(
+    alloc: Global,
+    order: &Order,
+    vertex: u32,
+    mover: Option<Player>,
+    moves: &[Option<u32>],
+    out: &mut Vec<u8>,
+) -> Result<(), AllocError>
+    requires { vertex < length order.now.game.vertices }
+    ensures { OnOk result (Appends
+        (IsPartDrawn (scene_of order.now.game order.now.diagram) vertex order.now.decisions order.now.hopeful
+        order.now.dual mover moves.now) out.old.items out.new.items) }
+{
+    part_over(
+        alloc,
+        order.game(),
+        order.diagram(),
+        order.games(),
+        order.decisions(),
+        order.hopeful(),
+        order.dual(),
+        vertex,
+        mover,
+        moves,
+        out,
+    )
+}
+
+/// The picture with the moves of a player, Even for the first table and Odd for the second, where the page says that
+/// this player wins.
+fn winning(
+    alloc: Global,
+    order: &Order,
+    mover: Which,
+    vertex: u32,
+    limits: Limits,
+    out: &mut Vec<u8>,
+) -> Result<(), AllocError>
+    requires { vertex < length order.now.game.vertices }
+    ensures { OnOk result (Appends
+        (DrawsWinning (scene_of order.now.game order.now.diagram) limits mover vertex order.now.decisions
+        order.now.hopeful order.now.dual) out.old.items out.new.items) }
+{
+    match winning_moves(alloc, order, mover, vertex, limits)? {
+        Moves::Winning(moves) => drawn(alloc, order, vertex, Some(player(mover)), &moves, out),
+        Moves::Nothing => drawn(alloc, order, vertex, None, &[], out),
+        Moves::Unsettled => lines::unsettled(out),
+    }
+}
+
+/// A picture of what matters at a vertex: where it is hopeless, what can be reached by Odd's moves that win in every
+/// product that is left; else where it is sure, by Even's; else whatever can be reached.
+pub(crate) fn part(
+    alloc: Global,
+    order: &Order,
+    vertex: u32,
+    limits: Limits,
+    out: &mut Vec<u8>,
+) -> Result<(), AllocError>
+    requires { vertex < length order.now.game.vertices }
+    ensures { OnOk result (Appends
+        (TellsPart (scene_of order.now.game order.now.diagram) limits vertex order.now.decisions order.now.hopeful
+        order.now.dual) out.old.items out.new.items) }
+{
+    if has_top(order, Which::Hopeful, vertex) {
+        winning(alloc, order, Which::Dual, vertex, limits, out)
+    } else if has_top(order, Which::Dual, vertex) {
+        winning(alloc, order, Which::Hopeful, vertex, limits, out)
+    } else {
+        drawn(alloc, order, vertex, None, &[], out)
+    }
+}
