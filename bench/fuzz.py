@@ -68,10 +68,10 @@ REFUSED = (
 )
 # a line of a picture
 DRAWN = (
-    rb'digraph game \{|  graph \[label="decisions' + SIGNED + rb'", labelloc=t, rankdir=LR\];|  node \[style=filled\];'
+    rb'digraph (?:game|part) \{|  graph \[label="decisions' + SIGNED + rb'", labelloc=t, rankdir=LR\];|  node \[style=filled\];'
     + rb"|  " + N + rb' \[shape=(?:diamond|box), label="' + N + rb" : " + N
-    + rb'", fillcolor=[a-z]+, color=[a-z0-9]+\];|  ' + N + rb" -> " + N + rb' \[(?:label="[^"\n]+", )?style='
-    + rb"(?:solid|(?:dashed|dotted), color=[a-z0-9]+, fontcolor=[a-z0-9]+)\];|\}"
+    + rb'"(?:, penwidth=3)?, fillcolor=[a-z]+, color=[a-z0-9]+\];|  ' + N + rb" -> " + N + rb' \[(?:label="[^"\n]+", )?style='
+    + rb'(?:solid(?:, color="#[0-9a-f]{6}", penwidth=2\.6)?|(?:dashed|dotted), color=[a-z0-9]+, fontcolor=[a-z0-9]+)\];|\}'
 )
 ANSWERS = re.compile(
     rb"(?:(?:(?:(?:done|undone|redone|kept|forgotten|added|harvest|settled|unsettled|entries|plans|spoils|changed|offers|hopeless|possible|sure|unsure) " + N + rb"|" + REFUSED
@@ -170,7 +170,7 @@ BUILT_IN = (b"parity 1; 0 1 0 1[f],0; 1 2 1 0[g],1;", b"root r\noptional r f\nop
 RICH = (
     b'parity 9; start 1;\n1 1 0 2[a & !(b | c)],3 "one";\n2 4 1 1[!a],3[d],3[!d & true];\n3 3 0 3[(a | b) & (c | d)],1;\n9 0 1;\n',
     b"root r\nmandatory r a\noptional r b\nalternative b: c d\nor a: e f g\ngroup r 1 2: h i j\nrequires c e\nexcludes d h\n",
-    b"2: select b\nsettle 3\nharvest\n64: exclude c\ncommit 1\nlift dual 9\nkeep 1\nplan\ncount\ndraw\nchanged\nforced\nempty\nknown b\nshow 3 1\nassert 1 possible sure\nassert full\nwhy 1\nwhy b\nwhy +a\nexample 1\ncounterexample 0\nlost 1\nwon 0\noffer 3\nneeds 1\nrepair 1\nspoil 3\nplan 1\nproducts\nretract b\nsettle\nshow\n",
+    b"2: select b\nsettle 3\nharvest\n64: exclude c\ncommit 1\nlift dual 9\nkeep 1\nplan\ncount\ndraw\nchanged\nforced\nempty\nknown b\nshow 3 1\nassert 1 possible sure\nassert full\nwhy 1\nwhy b\nwhy +a\nexample 1\ncounterexample 0\nlost 1\nwon 0\noffer 3\nneeds 1\nrepair 1\nspoil 3\nplan 1\ndraw 3\nproducts\nretract b\nsettle\nshow\n",
 )
 
 
