@@ -40,13 +40,16 @@ draws_part game diagram decisions games are features hopeful dual vertex mover m
     let same : game ≡ named_game (scene_of game diagram) = λ i. record { vertices = named_again game.vertices i; features = features i } in
     on_ok r _ _ (λ appended. (
       part_drawing names known (map literal_of decisions) labels verdicts game vertex marks mover moves,
-      (record {
-        known = games.known;
-        is_known = are.known;
-        marks = marks;
-        reachable = reachable;
-        drawn = λ i. part_drawing (names_are i) (known_is i) (map literal_of decisions) (labels_are i) (verdicts_are i) (same i) vertex marks mover moves;
-      }, appended),
+      (
+        record {
+          known = games.known;
+          is_known = are.known;
+          marks = marks;
+          reachable = reachable;
+          drawn = λ i. part_drawing (names_are i) (known_is i) (map literal_of decisions) (labels_are i) (verdicts_are i) (same i) vertex marks mover moves;
+        },
+        appended,
+      ),
     ))
 
 module _ (order : OrderView) (limits : Limits) (vertex : ℕ) (before after : List ℕ) where
@@ -65,11 +68,18 @@ module _ (order : OrderView) (limits : Limits) (vertex : ℕ) (before after : Li
   -- with moves that win
   pub draws_moves : (mover : Which) (player : Player) (moves items : List (Option ℕ)) → player ≡ loser mover → moves ≡ items →
       AreWinning (graph_of order.game) order.diagram.lines (choices order.decisions) mover vertex items → Drawn (Some player) moves → Wins mover
-  draws_moves mover player moves items own same are (text, (drawn, appended)) = (text, (
-    inl (items, are, subst (λ (p : Player). IsPartDrawn page vertex order.decisions order.hopeful order.dual (Some p) items text) own
-    (subst (λ (ms : List (Option ℕ)). IsPartDrawn page vertex order.decisions order.hopeful order.dual (Some player) ms text) same drawn)),
-    appended,
-  ))
+  draws_moves mover player moves items own same are (text, (drawn, appended)) = (
+    text,
+    (
+      inl (
+        items,
+        are,
+        subst (λ (p : Player). IsPartDrawn page vertex order.decisions order.hopeful order.dual (Some p) items text) own
+            (subst (λ (ms : List (Option ℕ)). IsPartDrawn page vertex order.decisions order.hopeful order.dual (Some player) ms text) same drawn),
+      ),
+      appended,
+    ),
+  )
 
   pub draws_all : (mover : Which) (moves : List (Option ℕ)) → moves ≡ [] → NoneWinsUnder (graph_of order.game) order.diagram.lines (choices order.decisions) mover vertex → Drawn None moves → Wins mover
   draws_all mover moves same none (text, (drawn, appended)) =

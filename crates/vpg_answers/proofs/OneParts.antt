@@ -41,7 +41,7 @@ module _ (scene : Scene) (limits others : Limits) (vertex : ℕ) (decisions : Li
   part_one mover moves one other a b =
       let known : b.known ≡ a.known = known_is_one scene.lines (choices decisions) b.known a.known b.is_known a.is_known in
       let marks : b.marks ≡ a.marks = marks_one scene.game a.known mover moves vertex b.marks a.marks
-          (subst (λ (k : List Tri). AreReachable scene.game k mover moves vertex b.marks) known b.reachable) a.reachable in
+      (subst (λ (k : List Tri). AreReachable scene.game k mover moves vertex b.marks) known b.reachable) a.reachable in
       a.drawn
       ∙ sym (λ i. part_drawing scene.names (known i) (choices decisions) [] (verdicts_by scene.game hopeful dual) (named_game scene) vertex (marks i) mover moves)
       ∙ sym b.drawn

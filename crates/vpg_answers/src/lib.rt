@@ -4,9 +4,10 @@
 //! page, or a `VertexQuestion`. Those are: why the vertex has its verdicts, which product is left and won or lost at
 //! it, what each further decision would make of it, what every product has that is left and won at it, what to retract
 //! so that it is possible, why it is lost (or won) in every product that is left, by which moves Odd (or Even) wins
-//! from it in all of them, and a picture of what can be reached from it, by such moves where there are some. Or it is a `PageQuestion`: what every product has that is left, and which decisions leave
-//! none. The crate of scripts has these questions, since its lines spell them. This one asks the crates of reasons and
-//! of moves below, and appends the lines. The layer above answers lines of scripts by it; it changes nothing.
+//! from it in all of them, and a picture of what can be reached from it, by such moves where there are some. Or it is a
+//! `PageQuestion`: what every product has that is left, and which decisions leave none. The crate of scripts has these
+//! questions, since its lines spell them. This one asks the crates of reasons and of moves below, and appends the
+//! lines. The layer above answers lines of scripts by it; it changes nothing.
 //!
 //! An answer is a function of the page where no limit was met (`laws::answers_are_one`), and none is met where the
 //! limits leave room. Where one was, the text says so: ` or fewer`, decisions that suffice and of which some may be

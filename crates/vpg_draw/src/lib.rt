@@ -9,8 +9,8 @@
 //! `draw_features` draws the features by what is known of them, and the lines of a diagram's text as edges and groups.
 //!
 //! `specs/Labels` says what stands between quotes, `specs/GameDrawing`, `specs/PartDrawing` and `specs/FeatureDrawing`
-//! what the pictures are. Graphviz's documentation has the language; the choice of shapes and colours is this project's own, with the
-//! owners' shapes of PGSolver.
+//! what the pictures are. Graphviz's documentation has the language; the choice of shapes and colours is this project's
+//! own, with the owners' shapes of PGSolver.
 #![tactic(auto)]
 
 mod features;

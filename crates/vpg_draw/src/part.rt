@@ -56,7 +56,8 @@ fn vertex_if(
 ) -> Result<(), AllocError>
     requires { v < length game.now.vertices }
     ensures { OnOk result (out.new.items ≡ out.old.items
-        ++ (if is_marked then part_vertex_text (slice_index_or game.now.vertices v no_vertex) name.now verdict (v == first) else [])) }
+        ++ (if is_marked then part_vertex_text (slice_index_or game.now.vertices v no_vertex) name.now verdict
+        (v == first) else [])) }
 {
     if is_marked {
         vertex(game, v, name, verdict, v == first, out)?;
@@ -220,7 +221,8 @@ fn edges_if(
     requires features { length features.now ≡ game.now.features }
     requires v { v < length game.now.vertices }
     ensures { OnOk result (out.new.items ≡ out.old.items
-        ++ (if is_marked then part_edges_text features.now known.now game.now.vertices (slice_index_or game.now.vertices v no_vertex)
+        ++ (if is_marked then part_edges_text features.now known.now game.now.vertices
+        (slice_index_or game.now.vertices v no_vertex)
         mover listed else [])) }
 {
     if is_marked {
@@ -260,7 +262,17 @@ fn all_edges(
     let count = game.vertices() as u32;
     for v in 0..count {
         let listed = move_of(moves, v);
-        edges_if(alloc, features, known, game, v, mover, listed, marks[v as usize], out)?;
+        edges_if(
+            alloc,
+            features,
+            known,
+            game,
+            v,
+            mover,
+            listed,
+            marks[v as usize],
+            out,
+        )?;
     }
     Ok(())
 }
@@ -287,8 +299,8 @@ fn heading(features: &Names, decisions: &[Decision], out: &mut Vec<u8>) -> Resul
 /// a thick border round the first one, and of their edges those that are not known to be left out. Of the vertices of
 /// the mover, where there is one, the listed move alone is drawn: thick, green for Even and red for Odd.
 ///
-/// `known` has what is known of each feature, `verdicts` one verdict and `marks` one mark for each vertex. A vertex past
-/// the end of `moves` has no move. `Err` leaves the text as it was.
+/// `known` has what is known of each feature, `verdicts` one verdict and `marks` one mark for each vertex. A vertex
+/// past the end of `moves` has no move. `Err` leaves the text as it was.
 pub fn draw_part(
     alloc: Global,
     game: &GuardedGame,
@@ -317,7 +329,16 @@ pub fn draw_part(
     let mut text = Vec::new(alloc);
     heading(features, decisions, &mut text)?;
     vertices(game, names, verdicts, first, marks, &mut text)?;
-    all_edges(alloc, features, known.values(), game, marks, mover, moves, &mut text)?;
+    all_edges(
+        alloc,
+        features,
+        known.values(),
+        game,
+        marks,
+        mover,
+        moves,
+        &mut text,
+    )?;
     text.extend_from_slice(b"}\n")?;
     out.extend_from_slice(&text)
 }

@@ -130,6 +130,14 @@ pub fn reachable(
     let mut marks = vec![in alloc; false; game.vertices()]?;
     let mut queue = Vec::new(alloc);
     note(&mut marks, &mut queue, first)?;
-    search(game, known.values(), mover, moves, first, &mut marks, &mut queue)?;
+    search(
+        game,
+        known.values(),
+        mover,
+        moves,
+        first,
+        &mut marks,
+        &mut queue,
+    )?;
     Ok(marks)
 }

@@ -6,8 +6,8 @@
 //! `lift`, `harvest`, `commit`, `settle`, `changed` and `known`; what is looked at of the page, a `Lookup`: `show`,
 //! `trail`, `products`, `plan`, `count`, `draw` and `assert`; and what is asked of it, an `Inquiry`: `why`, `example`,
 //! `counterexample`, `offer`, `needs`, `repair`, `lost`, `won`, `spoil`, `plan` and `draw` of a vertex, `forced` and
-//! `empty`. Each other first word is a fault of its line. A further question of a vertex is a `VertexQuestion` more, and one of
-//! the page as a whole a `PageQuestion`: the crate of answers has to know it, and the crate of runs does not.
+//! `empty`. Each other first word is a fault of its line. A further question of a vertex is a `VertexQuestion` more,
+//! one of the page as a whole a `PageQuestion`: the crate of answers has to know it, and the crate of runs does not.
 //!
 //! This crate knows no desk: what a request does is its server's, and `answer_script` holds for each. The crate of runs
 //! above serves a desk. `Device` makes a `Source` of each reader, and a `Sink` of each writer.
