@@ -68,10 +68,13 @@ REFUSED = (
 )
 # a line of a picture
 DRAWN = (
-    rb'digraph (?:game|part) \{|  graph \[label="decisions' + SIGNED + rb'", labelloc=t, rankdir=LR\];|  node \[style=filled\];'
+    rb"digraph (?:game|part) \{"
+    + rb'|  graph \[label="decisions' + SIGNED + rb'", labelloc=t, rankdir=LR\];|  node \[style=filled\];'
     + rb"|  " + N + rb' \[shape=(?:diamond|box), label="' + N + rb" : " + N
-    + rb'"(?:, penwidth=3)?, fillcolor=[a-z]+, color=[a-z0-9]+\];|  ' + N + rb" -> " + N + rb' \[(?:label="[^"\n]+", )?style='
-    + rb'(?:solid(?:, color="#[0-9a-f]{6}", penwidth=2\.6)?|(?:dashed|dotted), color=[a-z0-9]+, fontcolor=[a-z0-9]+)\];|\}'
+    + rb'"(?:, penwidth=3)?, fillcolor=[a-z]+, color=[a-z0-9]+\];'
+    + rb"|  " + N + rb" -> " + N + rb' \[(?:label="[^"\n]+", )?style='
+    + rb'(?:solid(?:, color="#[0-9a-f]{6}", penwidth=2\.6)?'
+    + rb"|(?:dashed|dotted), color=[a-z0-9]+, fontcolor=[a-z0-9]+)\];|\}"
 )
 ANSWERS = re.compile(
     rb"(?:(?:(?:(?:done|undone|redone|kept|forgotten|added|harvest|settled|unsettled|entries|plans|spoils|changed|offers|hopeless|possible|sure|unsure) " + N + rb"|" + REFUSED
