@@ -338,9 +338,9 @@ pub static COMMANDS: [Form; 31] = [
     },
     Form {
         word: "draw",
-        written: "draw",
-        parts: &[],
-        optional: 0,
+        written: "draw [V]",
+        parts: &[Part::Vertex],
+        optional: 1,
         rest: None,
     },
     Form {

@@ -34,7 +34,9 @@ harvest's number, N a number):
   products, plan         known features; Even's moves, where all is known
   count                  how many vertices have which verdict; whether the page
                          is settled, and full
-  draw                   a picture of the game, for Graphviz
+  draw                   a picture of the game, for Graphviz;
+  draw V                 the same of what can be reached from V, by moves that
+                         win in every product left, where V is hopeless or sure
   changed                verdicts that are other than at the last `changed`
   known F                whether F is known to be in or out
   assert V WORD ..       whether V is hopeless, possible, sure or unsure, and
