@@ -441,7 +441,7 @@ static OTHER_VERDICTS: [Row; 2] = [
     },
 ];
 
-static PICTURES: [Row; 1] = [
+static PICTURES: [Row; 2] = [
     // A name of a vertex is not drawn.
     Row {
         diagram: DIAGRAM,
@@ -458,6 +458,36 @@ static PICTURES: [Row; 1] = [
             [shape=box, label=\"0 : 2\", fillcolor=honeydew, color=darkgreen]; /   7 -> 7 [style=solid]; /   7 \
             -> 0 [label=\"!g | f & !!r\", style=dotted, color=gray70, fontcolor=gray50]; /   0 -> 7 \
             [label=\"!(f | g)\", style=dotted, color=gray70, fontcolor=gray50]; /   0 -> 0 [style=solid]; / }",
+    },
+    // What can be reached: over any edge that may be there, by Odd's moves, by Even's, and where an edge is gone.
+    Row {
+        diagram: "root r / optional r a / optional r b / optional r c",
+        game: "0 1 1 1,2[c]; 1 1 0 0,3[a]; 2 0 1 2; 3 1 1 3; 4 0 0 4[b],5; 5 0 0 4,5[c];",
+        script: "draw 1 / settle / draw 0 / draw 4 / exclude a / settle / 2: draw 1 / draw 7",
+        answers: "\
+            digraph part { /   graph [label=\"decisions\", labelloc=t, rankdir=LR]; /   node \
+            [style=filled]; /   0 [shape=box, label=\"0 : 1\", fillcolor=white, color=gray40]; /   1 \
+            [shape=diamond, label=\"1 : 1\", penwidth=3, fillcolor=white, color=gray40]; /   2 [shape=box, \
+            label=\"2 : 0\", fillcolor=white, color=gray40]; /   3 [shape=box, label=\"3 : 1\", \
+            fillcolor=white, color=gray40]; /   0 -> 1 [style=solid]; /   0 -> 2 [label=\"c\", \
+            style=dashed, color=steelblue, fontcolor=steelblue]; /   1 -> 0 [style=solid]; /   1 -> 3 \
+            [label=\"a\", style=dashed, color=steelblue, fontcolor=steelblue]; /   2 -> 2 [style=solid]; \
+            /   3 -> 3 [style=solid]; / } / settled 6 / digraph part { /   graph [label=\"decisions\", \
+            labelloc=t, rankdir=LR]; /   node [style=filled]; /   0 [shape=box, label=\"0 : 1\", \
+            penwidth=3, fillcolor=mistyrose, color=firebrick]; /   1 [shape=diamond, label=\"1 : 1\", \
+            fillcolor=mistyrose, color=firebrick]; /   3 [shape=box, label=\"3 : 1\", fillcolor=mistyrose, \
+            color=firebrick]; /   0 -> 1 [style=solid, color=\"#b03a1e\", penwidth=2.6]; /   1 -> 0 \
+            [style=solid]; /   1 -> 3 [label=\"a\", style=dashed, color=steelblue, fontcolor=steelblue]; \
+            /   3 -> 3 [style=solid, color=\"#b03a1e\", penwidth=2.6]; / } / digraph part { /   graph \
+            [label=\"decisions\", labelloc=t, rankdir=LR]; /   node [style=filled]; /   4 [shape=diamond, \
+            label=\"4 : 0\", penwidth=3, fillcolor=honeydew, color=darkgreen]; /   5 [shape=diamond, \
+            label=\"5 : 0\", fillcolor=honeydew, color=darkgreen]; /   4 -> 5 [style=solid, \
+            color=\"#3f7d2c\", penwidth=2.6]; /   5 -> 4 [style=solid, color=\"#3f7d2c\", penwidth=2.6]; / \
+            } / done 1 / settled 0 / digraph part { /   graph [label=\"decisions -a\", labelloc=t, \
+            rankdir=LR]; /   node [style=filled]; /   0 [shape=box, label=\"0 : 1\", fillcolor=mistyrose, \
+            color=firebrick]; /   1 [shape=diamond, label=\"1 : 1\", penwidth=3, fillcolor=mistyrose, \
+            color=firebrick]; /   0 -> 1 [style=solid, color=\"#b03a1e\", penwidth=2.6]; /   1 -> 0 \
+            [style=solid]; / } / refused NoVertex",
     },
 ];
 
