@@ -1,3 +1,4 @@
 pub mod Caution
+pub mod Edges
 pub mod Plays
 pub mod Searching

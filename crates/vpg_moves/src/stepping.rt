@@ -1,5 +1,5 @@
 //! What can be reached over edges that may be there.
-ghost use Rattle.std.specs.Prelude.{◌≡◌, ◌≢◌, ◌↔◌, ◌<◌, ◌×◌, ℕ, None, Some, IfOk, IsTrue, OnOk, length, slice_index_or, true, false};
+ghost use Rattle.std.specs.Prelude.{◌≡◌, ◌≢◌, ◌↔◌, ◌<◌, ℕ, None, Some, IfOk, IsTrue, OnOk, length, slice_index_or, true, false};
 ghost use Rattle.vpg_guards.specs.Formula.{IsBelow};
 ghost use Rattle.vpg_guards.specs.Known.{kleene};
 ghost use Rattle.vpg_game.specs.Game.{graph_of, vertex_in};
