@@ -1,4 +1,3 @@
-pub mod Drawing
 pub mod Moving
 pub mod Offering
 pub mod One
@@ -6,6 +5,7 @@ pub mod OneMoves
 pub mod OneOffers
 pub mod OneParts
 pub mod OneRepairs
+pub mod Pictures
 pub mod Repairing
 pub mod Telling
 pub mod Trying

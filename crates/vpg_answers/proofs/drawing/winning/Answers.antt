@@ -1,0 +1,23 @@
+use Rattle.std.proofs.Common.{◌≡◌, ◌∙◌, refl}
+use Rattle.vpg_texts.proofs.Shown.{on_ok}
+use Rattle.vpg_answers.proofs.Pictures.{draws_moves, draws_all, draws_short}
+use Rattle.vpg_answers.proofs.drawing.winning.Goals as goal
+
+pub returns-in-Winning : goal.returns-in-Winning
+returns-in-Winning c =
+    let are = rw c.in-Winning.is at c.in_ok-moves.ensures.found in
+    on_ok c.drawn.result _ _
+    (λ drawn. draws_moves c.args.order.now c.args.limits c.args.vertex c.args.out.now.items c.drawn.new.out.items c.args.mover c.player.result
+    c.deref.result.now c.in-Winning.moves.items c.player.ensures c.deref.ensures.value are drawn) c.drawn.ensures
+
+pub returns-in-Nothing : goal.returns-in-Nothing
+returns-in-Nothing c =
+    let none = rw c.in-Nothing.is at c.in_ok-moves.ensures.found in
+    on_ok c.drawn-in-Nothing.result _ _
+    (λ drawn. draws_all c.args.order.now c.args.limits c.args.vertex c.args.out.now.items c.drawn-in-Nothing.new.out.items c.args.mover _ refl none drawn) c.drawn-in-Nothing.ensures
+
+pub returns-in-Unsettled : goal.returns-in-Unsettled
+returns-in-Unsettled c =
+    on_ok c.unsettled.result _ _
+    (λ appended. draws_short c.args.order.now c.args.limits c.args.vertex c.args.out.now.items c.unsettled.new.out.items c.args.mover
+    (λ settles. c.in_ok-moves.ensures.settled settles c.in-Unsettled.is) appended) c.unsettled.ensures
