@@ -4,6 +4,7 @@ ghost use Rattle.std.specs.Prelude.{◌≡◌, ◌≤◌, length, IfSome};
 use std::alloc::Global;
 use std::cell::Cell;
 use std::test::*;
+use vpg_family::Family;
 use vpg_script::{Device, Sink, Source};
 use vpg_terminal::{Ear, Heard, Setting, Typed};
 
@@ -16,7 +17,7 @@ struct Typing {
     said: &'static str,
 }
 
-static TYPINGS: [Typing; 9] = [
+static TYPINGS: [Typing; 10] = [
     Typing {
         typed: "",
         answers: &[],
@@ -42,6 +43,14 @@ static TYPINGS: [Typing; 9] = [
         said: ">   undo     takes back\n           a change\n> no such command; `help` lists them\n\
             > select F, exclude F      decides\n  undo     takes back\n           a change\n\
             > line:4:1: found `help`; expected a command\n  hint: is `keep` meant?\n> ",
+    },
+    // A feature that was perhaps meant.
+    Typing {
+        typed: "select ff\n3:  why -G\n",
+        answers: &["refused UnknownFeature\n", "refused UnknownFeature\n"],
+        handed: "select ff\n3:  why -G\n",
+        said: "> line:1:8: found `ff`; expected the name of a feature of the diagram\n  hint: is `f` meant?\n\
+            > line:2:10: found `G`; expected the name of a feature of the diagram\n> ",
     },
     // A refused decision is explained, under a label too.
     Typing {
@@ -96,6 +105,10 @@ static TYPINGS: [Typing; 9] = [
 const COMMANDS: &str =
     "select F, exclude F      decides\n  undo     takes back\n           a change";
 
+const DIAGRAM: &str = "root r\noptional r f\noptional r g\n";
+
+const GAME: &str = "7 0 0 7;";
+
 /// Answers a line that was handed on, as a run does.
 fn answer<W: Sink>(row: &Typing, lines: usize, writer: &mut W) -> Option<()> {
     match row.answers.get(lines) {
@@ -141,9 +154,11 @@ impl<R: Source + Drop> Counted<R> {
 
 /// What is handed on of a row, and what is said, with so many bytes a read.
 fn typed(alloc: Global, row: &Typing, most: usize) -> Option<(Vec<u8>, Vec<u8>)> {
+    let family = Family::read(alloc, DIAGRAM.as_bytes(), GAME.as_bytes()).ok()?;
     let heard = Cell::new(Heard::Nothing);
     let setting = Setting {
         commands: COMMANDS,
+        features: family.diagram.names(),
         is_prompted: true,
         start: Some(7),
         heard: &heard,

@@ -8,15 +8,16 @@ use Rattle.vpg_terminal.specs.declared.hearing.Heard.TheVariants as hears
 abbrev pub begins : List ℕ → List ℕ → Bool
 begins text word = starts_with nat_eq text word
 
--- What an answer tells: that the line is no command, that a decision contradicts the page, that the page was swept, or
--- that the vertex of a line of `show` is hopeless.
+-- What an answer tells: that the line is no command, that no feature has the name, that a decision contradicts the
+-- page, that the page was swept, or that the vertex of a line of `show` is hopeless.
 abbrev pub heard_of : List ℕ → Heard
 heard_of answer =
     if begins answer (codes "refused Word") || begins answer (codes "refused Args") then hears.Fault
+    else (if begins answer (codes "refused UnknownFeature") then hears.Unknown
     else (if begins answer (codes "refused Conflict ") then hears.Conflict
     else (if begins answer (codes "settled ") || begins answer (codes "unsettled ") then hears.Swept
     else (if begins (behind_word (behind_word (behind_word answer))) (codes "hopeless ") then hears.Hopeless
-    else hears.Nothing)))
+    else hears.Nothing))))
 
 -- the line `why +F` or `why -F`, by the byte of its sign
 abbrev pub why_line : ℕ → List ℕ → List ℕ

@@ -11,6 +11,8 @@ use vpg_script::{Failed, Sink};
 pub enum Heard {
     /// The line is no command.
     Fault,
+    /// No feature has the name that the line ends in.
+    Unknown,
     /// A decision contradicts the page.
     Conflict,
     /// The page was swept.
@@ -27,6 +29,8 @@ pub fn heard_of(answer: &[u8]) -> Heard
 {
     if answer.starts_with(b"refused Word") || answer.starts_with(b"refused Args") {
         Heard::Fault
+    } else if answer.starts_with(b"refused UnknownFeature") {
+        Heard::Unknown
     } else if answer.starts_with(b"refused Conflict ") {
         Heard::Conflict
     } else if answer.starts_with(b"settled ") || answer.starts_with(b"unsettled ") {

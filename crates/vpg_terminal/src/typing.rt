@@ -7,8 +7,9 @@ use crate::help::put_command;
 use std::alloc::{AllocError, Global};
 use std::cell::Cell;
 use std::mem;
-use vpg_lint::{explain_line, put_message};
-use vpg_places::{Word, words_of};
+use vpg_guards::Names;
+use vpg_lint::{explain_line, put_message, put_place, put_unknown};
+use vpg_places::{Line, Word, words_of};
 use vpg_script::{Failed, Next, Sink, Source, next_line};
 
 /// What stands before each line on a terminal.
@@ -36,11 +37,12 @@ fn asked_of<'l>(words: &[Word<'l>]) -> Asked<'l> {
     }
 }
 
-/// What a session is given: the list of commands, whether it writes prompts, the identifier of the vertex where the
-/// game starts, and what was heard of the last answer.
+/// What a session is given: the list of commands, the names of features, whether it writes prompts, the identifier of
+/// the vertex where the game starts, and what was heard of the last answer.
 #[derive(Clone, Copy)]
 pub struct Setting<'c> {
     pub commands: &'c str,
+    pub features: &'c Names,
     pub is_prompted: bool,
     pub start: Option<u32>,
     pub heard: &'c Cell<Heard>,
@@ -127,6 +129,42 @@ fn tell_fault<W: Sink>(
     let mut text = Vec::new(alloc);
     put_message("line", &message, &mut text)?;
     let _ = talk.put(&text);
+    Ok(())
+}
+
+/// The name that a word says, which may have the sign of a decision before it, and where it stands.
+fn name_in<'l>(word: Word<'l>) -> Word<'l> {
+    match word.bytes {
+        [b'+' | b'-', bytes @ ..] => Word {
+            at: word.at.saturating_add(1),
+            bytes,
+        },
+        _ => word,
+    }
+}
+
+/// Says of a line which feature was perhaps meant by its last word.
+fn tell_unknown<W: Sink>(
+    alloc: Global,
+    number: usize,
+    line: &[u8],
+    features: &Names,
+    talk: &mut W,
+) -> Result<(), AllocError> {
+    let bytes = line.strip_suffix(b"\n").unwrap_or(line);
+    let words = words_of(alloc, bytes, false)?;
+    if let Some(last) = words.last() {
+        let name = name_in(*last);
+        let line = Line {
+            number,
+            from: 0,
+            bytes,
+        };
+        let mut text = Vec::new(alloc);
+        put_place("line", line.place(name.at), &mut text)?;
+        put_unknown(alloc, features, name.bytes, &mut text)?;
+        let _ = talk.put(&text);
+    }
     Ok(())
 }
 
@@ -247,12 +285,26 @@ impl<'c, R: Source, W: Sink> Session<'c, R, W> {
         }
     }
 
+    /// Says what is wrong with the line that was answered, where something is.
+    fn explain(&mut self, heard: Heard) {
+        // Where this fails the answers are still to come.
+        let _ = match heard {
+            Heard::Fault => tell_fault(self.alloc, self.typed, &self.line, &mut self.talk),
+            Heard::Unknown => tell_unknown(
+                self.alloc,
+                self.typed,
+                &self.line,
+                self.setting.features,
+                &mut self.talk,
+            ),
+            _ => Ok(()),
+        };
+    }
+
     /// The next line, of the session itself or typed.
     fn next(&mut self) -> Result<(), Failed> {
         let heard = self.setting.heard.replace(Heard::Nothing);
-        if matches!(heard, Heard::Fault) {
-            let _ = tell_fault(self.alloc, self.typed, &self.line, &mut self.talk);
-        }
+        self.explain(heard);
         match self.own(heard) {
             Ok(true) => Ok(()),
             Ok(false) => self.listen(),

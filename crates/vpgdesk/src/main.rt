@@ -182,6 +182,7 @@ fn converse<T: Threads + Wait + Sync, W: Sink + Drop>(
     threads: &T,
     alloc: Global,
     family: Family,
+    diagram: &Diagram,
     start: Option<u32>,
     lifters: u32,
     writer: W,
@@ -197,6 +198,7 @@ fn converse<T: Threads + Wait + Sync, W: Sink + Drop>(
     let heard = Cell::new(Heard::Nothing);
     let setting = Setting {
         commands: command_list(),
+        features: diagram.names(),
         is_prompted: rt.stdin().is_terminal(),
         start,
         heard: &heard,
@@ -238,9 +240,9 @@ fn sit<T: Threads + Wait + Sync>(
     if shows_names {
         let writer = Pictured::new(alloc, &diagram, &game, &names, writer);
         let writer = Named::new(alloc, &game, &names, writer);
-        return converse(rt, threads, alloc, family, start, lifters, writer);
+        return converse(rt, threads, alloc, family, &diagram, start, lifters, writer);
     }
-    converse(rt, threads, alloc, family, start, lifters, writer)
+    converse(rt, threads, alloc, family, &diagram, start, lifters, writer)
 }
 
 /// Writes a picture of a family.
