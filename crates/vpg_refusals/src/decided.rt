@@ -42,7 +42,7 @@ struct Making<'t> {
 }
 
 /// All three features decided in.
-const DECISIONS: [Decision; 3] = [
+pub(crate) const DECISIONS: [Decision; 3] = [
     Decision {
         serial: 1,
         session: 1,

@@ -15,6 +15,7 @@ mod decided;
 mod lookups;
 mod orders;
 mod reading;
+mod texts;
 mod trails;
 mod writing;
 
@@ -43,7 +44,8 @@ fn refuse<R: Wait>(rt: &R, heap: &mut Heap, report: &mut Report) -> Result<()> {
     writing::refuse(rt, heap, report)?;
     decided::refuse(rt, heap, report)?;
     orders::refuse(rt, heap, report)?;
-    trails::refuse(rt, heap, report)
+    trails::refuse(rt, heap, report)?;
+    texts::refuse(heap, report)
 }
 
 /// Makes each call with little memory, and writes what came of each.

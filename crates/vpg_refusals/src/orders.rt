@@ -1,8 +1,9 @@
 //! Orders of decisions.
 
 ghost use Rattle.std.specs.Arc.{arc_value};
-ghost use Rattle.std.specs.Prelude.{◌≡◌, ◌<◌, ◌↔◌, map, IsTrue, All};
+ghost use Rattle.std.specs.Prelude.{◌≡◌, ◌<◌, ◌↔◌, map, IsTrue, IfOk, All};
 ghost use Rattle.vpg_diagram.specs.FeatureDiagram.{feature_count};
+ghost use Rattle.vpg_measure.specs.Orders.{IsRaised};
 ghost use Rattle.vpg_partial.specs.Known.{literal_of};
 ghost use Rattle.vpg_partial.specs.TableLaws.{AreChoicesOf};
 
@@ -39,7 +40,7 @@ const DECISIONS: [Decision; 2] = [
 const ORDER_CALLS: &str = "Order::game, diagram, decisions, hopeful, dual, shape, arena";
 
 /// Whether a game has a diagram's features, and each decision is of one.
-fn fit(game: &GuardedGame, diagram: &Diagram, decisions: &[Decision]) -> bool
+pub(crate) fn fit(game: &GuardedGame, diagram: &Diagram, decisions: &[Decision]) -> bool
     ensures features { IsTrue result → game.now.features ≡ feature_count diagram.now.lines }
     ensures named { IsTrue result → AreChoicesOf diagram.now.lines (map literal_of decisions.now) }
 {
@@ -162,6 +163,46 @@ fn harvests_tell(order: Order) -> (bool, Order) {
     (one && alone, harvest.again())
 }
 
+/// One of an order's tables, which may stand in a harvest of it.
+fn own_table(order: &Order, which: Which) -> &Table
+    ensures { IsRaised which order.now result.now }
+{
+    order.table(which)
+}
+
+/// A copy of one of an order's tables.
+fn values_of(alloc: Global, order: &Order, which: Which) -> Result<Vec<u64>, AllocError>
+    ensures { IfOk result (λ values. IsRaised which order.now values.items) }
+{
+    let table = own_table(order, which);
+    Ok(Vec::from_slice(alloc, table.values())?)
+}
+
+/// Copies of both tables of an order.
+fn tables_of(alloc: Global, order: &Order) -> Result<(Vec<u64>, Vec<u64>), AllocError>
+    ensures hopeful { IfOk result (λ both. IsRaised Which.Hopeful order.now both.0.items) }
+    ensures dual { IfOk result (λ both. IsRaised Which.Dual order.now both.1.items) }
+{
+    let hopeful = values_of(alloc, order, Which::Hopeful)?;
+    let dual = values_of(alloc, order, Which::Dual)?;
+    Ok((hopeful, dual))
+}
+
+/// Whether the harvest of settled tables that are handed in with no memory tells what it has, and the order of that.
+fn handed_in(heap: &mut Heap, order: Order) -> (bool, Order) {
+    match tables_of(heap.alloc(), &order) {
+        Ok((hopeful, dual)) => {
+            heap.leave(0);
+            let harvest = Harvest::of(order, hopeful, dual);
+            let tells = harvest_tells(&harvest, 1, 2, true);
+            let order = harvest.again();
+            heap.relax();
+            (tells, order)
+        }
+        Err(_) => (false, order),
+    }
+}
+
 /// Asks an order, and harvests of it, with no memory.
 fn ask(heap: &mut Heap, report: &mut Report, order: Order) {
     heap.leave(0);
@@ -171,12 +212,14 @@ fn ask(heap: &mut Heap, report: &mut Report, order: Order) {
     heap.leave(0);
     let (tells, order) = harvests_tell(order);
     heap.relax();
-    let_go(order);
     report.note(
         heap,
         "Harvest::one, alone, check, value, again, order",
         told_of(tells),
     );
+    let (tells, order) = handed_in(heap, order);
+    let_go(order);
+    report.note(heap, "Harvest::of", told_of(tells));
 }
 
 /// Asks an order, where there is one.
