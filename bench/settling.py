@@ -45,8 +45,8 @@ HARD = [
 ]
 # the last is a family of this many vertices, or a game above
 UNIONS = [
-    ("ladder of 20", "random", 65536),
-    ("ladder of 20", "pump", 65536),
+    ("ladder of 20", "random", 65000),
+    ("ladder of 20", "pump", 65000),
     ("ladder of 28", "pump", 20000),
     ("ladder of 20", "climb, 2 of 4,000", 0),
     ("ladder of 20", "climb, 3 of 300", 0),
@@ -155,7 +155,8 @@ def games(folder, vertices):
         words = ["union", named(one, vertices), named(other, count)]
         yield f"{one} and {other}", hard(f"{one} and {other}", words), False
     for one, other, edges in JOINED:
-        words = ["joined", edges, named(one, vertices), named(other, vertices)]
+        # (so that both together have no more vertices than a game may)
+        words = ["joined", edges, named(one, vertices), named(other, int(vertices) - 536)]
         yield f"{one} joined with {other}", hard(f"{one} joined with {other}", words), False
     yield "climbed", f"{HERE}/climbed.game", False
 
