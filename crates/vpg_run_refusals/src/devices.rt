@@ -7,6 +7,7 @@ use std::io::{Read, Write};
 use std::sync::Wait;
 use std::thread::Threads;
 use vpg_report::RunFault;
+use vpg_scarce::{Heap, MOST_TRIES, more};
 
 /// A script that decides, settles and shows.
 const SCRIPT: &[u8] = b"exclude f\nsettle\nshow\ntrail\n";
@@ -147,6 +148,99 @@ pub(crate) fn writes<R: Threads + Wait + Sync>(
 ) -> bool {
     for calls in 0..=ANSWERS.len() {
         if !writes_so_far(rt, alloc, family, bytes, calls) {
+            return false;
+        }
+    }
+    true
+}
+
+/// A run whose reader fails behind so many bytes, or whose writer fails at this call.
+#[derive(Clone, Copy)]
+enum Broken {
+    Reader(usize),
+    Writer(usize),
+}
+
+/// How a run with so much memory over such a device ends.
+fn broken_within<R: Threads + Wait + Sync>(
+    rt: &R,
+    heap: &mut Heap,
+    family: &Family,
+    broken: Broken,
+    got: &mut Vec<u8>,
+    bytes: usize,
+) -> Option<Result<(), RunFault>> {
+    let (given, fails, taken) = match broken {
+        Broken::Reader(calls) => (calls, true, usize::MAX),
+        Broken::Writer(calls) => (usize::MAX, false, calls),
+    };
+    let gives = Gives {
+        script: SCRIPT,
+        calls: given,
+        fails,
+    };
+    got.clear();
+    let takes = Takes {
+        got,
+        bytes: usize::MAX,
+        calls: taken,
+    };
+    heap.leave(bytes);
+    let ended = outcome(rt, heap.alloc(), family, 1, gives, takes);
+    heap.relax();
+    ended
+}
+
+/// Whether runs with more and more memory over such a device end in `Memory`, and then as the device fails, each behind
+/// a prefix of the answers. With more memory than that they come no further.
+fn breaks_so_far<R: Threads + Wait + Sync>(
+    rt: &R,
+    heap: &mut Heap,
+    family: &Family,
+    broken: Broken,
+    got: &mut Vec<u8>,
+) -> bool {
+    let mut bytes = 0;
+    for _ in 0..MOST_TRIES {
+        let ended = broken_within(rt, heap, family, broken, got, bytes);
+        if !ANSWERS.starts_with(got) {
+            return false;
+        }
+        match ended {
+            Some(Err(RunFault::Memory)) => bytes = more(bytes),
+            Some(Err(RunFault::Read)) => return matches!(broken, Broken::Reader(_)),
+            Some(Err(RunFault::Write)) => return matches!(broken, Broken::Writer(_)),
+            Some(Ok(())) => return got.as_slice() == ANSWERS && matches!(broken, Broken::Writer(_)),
+            _ => return false,
+        }
+    }
+    false
+}
+
+/// Whether each growth may be refused beside a reader that may fail behind each line.
+pub(crate) fn reads_with_little<R: Threads + Wait + Sync>(
+    rt: &R,
+    heap: &mut Heap,
+    family: &Family,
+    got: &mut Vec<u8>,
+) -> bool {
+    for (calls, _) in WRITTEN {
+        if !breaks_so_far(rt, heap, family, Broken::Reader(calls), got) {
+            return false;
+        }
+    }
+    true
+}
+
+/// Whether each growth may be refused beside a writer that may fail at each answer.
+pub(crate) fn writes_with_little<R: Threads + Wait + Sync>(
+    rt: &R,
+    heap: &mut Heap,
+    family: &Family,
+    got: &mut Vec<u8>,
+) -> bool {
+    for calls in 0..WRITTEN.len() {
+        if !breaks_so_far(rt, heap, family, Broken::Writer(calls), got) {
             return false;
         }
     }

@@ -2,8 +2,8 @@
 //!
 //! A script with a line for each command is run with no memory at all, and with sixteen bytes more each time, until it
 //! is run to its end. What a run wrote before it ended in `Memory` is each time a prefix of the answers. Then a reader
-//! and a writer fail at each of their calls in turn. Behind each run the office is ended: nothing has the game any
-//! more.
+//! and a writer fail at each of their calls in turn, with ample memory and with little. Behind each run the office is
+//! ended: nothing has the game any more.
 //!
 //! With a word after its name the program takes no memory from itself, marks each run for `bench/refused.py`, and has
 //! no device fail.
@@ -14,6 +14,7 @@ mod family;
 mod scripts;
 
 use crate::family::Family;
+use crate::scripts::MOST_BYTES;
 use anyhow::{Context, Result};
 use std::alloc::Global;
 use std::sync::Wait;
@@ -45,6 +46,20 @@ fn fail_devices<R: Threads + Wait + Sync + Print>(
     write_line(rt, "a writer of an answer a call", answers)
 }
 
+/// Has devices fail with little memory, and writes what came of it.
+fn fail_with_little<R: Threads + Wait + Sync + Print>(
+    rt: &R,
+    heap: &mut Heap,
+    family: &Family,
+) -> Result<()> {
+    let mut got = Vec::with_capacity(heap.alloc(), MOST_BYTES)?;
+    let reads = devices::reads_with_little(rt, heap, family, &mut got);
+    write_line(rt, "a reader that fails, with little memory", reads)?;
+    let writes = devices::writes_with_little(rt, heap, family, &mut got);
+    write_line(rt, "a writer that fails, with little memory", writes)?;
+    Ok(())
+}
+
 fn main(rt: HostRuntime) -> Result<()> {
     let words: Vec<String> = env::args(&rt)?.collect(rt.alloc())?;
     let mut heap = Heap::new(rt.alloc(), words.len())?;
@@ -54,6 +69,7 @@ fn main(rt: HostRuntime) -> Result<()> {
     report.write(&rt, &heap)?;
     if !heap.is_marked() {
         fail_devices(&rt, rt.alloc(), &family)?;
+        fail_with_little(&rt, &mut heap, &family)?;
     }
     Ok(())
 }

@@ -26,7 +26,7 @@ const ANSWERS: &[u8] = b"\
     hopeless 0 -f\nunsure 0\nrepair -f\nrepairs 1\n";
 
 /// More than the answers have bytes.
-const MOST_BYTES: usize = 8192;
+pub(crate) const MOST_BYTES: usize = 8192;
 
 /// Runs the script with so much memory: how that ends.
 fn run_within<R: Threads + Wait + Sync>(
