@@ -19,7 +19,8 @@ What the table says of a wrong body:
     mismatch   only a proof file is in the way, also without those answers: this shows nothing of the contract
     PROVED     the contract lets the wrong body through
     compiler   refused by the compiler, as the edit's first line says
-    test       no contract speaks of it: the test fails that the edit's first line names
+    test       no contract speaks of it: the test fails that the edit's first line names, or the program that it names
+               writes something else than its stored output
     bad        it does not fit, or does not compile
     untried    no run has tried it to its end since the table is kept; the column `goal` says what is known of it
 
@@ -55,6 +56,7 @@ SIGNED = re.compile(r"(?:(?:pub|abbrev|unfoldable|opaque) )*([^\s(){},]+) :(?:\s
 GONE = re.compile(r"has no field|is not in scope|has no `|was not admitted")
 BY_COMPILER = "# refused by the compiler: "
 BY_TEST = "# refused by the test: "
+BY_ROW = "# refused by the row: "
 
 
 def copied(room):
@@ -174,6 +176,7 @@ class Body:
         lines = read(edit).decode().split("\n")
         self.compiler = lines[0][len(BY_COMPILER) :].strip() if lines[0].startswith(BY_COMPILER) else ""
         self.test = lines[0][len(BY_TEST) :].strip() if lines[0].startswith(BY_TEST) else ""
+        self.test = lines[0][len(BY_ROW) :].strip() if lines[0].startswith(BY_ROW) else self.test
         self.pairs = pairs_of(lines)
         self.why = RT.read_edit(edit, crate.folder)[1]
         self.place, self.functions = place_of(self.pairs, crate)
@@ -317,16 +320,31 @@ def cut(crate, body, wrong):
 
 
 def is_failing(crate, body, log):
-    """Whether the test that the body names, a crate and a name, fails with it: the tests of that crate are run, unproved, on a copy of the texts."""
+    """
+    Whether the test that the body names, a crate and a name, fails with it: the tests of that crate are run, unproved,
+    on a copy of the texts. Where it names a program alone, whether that writes something else than its stored output.
+    """
     above, _, test = body.test.partition(" ")
     with tempfile.TemporaryDirectory(prefix="wrong-body-") as top:
         shutil.copytree(os.curdir, top, ignore=shutil.ignore_patterns("out", "said-*"), dirs_exist_ok=True)
         for path, text in applied([body], crate.folder)[0].items():
             with open(f"{top}/crates/{crate.name}/{path}", "w", encoding="utf-8") as it:
                 it.write(text)
-        said = subprocess.run(["rt", "try", "--test"], cwd=f"{top}/crates/{above}", stdout=subprocess.PIPE, stderr=subprocess.STDOUT, text=True).stdout
+        folder = f"{top}/crates/{above}"
+        if not test:
+            return writes_otherwise(folder, body, log)
+        said = subprocess.run(["rt", "try", "--test"], cwd=folder, stdout=subprocess.PIPE, stderr=subprocess.STDOUT, text=True).stdout
     log.write(f"{body.name}\n{said}\n{'=' * 100}\n")
     return bool(re.search(rf"(?m)^test (\S+::)?{test} \.\.\. FAILED", said))
+
+
+def writes_otherwise(folder, body, log):
+    """Whether a program, run unproved over its data, ends and writes something else than its stored output."""
+    data = sorted(os.listdir(f"{folder}/data")) if os.path.isdir(f"{folder}/data") else []
+    words = [word for name in data for word in ("--data", f"{name}=data/{name}")]
+    ran = subprocess.run(["rt", "try", *words], cwd=folder, stdin=subprocess.DEVNULL, capture_output=True, text=True)
+    log.write(f"{body.name}\n{ran.stdout}\n{ran.stderr}\n{'=' * 100}\n")
+    return "run=ended" in ran.stderr and ran.stdout != read(f"{folder}/stdout").decode()
 
 
 def batches(bodies, most):
