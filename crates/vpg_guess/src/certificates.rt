@@ -14,17 +14,51 @@ use vpg_measure::{Certificate, Shape, Table};
 use vpg_regions::{Budget, Choices, PerVertex, Regions};
 
 // Values that a table is to be raised to, and the vertices where they exceed it.
-#[derive(Drop)]
 struct Raises {
     bounds: PerVertex<u64>,
     exceeding: Vec<u32>,
 }
 
+// Not derived, so that letting one go is one call: a derived way would be proved anew at each exit that owns one.
+impl Drop for Raises {
+    fn drop(self) {
+        let Raises {
+            bounds: _,
+            exceeding: _,
+        } = self;
+    }
+}
+
+impl Raises {
+    // Its values, shown by these ranks.
+    fn with_ranks(self, ranks: PerVertex<u64>) -> RankedBounds {
+        let Raises {
+            bounds,
+            exceeding: _,
+        } = self;
+        RankedBounds { bounds, ranks }
+    }
+
+    fn into_parts(self) -> (PerVertex<u64>, Vec<u32>) {
+        let Raises { bounds, exceeding } = self;
+        (bounds, exceeding)
+    }
+}
+
 // Bounds with the ranks that are to show them.
-#[derive(Drop)]
 struct RankedBounds {
     bounds: PerVertex<u64>,
     ranks: PerVertex<u64>,
+}
+
+// Not derived, so that letting one go is one call: a derived way would be proved anew at each exit that owns one.
+impl Drop for RankedBounds {
+    fn drop(self) {
+        let RankedBounds {
+            bounds: _,
+            ranks: _,
+        } = self;
+    }
 }
 
 // A table of these numbers, each cut to the top.
@@ -319,7 +353,7 @@ fn rank_by_game(
     table: &[u64],
     budget: &mut Budget,
 ) -> Result<RankedBounds, AllocError> {
-    let Raises { bounds, exceeding } = raises;
+    let (bounds, exceeding) = raises.into_parts();
     let solved = solve_raising(alloc, ground, &bounds, exceeding, budget)?;
     rank(alloc, ground, bounds, &solved, table, budget)
 }
@@ -334,10 +368,7 @@ fn rank_raises(
     budget: &mut Budget,
 ) -> Result<RankedBounds, AllocError> {
     match straight_ranks(alloc, ground, guess, &raises, table, budget)? {
-        Some(ranks) => {
-            let Raises { bounds, .. } = raises;
-            Ok(RankedBounds { bounds, ranks })
-        }
+        Some(ranks) => Ok(raises.with_ranks(ranks)),
         None => rank_by_game(alloc, ground, raises, table, budget),
     }
 }
@@ -349,12 +380,12 @@ fn ranked_top(
     table: &[u64],
     budget: &mut Budget,
 ) -> Result<Option<RankedBounds>, AllocError> {
-    let Raises { bounds, exceeding } = raises_to_top(alloc, ground, regions, table)?;
-    if exceeding.is_empty() {
+    let raises = raises_to_top(alloc, ground, regions, table)?;
+    if raises.exceeding.is_empty() {
         return Ok(None);
     }
-    let ranks = ranks_along(alloc, ground, &regions.choice, &exceeding, budget)?;
-    Ok(Some(RankedBounds { bounds, ranks }))
+    let ranks = ranks_along(alloc, ground, &regions.choice, &raises.exceeding, budget)?;
+    Ok(Some(raises.with_ranks(ranks)))
 }
 
 fn ranked(

@@ -11,10 +11,19 @@ use vpg_game::Player;
 use vpg_regions::{Budget, Choices, Graph, PerVertex, Regions};
 
 /// A guess of values, and choices. Odd's are those that win, where its value is the top.
-#[derive(Drop)]
 pub(crate) struct Guess {
     pub(crate) values: PerVertex<u64>,
     pub(crate) choice: Choices,
+}
+
+// Not derived, so that letting one go is one call: a derived way would be proved anew at each exit that owns one.
+impl Drop for Guess {
+    fn drop(self) {
+        let Guess {
+            values: _,
+            choice: _,
+        } = self;
+    }
 }
 
 /// How often lowering looks at all edges and vertices at most before strategies are valued again.
@@ -23,7 +32,6 @@ const LOWERINGS: u64 = 8;
 /// How often moves round even cycles are taken at most. They may raise a value, too, and then come again and again.
 const MOST_TURNS: u32 = 64;
 
-#[derive(Drop)]
 struct Improvement<'a> {
     graph: &'a Graph,
     scale: &'a Scale,
@@ -42,6 +50,27 @@ struct Improvement<'a> {
     waits: PerVertex<bool>,
     stack: Vec<u32>,
     evaluation: Evaluation,
+}
+
+// Not derived, so that letting one go is one call: a derived way would be proved anew at each exit that owns one.
+impl<'a> Drop for Improvement<'a> {
+    fn drop(self) {
+        let Improvement {
+            graph: _,
+            scale: _,
+            table: _,
+            choice: _,
+            values: _,
+            before: _,
+            open: _,
+            closed: _,
+            mark: _,
+            stamp: _,
+            waits: _,
+            stack: _,
+            evaluation: _,
+        } = self;
+    }
 }
 
 impl<'a> Improvement<'a> {
@@ -71,6 +100,25 @@ impl<'a> Improvement<'a> {
             stack: Vec::new(alloc),
             evaluation: Evaluation::new(alloc, vertices)?,
         })
+    }
+
+    fn into_guess(self) -> Guess {
+        let Improvement {
+            graph: _,
+            scale: _,
+            table: _,
+            choice,
+            values,
+            before: _,
+            open: _,
+            closed: _,
+            mark: _,
+            stamp: _,
+            waits: _,
+            stack: _,
+            evaluation: _,
+        } = self;
+        Guess { values, choice }
     }
 
     // The top where Odd is taken to win.
@@ -431,8 +479,7 @@ fn guess_over(
     let mut improvement = Improvement::new(alloc, ground, regions, table)?;
     improvement.lose(regions, vertices);
     improvement.run(alloc, region, budget)?;
-    let Improvement { values, choice, .. } = improvement;
-    Ok(Guess { values, choice })
+    Ok(improvement.into_guess())
 }
 
 /// Guesses the least progress table above a table that has its values but at some vertices: the top where Odd is taken

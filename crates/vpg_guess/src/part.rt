@@ -5,7 +5,6 @@ use std::alloc::{AllocError, Global};
 use vpg_regions::{Budget, Choices, Draft, Graph, solve_part};
 
 /// Vertices that move, and behind them the others that they move to, which have no moves here.
-#[derive(Drop)]
 pub(crate) struct Part {
     pub(crate) ground: GuessGround,
     /// The values that the table has there.
@@ -16,12 +15,34 @@ pub(crate) struct Part {
     moving: Vec<u32>,
 }
 
+// Not derived, so that letting one go is one call: a derived way would be proved anew at each exit that owns one.
+impl Drop for Part {
+    fn drop(self) {
+        let Part {
+            ground: _,
+            table: _,
+            vertices: _,
+            moving: _,
+        } = self;
+    }
+}
+
 // The vertices of a part, and the place of each among them.
-#[derive(Drop)]
 struct Numbered {
     vertices: Vec<u32>,
     places: Choices,
     count: u32,
+}
+
+// Not derived, so that letting one go is one call: a derived way would be proved anew at each exit that owns one.
+impl Drop for Numbered {
+    fn drop(self) {
+        let Numbered {
+            vertices: _,
+            places: _,
+            count: _,
+        } = self;
+    }
 }
 
 impl Numbered {
@@ -31,6 +52,15 @@ impl Numbered {
             places: Choices::none(alloc, vertices)?,
             count: 0,
         })
+    }
+
+    fn into_vertices(self) -> Vec<u32> {
+        let Numbered {
+            vertices,
+            places: _,
+            count: _,
+        } = self;
+        vertices
     }
 
     // Numbers those of some vertices that have no number.
@@ -140,11 +170,10 @@ impl Part {
         let values = numbered.values(alloc, table)?;
         let own = numbered.places_of(alloc, moving)?;
         let ground = ground_of(alloc, ground, &numbered, moving.len())?;
-        let Numbered { vertices, .. } = numbered;
         Ok(Part {
             ground,
             table: values,
-            vertices,
+            vertices: numbered.into_vertices(),
             moving: own,
         })
     }

@@ -38,6 +38,10 @@ const LOOKS_EACH: u64 = 128;
 
 const FEW: u64 = 16;
 
+/// What goes round is guessed at alone where it is less than one in so many of what moves; and again where it is half
+/// of what it was then.
+const LOCAL: usize = 16;
+
 /// How many edges and vertices a turn of lifts looks at while as many wait as before, until it ends.
 #[derive(Clone, Copy)]
 pub(crate) struct Patience {
@@ -59,7 +63,6 @@ impl Patience {
 
 /// The vertices that are to be looked at: those whose lift may exceed their value. And how often each rose in this
 /// turn, and in which turn each was found to move last.
-#[derive(Drop)]
 pub(crate) struct Waiting {
     waits: PerVertex<bool>,
     count: usize,
@@ -76,6 +79,32 @@ pub(crate) struct Waiting {
     turn: u8,
     // how often a vertex rises in a turn before it is taken to climb
     climbs: u8,
+    // how often fewer waited than before, and how often they had when each vertex rose last
+    falls: u16,
+    rose: PerVertex<u16>,
+    // how many went round when those alone were guessed at last
+    round: usize,
+}
+
+// Not derived, so that letting one go is one call: a derived way would be proved anew at each exit that owns one.
+impl Drop for Waiting {
+    fn drop(self) {
+        let Waiting {
+            waits: _,
+            count: _,
+            rounds: _,
+            is_climbing: _,
+            queue: _,
+            is_complete: _,
+            raises: _,
+            moved: _,
+            turn: _,
+            climbs: _,
+            falls: _,
+            rose: _,
+            round: _,
+        } = self;
+    }
 }
 
 impl Waiting {
@@ -132,6 +161,9 @@ impl Waiting {
             moved: PerVertex::of(alloc, vertices, 0)?,
             turn: 0,
             climbs: CLIMBS,
+            falls: 1,
+            rose: PerVertex::of(alloc, vertices, 0)?,
+            round: usize::MAX,
         })
     }
 
@@ -199,6 +231,7 @@ impl Waiting {
     // Those that move to v, which rose, are to be looked at again where that may raise them.
     fn wake(&mut self, ground: &GuessGround, table: &[u64], v: u32) -> Result<(), AllocError> {
         self.raises.set(v, self.raises.get(v).saturating_add(1));
+        self.rose.set(v, self.falls);
         let value = value_in(table, v);
         for u in ground.graph.predecessors(v) {
             if !self.waits.get(*u) && ground.even.limit(*u, value_in(table, *u)) <= value {
@@ -249,9 +282,7 @@ impl Waiting {
     fn begin_turn(&mut self) {
         self.rounds = 0;
         self.turn = self.turn.saturating_add(1);
-        for v in 0..self.raises.count() {
-            self.raises.set(v, 0);
-        }
+        self.raises.fill(0);
     }
 
     /// Those that wait or climbed when this turn ended, and from where moves lead there over others that did so when an
@@ -281,6 +312,36 @@ impl Waiting {
         }
         self.climbs = 1;
         Ok(moving)
+    }
+
+    /// What a guess at a part is made of: what moves, or of it what goes round, where that is far less.
+    pub(crate) fn part(
+        &mut self,
+        alloc: Global,
+        ground: &GuessGround,
+    ) -> Result<Vec<u32>, AllocError> {
+        let moving = self.moving(alloc, ground)?;
+        let round = self.round_of(alloc, &moving)?;
+        if ground.is_small_part(moving.len())
+            && round.len() < moving.len() / LOCAL
+            && round.len() <= self.round / 2
+        {
+            self.round = round.len();
+            Ok(round)
+        } else {
+            Ok(moving)
+        }
+    }
+
+    // Those that wait, or rose since the number of those that wait fell last.
+    fn round_of(&self, alloc: Global, moving: &[u32]) -> Result<Vec<u32>, AllocError> {
+        let mut round = Vec::new(alloc);
+        for v in moving {
+            if self.waits.get(*v) || self.rose.get(*v) == self.falls {
+                round.push(*v)?;
+            }
+        }
+        Ok(round)
     }
 
     // Those that move to v and moved when an earlier turn ended.
@@ -481,6 +542,7 @@ fn lift_waiting(
         if waiting.count < least.saturating_sub(least / FALL) {
             least = waiting.count;
             left = budget.left();
+            waiting.falls = waiting.falls.saturating_add(1);
         } else if budget.left().saturating_add(patience.at(waiting.count)) < left {
             break;
         }

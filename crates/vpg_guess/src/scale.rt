@@ -6,7 +6,6 @@ use vpg_measure::Shape;
 use vpg_regions::{Graph, PerVertex};
 
 /// The measures by which one player wins: those of the game for Even, those of its dual for Odd.
-#[derive(Drop)]
 pub(crate) struct Scale {
     pub(crate) player: Player,
     pub(crate) top: u64,
@@ -18,6 +17,20 @@ pub(crate) struct Scale {
     steps: PerVertex<u64>,
     // the weights less these
     gaps: PerVertex<u64>,
+}
+
+// Not derived, so that letting one go is one call: a derived way would be proved anew at each exit that owns one.
+impl Drop for Scale {
+    fn drop(self) {
+        let Scale {
+            player: _,
+            top: _,
+            priorities: _,
+            weights: _,
+            steps: _,
+            gaps: _,
+        } = self;
+    }
 }
 
 // One of each vertex's priorities, each raised by this; and the greatest.

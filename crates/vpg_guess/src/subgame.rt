@@ -4,12 +4,23 @@ use vpg_game::Player;
 use vpg_regions::{Budget, Choices, Draft, Graph, Regions, solve_regions};
 
 /// Some vertices of a graph under numbers of their own, and behind them a dead end of Even, where Odd wins.
-#[derive(Drop)]
 pub(crate) struct Subgame {
     pub(crate) vertices: Vec<u32>,
     places: Choices,
     sink: u32,
     draft: Draft,
+}
+
+// Not derived, so that letting one go is one call: a derived way would be proved anew at each exit that owns one.
+impl Drop for Subgame {
+    fn drop(self) {
+        let Subgame {
+            vertices: _,
+            places: _,
+            sink: _,
+            draft: _,
+        } = self;
+    }
 }
 
 impl Subgame {
@@ -76,11 +87,21 @@ fn solve_with_sink(
 }
 
 /// A game over some vertices and who wins where.
-#[derive(Drop)]
 pub(crate) struct Solved {
     vertices: Vec<u32>,
     places: Choices,
     regions: Regions,
+}
+
+// Not derived, so that letting one go is one call: a derived way would be proved anew at each exit that owns one.
+impl Drop for Solved {
+    fn drop(self) {
+        let Solved {
+            vertices: _,
+            places: _,
+            regions: _,
+        } = self;
+    }
 }
 
 impl Solved {

@@ -5,11 +5,17 @@ use vpg_game::Player;
 use vpg_hope::Arena;
 
 /// A list for each vertex, one after another.
-#[derive(Drop)]
 struct Lists {
     // where each list ends
     ends: Vec<u32>,
     items: Vec<u32>,
+}
+
+// Not derived, so that letting one go is one call: a derived way would be proved anew at each exit that owns one.
+impl Drop for Lists {
+    fn drop(self) {
+        let Lists { ends: _, items: _ } = self;
+    }
 }
 
 impl Lists {
@@ -84,12 +90,23 @@ impl Lists {
 }
 
 /// A game that is being written down, vertex by vertex.
-#[derive(Drop)]
 pub struct Draft {
     count: u32,
     owners: Vec<Player>,
     priorities: Vec<u32>,
     successors: Lists,
+}
+
+// Not derived, so that letting one go is one call: a derived way would be proved anew at each exit that owns one.
+impl Drop for Draft {
+    fn drop(self) {
+        let Draft {
+            count: _,
+            owners: _,
+            priorities: _,
+            successors: _,
+        } = self;
+    }
 }
 
 impl Draft {
@@ -133,25 +150,40 @@ impl Draft {
         Ok(())
     }
 
+    // The vertices of an arena, with their edges.
+    fn write(&mut self, arena: &Arena) -> Result<(), AllocError> {
+        for v in 0..arena.vertices() {
+            self.successors.items.extend_from_slice(arena.kept(v))?;
+            self.vertex(arena.owner(v), arena.priority(v))?;
+        }
+        Ok(())
+    }
+
     /// The game, with as few priorities as have the same winners.
     pub fn finish(self, alloc: Global) -> Result<Graph, AllocError> {
         let mut draft = self;
-        let merged = merged(alloc, &occurring(alloc, &draft.priorities)?)?;
-        for priority in &mut draft.priorities {
+        draft.merge(alloc)?;
+        draft.as_written(alloc)
+    }
+
+    fn merge(&mut self, alloc: Global) -> Result<(), AllocError> {
+        let occurs = occurring(alloc, &self.priorities)?;
+        let merged = merged(alloc, &occurs)?;
+        for priority in &mut self.priorities {
             *priority = merged.get(*priority);
         }
-        draft.as_written(alloc)
+        Ok(())
     }
 
     /// The game with its priorities as they are.
     pub fn as_written(self, alloc: Global) -> Result<Graph, AllocError> {
+        let predecessors = self.successors.reversed(alloc, self.count)?;
         let Draft {
             count,
             owners,
             priorities,
             successors,
         } = self;
-        let predecessors = successors.reversed(alloc, count)?;
         Ok(Graph {
             count,
             owners,
@@ -163,13 +195,25 @@ impl Draft {
 }
 
 /// A parity game with the edges of each vertex both ways.
-#[derive(Drop)]
 pub struct Graph {
     count: u32,
     owners: Vec<Player>,
     priorities: Vec<u32>,
     successors: Lists,
     predecessors: Lists,
+}
+
+// Not derived, so that letting one go is one call: a derived way would be proved anew at each exit that owns one.
+impl Drop for Graph {
+    fn drop(self) {
+        let Graph {
+            count: _,
+            owners: _,
+            priorities: _,
+            successors: _,
+            predecessors: _,
+        } = self;
+    }
 }
 
 // Whether each priority up to the greatest occurs.
@@ -212,10 +256,7 @@ impl Graph {
     /// The game of an arena.
     pub fn of(alloc: Global, arena: &Arena) -> Result<Graph, AllocError> {
         let mut draft = Draft::with_room(alloc, arena.vertices() as usize, edges_of(arena))?;
-        for v in 0..arena.vertices() {
-            draft.successors.items.extend_from_slice(arena.kept(v))?;
-            draft.vertex(arena.owner(v), arena.priority(v))?;
-        }
+        draft.write(arena)?;
         draft.finish(alloc)
     }
 

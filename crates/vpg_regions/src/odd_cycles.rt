@@ -6,7 +6,6 @@ use crate::solution::Solution;
 use std::alloc::{AllocError, Global};
 use vpg_game::Player;
 
-#[derive(Drop)]
 struct OddCycles {
     components: Components,
     // the last component in which a vertex was; one more once it is known to lead to the greatest priority there
@@ -16,6 +15,19 @@ struct OddCycles {
     parts: Vec<Vec<u32>>,
     // the vertices that lead to odd cycles, each with a choice
     found: Vec<u32>,
+}
+
+// Not derived, so that letting one go is one call: a derived way would be proved anew at each exit that owns one.
+impl Drop for OddCycles {
+    fn drop(self) {
+        let OddCycles {
+            components: _,
+            mark: _,
+            stamp: _,
+            parts: _,
+            found: _,
+        } = self;
+    }
 }
 
 // Odd's of some vertices.
@@ -33,7 +45,70 @@ fn own_vertices(
     Ok(own)
 }
 
+// Whether a component is more than one vertex without a move to itself.
+fn has_cycle(solution: &Solution<'_>, members: &[u32]) -> bool {
+    match members.first() {
+        Some(first) => 1 < members.len() || solution.graph.successors(*first).contains(first),
+        None => false,
+    }
+}
+
+// The members of other priorities.
+fn lesser(
+    alloc: Global,
+    solution: &Solution<'_>,
+    members: &[u32],
+    greatest: u32,
+) -> Result<Vec<u32>, AllocError> {
+    let mut rest = Vec::new(alloc);
+    for v in members {
+        if solution.graph.priority(*v) != greatest {
+            rest.push(*v)?;
+        }
+    }
+    Ok(rest)
+}
+
 impl OddCycles {
+    fn new(alloc: Global, vertices: u32) -> Result<OddCycles, AllocError> {
+        Ok(OddCycles {
+            components: Components::new(alloc, vertices)?,
+            mark: PerVertex::of(alloc, vertices, 0)?,
+            stamp: 0,
+            parts: Vec::new(alloc),
+            found: Vec::new(alloc),
+        })
+    }
+
+    // Finds all cycles over these vertices.
+    fn run(
+        &mut self,
+        alloc: Global,
+        solution: &mut Solution<'_>,
+        own: Vec<u32>,
+        budget: &mut Budget,
+    ) -> Result<(), AllocError> {
+        self.parts.push(own)?;
+        for _ in 0..u64::MAX {
+            match self.parts.pop() {
+                Some(part) => self.split(alloc, solution, &part, budget)?,
+                None => break,
+            }
+        }
+        Ok(())
+    }
+
+    fn into_found(self) -> Vec<u32> {
+        let OddCycles {
+            components: _,
+            mark: _,
+            stamp: _,
+            parts: _,
+            found,
+        } = self;
+        found
+    }
+
     fn search(
         &mut self,
         solution: &Solution<'_>,
@@ -63,11 +138,21 @@ impl OddCycles {
                 Some(end) => *end,
                 None => break,
             };
-            let members = self.components.between(alloc, from, to)?;
-            self.look(alloc, solution, &members)?;
+            self.look_between(alloc, solution, from, to)?;
             from = to;
         }
         Ok(())
+    }
+
+    fn look_between(
+        &mut self,
+        alloc: Global,
+        solution: &mut Solution<'_>,
+        from: usize,
+        to: usize,
+    ) -> Result<(), AllocError> {
+        let members = self.components.between(alloc, from, to)?;
+        self.look(alloc, solution, &members)
     }
 
     // A component of an odd greatest priority is Odd's; without an even one it falls into others.
@@ -77,31 +162,21 @@ impl OddCycles {
         solution: &mut Solution<'_>,
         members: &[u32],
     ) -> Result<(), AllocError> {
-        let first = match members.first() {
-            Some(first) => *first,
-            None => return Ok(()),
-        };
-        if members.len() == 1 && !solution.graph.successors(first).contains(&first) {
+        if !has_cycle(solution, members) {
             return Ok(());
         }
         let greatest = solution.graph.greatest_priority(members);
         if greatest % 2 == 1 {
-            return self.win(alloc, solution, members, greatest);
+            return self.win(solution, members, greatest);
         }
-        let mut rest = Vec::new(alloc);
-        for v in members {
-            if solution.graph.priority(*v) != greatest {
-                rest.push(*v)?;
-            }
-        }
-        self.parts.push(rest)?;
+        self.parts
+            .push(lesser(alloc, solution, members, greatest)?)?;
         Ok(())
     }
 
     // Each member chooses a way to the greatest priority, and that one to stay in the component.
     fn win(
         &mut self,
-        alloc: Global,
         solution: &mut Solution<'_>,
         members: &[u32],
         greatest: u32,
@@ -110,22 +185,32 @@ impl OddCycles {
         for v in members {
             self.mark.set(*v, self.stamp);
         }
-        let mut leading = Vec::new(alloc);
+        let from = self.found.len();
+        self.find_greatest(solution, members, greatest)?;
+        for at in from..from.saturating_add(members.len()) {
+            if let Some(v) = self.found.get(at) {
+                let next = *v;
+                self.lead(solution, next)?;
+            }
+        }
+        Ok(())
+    }
+
+    // Finds the members of the greatest priority.
+    fn find_greatest(
+        &mut self,
+        solution: &mut Solution<'_>,
+        members: &[u32],
+        greatest: u32,
+    ) -> Result<(), AllocError> {
         for v in members {
             if solution.graph.priority(*v) == greatest {
                 self.mark.set(*v, self.stamp.saturating_add(1));
                 let member = self.member_from(solution, *v);
                 solution.choice.set(*v, member);
-                leading.push(*v)?;
+                self.found.push(*v)?;
             }
         }
-        for at in 0..members.len() {
-            if let Some(v) = leading.get(at) {
-                let next = *v;
-                self.lead(solution, next, &mut leading)?;
-            }
-        }
-        self.found.extend_from_slice(&leading)?;
         Ok(())
     }
 
@@ -140,18 +225,13 @@ impl OddCycles {
     }
 
     // The members that move to v lead to the greatest priority, too.
-    fn lead(
-        &mut self,
-        solution: &mut Solution<'_>,
-        v: u32,
-        leading: &mut Vec<u32>,
-    ) -> Result<(), AllocError> {
+    fn lead(&mut self, solution: &mut Solution<'_>, v: u32) -> Result<(), AllocError> {
         let graph = solution.graph;
         for u in graph.predecessors(v) {
             if self.mark.get(*u) == self.stamp {
                 self.mark.set(*u, self.stamp.saturating_add(1));
                 solution.choice.set(*u, Some(v));
-                leading.push(*u)?;
+                self.found.push(*u)?;
             }
         }
         Ok(())
@@ -166,23 +246,9 @@ pub fn win_odd_cycles(
     living: &[u32],
     budget: &mut Budget,
 ) -> Result<(), AllocError> {
-    let vertices = solution.graph.vertices();
-    let mut parts = Vec::new(alloc);
-    parts.push(own_vertices(alloc, solution, living)?)?;
-    let mut cycles = OddCycles {
-        components: Components::new(alloc, vertices)?,
-        mark: PerVertex::of(alloc, vertices, 0)?,
-        stamp: 0,
-        parts,
-        found: Vec::new(alloc),
-    };
-    for _ in 0..u64::MAX {
-        match cycles.parts.pop() {
-            Some(part) => cycles.split(alloc, solution, &part, budget)?,
-            None => break,
-        }
-    }
-    let OddCycles { found, .. } = cycles;
-    solution.win(Player::Odd, found, budget)?;
+    let own = own_vertices(alloc, solution, living)?;
+    let mut cycles = OddCycles::new(alloc, solution.graph.vertices())?;
+    cycles.run(alloc, solution, own, budget)?;
+    solution.win(Player::Odd, cycles.into_found(), budget)?;
     Ok(())
 }

@@ -2,11 +2,21 @@
 use std::alloc::{AllocError, Global};
 
 /// One value for each vertex. Past the last vertex it reads as the value that it began with, and a write is lost.
-#[derive(Drop)]
 pub struct PerVertex<T> {
     values: Vec<T>,
     rest: T,
     count: u32,
+}
+
+// Not derived, so that letting one go is one call: a derived way would be proved anew at each exit that owns one.
+impl<T: Drop> Drop for PerVertex<T> {
+    fn drop(self) {
+        let PerVertex {
+            values: _,
+            rest: _,
+            count: _,
+        } = self;
+    }
 }
 
 impl<T: Copy> PerVertex<T> {
@@ -40,6 +50,13 @@ impl<T: Copy> PerVertex<T> {
         }
     }
 
+    /// This value at each vertex.
+    pub fn fill(&mut self, value: T) {
+        for each in &mut self.values {
+            *each = value;
+        }
+    }
+
     pub fn set(&mut self, v: u32, value: T) {
         if (v as usize) < self.values.len() {
             self.values[v as usize] = value;
@@ -51,9 +68,15 @@ impl<T: Copy> PerVertex<T> {
 const NONE: u32 = u32::MAX;
 
 /// One vertex or none for each vertex, in half of the room.
-#[derive(Drop)]
 pub struct Choices {
     chosen: PerVertex<u32>,
+}
+
+// Not derived, so that letting one go is one call: a derived way would be proved anew at each exit that owns one.
+impl Drop for Choices {
+    fn drop(self) {
+        let Choices { chosen: _ } = self;
+    }
 }
 
 impl Choices {

@@ -6,19 +6,134 @@ use vpg_game::Player;
 
 // A game on the stack: its vertices, and those that were found to be won by the player against whom its greatest
 // priority is.
+struct Game {
+    all: Vec<u32>,
+    gone: Vec<u32>,
+}
+
+// Not derived, so that letting one go is one call: a derived way would be proved anew at each exit that owns one.
+impl Drop for Game {
+    fn drop(self) {
+        let Game { all: _, gone: _ } = self;
+    }
+}
+
+// A game that waits: what is left of it without the attractor of the greatest priority is being solved.
+struct Waiting {
+    game: Game,
+    attracted: Vec<u32>,
+    player: Player,
+}
+
+// Not derived, so that letting one go is one call: a derived way would be proved anew at each exit that owns one.
+impl Drop for Waiting {
+    fn drop(self) {
+        let Waiting {
+            game: _,
+            attracted: _,
+            player: _,
+        } = self;
+    }
+}
+
 #[derive(Drop)]
 enum Frame {
-    Open {
-        all: Vec<u32>,
-        gone: Vec<u32>,
-    },
-    // what is left without the attractor of the greatest priority is being solved
-    Inner {
-        all: Vec<u32>,
-        gone: Vec<u32>,
-        attracted: Vec<u32>,
+    Open(Game),
+    Inner(Waiting),
+}
+
+impl Game {
+    // The vertices of the greatest priority, which lose their choices with all others.
+    fn begin(
+        &self,
+        alloc: Global,
+        solution: &mut Solution<'_>,
+        greatest: u32,
+    ) -> Result<Vec<u32>, AllocError> {
+        let mut seed = Vec::new(alloc);
+        for v in &self.all {
+            solution.choice.set(*v, None);
+            if solution.graph.priority(*v) == greatest {
+                seed.push(*v)?;
+            }
+        }
+        Ok(seed)
+    }
+
+    // What the player of the greatest priority can force there.
+    fn attracted(
+        &self,
+        alloc: Global,
+        solution: &mut Solution<'_>,
+        greatest: u32,
         player: Player,
-    },
+        budget: &mut Budget,
+    ) -> Result<Vec<u32>, AllocError> {
+        let seed = self.begin(alloc, solution, greatest)?;
+        solution.attract(player, seed, budget)
+    }
+
+    fn waiting(self, attracted: Vec<u32>, player: Player) -> Waiting {
+        Waiting {
+            game: self,
+            attracted,
+            player,
+        }
+    }
+
+    // The same with other vertices.
+    fn with(self, all: Vec<u32>) -> Game {
+        let Game { all: _, gone } = self;
+        Game { all, gone }
+    }
+}
+
+impl Waiting {
+    // The inner game is solved: what the other player wins there it wins in the whole. Gives what is left to be solved.
+    fn rest(
+        &mut self,
+        alloc: Global,
+        solution: &mut Solution<'_>,
+        budget: &mut Budget,
+    ) -> Result<Option<Vec<u32>>, AllocError> {
+        let other = self.player.opponent();
+        let lost = solution.won_by(alloc, other, &self.game.all)?;
+        solution.revive(&self.attracted);
+        if lost.is_empty() {
+            self.end(solution);
+            return Ok(None);
+        }
+        self.lose(solution, lost, other, budget)?;
+        Ok(Some(solution.living(alloc, &self.game.all)?))
+    }
+
+    // All is won by the player of the greatest priority.
+    fn end(&self, solution: &mut Solution<'_>) {
+        solution.give(self.player, &self.attracted);
+        solution.choose_any(&self.attracted);
+        solution.revive(&self.game.gone);
+    }
+
+    fn lose(
+        &mut self,
+        solution: &mut Solution<'_>,
+        lost: Vec<u32>,
+        other: Player,
+        budget: &mut Budget,
+    ) -> Result<(), AllocError> {
+        let taken = solution.win(other, lost, budget)?;
+        self.game.gone.extend_from_slice(&taken)?;
+        Ok(())
+    }
+
+    fn into_game(self) -> Game {
+        let Waiting {
+            game,
+            attracted: _,
+            player: _,
+        } = self;
+        game
+    }
 }
 
 // Goes on to the game without the attractor of the greatest priority.
@@ -26,68 +141,47 @@ fn descend(
     alloc: Global,
     solution: &mut Solution<'_>,
     stack: &mut Vec<Frame>,
-    all: Vec<u32>,
-    gone: Vec<u32>,
+    game: Game,
     budget: &mut Budget,
 ) -> Result<(), AllocError> {
-    if all.is_empty() {
-        solution.revive(&gone);
+    if game.all.is_empty() {
+        solution.revive(&game.gone);
         return Ok(());
     }
-    budget.spend(all.len());
-    let greatest = solution.graph.greatest_priority(&all);
+    budget.spend(game.all.len());
+    let greatest = solution.graph.greatest_priority(&game.all);
     let player = if greatest % 2 == 1 {
         Player::Odd
     } else {
         Player::Even
     };
-    let mut seed = Vec::new(alloc);
-    for v in &all {
-        solution.choice.set(*v, None);
-        if solution.graph.priority(*v) == greatest {
-            seed.push(*v)?;
-        }
-    }
-    let attracted = solution.attract(player, seed, budget)?;
-    let inner = solution.living(alloc, &all)?;
-    stack.push(Frame::Inner {
+    let attracted = game.attracted(alloc, solution, greatest, player, budget)?;
+    let inner = solution.living(alloc, &game.all)?;
+    stack.push(Frame::Inner(game.waiting(attracted, player)))?;
+    open(alloc, stack, inner)
+}
+
+// A game of these vertices on the stack.
+fn open(alloc: Global, stack: &mut Vec<Frame>, all: Vec<u32>) -> Result<(), AllocError> {
+    stack.push(Frame::Open(Game {
         all,
-        gone,
-        attracted,
-        player,
-    })?;
-    stack.push(Frame::Open {
-        all: inner,
         gone: Vec::new(alloc),
-    })?;
+    }))?;
     Ok(())
 }
 
-// The inner game is solved: what the other player wins there it wins in the whole.
+// Goes on to what is left of a game whose inner game is solved.
 fn ascend(
     alloc: Global,
     solution: &mut Solution<'_>,
     stack: &mut Vec<Frame>,
-    all: Vec<u32>,
-    gone: Vec<u32>,
-    attracted: Vec<u32>,
-    player: Player,
+    waiting: Waiting,
     budget: &mut Budget,
 ) -> Result<(), AllocError> {
-    let other = player.opponent();
-    let lost = solution.won_by(alloc, other, &all)?;
-    solution.revive(&attracted);
-    if lost.is_empty() {
-        solution.give(player, &attracted);
-        solution.choose_any(&attracted);
-        solution.revive(&gone);
-        return Ok(());
+    let mut waiting = waiting;
+    if let Some(rest) = waiting.rest(alloc, solution, budget)? {
+        stack.push(Frame::Open(waiting.into_game().with(rest)))?;
     }
-    let taken = solution.win(other, lost, budget)?;
-    let mut gone = gone;
-    gone.extend_from_slice(&taken)?;
-    let all = solution.living(alloc, &all)?;
-    stack.push(Frame::Open { all, gone })?;
     Ok(())
 }
 
@@ -103,17 +197,8 @@ fn run(
             break;
         }
         match stack.pop() {
-            Some(Frame::Open { all, gone }) => {
-                descend(alloc, solution, stack, all, gone, budget)?
-            }
-            Some(
-                Frame::Inner {
-                    all,
-                    gone,
-                    attracted,
-                    player,
-                },
-            ) => ascend(alloc, solution, stack, all, gone, attracted, player, budget)?,
+            Some(Frame::Open(game)) => descend(alloc, solution, stack, game, budget)?,
+            Some(Frame::Inner(waiting)) => ascend(alloc, solution, stack, waiting, budget)?,
             None => break,
         }
     }
@@ -123,15 +208,8 @@ fn run(
 // On a spent budget only what the outermost game gave away is known.
 fn forget(solution: &mut Solution<'_>, stack: &[Frame]) {
     match stack.first() {
-        Some(Frame::Open { all, gone: _ }) => solution.forget(all),
-        Some(
-            Frame::Inner {
-                all,
-                gone: _,
-                attracted: _,
-                player: _,
-            },
-        ) => solution.forget(all),
+        Some(Frame::Open(game)) => solution.forget(&game.all),
+        Some(Frame::Inner(waiting)) => solution.forget(&waiting.game.all),
         None => {}
     }
 }
@@ -146,10 +224,7 @@ pub fn solve_by_recursion(
 ) -> Result<bool, AllocError> {
     let mut stack = Vec::new(alloc);
     let all = solution.living(alloc, vertices)?;
-    stack.push(Frame::Open {
-        all,
-        gone: Vec::new(alloc),
-    })?;
+    open(alloc, &mut stack, all)?;
     run(alloc, solution, &mut stack, budget)?;
     forget(solution, &stack);
     Ok(stack.is_empty())

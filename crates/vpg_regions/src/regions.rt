@@ -17,10 +17,19 @@ const FIRST_PASSES: u64 = 32;
 const FIRST_WEIGHTS: u64 = 1 << 20;
 
 /// Who is taken to win at each vertex, and the winner's choices.
-#[derive(Drop)]
 pub struct Regions {
     winner: PerVertex<Option<Player>>,
     pub choice: Choices,
+}
+
+// Not derived, so that letting one go is one call: a derived way would be proved anew at each exit that owns one.
+impl Drop for Regions {
+    fn drop(self) {
+        let Regions {
+            winner: _,
+            choice: _,
+        } = self;
+    }
 }
 
 impl Regions {
@@ -152,16 +161,26 @@ pub fn solve_regions(
     budget: &mut Budget,
 ) -> Result<Regions, AllocError> {
     let mut solution = Solution::new(alloc, graph)?;
+    solve_whole(alloc, &mut solution, lost, budget)?;
+    let (winner, choice) = solution.finish();
+    Ok(Regions { winner, choice })
+}
+
+fn solve_whole(
+    alloc: Global,
+    solution: &mut Solution<'_>,
+    lost: Vec<u32>,
+    budget: &mut Budget,
+) -> Result<(), AllocError> {
     solution.win(Player::Odd, lost, budget)?;
     solution.win_dead_ends(alloc, Player::Even, budget)?;
     solution.win_dead_ends(alloc, Player::Odd, budget)?;
     let all = solution.all_living(alloc)?;
-    let most = graph.size().saturating_mul(FIRST_PASSES);
-    if !recur(alloc, &mut solution, &all, most, budget)? {
-        solve_apart(alloc, &mut solution, &all, budget)?;
+    let most = solution.graph.size().saturating_mul(FIRST_PASSES);
+    if recur(alloc, solution, &all, most, budget)? {
+        return Ok(());
     }
-    let (winner, choice) = solution.finish();
-    Ok(Regions { winner, choice })
+    solve_apart(alloc, solution, &all, budget)
 }
 
 /// Who wins at some vertices, where all others are taken to be lost where they stand at the top, and won by Even

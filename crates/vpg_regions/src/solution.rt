@@ -6,7 +6,6 @@ use std::alloc::{AllocError, Global};
 use vpg_game::Player;
 
 /// The vertices that are still played on, and who wins at the others.
-#[derive(Drop)]
 pub struct Solution<'a> {
     pub graph: &'a Graph,
     /// The winner's choices, and others where nobody is taken to win.
@@ -20,6 +19,22 @@ pub struct Solution<'a> {
     seen: PerVertex<u32>,
     left: PerVertex<u32>,
     stamp: u32,
+}
+
+// Not derived, so that letting one go is one call: a derived way would be proved anew at each exit that owns one.
+impl<'a> Drop for Solution<'a> {
+    fn drop(self) {
+        let Solution {
+            graph: _,
+            choice: _,
+            winner: _,
+            alive: _,
+            mark: _,
+            seen: _,
+            left: _,
+            stamp: _,
+        } = self;
+    }
 }
 
 impl<'a> Solution<'a> {
@@ -100,24 +115,35 @@ impl<'a> Solution<'a> {
         budget: &mut Budget,
     ) -> Result<Vec<u32>, AllocError> {
         self.stamp = self.stamp.saturating_add(1);
-        for v in barred {
-            self.mark.set(*v, self.stamp);
-        }
+        self.mark_all(barred);
+        self.mark_all(&seed);
         let mut taken = seed;
-        for v in &taken {
+        self.take_all(player, &mut taken, budget)?;
+        self.leave(&taken);
+        Ok(taken)
+    }
+
+    fn mark_all(&mut self, vertices: &[u32]) {
+        for v in vertices {
             self.mark.set(*v, self.stamp);
         }
+    }
+
+    // What leads to those that were taken, and so on.
+    fn take_all(
+        &mut self,
+        player: Player,
+        taken: &mut Vec<u32>,
+        budget: &mut Budget,
+    ) -> Result<(), AllocError> {
         for at in 0..self.graph.vertices() as usize {
             let v = match taken.get(at) {
                 Some(v) => *v,
                 None => break,
             };
-            self.take_from(player, v, &mut taken, budget)?;
+            self.take_from(player, v, taken, budget)?;
         }
-        for v in &taken {
-            self.alive.set(*v, false);
-        }
-        Ok(taken)
+        Ok(())
     }
 
     fn take_from(
@@ -319,7 +345,16 @@ impl<'a> Solution<'a> {
 
     /// Who was given what, and the choices.
     pub fn finish(self) -> (PerVertex<Option<Player>>, Choices) {
-        let Solution { winner, choice, .. } = self;
+        let Solution {
+            graph: _,
+            choice,
+            winner,
+            alive: _,
+            mark: _,
+            seen: _,
+            left: _,
+            stamp: _,
+        } = self;
         (winner, choice)
     }
 }

@@ -16,7 +16,6 @@ use vpg_game::Player;
 /// The weight where no stop can be reached.
 const UNREACHED: i128 = i128::MAX;
 
-#[derive(Drop)]
 struct PathWeights {
     vertices: Vec<u32>,
     // the weight of each priority
@@ -26,6 +25,19 @@ struct PathWeights {
     // those whose predecessors are to be looked at
     waits: PerVertex<bool>,
     queue: VecDeque<u32>,
+}
+
+// Not derived, so that letting one go is one call: a derived way would be proved anew at each exit that owns one.
+impl Drop for PathWeights {
+    fn drop(self) {
+        let PathWeights {
+            vertices: _,
+            weights: _,
+            least: _,
+            waits: _,
+            queue: _,
+        } = self;
+    }
 }
 
 // The weight of each priority: plus or minus the product, over the lesser priorities, of one more than their numbers of
