@@ -108,7 +108,7 @@ NAMED = re.compile(
 # the name of a vertex in a picture, in one line or several
 NAMED_VERTEX = re.compile(
     rb'^(  ' + N + rb' \[shape=(?:diamond|box), label="' + N + rb" : " + N
-    + rb')\\n(?:[^"\\\x00-\x1f]|\\.)*(", fillcolor=)', re.M
+    + rb')\\n(?:[^"\\\x00-\x1f]|\\.)*(", (?:penwidth=3, )?fillcolor=)', re.M
 )
 OF_FAULTY_LINES = re.compile(rb"^refused (?:Word|Args|TooLong)$\n", re.M)
 # a lone `--` is as no word

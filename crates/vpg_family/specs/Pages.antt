@@ -1,11 +1,13 @@
 -- The picture of a family on the page that a script leaves. This project's own.
-use Rattle.std.specs.Prelude.{◌≡◌, ℕ, ◌<◌, ◌≤◌, Bool, true, false, nat_eq, List, [], ◌++◌, All, length, map, take, codes}
+use Rattle.std.specs.Prelude.{◌≡◌, ℕ, ◌<◌, ◌≤◌, Bool, true, false, if◌then◌else◌, nat_eq, IsTrue, Option, Some, None, List, [], ◌++◌, All, length, map, take, codes}
 use Rattle.std.specs.List.{starts_with}
+use Rattle.std.specs.Str.{bytes_eq}
 use Rattle.vpg_guards.specs.declared.tri.Tri.{Tri}
 use Rattle.vpg_diagram.specs.declared.clause.Literal.{Literal}
 use Rattle.vpg_diagram.specs.DiagramText.{NamedDiagram}
 use Rattle.vpg_diagram.specs.FeatureDiagram.{feature_count}
 use Rattle.vpg_game.specs.Game.{NamedGame}
+use Rattle.vpg_game.specs.declared.player.Player.{Player}
 use Rattle.vpg_names.specs.Spelled.{Told}
 use Rattle.vpg_partial.specs.Known.{literal_of}
 use Rattle.vpg_partial.specs.TableLaws.{IsKnownTable}
@@ -13,6 +15,7 @@ use Rattle.vpg_partial.specs.declared.decision.Decision.{Decision}
 use Rattle.vpg_measure.specs.declared.verdict.Verdict.{Verdict}
 use Rattle.vpg_draw.specs.GameDrawing.{game_drawing}
 use Rattle.vpg_draw.specs.FeatureDrawing.{feature_drawing}
+use Rattle.vpg_draw.specs.PartDrawing.{part_drawing}
 use Rattle.vpg_family.specs.Pictures.{TellsNames}
 use Rattle.vpg_family.specs.declared.drawing.Subject.{Subject}
 use Rattle.vpg_family.specs.declared.drawing.Subject.TheVariants.{Game, Features}
@@ -71,16 +74,60 @@ pub record IsRedrawn (subject : Subject) (diagram : NamedDiagram) (game : NamedG
   pub written_is : written ≡ earlier ++ sight_drawing diagram game sight []
   pub drawn : IsSightDrawn subject diagram game sight diagram_text game_text picture
 
+-- ---- parts
+
+-- what is drawn of a part of a game on a page: the decisions, what they make known, the verdicts of the vertices, the
+-- one that is told from the others, which of them are drawn, and the moves that are listed, of which player
+pub record PartSight : Type 0 where
+  pub decisions : List Decision
+  pub known : List Tri
+  pub verdicts : List Verdict
+  pub vertex : ℕ
+  pub marks : List Bool
+  pub mover : Option Player
+  pub moves : List (Option ℕ)
+
+-- the part, with these names of its vertices
+abbrev pub part_sight_drawing : NamedDiagram → NamedGame → PartSight → List (List ℕ) → List ℕ
+part_sight_drawing diagram game sight names =
+    part_drawing diagram.names sight.known (map literal_of sight.decisions) names sight.verdicts game sight.vertex
+    sight.marks sight.mover sight.moves
+
+abbrev pub is_part : List ℕ → Bool
+is_part answer = starts_with nat_eq answer (codes "digraph part {\n")
+
+-- This is seen in an answer, as what is drawn of a part of the game.
+pub record IsPartSeen (diagram : NamedDiagram) (game : NamedGame) (answer : List ℕ) (sight : PartSight) : Type 0 where
+  pub begins : IsTrue (is_part answer)
+  pub features : All (λ d. d.feature < feature_count diagram.lines) sight.decisions
+  pub each : length sight.verdicts ≡ length game.vertices
+  pub each_mark : length sight.marks ≡ length game.vertices
+  pub known_is : IsKnownTable diagram.lines (map literal_of sight.decisions) sight.known
+
+-- what is passed on of an answer in which this is seen: with names where it is the part without names, else as it is
+abbrev pub part_passed : NamedDiagram → NamedGame → PartSight → List (List ℕ) → (answer : List ℕ) → List ℕ
+part_passed diagram game sight names answer =
+    if bytes_eq answer (part_sight_drawing diagram game sight []) then part_sight_drawing diagram game sight names
+    else answer
+
 -- ---- answers that are passed on
 
 abbrev pub is_picture : List ℕ → Bool
 is_picture answer = starts_with nat_eq answer (codes "digraph game {\n")
 
--- a picture with names, any other answer as it is
-abbrev pub PassesOn : Bool → NamedDiagram → NamedGame → List (List ℕ) → (answer text : List ℕ) → Type 0
-PassesOn true diagram game names answer text = IsNamed diagram game names answer text
-PassesOn false diagram game names answer text = text ≡ answer
+-- an answer in which no part is seen is passed on as it is
+abbrev pub seen_passed : NamedDiagram → NamedGame → List (List ℕ) → (seen : Option PartSight) → (answer : List ℕ) →
+    List ℕ
+seen_passed diagram game names None answer = answer
+seen_passed diagram game names (Some sight) answer = part_passed diagram game sight names answer
 
--- The text is the answer, the picture of a game with these names of vertices.
-abbrev pub IsPictured : NamedDiagram → NamedGame → List (List ℕ) → (answer text : List ℕ) → Type 0
-IsPictured diagram game names answer text = PassesOn (is_picture answer) diagram game names answer text
+-- a picture of the whole game with names, any other answer by what is seen in it
+abbrev pub PassesOn : (is_whole : Bool) → NamedDiagram → NamedGame → List (List ℕ) → (seen : Option PartSight) →
+    (answer text : List ℕ) → Type 0
+PassesOn true diagram game names seen answer text = IsNamed diagram game names answer text
+PassesOn false diagram game names seen answer text = text ≡ seen_passed diagram game names seen answer
+
+-- The text is the answer in which this is seen; a picture in it has these names of vertices.
+abbrev pub IsPictured : NamedDiagram → NamedGame → List (List ℕ) → (seen : Option PartSight) →
+    (answer text : List ℕ) → Type 0
+IsPictured diagram game names seen answer text = PassesOn (is_picture answer) diagram game names seen answer text

@@ -130,6 +130,16 @@ impl Family {
         }
     }
 
+    /// The same family once more.
+    pub fn again(&self) -> Result<Family, AllocError>
+        ensures game { IfOk result (λ family. arc_value family.game ≡ arc_value self.now.game) }
+        ensures diagram { IfOk result (λ family. arc_value family.diagram ≡ arc_value self.now.diagram) }
+    {
+        let game = self.game.clone()?;
+        let diagram = self.diagram.clone()?;
+        Ok(Family { game, diagram })
+    }
+
     /// The line that counts the family.
     pub fn counted(&self, alloc: Global) -> Result<Vec<u8>, AllocError>
         ensures { IfOk result (λ text. text.items ≡ counts_text (arc_value self.now.game)) }

@@ -20,6 +20,7 @@ mod fault;
 mod files;
 mod linting;
 mod pages;
+mod parts;
 mod pictured;
 mod telling;
 

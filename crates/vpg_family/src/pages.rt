@@ -64,9 +64,9 @@ fn last_picture(text: &[u8]) -> &[u8] {
     text
 }
 
-/// What a picture of a game names behind the word `decisions`.
-fn label_of(picture: &[u8]) -> &[u8] {
-    let behind = picture.strip_prefix(OPENING).unwrap_or(picture);
+/// What a picture that begins so names behind the word `decisions`.
+fn label_of<'p>(picture: &'p [u8], opening: &[u8]) -> &'p [u8] {
+    let behind = picture.strip_prefix(opening).unwrap_or(picture);
     let len = behind.iter().take_while(|b| **b != b'"').count();
     behind.get(..len).unwrap_or(behind)
 }
@@ -83,10 +83,15 @@ fn decision_of(names: &Names, word: &[u8]) -> Option<Decision> {
     })
 }
 
-/// The decisions that a picture of a game names.
-fn decisions_of(alloc: Global, names: &Names, picture: &[u8]) -> Result<Vec<Decision>, AllocError> {
+/// The decisions that a picture names that begins so.
+pub(crate) fn decisions_of(
+    alloc: Global,
+    names: &Names,
+    picture: &[u8],
+    opening: &[u8],
+) -> Result<Vec<Decision>, AllocError> {
     let mut decisions = Vec::new(alloc);
-    for word in label_of(picture).split(|b| *b == b' ') {
+    for word in label_of(picture, opening).split(|b| *b == b' ') {
         if let Some(decision) = decision_of(names, word) {
             decisions.push(decision)?;
         }
@@ -95,7 +100,7 @@ fn decisions_of(alloc: Global, names: &Names, picture: &[u8]) -> Result<Vec<Deci
 }
 
 /// The verdict that the line of a vertex shows.
-fn verdict_of(line: &[u8]) -> Verdict {
+pub(crate) fn verdict_of(line: &[u8]) -> Verdict {
     let both = line.ends_with(BOTH);
     Verdict {
         hopeless: both || line.ends_with(HOPELESS),
@@ -126,20 +131,24 @@ fn last_shown(
 ) -> Result<Shown, AllocError> {
     let picture = last_picture(written);
     Ok(Shown {
-        decisions: decisions_of(alloc, names, picture)?,
+        decisions: decisions_of(alloc, names, picture, OPENING)?,
         verdicts: verdicts_of(alloc, picture, vertices)?,
     })
 }
 
 /// Whether each decision is of one of so many features.
-fn are_below(features: usize, decisions: &[Decision]) -> bool
+pub(crate) fn are_below(features: usize, decisions: &[Decision]) -> bool
     ensures { IsTrue result ↔ All (λ d. d.feature < features) decisions.now }
 {
     decisions.iter().all(|d| (d.feature as usize) < features)
 }
 
 /// What decisions make known, where that is no contradiction.
-fn known_of(alloc: Global, diagram: &Diagram, decisions: &[Decision]) -> Result<Partial, Fault>
+pub(crate) fn known_of(
+    alloc: Global,
+    diagram: &Diagram,
+    decisions: &[Decision],
+) -> Result<Partial, Fault>
     requires { All (λ d. d.feature < feature_count diagram.now.lines) decisions.now }
     ensures { IfOk result (IsKnownTable diagram.now.lines (map literal_of decisions.now)) }
 {
@@ -160,7 +169,7 @@ fn end_of(text: &[u8], end: &[u8]) -> Option<usize>
     if same(last, end) { Some(at) } else { None }
 }
 
-fn same(a: &[u8], b: &[u8]) -> bool
+pub(crate) fn same(a: &[u8], b: &[u8]) -> bool
     ensures { result ≡ bytes_eq a.now b.now }
 {
     a == b

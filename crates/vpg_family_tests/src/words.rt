@@ -388,6 +388,47 @@ fn files_stand_in_their_order(rt: HostRuntime) -> Result<(), Fail> {
     Ok(())
 }
 
+/// Whether words of a run ask for a strict one, and for one that goes on.
+fn manner_of(task: &Task<'_>) -> Option<(bool, bool)> {
+    match task {
+        Task::Run {
+            strict,
+            keep_going,
+            ..
+        } => Some((*strict, *keep_going)),
+        _ => None,
+    }
+}
+
+fn manner_asked(alloc: Global, words: &str) -> Option<(bool, bool)> {
+    let line = line(alloc, words).ok()?;
+    match read(alloc, &line) {
+        Ok(asked) => manner_of(&asked.task),
+        Err(_) => None,
+    }
+}
+
+#[test]
+fn words_of_manners(rt: HostRuntime) -> Result<(), Fail> {
+    for (words, wanted) in [
+        ("run g d s", Some((false, false))),
+        ("run --strict g d s", Some((true, false))),
+        ("run g d s --keep-going", Some((false, true))),
+        (
+            "run g --keep-going d --lifters 2 s --strict",
+            Some((true, true)),
+        ),
+        ("run g d s -- --strict", None),
+        ("run g d s --strict --strict", None),
+        ("run g d s --strict=1", None),
+        ("run g d s --keep", None),
+        ("check g d --strict", None),
+    ] {
+        assert!(rt; manner_asked(rt.alloc(), words) == wanted, "at {words}");
+    }
+    Ok(())
+}
+
 fn is_product(task: &Task<'_>, wanted: &[&str]) -> bool {
     match task {
         Task::Project { paths, features } => paths.game == "a"

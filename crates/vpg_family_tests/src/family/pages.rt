@@ -178,6 +178,148 @@ fn pictures_are_passed_on_with_names(rt: HostRuntime) -> Result<(), Fail> {
     Ok(())
 }
 
+/// An answer to a line `draw V`, and how what is passed on of it begins.
+struct Part {
+    answer: &'static str,
+    wanted: &'static str,
+}
+
+static PARTS: [Part; 8] = [
+    // Odd's moves are listed.
+    Part {
+        answer: "\
+digraph part {
+  graph [label=\"decisions -g\", labelloc=t, rankdir=LR];
+  node [style=filled];
+  0 [shape=diamond, label=\"0 : 1\", penwidth=3, fillcolor=mistyrose, color=firebrick];
+  1 [shape=box, label=\"1 : 2\", fillcolor=white, color=gray40];
+  0 -> 1 [label=\"f\", style=dashed, color=steelblue, fontcolor=steelblue];
+  0 -> 0 [style=solid];
+  1 -> 1 [style=solid, color=\"#b03a1e\", penwidth=2.6];
+}
+",
+        wanted: "\
+digraph part {
+  graph [label=\"decisions -g\", labelloc=t, rankdir=LR];
+  node [style=filled];
+  0 [shape=diamond, label=\"0 : 1\\nhe\\\\re\", penwidth=3, fillcolor=mistyrose, color=firebrick];
+  1 [shape=box, label=\"1 : 2\", fillcolor=white, color=gray40];
+  0 -> 1 [label=\"f\", style=dashed, color=steelblue, fontcolor=steelblue];
+  0 -> 0 [style=solid];
+  1 -> 1 [style=solid, color=\"#b03a1e\", penwidth=2.6];
+}
+",
+    },
+    // Even's moves, and the vertex with no name is told from the others.
+    Part {
+        answer: "\
+digraph part {
+  graph [label=\"decisions +f +g\", labelloc=t, rankdir=LR];
+  node [style=filled];
+  0 [shape=diamond, label=\"0 : 1\", fillcolor=honeydew, color=darkgreen];
+  1 [shape=box, label=\"1 : 2\", penwidth=3, fillcolor=gainsboro, color=gray50];
+  0 -> 1 [label=\"f\", style=solid, color=\"#3f7d2c\", penwidth=2.6];
+  1 -> 0 [label=\"g\", style=solid];
+  1 -> 1 [style=solid];
+}
+",
+        wanted: "\
+digraph part {
+  graph [label=\"decisions +f +g\", labelloc=t, rankdir=LR];
+  node [style=filled];
+  0 [shape=diamond, label=\"0 : 1\\nhe\\\\re\", fillcolor=honeydew, color=darkgreen];
+  1 [shape=box, label=\"1 : 2\", penwidth=3, fillcolor=gainsboro, color=gray50];
+  0 -> 1 [label=\"f\", style=solid, color=\"#3f7d2c\", penwidth=2.6];
+  1 -> 0 [label=\"g\", style=solid];
+  1 -> 1 [style=solid];
+}
+",
+    },
+    // No move is listed, and one vertex alone is drawn.
+    Part {
+        answer: "\
+digraph part {
+  graph [label=\"decisions -f\", labelloc=t, rankdir=LR];
+  node [style=filled];
+  0 [shape=diamond, label=\"0 : 1\", penwidth=3, fillcolor=white, color=gray40];
+  0 -> 0 [style=solid];
+}
+",
+        wanted: "\
+digraph part {
+  graph [label=\"decisions -f\", labelloc=t, rankdir=LR];
+  node [style=filled];
+  0 [shape=diamond, label=\"0 : 1\\nhe\\\\re\", penwidth=3, fillcolor=white, color=gray40];
+  0 -> 0 [style=solid];
+}
+",
+    },
+    // Another width: no part that is drawn so.
+    Part {
+        answer: "\
+digraph part {
+  graph [label=\"decisions -f\", labelloc=t, rankdir=LR];
+  node [style=filled];
+  0 [shape=diamond, label=\"0 : 1\", penwidth=4, fillcolor=white, color=gray40];
+  0 -> 0 [style=solid];
+}
+",
+        wanted: "\
+digraph part {
+  graph [label=\"decisions -f\", labelloc=t, rankdir=LR];
+  node [style=filled];
+  0 [shape=diamond, label=\"0 : 1\", penwidth=4, fillcolor=white, color=gray40];
+  0 -> 0 [style=solid];
+}
+",
+    },
+    // The edge is kept under these decisions.
+    Part {
+        answer: "\
+digraph part {
+  graph [label=\"decisions +f\", labelloc=t, rankdir=LR];
+  node [style=filled];
+  0 [shape=diamond, label=\"0 : 1\", penwidth=3, fillcolor=white, color=gray40];
+  0 -> 0 [style=solid];
+}
+",
+        wanted: "\
+digraph part {
+  graph [label=\"decisions +f\", labelloc=t, rankdir=LR];
+  node [style=filled];
+  0 [shape=diamond, label=\"0 : 1\", penwidth=3, fillcolor=white, color=gray40];
+  0 -> 0 [style=solid];
+}
+",
+    },
+    // The decisions contradict each other.
+    Part {
+        answer: "digraph part {\n  graph [label=\"decisions +f -f\", labelloc=t, rankdir=LR];\n  0 [\n}\n",
+        wanted: "digraph part {\n  graph [label=\"decisions +f -f\", labelloc=t, rankdir=LR];\n  0 [\n}\n",
+    },
+    Part {
+        answer: "digraph part {\n}\n",
+        wanted: "digraph part {\n}\n",
+    },
+    Part {
+        answer: "unsettled\n",
+        wanted: "unsettled\n",
+    },
+];
+
+fn is_part_passed_on(alloc: Global, part: &Part) -> bool {
+    let wanted = part.wanted.as_bytes();
+    passed_on(alloc, part.answer).is_some_and(|text| text.as_slice() == wanted)
+}
+
+#[test]
+fn parts_are_passed_on_with_names(rt: HostRuntime) -> Result<(), Fail> {
+    for k in 0..PARTS.len() {
+        assert!(rt; is_part_passed_on(rt.alloc(), &PARTS[k]), "row {k}");
+    }
+    Ok(())
+}
+
 /// How the second row's picture begins with names.
 const PICTURED: &str = "\
 digraph game {
