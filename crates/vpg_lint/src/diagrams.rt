@@ -7,6 +7,7 @@ use crate::faulty::Faulty;
 use crate::hints::{Kind, MARK, put_text_hint};
 use crate::message::{Message, put_found, put_hint, put_hint_line, put_hint_with};
 use crate::naming::{nearest_form, nearest_of};
+use crate::said::Said;
 use std::alloc::{AllocError, Global};
 use vpg_diagram::DiagramFault;
 use vpg_places::{
@@ -25,86 +26,79 @@ fn is_remark(word: &[u8]) -> bool {
     word.starts_with(b"#") || word.starts_with(b"//") || word.starts_with(b"--")
 }
 
+/// Appends the word that begins a line, where it was perhaps meant by this one.
+fn put_meant(alloc: Global, word: &[u8], out: &mut Said) {
+    match nearest_form(alloc, &LINES, word) {
+        Ok(Some(kind)) if kind.as_bytes() != word => {
+            put_hint_with(b"is ", kind.as_bytes(), b" meant?", out)
+        }
+        Ok(_) => {}
+        Err(_) => out.refuse(),
+    }
+}
+
 /// Appends a hint about the first word of a line.
-fn put_kind_hint(alloc: Global, word: &[u8], out: &mut Vec<u8>) -> Result<(), AllocError> {
+fn put_kind_hint(alloc: Global, word: &[u8], out: &mut Said) {
     let word = word.strip_prefix(&MARK).unwrap_or(word);
     if is_remark(word) {
-        return put_hint(b"a diagram has no comments", out);
+        put_hint(b"a diagram has no comments", out);
+    } else {
+        put_meant(alloc, word, out);
     }
-    if let Some(kind) = nearest_form(alloc, &LINES, word)? {
-        if kind.as_bytes() != word {
-            return put_hint_with(b"is ", kind.as_bytes(), b" meant?", out);
-        }
-    }
-    Ok(())
 }
 
 /// Appends a hint about a name that is none.
-fn put_name_hint(word: &[u8], out: &mut Vec<u8>) -> Result<(), AllocError> {
-    if word.is_empty() {
-        return Ok(());
+fn put_name_hint(word: &[u8], out: &mut Said) {
+    let hint: &[u8] = if word == b":".as_slice() {
+        b"a name is missing before the `:`, or a `:` is left over"
+    } else if is_remark(word) {
+        b"a diagram has no comments"
+    } else if word.contains(&b',') {
+        b"blanks stand between names, and no commas"
+    } else {
+        NAME_RULE
+    };
+    if !word.is_empty() {
+        put_hint(hint, out);
     }
-    if word == b":".as_slice() {
-        return put_hint(
-            b"a name is missing before the `:`, or a `:` is left over",
-            out,
-        );
-    }
-    if is_remark(word) {
-        return put_hint(b"a diagram has no comments", out);
-    }
-    if word.contains(&b',') {
-        return put_hint(b"blanks stand between names, and no commas", out);
-    }
-    put_hint(NAME_RULE, out)
 }
 
 /// Appends a hint about a word that was expected to be something else.
-fn put_departure_hint(
-    form: &Form,
-    departure: Departure,
-    word: &[u8],
-    out: &mut Vec<u8>,
-) -> Result<(), AllocError> {
+fn put_departure_hint(form: &Form, departure: Departure, word: &[u8], out: &mut Said) {
     match departure.expected {
         None if word == b":".as_slice() => put_hint(b"no `:` stands in such a line", out),
         None if is_remark(word) => put_hint(b"a diagram has no comments", out),
         None if form.parts.contains(&Part::Child) => put_hint(b"one line for each child", out),
-        None => Ok(()),
+        None => {}
         Some(Part::Colon) if !word.is_empty() => {
             put_hint(b"is the `:` behind the parent missing?", out)
         }
         Some(part) if part.is_name() => put_name_hint(word, out),
-        Some(_) => Ok(()),
+        Some(_) => {}
     }
 }
 
 /// Appends where a line departs from its form.
-fn put_departure(
-    faulty: &Faulty<'_>,
-    form: &Form,
-    departure: Departure,
-    out: &mut Vec<u8>,
-) -> Result<usize, AllocError> {
+fn put_departure(faulty: &Faulty<'_>, form: &Form, departure: Departure, out: &mut Said) -> usize {
     // The first word of the line is not among those of the form.
     let place = departure.place.saturating_add(1);
     let expected = match departure.expected {
         Some(part) => part.told(),
         None => b"the end of the line",
     };
-    let at = faulty.put_found(place, expected, out)?;
+    let at = faulty.put_found(place, expected, out);
     put_hint_with(
         b"such a line is written ",
         form.written.as_bytes(),
         b"",
         out,
-    )?;
-    put_departure_hint(form, departure, faulty.word(place).bytes, out)?;
-    Ok(at)
+    );
+    put_departure_hint(form, departure, faulty.word(place).bytes, out);
+    at
 }
 
 /// Appends what is wrong with the form of a line.
-fn put_form(alloc: Global, faulty: &Faulty<'_>, out: &mut Vec<u8>) -> Result<usize, AllocError> {
+fn put_form(alloc: Global, faulty: &Faulty<'_>, out: &mut Said) -> usize {
     let Some((first, rest)) = faulty.words.split_first() else {
         return faulty.put_found(0, KINDS, out);
     };
@@ -114,20 +108,20 @@ fn put_form(alloc: Global, faulty: &Faulty<'_>, out: &mut Vec<u8>) -> Result<usi
             None => faulty.put_found(0, KINDS, out),
         },
         None => {
-            let at = faulty.put_found(0, KINDS, out)?;
-            put_kind_hint(alloc, first.bytes, out)?;
-            Ok(at)
+            let at = faulty.put_found(0, KINDS, out);
+            put_kind_hint(alloc, first.bytes, out);
+            at
         }
     }
 }
 
 /// The same, and what the whole text looks like where its first line is no line.
-fn put_syntax(alloc: Global, faulty: &Faulty<'_>, out: &mut Vec<u8>) -> Result<usize, AllocError> {
-    let at = put_form(alloc, faulty, out)?;
+fn put_syntax(alloc: Global, faulty: &Faulty<'_>, out: &mut Said) -> usize {
+    let at = put_form(alloc, faulty, out);
     if faulty.line.number == 1 || faulty.text.starts_with(&MARK) {
-        put_text_hint(faulty.text, Kind::Diagram, out)?;
+        put_text_hint(faulty.text, Kind::Diagram, out);
     }
-    Ok(at)
+    at
 }
 
 /// The place of the first word of a line that no earlier line names, of those that one has to name.
@@ -149,18 +143,20 @@ fn put_unknown_hint(
     declared: &[Declared<'_>],
     known: &[&[u8]],
     word: &[u8],
-    out: &mut Vec<u8>,
-) -> Result<(), AllocError> {
+    out: &mut Said,
+) {
     if let Some(it) = find(declared, word) {
         let hint = b"a feature is named before it is used; it is named on line ";
-        return put_hint_line(hint, it.line, out);
+        put_hint_line(hint, it.line, out);
+        return;
     }
-    match nearest_of(alloc, known, word)? {
-        Some(other) => put_hint_with(b"is ", other, b" meant?", out),
-        None => put_hint(
+    match nearest_of(alloc, known, word) {
+        Ok(Some(other)) => put_hint_with(b"is ", other, b" meant?", out),
+        Ok(None) => put_hint(
             b"each feature is first named as the root or as a child",
             out,
         ),
+        Err(_) => out.refuse(),
     }
 }
 
@@ -171,26 +167,48 @@ fn put_unnamed(
     place: usize,
     declared: &[Declared<'_>],
     known: &[&[u8]],
-    out: &mut Vec<u8>,
-) -> Result<usize, AllocError> {
-    let at = faulty.put_found(place, b"a feature that an earlier line names", out)?;
-    put_unknown_hint(alloc, declared, known, faulty.word(place).bytes, out)?;
-    Ok(at)
+    out: &mut Said,
+) -> usize {
+    let at = faulty.put_found(place, b"a feature that an earlier line names", out);
+    put_unknown_hint(alloc, declared, known, faulty.word(place).bytes, out);
+    at
+}
+
+/// Appends that no earlier line names anything.
+fn put_no_names(faulty: &Faulty<'_>, out: &mut Said) -> usize {
+    let at = faulty.put_found(0, b"`root` and the name of the root", out);
+    put_hint(b"the first line names the root", out);
+    at
+}
+
+/// Appends which name of a line no earlier line has. Those have these.
+fn put_unknown_of(
+    alloc: Global,
+    faulty: &Faulty<'_>,
+    declared: &[Declared<'_>],
+    known: &[&[u8]],
+    out: &mut Said,
+) -> usize {
+    if known.is_empty() {
+        return put_no_names(faulty, out);
+    }
+    let form = form_of(&LINES, faulty.word(0).bytes);
+    match form.and_then(|form| unknown_place(faulty, &form, known)) {
+        Some(place) => put_unnamed(alloc, faulty, place, declared, known, out),
+        None => faulty.put_found(0, b"features that earlier lines name", out),
+    }
 }
 
 /// Appends which name of a line no earlier line has.
-fn put_unknown(alloc: Global, faulty: &Faulty<'_>, out: &mut Vec<u8>) -> Result<usize, AllocError> {
-    let declared = declared_of(alloc, faulty.text)?;
-    let known = names_before(alloc, &declared, faulty.line.number)?;
-    if known.is_empty() {
-        let at = faulty.put_found(0, b"`root` and the name of the root", out)?;
-        put_hint(b"the first line names the root", out)?;
-        return Ok(at);
-    }
-    let form = form_of(&LINES, faulty.word(0).bytes);
-    match form.and_then(|form| unknown_place(faulty, &form, &known)) {
-        Some(place) => put_unnamed(alloc, faulty, place, &declared, &known, out),
-        None => faulty.put_found(0, b"features that earlier lines name", out),
+fn put_unknown(
+    alloc: Global,
+    faulty: &Faulty<'_>,
+    declared: &[Declared<'_>],
+    out: &mut Said,
+) -> usize {
+    match names_before(alloc, declared, faulty.line.number) {
+        Ok(known) => put_unknown_of(alloc, faulty, declared, &known, out),
+        Err(_) => out.refused(),
     }
 }
 
@@ -209,40 +227,53 @@ fn second_parent<'t>(declared: &[Declared<'t>], line: usize) -> Option<(Declared
 }
 
 /// Appends which child of a line has a parent.
-fn put_two_parents(
-    alloc: Global,
-    faulty: &Faulty<'_>,
-    out: &mut Vec<u8>,
-) -> Result<usize, AllocError> {
-    let declared = declared_of(alloc, faulty.text)?;
-    let Some((it, earlier)) = second_parent(&declared, faulty.line.number) else {
+fn put_two_parents(faulty: &Faulty<'_>, declared: &[Declared<'_>], out: &mut Said) -> usize {
+    let Some((it, earlier)) = second_parent(declared, faulty.line.number) else {
         return faulty.put_found(0, b"children without a parent", out);
     };
-    put_found(it.name, b"the line", b"a feature without a parent", out)?;
-    put_hint_line(b"it is named already on line ", earlier, out)?;
+    put_found(it.name, b"the line", b"a feature without a parent", out);
+    put_hint_line(b"it is named already on line ", earlier, out);
     put_hint(
         b"a feature has one parent; `requires` and `excludes` say more of it",
         out,
-    )?;
-    Ok(it.at.saturating_sub(faulty.line.from))
+    );
+    it.at.saturating_sub(faulty.line.from)
 }
 
 /// Appends that there is a second root.
-fn put_two_roots(
+fn put_two_roots(faulty: &Faulty<'_>, declared: &[Declared<'_>], out: &mut Said) -> usize {
+    let at = faulty.put_found(0, b"no second `root`", out);
+    if let Some(root) = declared.first() {
+        put_hint_line(b"the root is named on line ", root.line, out);
+    }
+    at
+}
+
+/// Appends what is wrong with a line of a text that names these features.
+fn put_of_names(
     alloc: Global,
     faulty: &Faulty<'_>,
-    out: &mut Vec<u8>,
-) -> Result<usize, AllocError> {
-    let at = faulty.put_found(0, b"no second `root`", out)?;
-    let declared = declared_of(alloc, faulty.text)?;
-    if let Some(root) = declared.first() {
-        put_hint_line(b"the root is named on line ", root.line, out)?;
+    declared: &[Declared<'_>],
+    fault: DiagramFault,
+    out: &mut Said,
+) -> usize {
+    match fault {
+        DiagramFault::TwoRoots { .. } => put_two_roots(faulty, declared, out),
+        DiagramFault::TwoParents { .. } => put_two_parents(faulty, declared, out),
+        _ => put_unknown(alloc, faulty, declared, out),
     }
-    Ok(at)
+}
+
+/// The same, where memory for these features is not refused.
+fn put_named(alloc: Global, faulty: &Faulty<'_>, fault: DiagramFault, out: &mut Said) -> usize {
+    match declared_of(alloc, faulty.text) {
+        Ok(declared) => put_of_names(alloc, faulty, &declared, fault, out),
+        Err(_) => out.refused(),
+    }
 }
 
 /// Appends what there is too much of.
-fn put_too_many(faulty: &Faulty<'_>, out: &mut Vec<u8>) -> Result<usize, AllocError> {
+fn put_too_many(faulty: &Faulty<'_>, out: &mut Said) -> usize {
     let word = faulty.word(0).bytes;
     if word == b"requires".as_slice() || word == b"excludes".as_slice() {
         return faulty.put_found(0, b"at most 16,384 lines of `requires` and `excludes`", out);
@@ -271,7 +302,7 @@ pub(crate) fn is_less(a: &[u8], b: &[u8]) -> bool {
 }
 
 /// Appends what is wrong with the range of a group.
-fn put_bad_range(faulty: &Faulty<'_>, out: &mut Vec<u8>) -> Result<usize, AllocError> {
+fn put_bad_range(faulty: &Faulty<'_>, out: &mut Said) -> usize {
     let (low, high) = (faulty.word(2), faulty.word(3));
     if is_less(high.bytes, low.bytes) {
         return faulty.put_found(2, b"a number that is not above the next", out);
@@ -280,16 +311,16 @@ fn put_bad_range(faulty: &Faulty<'_>, out: &mut Vec<u8>) -> Result<usize, AllocE
 }
 
 /// Appends that a text is blank.
-fn put_no_root(faulty: &Faulty<'_>, out: &mut Vec<u8>) -> Result<usize, AllocError> {
-    let at = faulty.put_found(0, b"`root` and the name of the root", out)?;
-    put_hint(b"the text is blank", out)?;
-    Ok(at)
+fn put_no_root(faulty: &Faulty<'_>, out: &mut Said) -> usize {
+    let at = faulty.put_found(0, b"`root` and the name of the root", out);
+    put_hint(b"the text is blank", out);
+    at
 }
 
 /// Appends that memory ran out.
-fn put_memory(out: &mut Vec<u8>) -> Result<usize, AllocError> {
-    out.extend_from_slice(b"memory ran out\n")?;
-    Ok(0)
+fn put_memory(out: &mut Said) -> usize {
+    out.put(b"memory ran out\n");
+    0
 }
 
 /// Appends what is wrong with a line. Where it stands in the line.
@@ -297,13 +328,13 @@ fn put_line_fault(
     alloc: Global,
     faulty: &Faulty<'_>,
     fault: DiagramFault,
-    out: &mut Vec<u8>,
-) -> Result<usize, AllocError> {
+    out: &mut Said,
+) -> usize {
     match fault {
         DiagramFault::Syntax { .. } => put_syntax(alloc, faulty, out),
-        DiagramFault::TwoRoots { .. } => put_two_roots(alloc, faulty, out),
-        DiagramFault::UnknownFeature { .. } => put_unknown(alloc, faulty, out),
-        DiagramFault::TwoParents { .. } => put_two_parents(alloc, faulty, out),
+        DiagramFault::TwoRoots { .. }
+        | DiagramFault::UnknownFeature { .. }
+        | DiagramFault::TwoParents { .. } => put_named(alloc, faulty, fault, out),
         DiagramFault::TooMany { .. } => put_too_many(faulty, out),
         DiagramFault::BadRange { .. } => put_bad_range(faulty, out),
         DiagramFault::NoRoot => put_no_root(faulty, out),
@@ -332,10 +363,12 @@ fn put_fault(
     text: &[u8],
     line: Line<'_>,
     fault: DiagramFault,
-    out: &mut Vec<u8>,
-) -> Result<usize, AllocError> {
-    let words = words_of(alloc, line.bytes, true)?;
-    put_line_fault(alloc, &Faulty { text, line, words }, fault, out)
+    out: &mut Said,
+) -> usize {
+    match words_of(alloc, line.bytes, true) {
+        Ok(words) => put_line_fault(alloc, &Faulty { text, line, words }, fault, out),
+        Err(_) => out.refused(),
+    }
 }
 
 /// What the fault means with which `Diagram::read` refused a text. It stands on the line that the reader says, at the
@@ -350,8 +383,7 @@ pub fn explain_diagram(
         IsColumnOf (line_text text.now (line_of_fault fault)) message.place.column) }
 {
     let line = line_at(text, line_of_fault(fault));
-    let mut words = Vec::new(alloc);
-    let at = put_fault(alloc, text, line, fault, &mut words)?;
-    let place = line.place(at);
-    Ok(Message { place, words })
+    let mut said = Said::new(alloc);
+    let at = put_fault(alloc, text, line, fault, &mut said);
+    said.into_message(line.place(at))
 }

@@ -1,6 +1,6 @@
 //! A line that has a fault.
 use crate::message::put_found;
-use std::alloc::AllocError;
+use crate::said::Said;
 use vpg_places::{Line, Word};
 
 /// A line that has a fault, its words, and the text that it stands in.
@@ -24,14 +24,9 @@ impl<'t> Faulty<'t> {
     }
 
     /// Appends what was found at a place, and what was expected. Where it stands in the line.
-    pub(crate) fn put_found(
-        &self,
-        place: usize,
-        expected: &[u8],
-        out: &mut Vec<u8>,
-    ) -> Result<usize, AllocError> {
+    pub(crate) fn put_found(&self, place: usize, expected: &[u8], out: &mut Said) -> usize {
         let word = self.word(place);
-        put_found(word.bytes, b"the line", expected, out)?;
-        Ok(word.at)
+        put_found(word.bytes, b"the line", expected, out);
+        word.at
     }
 }

@@ -7,6 +7,7 @@ use crate::diagrams::NAME_RULE;
 use crate::hints::{Kind, put_text_hint};
 use crate::message::{Message, put_found, put_hint, put_hint_line, put_hint_with};
 use crate::naming::nearest;
+use crate::said::Said;
 use std::alloc::{AllocError, Global};
 use vpg_game::GameFault;
 use vpg_guards::{GuardFault, Names};
@@ -41,12 +42,7 @@ fn word_at(text: &[u8], at: usize) -> &[u8] {
 }
 
 /// Appends what was found at an offset, and what was expected.
-fn put_found_at(
-    text: &[u8],
-    at: usize,
-    expected: &[u8],
-    out: &mut Vec<u8>,
-) -> Result<(), AllocError> {
+fn put_found_at(text: &[u8], at: usize, expected: &[u8], out: &mut Said) {
     put_found(word_at(text, at), b"the text", expected, out)
 }
 
@@ -92,12 +88,7 @@ fn hint_in_entry(numbers: usize, last: Last, found: &[u8]) -> Option<&'static [u
 }
 
 /// Appends a hint of what stands at an offset.
-fn put_syntax_hint(
-    text: &[u8],
-    at: usize,
-    scan: &Scan,
-    out: &mut Vec<u8>,
-) -> Result<(), AllocError> {
+fn put_syntax_hint(text: &[u8], at: usize, scan: &Scan, out: &mut Said) {
     let found = behind(text, at);
     let byte = hint_of_byte(found);
     let entry = match scan.in_entry() {
@@ -106,37 +97,32 @@ fn put_syntax_hint(
     };
     match byte.or(entry) {
         Some(hint) => put_hint(hint, out),
-        None => Ok(()),
+        None => {}
     }
 }
 
 /// Appends what stands where it can't.
-fn put_syntax(text: &[u8], at: usize, out: &mut Vec<u8>) -> Result<(), AllocError> {
+fn put_syntax(text: &[u8], at: usize, out: &mut Said) {
     let scan = Scan::of(text, at);
-    put_found_at(text, at, scan.expected(), out)?;
+    put_found_at(text, at, scan.expected(), out);
     if let Some(opened) = scan.open_at() {
-        put_hint_line(b"it was opened on line ", line_of(text, opened), out)?;
+        put_hint_line(b"it was opened on line ", line_of(text, opened), out);
     }
-    put_syntax_hint(text, at, &scan, out)?;
+    put_syntax_hint(text, at, &scan, out);
     if at < 8 {
-        return put_text_hint(text, Kind::Game, out);
+        put_text_hint(text, Kind::Game, out);
     }
-    Ok(())
 }
 
 /// Appends the name that a word was perhaps meant to be.
-fn put_nearest(
-    alloc: Global,
-    names: &Names,
-    word: &[u8],
-    out: &mut Vec<u8>,
-) -> Result<(), AllocError> {
+fn put_nearest(alloc: Global, names: &Names, word: &[u8], out: &mut Said) {
     let Ok(word) = str::from_utf8(word) else {
-        return Ok(());
+        return;
     };
-    match nearest(alloc, names, word)? {
-        Some(f) => put_hint_with(b"is ", names.name(f).as_bytes(), b" meant?", out),
-        None => Ok(()),
+    match nearest(alloc, names, word) {
+        Ok(Some(f)) => put_hint_with(b"is ", names.name(f).as_bytes(), b" meant?", out),
+        Ok(None) => {}
+        Err(_) => out.refuse(),
     }
 }
 
@@ -175,6 +161,20 @@ fn hint_of_sign(word: &[u8]) -> Option<&'static [u8]> {
     }
 }
 
+/// Says that a word is the name of no feature, and what it was perhaps meant to be.
+fn say_unknown(alloc: Global, names: &Names, word: &[u8], out: &mut Said) {
+    put_found(
+        word,
+        b"the word",
+        b"the name of a feature of the diagram",
+        out,
+    );
+    match hint_of_sign(word) {
+        Some(hint) => put_hint(hint, out),
+        None => put_nearest(alloc, names, word, out),
+    }
+}
+
 /// Appends that a word is the name of no feature, and what it was perhaps meant to be.
 pub fn put_unknown(
     alloc: Global,
@@ -182,25 +182,19 @@ pub fn put_unknown(
     word: &[u8],
     out: &mut Vec<u8>,
 ) -> Result<(), AllocError> {
-    put_found(
-        word,
-        b"the word",
-        b"the name of a feature of the diagram",
-        out,
-    )?;
-    match hint_of_sign(word) {
-        Some(hint) => put_hint(hint, out),
-        None => put_nearest(alloc, names, word, out),
-    }
+    let mut said = Said::new(alloc);
+    say_unknown(alloc, names, word, &mut said);
+    let text = said.into_text()?;
+    out.extend_from_slice(&text)
 }
 
 /// Appends what stands where it can't in a guard.
-fn put_guard_syntax(text: &[u8], at: usize, out: &mut Vec<u8>) -> Result<(), AllocError> {
+fn put_guard_syntax(text: &[u8], at: usize, out: &mut Said) {
     let expected = b"a guard of names, `true`, `false`, `!`, `&`, `|`, `(` and `)`";
-    put_found_at(text, at, expected, out)?;
+    put_found_at(text, at, expected, out);
     match hint_in_guard(behind(text, at)) {
         Some(hint) => put_hint(hint, out),
-        None => Ok(()),
+        None => {}
     }
 }
 
@@ -211,13 +205,13 @@ fn put_guard_fault(
     at: usize,
     names: &Names,
     fault: GuardFault,
-    out: &mut Vec<u8>,
-) -> Result<(), AllocError> {
+    out: &mut Said,
+) {
     match fault {
         GuardFault::Syntax { .. } => put_guard_syntax(text, at, out),
-        GuardFault::UnknownFeature { .. } => put_unknown(alloc, names, word_at(text, at), out),
+        GuardFault::UnknownFeature { .. } => say_unknown(alloc, names, word_at(text, at), out),
         GuardFault::TooDeep { .. } => put_found_at(text, at, b"at most 64 open `(` and `!`", out),
-        GuardFault::Memory => Ok(()),
+        GuardFault::Memory => {}
     }
 }
 
@@ -241,37 +235,41 @@ fn entry_at(numbers: &[Number], id: u32, from: usize) -> usize {
     find(numbers, id, false, from).map_or(0, |number| number.at)
 }
 
-/// Appends that two entries have one identifier. Where the second begins.
-fn put_double(alloc: Global, text: &[u8], id: u32, out: &mut Vec<u8>) -> Result<usize, AllocError> {
-    let numbers = numbers_of(alloc, text, true)?;
-    let first = entry_at(&numbers, id, 0);
-    let second = entry_at(&numbers, id, first.saturating_add(1));
-    put_found_at(text, second, b"an identifier that no entry before has", out)?;
+/// Says that two entries have one identifier, where entries begin with these. Where the second begins.
+fn put_second(text: &[u8], id: u32, numbers: &[Number], out: &mut Said) -> usize {
+    let first = entry_at(numbers, id, 0);
+    let second = entry_at(numbers, id, first.saturating_add(1));
+    put_found_at(text, second, b"an identifier that no entry before has", out);
     put_hint_line(
         b"the other entry stands on line ",
         line_of(text, first),
         out,
-    )?;
-    Ok(second)
+    );
+    second
+}
+
+/// Appends that two entries have one identifier. Where the second begins.
+fn put_double(alloc: Global, text: &[u8], id: u32, out: &mut Said) -> usize {
+    match numbers_of(alloc, text, true) {
+        Ok(numbers) => put_second(text, id, &numbers, out),
+        Err(_) => out.refused(),
+    }
 }
 
 /// Appends that a successor has no entry. Where it stands.
-fn put_missing(
-    alloc: Global,
-    text: &[u8],
-    id: u32,
-    out: &mut Vec<u8>,
-) -> Result<usize, AllocError> {
-    let numbers = numbers_of(alloc, text, false)?;
-    let at = find(&numbers, id, true, 0).map_or(0, |number| number.at);
-    put_found_at(text, at, b"a successor that has an entry", out)?;
-    put_hint(b"no entry begins with this identifier", out)?;
-    Ok(at)
+fn put_missing(alloc: Global, text: &[u8], id: u32, out: &mut Said) -> usize {
+    let at = match numbers_of(alloc, text, false) {
+        Ok(numbers) => find(&numbers, id, true, 0).map_or(0, |number| number.at),
+        Err(_) => out.refused(),
+    };
+    put_found_at(text, at, b"a successor that has an entry", out);
+    put_hint(b"no entry begins with this identifier", out);
+    at
 }
 
 /// Appends that the measures of a game are too many.
-fn put_too_wide(out: &mut Vec<u8>) -> Result<(), AllocError> {
-    out.extend_from_slice(b"the top measure of this game, or of its dual, is above 2^62\n")?;
+fn put_too_wide(out: &mut Said) {
+    out.put(b"the top measure of this game, or of its dual, is above 2^62\n");
     put_hint(
         b"it is the product, over the odd (even) priorities, of one plus their vertices; use fewer priorities",
         out,
@@ -312,12 +310,12 @@ fn put_placed(
     at: usize,
     names: &Names,
     fault: GameFault,
-    out: &mut Vec<u8>,
-) -> Result<(), AllocError> {
+    out: &mut Said,
+) {
     match fault {
         GameFault::Syntax { .. } => put_syntax(text, at, out),
         GameFault::BadOwner { .. } => {
-            put_found_at(text, at, b"the owner, 0 for Even or 1 for Odd", out)?;
+            put_found_at(text, at, b"the owner, 0 for Even or 1 for Odd", out);
             put_hint(b"is the priority missing before it?", out)
         }
         GameFault::PriorityTooLarge { .. } => {
@@ -329,27 +327,21 @@ fn put_placed(
         }
         GameFault::Guard { fault, .. } => put_guard_fault(alloc, text, at, names, fault, out),
         GameFault::TooWide => put_too_wide(out),
-        _ => out.extend_from_slice(b"memory ran out\n"),
+        _ => out.put(b"memory ran out\n"),
     }
 }
 
 /// Appends what a fault means. Where it stands.
-fn put_fault(
-    alloc: Global,
-    text: &[u8],
-    names: &Names,
-    fault: GameFault,
-    out: &mut Vec<u8>,
-) -> Result<usize, AllocError>
-    ensures { IfOk result (λ at. IfSome (offset_of fault) (λ offset. at ≡ min offset usize.MAX)) }
+fn put_fault(alloc: Global, text: &[u8], names: &Names, fault: GameFault, out: &mut Said) -> usize
+    ensures { IfSome (offset_of fault) (λ offset. result ≡ min offset usize.MAX) }
 {
     match fault {
         GameFault::DoubleVertex { id } => put_double(alloc, text, id, out),
         GameFault::MissingVertex { id } => put_missing(alloc, text, id, out),
         _ => {
             let at = offset_of(fault);
-            put_placed(alloc, text, at, names, fault, out)?;
-            Ok(at)
+            put_placed(alloc, text, at, names, fault, out);
+            at
         }
     }
 }
@@ -366,8 +358,8 @@ pub fn explain_game(
     ensures place { IfOk result (λ message. IfSome (offset_of fault) (λ at. IsPlaceOf text.now at message.place)) }
     ensures within { IfOk result (λ message. IsWithin text.now message.place.line message.place.column) }
 {
-    let mut words = Vec::new(alloc);
-    let at = put_fault(alloc, text, names, fault, &mut words)?;
+    let mut said = Said::new(alloc);
+    let at = put_fault(alloc, text, names, fault, &mut said);
     let place = place_of(text, at.min(text.len()));
-    Ok(Message { place, words })
+    said.into_message(place)
 }

@@ -1,6 +1,6 @@
 //! Hints that a whole text gives: it has a mark in front, or is another kind of file.
 use crate::message::put_hint;
-use std::alloc::AllocError;
+use crate::said::Said;
 use vpg_places::{COMMANDS, LINES, form_of};
 
 /// The byte order mark in UTF-8.
@@ -45,16 +45,12 @@ fn kind_of(text: &[u8]) -> Option<Kind> {
 }
 
 /// Appends what a text is that should be of a kind, where it looks like another.
-pub(crate) fn put_text_hint(
-    text: &[u8],
-    wanted: Kind,
-    out: &mut Vec<u8>,
-) -> Result<(), AllocError> {
+pub(crate) fn put_text_hint(text: &[u8], wanted: Kind, out: &mut Said) {
     if text.starts_with(&MARK) {
         put_hint(
             b"the text begins with a byte order mark; save it without one",
             out,
-        )?;
+        );
     }
     match (wanted, kind_of(text)) {
         (Kind::Game, Some(Kind::Diagram)) | (Kind::Diagram, Some(Kind::Game)) => put_hint(
@@ -69,6 +65,6 @@ pub(crate) fn put_text_hint(
             b"this looks like a script; the words are GAME DIAGRAM SCRIPT",
             out,
         ),
-        _ => Ok(()),
+        _ => {}
     }
 }

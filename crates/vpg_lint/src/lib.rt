@@ -15,6 +15,7 @@ mod games;
 mod hints;
 mod message;
 mod naming;
+mod said;
 mod scripts;
 
 pub use diagrams::explain_diagram;

@@ -2,6 +2,7 @@
 ghost use Rattle.std.specs.Prelude.{◌≡◌, ◌++◌, OnOk, map, decimal};
 ghost use Rattle.vpg_lint.specs.Messages.{shown_byte, place_text, message_text};
 
+use crate::said::Said;
 use itoa::Buffer;
 use std::alloc::AllocError;
 use vpg_places::{Place, begins_character};
@@ -73,60 +74,47 @@ pub fn put_shown(word: &[u8], out: &mut Vec<u8>) -> Result<(), AllocError> {
 }
 
 /// Appends what was found, or what ended.
-fn put_word(word: &[u8], ended: &[u8], out: &mut Vec<u8>) -> Result<(), AllocError> {
+fn put_word(word: &[u8], ended: &[u8], out: &mut Said) {
     if word.is_empty() {
-        out.extend_from_slice(ended)?;
-        return out.extend_from_slice(b" ends");
+        out.put(ended);
+        out.put(b" ends");
+    } else {
+        out.put(b"found `");
+        out.put_shown(word);
+        out.put(b"`");
     }
-    out.extend_from_slice(b"found `")?;
-    put_shown(word, out)?;
-    out.extend_from_slice(b"`")
 }
 
 /// Appends what was found, or what ended, and what was expected.
-pub(crate) fn put_found(
-    word: &[u8],
-    ended: &[u8],
-    expected: &[u8],
-    out: &mut Vec<u8>,
-) -> Result<(), AllocError> {
-    put_word(word, ended, out)?;
-    out.extend_from_slice(b"; expected ")?;
-    out.extend_from_slice(expected)?;
-    out.extend_from_slice(b"\n")
+pub(crate) fn put_found(word: &[u8], ended: &[u8], expected: &[u8], out: &mut Said) {
+    put_word(word, ended, out);
+    out.put(b"; expected ");
+    out.put(expected);
+    out.put(b"\n");
 }
 
 /// Appends a hint.
-pub(crate) fn put_hint(hint: &[u8], out: &mut Vec<u8>) -> Result<(), AllocError> {
-    out.extend_from_slice(b"  hint: ")?;
-    out.extend_from_slice(hint)?;
-    out.extend_from_slice(b"\n")
+pub(crate) fn put_hint(hint: &[u8], out: &mut Said) {
+    out.put(b"  hint: ");
+    out.put(hint);
+    out.put(b"\n");
 }
 
 /// Appends a hint with a word in quotes.
-pub(crate) fn put_hint_with(
-    before: &[u8],
-    word: &[u8],
-    behind: &[u8],
-    out: &mut Vec<u8>,
-) -> Result<(), AllocError> {
-    out.extend_from_slice(b"  hint: ")?;
-    out.extend_from_slice(before)?;
-    out.extend_from_slice(b"`")?;
-    put_shown(word, out)?;
-    out.extend_from_slice(b"`")?;
-    out.extend_from_slice(behind)?;
-    out.extend_from_slice(b"\n")
+pub(crate) fn put_hint_with(before: &[u8], word: &[u8], behind: &[u8], out: &mut Said) {
+    out.put(b"  hint: ");
+    out.put(before);
+    out.put(b"`");
+    out.put_shown(word);
+    out.put(b"`");
+    out.put(behind);
+    out.put(b"\n");
 }
 
 /// Appends a hint that ends in a line's number.
-pub(crate) fn put_hint_line(
-    before: &[u8],
-    line: usize,
-    out: &mut Vec<u8>,
-) -> Result<(), AllocError> {
-    out.extend_from_slice(b"  hint: ")?;
-    out.extend_from_slice(before)?;
-    put_number(line, out)?;
-    out.extend_from_slice(b"\n")
+pub(crate) fn put_hint_line(before: &[u8], line: usize, out: &mut Said) {
+    out.put(b"  hint: ");
+    out.put(before);
+    out.put_number(line);
+    out.put(b"\n");
 }

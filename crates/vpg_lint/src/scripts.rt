@@ -7,6 +7,7 @@ use crate::faulty::Faulty;
 use crate::hints::{Kind, MARK, put_text_hint};
 use crate::message::{Message, put_hint, put_hint_with};
 use crate::naming::nearest_form;
+use crate::said::Said;
 use std::alloc::{AllocError, Global};
 use vpg_places::{COMMANDS, Departure, Form, Line, Part, form_of, words_of};
 
@@ -30,50 +31,47 @@ fn is_label(word: &[u8]) -> bool {
     1 <= value && value <= 64
 }
 
+/// Appends the command that was perhaps meant by a word.
+fn put_meant(alloc: Global, word: &[u8], out: &mut Said) {
+    match nearest_form(alloc, &COMMANDS, word) {
+        Ok(Some(command)) if command.as_bytes() == word => {}
+        Ok(Some(command)) => put_hint_with(b"is ", command.as_bytes(), b" meant?", out),
+        Ok(None) => put_hint(b"`vpgdesk --help` lists the commands", out),
+        Err(_) => out.refuse(),
+    }
+}
+
 /// Appends a hint about a word that should be a command.
-fn put_command_hint(alloc: Global, word: &[u8], out: &mut Vec<u8>) -> Result<(), AllocError> {
+fn put_command_hint(alloc: Global, word: &[u8], out: &mut Said) {
     if word.contains(&b':') {
-        return put_hint(
+        put_hint(
             b"a label is a number from 1 to 64 and `:`, with a blank behind it",
             out,
         );
-    }
-    let word = word.strip_prefix(&MARK).unwrap_or(word);
-    match nearest_form(alloc, &COMMANDS, word)? {
-        Some(command) if command.as_bytes() == word => Ok(()),
-        Some(command) => put_hint_with(b"is ", command.as_bytes(), b" meant?", out),
-        None => put_hint(b"`vpgdesk --help` lists the commands", out),
+    } else {
+        put_meant(alloc, word.strip_prefix(&MARK).unwrap_or(word), out);
     }
 }
 
 /// Appends what is wrong with a word that should be a command.
-fn put_unknown(
-    alloc: Global,
-    faulty: &Faulty<'_>,
-    place: usize,
-    out: &mut Vec<u8>,
-) -> Result<usize, AllocError> {
-    let at = faulty.put_found(place, b"a command", out)?;
-    put_command_hint(alloc, faulty.word(place).bytes, out)?;
+fn put_unknown(alloc: Global, faulty: &Faulty<'_>, place: usize, out: &mut Said) -> usize {
+    let at = faulty.put_found(place, b"a command", out);
+    put_command_hint(alloc, faulty.word(place).bytes, out);
     if faulty.line.number == 1 {
-        put_text_hint(faulty.line.bytes, Kind::Script, out)?;
+        put_text_hint(faulty.line.bytes, Kind::Script, out);
     }
-    Ok(at)
+    at
 }
 
 /// Appends a hint about an argument.
-fn put_argument_hint(
-    departure: Departure,
-    word: &[u8],
-    out: &mut Vec<u8>,
-) -> Result<(), AllocError> {
+fn put_argument_hint(departure: Departure, word: &[u8], out: &mut Said) {
     match departure.expected {
         _ if word.starts_with(b"#") => put_hint(b"a comment is a line of its own", out),
         Some(part) if part.is_name() && !word.is_empty() => put_hint(NAME_RULE, out),
         Some(Part::Serial | Part::Vertex | Part::Number) if !word.is_empty() => {
             put_hint(b"a number is digits alone", out)
         }
-        _ => Ok(()),
+        _ => {}
     }
 }
 
@@ -83,17 +81,17 @@ fn put_departure(
     form: &Form,
     departure: Departure,
     first: usize,
-    out: &mut Vec<u8>,
-) -> Result<usize, AllocError> {
+    out: &mut Said,
+) -> usize {
     let place = first.saturating_add(departure.place);
     let expected = match departure.expected {
         Some(part) => part.told(),
         None => b"the end of the line",
     };
-    let at = faulty.put_found(place, expected, out)?;
-    put_hint_with(b"it is written ", form.written.as_bytes(), b"", out)?;
-    put_argument_hint(departure, faulty.word(place).bytes, out)?;
-    Ok(at)
+    let at = faulty.put_found(place, expected, out);
+    put_hint_with(b"it is written ", form.written.as_bytes(), b"", out);
+    put_argument_hint(departure, faulty.word(place).bytes, out);
+    at
 }
 
 /// The greatest number that a command of this form takes, in digits, and what is expected of it.
@@ -125,23 +123,13 @@ fn great_place(faulty: &Faulty<'_>, first: usize, limit: &[u8]) -> usize {
 }
 
 /// Appends which number of a line is too great.
-fn put_too_great(
-    faulty: &Faulty<'_>,
-    form: &Form,
-    first: usize,
-    out: &mut Vec<u8>,
-) -> Result<usize, AllocError> {
+fn put_too_great(faulty: &Faulty<'_>, form: &Form, first: usize, out: &mut Said) -> usize {
     let (limit, expected) = limit_of(form);
     faulty.put_found(great_place(faulty, first, limit), expected, out)
 }
 
 /// Appends what is wrong with the arguments of a command, which stands at a place.
-fn put_arguments(
-    faulty: &Faulty<'_>,
-    form: &Form,
-    command: usize,
-    out: &mut Vec<u8>,
-) -> Result<usize, AllocError> {
+fn put_arguments(faulty: &Faulty<'_>, form: &Form, command: usize, out: &mut Said) -> usize {
     let first = command.saturating_add(1);
     let arguments = faulty.words.get(first..).unwrap_or(&[]);
     match form.departure(arguments) {
@@ -151,7 +139,7 @@ fn put_arguments(
 }
 
 /// Appends what is wrong with a line. Where it stands in the line.
-fn put_refused(alloc: Global, faulty: &Faulty<'_>, out: &mut Vec<u8>) -> Result<usize, AllocError> {
+fn put_refused(alloc: Global, faulty: &Faulty<'_>, out: &mut Said) -> usize {
     let command = if is_label(faulty.word(0).bytes) { 1 } else { 0 };
     match form_of(&COMMANDS, faulty.word(command).bytes) {
         Some(form) => put_arguments(faulty, &form, command, out),
@@ -159,19 +147,22 @@ fn put_refused(alloc: Global, faulty: &Faulty<'_>, out: &mut Vec<u8>) -> Result<
     }
 }
 
-/// The same of any line, also of one that is too long.
-fn put_line(alloc: Global, line: Line<'_>, out: &mut Vec<u8>) -> Result<usize, AllocError> {
-    if line.bytes.len() > LONGEST_LINE {
-        out.extend_from_slice(b"the line goes on; expected at most 4,096 bytes\n")?;
-        return Ok(LONGEST_LINE);
+/// Appends that a line is too long. Where it should end.
+fn put_long(out: &mut Said) -> usize {
+    out.put(b"the line goes on; expected at most 4,096 bytes\n");
+    LONGEST_LINE
+}
+
+/// Appends what is wrong with any line, also with one that is too long.
+fn put_line(alloc: Global, line: Line<'_>, out: &mut Said) -> usize {
+    let text = line.bytes;
+    if text.len() > LONGEST_LINE {
+        return put_long(out);
     }
-    let words = words_of(alloc, line.bytes, false)?;
-    let faulty = Faulty {
-        text: line.bytes,
-        line,
-        words,
-    };
-    put_refused(alloc, &faulty, out)
+    match words_of(alloc, text, false) {
+        Ok(words) => put_refused(alloc, &Faulty { text, line, words }, out),
+        Err(_) => out.refused(),
+    }
 }
 
 /// Why a line of a script, of this number, is no command.
@@ -184,8 +175,7 @@ pub fn explain_line(alloc: Global, number: usize, line: &[u8]) -> Result<Message
         from: 0,
         bytes: line,
     };
-    let mut words = Vec::new(alloc);
-    let at = put_line(alloc, line, &mut words)?;
-    let place = line.place(at);
-    Ok(Message { place, words })
+    let mut said = Said::new(alloc);
+    let at = put_line(alloc, line, &mut said);
+    said.into_message(line.place(at))
 }

@@ -8,6 +8,7 @@
 mod help;
 mod reading;
 mod task;
+mod verbs;
 
 pub use help::command_list;
 pub use reading::{not_text, read};

@@ -1,87 +1,48 @@
 //! How words are read.
-use crate::help::{
-    ABOUT, AFTER, DIAGRAM_HELP, DRAWN_SCRIPT_HELP, EXPLAIN_HELP, FEATURE_HELP, FEATURES_HELP,
-    GAME_HELP, KEEP_GOING_HELP, LIFTERS_HELP, NAMES_HELP, SCRIPT_HELP, SHORT_AFTER, STRICT_HELP,
-};
+use crate::help::{ABOUT, AFTER, SHORT_AFTER};
 use crate::task::{Asked, Task};
+use crate::verbs::{Argument, Kind, VERBS, Verb};
 use clap::builder::ValueParser;
 use clap::error::ErrorKind;
 use clap::{Arg, ArgAction, ArgMatches, Command, Error};
 use std::alloc::{AllocError, Global};
 use vpg_family::{Paths, Subject};
 
-/// A file that has to be named.
-fn file<'a>(alloc: Global, id: &'a str, help: &'a str) -> Arg<'a> {
-    Arg::new(alloc, id).required(true).help(help)
-}
-
-/// An option without a value.
-fn flag<'a>(alloc: Global, name: &'a str, help: &'a str) -> Arg<'a> {
-    Arg::new(alloc, name)
-        .long(name)
-        .action(ArgAction::SetTrue)
-        .help(help)
-}
-
-/// A command over the two files of a family.
-fn over_family<'a>(
-    alloc: Global,
-    name: &'a str,
-    about: &'a str,
-) -> Result<Command<'a>, AllocError> {
-    Command::new(alloc, name)
-        .about(about)
-        .arg(file(alloc, "GAME", GAME_HELP))?
-        .arg(file(alloc, "DIAGRAM", DIAGRAM_HELP))
-}
-
-/// The same of a command that explains faults where it is asked to.
-fn explaining<'a>(alloc: Global, name: &'a str, about: &'a str) -> Result<Command<'a>, AllocError> {
-    over_family(alloc, name, about)?.arg(flag(alloc, "explain", EXPLAIN_HELP))
-}
-
-/// The number of lifters.
-fn lifters<'a>(alloc: Global) -> Arg<'a> {
-    Arg::new(alloc, "lifters")
-        .long("lifters")
+/// The option whose value is a number of lifters.
+fn lifters<'a>(arg: Arg<'a>) -> Arg<'a> {
+    arg.long("lifters")
         .value_name("N")
         .value_parser(ValueParser::unsigned(1, 64))
         .default_value("1")
-        .help(LIFTERS_HELP)
 }
 
-fn desk_command<'a>(alloc: Global) -> Result<Command<'a>, AllocError> {
-    over_family(
-        alloc,
-        "desk",
-        "Answers commands as they are typed, on a family",
-    )?
-    .arg(lifters(alloc))?
-    .arg(flag(alloc, "names", NAMES_HELP))
+fn arg_of<'a>(alloc: Global, argument: Argument) -> Arg<'a> {
+    let arg = Arg::new(alloc, argument.name).help(argument.help);
+    match argument.kind {
+        Kind::Word => arg.required(true),
+        Kind::Words => arg.required(true).num_args(1..),
+        Kind::Optional => arg,
+        Kind::Flag => arg.long(argument.name).action(ArgAction::SetTrue),
+        Kind::Lifters => lifters(arg),
+    }
 }
 
-fn run_command<'a>(alloc: Global) -> Result<Command<'a>, AllocError> {
-    explaining(alloc, "run", "Carries a script out on a family")?
-        .arg(file(alloc, "SCRIPT", SCRIPT_HELP))?
-        .arg(lifters(alloc))?
-        .arg(flag(alloc, "strict", STRICT_HELP))?
-        .arg(flag(alloc, "keep-going", KEEP_GOING_HELP))?
-        .arg(flag(alloc, "names", NAMES_HELP))
+/// A command with these arguments.
+fn with_arguments<'a>(
+    alloc: Global,
+    command: Command<'a>,
+    arguments: &[Argument],
+) -> Result<Command<'a>, AllocError> {
+    let mut command = command;
+    for argument in arguments {
+        command = command.arg(arg_of(alloc, *argument))?;
+    }
+    Ok(command)
 }
 
-fn project_command<'a>(alloc: Global) -> Result<Command<'a>, AllocError> {
-    explaining(
-        alloc,
-        "project",
-        "Writes the plain parity game of one product",
-    )?
-    .arg(file(alloc, "FEATURE", FEATURE_HELP).num_args(1..))
-}
-
-fn draw_command<'a>(alloc: Global) -> Result<Command<'a>, AllocError> {
-    explaining(alloc, "draw", "Draws the game as a Graphviz text")?
-        .arg(Arg::new(alloc, "SCRIPT").help(DRAWN_SCRIPT_HELP))?
-        .arg(flag(alloc, "features", FEATURES_HELP))
+fn command_of<'a>(alloc: Global, verb: &Verb) -> Result<Command<'a>, AllocError> {
+    let command = Command::new(alloc, verb.name).about(verb.about);
+    with_arguments(alloc, command, verb.arguments)
 }
 
 /// A command, and one more within it.
@@ -95,16 +56,13 @@ fn with_inner<'a>(
     }
 }
 
-fn check_command<'a>(alloc: Global) -> Result<Command<'a>, AllocError> {
-    explaining(
-        alloc,
-        "check",
-        "Counts vertices, edges, features and measures",
-    )
-}
-
-fn lint_command<'a>(alloc: Global) -> Result<Command<'a>, AllocError> {
-    over_family(alloc, "lint", "Says where a family is, or looks, wrong")
+/// A command, and all commands of the program within it.
+fn with_verbs<'a>(alloc: Global, command: Command<'a>) -> Result<Command<'a>, AllocError> {
+    let mut command = command;
+    for verb in &VERBS {
+        command = with_inner(command, command_of(alloc, verb))?;
+    }
+    Ok(command)
 }
 
 /// All that the program may be called with.
@@ -115,17 +73,15 @@ fn command<'a>(alloc: Global) -> Result<Command<'a>, AllocError> {
         .long_about(ABOUT)
         .after_help(SHORT_AFTER)
         .after_long_help(AFTER);
-    let command = with_inner(command, run_command(alloc))?;
-    let command = with_inner(command, desk_command(alloc))?;
-    let command = with_inner(command, project_command(alloc))?;
-    let command = with_inner(command, check_command(alloc))?;
-    let command = with_inner(command, lint_command(alloc))?;
-    with_inner(command, draw_command(alloc))
+    with_verbs(alloc, command)
 }
 
 /// What is told of words that are wrong.
 fn wrong(alloc: Global, kind: ErrorKind, why: &str) -> Result<Error, AllocError> {
-    command(alloc)?.error(kind, why)
+    match command(alloc) {
+        Ok(mut command) => command.error(kind, why),
+        Err(fault) => Err(fault),
+    }
 }
 
 /// What is told of words that no text in UTF-8 spells.
@@ -232,29 +188,41 @@ fn explains(name: &str, matches: &ArgMatches<'_>) -> bool {
     name == "lint" || name == "desk" || matches.get_flag("explain")
 }
 
-/// What words ask for that the parser accepted.
-fn accepted<'a>(alloc: Global, matches: &ArgMatches<'a>) -> Result<Asked<'a>, Error> {
-    let Some((name, inner)) = matches.subcommand() else {
-        return Ok(Asked {
-            task: Task::BuiltIn,
-            explains: false,
-        });
-    };
-    if has_sign(inner) {
-        return Err(signed(alloc)?);
+/// What is told in place of a task.
+fn refused<'a>(told: Result<Error, AllocError>) -> Result<Asked<'a>, Error> {
+    Err(told?)
+}
+
+/// What a command over a family asks for.
+fn asked<'a>(alloc: Global, name: &str, matches: &ArgMatches<'a>) -> Result<Asked<'a>, Error> {
+    if has_sign(matches) {
+        return refused(signed(alloc));
     }
-    match task_of(alloc, name, inner)? {
+    match task_of(alloc, name, matches)? {
         Some(task) => Ok(Asked {
             task,
-            explains: explains(name, inner),
+            explains: explains(name, matches),
         }),
-        None => Err(lacking(alloc)?),
+        None => refused(lacking(alloc)),
+    }
+}
+
+/// What words ask for that the parser accepted.
+fn accepted<'a>(alloc: Global, matches: &ArgMatches<'a>) -> Result<Asked<'a>, Error> {
+    match matches.subcommand() {
+        Some((name, inner)) => asked(alloc, name, inner),
+        None => Ok(Asked {
+            task: Task::BuiltIn,
+            explains: false,
+        }),
     }
 }
 
 /// What the words ask for, the first of them being the program's name; else what is told of them, help and the version
 /// among it.
 pub fn read<'a>(alloc: Global, words: &'a [String]) -> Result<Asked<'a>, Error> {
-    let matches = command(alloc)?.try_get_matches_from(words)?;
-    accepted(alloc, &matches)
+    match command(alloc)?.try_get_matches_from(words) {
+        Ok(matches) => accepted(alloc, &matches),
+        Err(told) => Err(told),
+    }
 }

@@ -10,7 +10,6 @@ pub struct Asked<'a> {
 }
 
 /// What is to be done.
-#[derive(Drop)]
 pub enum Task<'a> {
     /// A script from standard input, on the family that is built in.
     BuiltIn,
@@ -54,6 +53,39 @@ pub enum Task<'a> {
         subject: Subject,
         script: Option<&'a str>,
     },
+}
+
+// Not derived, so that letting one go is one call: a derived way would be proved anew at each exit that owns one.
+impl Drop for Task<'_> {
+    fn drop(self) {
+        match self {
+            Task::BuiltIn => {}
+            Task::Run {
+                paths: _,
+                script: _,
+                lifters: _,
+                strict: _,
+                keep_going: _,
+                names: _,
+            } => {}
+            Task::Desk {
+                paths: _,
+                lifters: _,
+                names: _,
+            } => {}
+            Task::Project {
+                paths: _,
+                features: _,
+            } => {}
+            Task::Check { paths: _ } => {}
+            Task::Lint { paths: _ } => {}
+            Task::Draw {
+                paths: _,
+                subject: _,
+                script: _,
+            } => {}
+        }
+    }
 }
 
 impl<'a> Task<'a> {
