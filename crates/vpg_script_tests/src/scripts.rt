@@ -4,6 +4,7 @@ mod devices;
 mod manners;
 mod order;
 mod rows;
+mod runs;
 
 use std::alloc::Global;
 use std::io;
@@ -97,125 +98,139 @@ impl Write for FailsAt {
     }
 }
 
-fn outcome<T: Threads + Wait + Sync>(
+/// What the server answers to a script over these devices.
+fn served<T: Threads + Wait + Sync, R: Read + Drop, W: Write + Drop>(
     rt: &T,
     alloc: Global,
-    text: &'static [u8],
+    reader: R,
+    writer: W,
+) -> (Result<(), ScriptFault>, W) {
+    let mut reader = Device::reader(reader);
+    let mut writer = Device::writer(writer);
+    let ended = answer_script(rt, alloc, 1, &mut Refuser, &mut reader, &mut writer);
+    (ended, writer.into_writer())
+}
+
+/// Whether a script ends so, behind these answers, where so many calls of the writer are taken.
+fn is_served<T: Threads + Wait + Sync, R: Read + Drop>(
+    rt: &T,
+    alloc: Global,
+    reader: R,
     calls: u32,
-) -> (Result<(), ScriptFault>, Vec<u8>) {
-    let mut reader = Device::reader(text);
-    let mut writer = Device::writer(FailsAt {
+    ended: Result<(), ScriptFault>,
+    answers: &[u8],
+) -> bool {
+    let writer = FailsAt {
         got: Vec::new(alloc),
         calls,
-    });
-    let result = answer_script(rt, alloc, 1, &mut Refuser, &mut reader, &mut writer);
-    (result, writer.into_writer().got)
+    };
+    let (result, writer) = served(rt, alloc, reader, writer);
+    result == ended && writer.got.as_slice() == answers
 }
 
 #[test]
 fn answers_lines(rt: HostRuntime) -> Result<(), Fail> {
-    let (result, got) = outcome(
-        &rt,
-        rt.alloc(),
-        b"# none\r\n\n 2: keep 1 \r\nundo 007\ncommit 1",
-        100,
-    );
-    assert!(rt; result.is_ok());
-    assert_eq!(rt;
-        got.as_slice(),
-        b"refused NoToken\nrefused NoToken\nrefused NoHarvest\n".as_slice()
-    );
+    let script = b"# none\r\n\n 2: keep 1 \r\nundo 007\ncommit 1".as_slice();
+    let answers = b"refused NoToken\nrefused NoToken\nrefused NoHarvest\n";
+    assert!(rt; is_served(&rt, rt.alloc(), script, 100, Ok(()), answers));
     Ok(())
 }
 
-/// Whether the last line of a text is refused so, behind these answers.
+/// Lines whose words are not those that their command takes.
+static ARGS: [&str; 35] = [
+    "settle 1000000001",
+    "lift hopeful 4294967296",
+    "keep 18446744073709551616",
+    "undo -1",
+    "show f",
+    "show 1 4294967296",
+    "assert",
+    "assert 1",
+    "assert 1 full",
+    "assert 1 sure possible never",
+    "assert full settled",
+    "assert sure 1",
+    "count 1",
+    "draw f",
+    "draw 0 1",
+    "changed 1",
+    "forced f",
+    "empty 0",
+    "known",
+    "known +f",
+    "why",
+    "why 4294967296",
+    "why +",
+    "why -1",
+    "example",
+    "counterexample f",
+    "offer 0 1",
+    "needs",
+    "repair f",
+    "spoil",
+    "spoil f",
+    "plan f",
+    "plan 0 1",
+    "select",
+    "select 9",
+];
+
+/// Lines whose first word is no command, or whose label is none.
+static WORDS: [&str; 4] = ["65: undo", "0: undo", "2:undo", "2:"];
+
+/// Whether the last line of a script, the one of this number, is refused so, behind these answers.
 fn is_refused<T: Threads + Wait + Sync>(
     rt: &T,
     alloc: Global,
-    text: &'static [u8],
+    text: &[u8],
     line: u64,
     fault: LineFault,
     answers: &[u8],
 ) -> bool {
-    let (result, got) = outcome(rt, alloc, text, 100);
-    result == Err(ScriptFault::Line { line, fault }) && got.as_slice() == answers
+    let ended = Err(ScriptFault::Line { line, fault });
+    is_served(rt, alloc, text, 100, ended, answers)
+}
+
+/// The place of the first of these lines that is not refused so as a script of its own.
+fn first_other<T: Threads + Wait + Sync>(
+    rt: &T,
+    alloc: Global,
+    lines: &[&str],
+    fault: LineFault,
+) -> Option<usize> {
+    for k in 0..lines.len() {
+        if !is_refused(rt, alloc, lines[k].as_bytes(), 1, fault, b"") {
+            return Some(k);
+        }
+    }
+    None
 }
 
 #[test]
 fn names_the_faulty_line(rt: HostRuntime) -> Result<(), Fail> {
-    assert!(rt;
-        is_refused(
-            &rt,
-            rt.alloc(),
-            b"redo\nfrob",
-            2,
-            LineFault::Word,
-            b"refused NoToken\n"
-        )
+    let second = is_refused(
+        &rt,
+        rt.alloc(),
+        b"redo\nfrob",
+        2,
+        LineFault::Word,
+        b"refused NoToken\n",
     );
-    for (text, fault) in [
-        ("settle 1000000001", LineFault::Args),
-        ("lift hopeful 4294967296", LineFault::Args),
-        ("keep 18446744073709551616", LineFault::Args),
-        ("undo -1", LineFault::Args),
-        ("show f", LineFault::Args),
-        ("show 1 4294967296", LineFault::Args),
-        ("assert", LineFault::Args),
-        ("assert 1", LineFault::Args),
-        ("assert 1 full", LineFault::Args),
-        ("assert 1 sure possible never", LineFault::Args),
-        ("assert full settled", LineFault::Args),
-        ("assert sure 1", LineFault::Args),
-        ("count 1", LineFault::Args),
-        ("draw f", LineFault::Args),
-        ("draw 0 1", LineFault::Args),
-        ("changed 1", LineFault::Args),
-        ("forced f", LineFault::Args),
-        ("empty 0", LineFault::Args),
-        ("known", LineFault::Args),
-        ("known +f", LineFault::Args),
-        ("why", LineFault::Args),
-        ("why 4294967296", LineFault::Args),
-        ("why +", LineFault::Args),
-        ("why -1", LineFault::Args),
-        ("example", LineFault::Args),
-        ("counterexample f", LineFault::Args),
-        ("offer 0 1", LineFault::Args),
-        ("needs", LineFault::Args),
-        ("repair f", LineFault::Args),
-        ("spoil", LineFault::Args),
-        ("spoil f", LineFault::Args),
-        ("plan f", LineFault::Args),
-        ("plan 0 1", LineFault::Args),
-        ("select", LineFault::Args),
-        ("select 9", LineFault::Args),
-        ("65: undo", LineFault::Word),
-        ("0: undo", LineFault::Word),
-        ("2:undo", LineFault::Word),
-        ("2:", LineFault::Word),
-    ] {
-        assert!(rt;
-            is_refused(&rt, rt.alloc(), text.as_bytes(), 1, fault, b""),
-            "at {text}"
-        );
-    }
+    let args = first_other(&rt, rt.alloc(), &ARGS, LineFault::Args);
+    let words = first_other(&rt, rt.alloc(), &WORDS, LineFault::Word);
+    assert_eq!(rt; (second, args, words), (true, None, None));
     Ok(())
 }
 
 #[test]
 fn a_failing_reader_and_writer(rt: HostRuntime) -> Result<(), Fail> {
-    let mut reader = Device::reader(ThenFails {
+    let reader = ThenFails {
         bytes: b"undo\nredo",
-    });
-    let mut writer = Device::writer(Vec::new(rt.alloc()));
-    let result = answer_script(&rt, rt.alloc(), 1, &mut Refuser, &mut reader, &mut writer);
-    assert!(rt; result == Err(ScriptFault::Read));
-    assert_eq!(rt;
-        writer.into_writer().as_slice(),
-        b"refused NoToken\n".as_slice()
-    );
-    let (result, got) = outcome(&rt, rt.alloc(), b"undo\nundo\n", 9);
-    assert!(rt; result == Err(ScriptFault::Write));
-    assert_eq!(rt; got.as_slice(), b"refused NoToken\nre".as_slice());
+    };
+    let read = Err(ScriptFault::Read);
+    assert!(rt; is_served(&rt, rt.alloc(), reader, 100, read, b"refused NoToken\n"));
+    let script = b"undo\nundo\n".as_slice();
+    let written = Err(ScriptFault::Write);
+    assert!(rt; is_served(&rt, rt.alloc(), script, 9, written, b"refused NoToken\nre"));
     Ok(())
 }

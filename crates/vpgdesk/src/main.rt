@@ -18,39 +18,37 @@ ghost use Rattle.std.specs.Arc.{arc_value};
 ghost use Rattle.std.specs.Prelude.{◌≡◌, ◌≤◌, true, Err, IfOk, OnOk, OnErr};
 ghost use Rattle.vpg_diagram.specs.FeatureDiagram.{feature_count};
 
-mod drawing;
-mod ending;
-mod running;
-#[cfg(test)]
-mod tests;
-
-use crate::drawing::drawn_after;
-use crate::ending::{End, ended, refused_line, status};
-use crate::running::run_script;
 use clap::error::ErrorKind;
 use std::alloc::{AllocError, Global};
 use std::cell::Cell;
 use std::io::IsTerminal;
 use std::process::ExitCode;
-use std::sync::{Arc, Wait};
+use std::sync::Wait;
 use std::thread::Threads;
 use std::{env, io};
-use vpg_diagram::Diagram;
 use vpg_family::{
-    Family, Fault, Paths, Pictured, Subject, drawn, explained, line_of, linted, open_script,
+    Family, Fault, Paths, Pictured, Subject, Texts, drawn, explained, line_of, linted, open_script,
     read_family, read_script, read_texts,
 };
-use vpg_game::GuardedGame;
 use vpg_names::VertexNames;
-use vpg_script::{Device, Manner, Sink};
+use vpg_running::{
+    DIAGRAM, End, GAME, drawn_after, end_of, ended, refused_line, run_script, status,
+};
+use vpg_script::{Device, Ending, Manner, Sink, Source};
 use vpg_terminal::{Ear, Heard, Named, Setting, Typed};
 use vpg_words::{Asked, Task, command_list, not_text, read};
 
-/// The diagram that is built in: a root with two features, each of which may be left out.
-const DIAGRAM: &str = "root r\noptional r f\noptional r g\n";
+/// Each line is answered, and a fault ends the script.
+const PLAIN: Manner = Manner {
+    is_strict: false,
+    goes_on: false,
+};
 
-/// The game that is built in: two vertices, each with an edge to itself and one to the other.
-const GAME: &str = "parity 1; 0 1 0 1[f],0; 1 2 1 0[g],1;";
+/// Each line is answered, also one with a fault.
+const FORGIVING: Manner = Manner {
+    is_strict: false,
+    goes_on: true,
+};
 
 /// Writes a text.
 fn put<W: Sink>(writer: &mut W, text: &[u8]) -> Result<(), Fault>
@@ -63,9 +61,63 @@ fn put<W: Sink>(writer: &mut W, text: &[u8]) -> Result<(), Fault>
     }
 }
 
+/// Writes a text, and no more.
+fn put_last<W: Sink + Drop>(mut writer: W, text: &[u8]) -> Result<End, Fault> {
+    match put(&mut writer, text) {
+        Ok(()) => Ok(End::Done),
+        Err(fault) => Err(fault),
+    }
+}
+
+/// Writes a text to standard output.
+fn put_out(rt: &HostRuntime, text: &[u8]) -> Result<End, Fault> {
+    put_last(Device::writer(rt.stdout().lock()), text)
+}
+
+/// Writes what was made, where nothing failed.
+fn put_made(rt: &HostRuntime, made: Result<Vec<u8>, Fault>) -> Result<End, Fault> {
+    match made {
+        Ok(text) => put_out(rt, &text),
+        Err(fault) => Err(fault),
+    }
+}
+
+/// Carries a script out on a family.
+fn run<T: Threads + Wait + Sync, R: Source + Drop, W: Sink + Drop>(
+    threads: &T,
+    alloc: Global,
+    family: Family,
+    mut reader: R,
+    mut writer: W,
+    lifters: u32,
+    manner: Manner,
+) -> Result<End, Fault>
+    requires unread { R.calls reader ≡ 0 }
+    requires lifters { (1 ≤ lifters) × (lifters ≤ 64) }
+    requires features { (arc_value family.game).features ≡ feature_count (arc_value family.diagram).lines }
+{
+    end_of(run_script(
+        threads,
+        alloc,
+        family,
+        &mut reader,
+        &mut writer,
+        lifters,
+        manner,
+    ))
+}
+
 /// What the program waits for, where a script comes from a terminal.
 const WAITS: &[u8] =
     b"vpgdesk reads a script, one command a line; `vpgdesk --help` lists commands\n";
+
+/// Says what the program waits for, where a person may type it.
+fn tell_waiting(rt: &HostRuntime) {
+    if rt.stdin().is_terminal() {
+        // Where this fails the answers are still to come.
+        let _ = Device::writer(rt.stderr().lock()).put(WAITS);
+    }
+}
 
 /// Carries a script from standard input out on the family that is built in.
 fn run_built_in<T: Threads + Wait + Sync>(
@@ -73,67 +125,133 @@ fn run_built_in<T: Threads + Wait + Sync>(
     threads: &T,
     alloc: Global,
 ) -> Result<End, Fault> {
-    let family = Family::read(alloc, DIAGRAM.as_bytes(), GAME.as_bytes())?;
-    if rt.stdin().is_terminal() {
-        // Where this fails the answers are still to come.
-        let _ = Device::writer(rt.stderr().lock()).put(WAITS);
+    match Family::read(alloc, DIAGRAM.as_bytes(), GAME.as_bytes()) {
+        Ok(family) => {
+            tell_waiting(rt);
+            let reader = Device::reader(rt.stdin().lock());
+            let writer = Device::writer(rt.stdout().lock());
+            run(threads, alloc, family, reader, writer, 1, PLAIN)
+        }
+        Err(fault) => Err(fault),
     }
-    let mut reader = Device::reader(rt.stdin().lock());
-    let mut writer = Device::writer(rt.stdout().lock());
-    let plain = Manner {
-        is_strict: false,
-        goes_on: false,
-    };
-    let ending = run_script(threads, alloc, family, &mut reader, &mut writer, 1, plain)?;
-    Ok(ended(ending))
 }
-
-/// What is said before the first line is read, behind the family's counts.
-const GREETING: &[u8] = b"one command a line; `help` lists commands, `quit` ends\n";
 
 /// A family of two files, and the names of its vertices.
-fn read_named(
-    rt: &HostRuntime,
-    alloc: Global,
-    paths: Paths<'_>,
-) -> Result<(Family, VertexNames), Fault>
-    ensures features { IfOk result (λ named.
-        (arc_value named.0.game).features ≡ feature_count (arc_value named.0.diagram).lines) }
-{
-    let texts = read_texts(rt, alloc, paths)?;
-    let family = Family::read(alloc, &texts.diagram, &texts.game)?;
-    let names = VertexNames::read(alloc, &texts.game)?;
-    Ok((family, names))
+struct Known {
+    family: Family,
+    names: VertexNames,
 }
 
-/// The game and the diagram of a family once more.
-fn shared(family: &Family) -> Result<(Arc<GuardedGame>, Arc<Diagram>), AllocError>
-    ensures game { IfOk result (λ both. arc_value both.0 ≡ arc_value family.now.game) }
-    ensures diagram { IfOk result (λ both. arc_value both.1 ≡ arc_value family.now.diagram) }
+// Not derived, so that letting one go is one call.
+impl Drop for Known {
+    fn drop(self) {
+        let Known {
+            family: _,
+            names: _,
+        } = self;
+    }
+}
+
+/// A family of two texts, and the names of its vertices.
+fn known_of(alloc: Global, texts: &Texts) -> Result<Known, Fault>
+    ensures features { IfOk result (λ known.
+        (arc_value known.family.game).features ≡ feature_count (arc_value known.family.diagram).lines) }
 {
-    Ok((family.game.clone()?, family.diagram.clone()?))
+    let family = Family::read(alloc, &texts.diagram, &texts.game)?;
+    let names = VertexNames::read(alloc, &texts.game)?;
+    Ok(Known { family, names })
+}
+
+/// The same of two files.
+fn read_known(rt: &HostRuntime, alloc: Global, paths: Paths<'_>) -> Result<Known, Fault>
+    ensures features { IfOk result (λ known.
+        (arc_value known.family.game).features ≡ feature_count (arc_value known.family.diagram).lines) }
+{
+    match read_texts(rt, alloc, paths) {
+        Ok(texts) => known_of(alloc, &texts),
+        Err(fault) => Err(fault),
+    }
+}
+
+/// A sink that passes answers on to a writer with the names of vertices beside their lines, and in pictures.
+fn named<'n, W: Sink>(alloc: Global, known: &'n Known, writer: W) -> Named<'n, Pictured<'n, W>>
+    requires { (arc_value known.now.family.game).features ≡ feature_count (arc_value known.now.family.diagram).lines }
+{
+    let game = &known.family.game;
+    let writer = Pictured::new(alloc, &known.family.diagram, game, &known.names, writer);
+    Named::new(alloc, game, &known.names, writer)
 }
 
 /// Carries a script of a file out on a family.
-fn run_file<T: Threads + Wait + Sync, W: Sink>(
+fn run_file<T: Threads + Wait + Sync, W: Sink + Drop>(
     rt: &HostRuntime,
     threads: &T,
     alloc: Global,
     family: Family,
     script: &str,
-    writer: &mut W,
+    writer: W,
     lifters: u32,
     manner: Manner,
 ) -> Result<End, Fault>
     requires lifters { (1 ≤ lifters) × (lifters ≤ 64) }
     requires features { (arc_value family.game).features ≡ feature_count (arc_value family.diagram).lines }
 {
-    let mut reader = Device::reader(open_script(rt, script)?);
-    let ending = run_script(threads, alloc, family, &mut reader, writer, lifters, manner)?;
-    Ok(ended(ending))
+    match open_script(rt, script) {
+        Ok(file) => run(
+            threads,
+            alloc,
+            family,
+            Device::reader(file),
+            writer,
+            lifters,
+            manner,
+        ),
+        Err(fault) => Err(fault),
+    }
 }
 
-/// Carries a script of a file out on a family of two files, with the names of vertices beside its answers or without.
+/// Carries a script of a file out on a family, with the names of vertices beside its answers.
+fn run_named<T: Threads + Wait + Sync>(
+    rt: &HostRuntime,
+    threads: &T,
+    alloc: Global,
+    known: &Known,
+    script: &str,
+    lifters: u32,
+    manner: Manner,
+) -> Result<End, Fault>
+    requires lifters { (1 ≤ lifters) × (lifters ≤ 64) }
+    requires features { (arc_value known.now.family.game).features
+        ≡ feature_count (arc_value known.now.family.diagram).lines }
+{
+    match known.family.again() {
+        Ok(family) => {
+            let writer = named(alloc, known, Device::writer(rt.stdout().lock()));
+            run_file(rt, threads, alloc, family, script, writer, lifters, manner)
+        }
+        Err(_) => Err(Fault::Memory),
+    }
+}
+
+/// The same on a family of two files.
+fn run_named_files<T: Threads + Wait + Sync>(
+    rt: &HostRuntime,
+    threads: &T,
+    alloc: Global,
+    paths: Paths<'_>,
+    script: &str,
+    lifters: u32,
+    manner: Manner,
+) -> Result<End, Fault>
+    requires { (1 ≤ lifters) × (lifters ≤ 64) }
+{
+    match read_known(rt, alloc, paths) {
+        Ok(known) => run_named(rt, threads, alloc, &known, script, lifters, manner),
+        Err(fault) => Err(fault),
+    }
+}
+
+/// Carries a script of a file out on a family of two files.
 fn run_files<T: Threads + Wait + Sync>(
     rt: &HostRuntime,
     threads: &T,
@@ -142,87 +260,123 @@ fn run_files<T: Threads + Wait + Sync>(
     script: &str,
     lifters: u32,
     manner: Manner,
-    shows_names: bool,
 ) -> Result<End, Fault>
     requires { (1 ≤ lifters) × (lifters ≤ 64) }
 {
-    if shows_names {
-        let (family, names) = read_named(rt, alloc, paths)?;
-        let (game, diagram) = shared(&family)?;
-        let writer = Device::writer(rt.stdout().lock());
-        let writer = Pictured::new(alloc, &diagram, &game, &names, writer);
-        let mut named = Named::new(alloc, &game, &names, writer);
-        return run_file(
-            rt, threads, alloc, family, script, &mut named, lifters, manner,
-        );
+    match read_family(rt, alloc, paths) {
+        Ok(family) => {
+            let writer = Device::writer(rt.stdout().lock());
+            run_file(rt, threads, alloc, family, script, writer, lifters, manner)
+        }
+        Err(fault) => Err(fault),
     }
-    let family = read_family(rt, alloc, paths)?;
-    let mut writer = Device::writer(rt.stdout().lock());
-    run_file(
-        rt,
-        threads,
-        alloc,
-        family,
-        script,
-        &mut writer,
-        lifters,
-        manner,
-    )
 }
 
 /// The identifier where a game starts, where it is that of a vertex.
-fn start_of(names: &VertexNames, game: &GuardedGame) -> Option<u32> {
-    let id = u32::try_from(names.start()?).ok()?;
-    game.find(id).map(|_| id)
+fn start_of(known: &Known) -> Option<u32> {
+    let id = u32::try_from(known.names.start()?).ok()?;
+    known.family.game.find(id).map(|_| id)
 }
 
-/// Answers commands as they are typed, on a family whose game starts at a vertex of this identifier.
-fn converse<T: Threads + Wait + Sync, W: Sink + Drop>(
+/// What is said before the first line is read, behind the family's counts.
+const GREETING: &[u8] = b"one command a line; `help` lists commands, `quit` ends\n";
+
+/// Says what a session begins with. The family once more, for the session.
+fn greet<S: Sink>(alloc: Global, family: &Family, talk: &mut S) -> Result<Family, AllocError>
+    ensures game { IfOk result (λ again. arc_value again.game ≡ arc_value family.now.game) }
+    ensures diagram { IfOk result (λ again. arc_value again.diagram ≡ arc_value family.now.diagram) }
+{
+    let counts = family.counted(alloc)?;
+    // Where these fail the answers are still to come.
+    let _ = talk.put(&counts);
+    let _ = talk.put(GREETING);
+    family.again()
+}
+
+/// Answers commands as they are typed, on a family. What is said beside the answers goes to `talk`.
+fn converse<T: Threads + Wait + Sync, R: Source + Drop, S: Sink + Drop, W: Sink + Drop>(
+    threads: &T,
+    alloc: Global,
+    known: &Known,
+    lifters: u32,
+    is_prompted: bool,
+    reader: R,
+    mut talk: S,
+    writer: W,
+) -> Result<End, Fault>
+    requires unread { R.calls reader ≡ 0 }
+    requires lifters { (1 ≤ lifters) × (lifters ≤ 64) }
+    requires features { (arc_value known.now.family.game).features
+        ≡ feature_count (arc_value known.now.family.diagram).lines }
+{
+    match greet(alloc, &known.family, &mut talk) {
+        Ok(family) => {
+            let heard = Cell::new(Heard::Nothing);
+            let setting = Setting {
+                commands: command_list(),
+                features: known.family.diagram.names(),
+                is_prompted,
+                start: start_of(known),
+                heard: &heard,
+            };
+            let reader = Typed::new(alloc, setting, reader, talk);
+            let writer = Ear::new(writer, &heard);
+            run(threads, alloc, family, reader, writer, lifters, FORGIVING)
+        }
+        Err(_) => Err(Fault::Memory),
+    }
+}
+
+/// Answers commands from standard input as they are typed, on a family.
+fn converse_here<T: Threads + Wait + Sync, W: Sink + Drop>(
     rt: &HostRuntime,
     threads: &T,
     alloc: Global,
-    family: Family,
-    diagram: &Diagram,
-    start: Option<u32>,
+    known: &Known,
     lifters: u32,
     writer: W,
 ) -> Result<End, Fault>
     requires lifters { (1 ≤ lifters) × (lifters ≤ 64) }
-    requires features { (arc_value family.game).features ≡ feature_count (arc_value family.diagram).lines }
+    requires features { (arc_value known.now.family.game).features
+        ≡ feature_count (arc_value known.now.family.diagram).lines }
 {
-    let counts = family.counted(alloc)?;
-    let mut talk = Device::writer(rt.stderr().lock());
-    // Where these fail the answers are still to come.
-    let _ = talk.put(&counts);
-    let _ = talk.put(GREETING);
-    let heard = Cell::new(Heard::Nothing);
-    let setting = Setting {
-        commands: command_list(),
-        features: diagram.names(),
-        is_prompted: rt.stdin().is_terminal(),
-        start,
-        heard: &heard,
-    };
+    let is_prompted = rt.stdin().is_terminal();
     let reader = Device::reader(rt.stdin().lock());
-    let mut reader = Typed::new(alloc, setting, reader, talk);
-    let mut writer = Ear::new(writer, &heard);
-    let forgiving = Manner {
-        is_strict: false,
-        goes_on: true,
-    };
-    let ending = run_script(
+    let talk = Device::writer(rt.stderr().lock());
+    converse(
         threads,
         alloc,
-        family,
-        &mut reader,
-        &mut writer,
+        known,
         lifters,
-        forgiving,
-    )?;
-    Ok(ended(ending))
+        is_prompted,
+        reader,
+        talk,
+        writer,
+    )
 }
 
-/// Answers commands from standard input as they are typed, on a family of two files.
+/// The same, with the names of vertices beside the answers or without.
+fn sit_at<T: Threads + Wait + Sync>(
+    rt: &HostRuntime,
+    threads: &T,
+    alloc: Global,
+    known: &Known,
+    lifters: u32,
+    shows_names: bool,
+) -> Result<End, Fault>
+    requires lifters { (1 ≤ lifters) × (lifters ≤ 64) }
+    requires features { (arc_value known.now.family.game).features
+        ≡ feature_count (arc_value known.now.family.diagram).lines }
+{
+    let writer = Device::writer(rt.stdout().lock());
+    if !shows_names {
+        return converse_here(rt, threads, alloc, known, lifters, writer);
+    }
+    let writer = named(alloc, known, writer);
+    converse_here(rt, threads, alloc, known, lifters, writer)
+}
+
+/// The same on a family of two files.
 fn sit<T: Threads + Wait + Sync>(
     rt: &HostRuntime,
     threads: &T,
@@ -233,23 +387,104 @@ fn sit<T: Threads + Wait + Sync>(
 ) -> Result<End, Fault>
     requires { (1 ≤ lifters) × (lifters ≤ 64) }
 {
-    let (family, names) = read_named(rt, alloc, paths)?;
-    let (game, diagram) = shared(&family)?;
-    let start = start_of(&names, &game);
-    let writer = Device::writer(rt.stdout().lock());
-    if shows_names {
-        let writer = Pictured::new(alloc, &diagram, &game, &names, writer);
-        let writer = Named::new(alloc, &game, &names, writer);
-        return converse(rt, threads, alloc, family, &diagram, start, lifters, writer);
+    match read_known(rt, alloc, paths) {
+        Ok(known) => sit_at(rt, threads, alloc, &known, lifters, shows_names),
+        Err(fault) => Err(fault),
     }
-    converse(rt, threads, alloc, family, &diagram, start, lifters, writer)
 }
 
-/// Writes a picture of a family.
-fn draw(rt: &HostRuntime, alloc: Global, paths: Paths<'_>, subject: Subject) -> Result<(), Fault> {
-    let texts = read_texts(rt, alloc, paths)?;
-    let picture = drawn(alloc, subject, &texts.diagram, &texts.game)?;
-    put(&mut Device::writer(rt.stdout().lock()), &picture)
+/// The plain game of the product that has these features.
+fn projected(
+    rt: &HostRuntime,
+    alloc: Global,
+    paths: Paths<'_>,
+    features: &[&str],
+) -> Result<Vec<u8>, Fault> {
+    match read_family(rt, alloc, paths) {
+        Ok(family) => family.projected(alloc, features),
+        Err(fault) => Err(fault),
+    }
+}
+
+/// The line that counts a family.
+fn counted(rt: &HostRuntime, alloc: Global, paths: Paths<'_>) -> Result<Vec<u8>, Fault> {
+    match read_family(rt, alloc, paths) {
+        Ok(family) => match family.counted(alloc) {
+            Ok(line) => Ok(line),
+            Err(_) => Err(Fault::Memory),
+        },
+        Err(fault) => Err(fault),
+    }
+}
+
+/// A picture of a family.
+fn picture(
+    rt: &HostRuntime,
+    alloc: Global,
+    paths: Paths<'_>,
+    subject: Subject,
+) -> Result<Vec<u8>, Fault> {
+    match read_texts(rt, alloc, paths) {
+        Ok(texts) => drawn(alloc, subject, &texts.diagram, &texts.game),
+        Err(fault) => Err(fault),
+    }
+}
+
+/// What looks wrong in a family.
+fn warned(rt: &HostRuntime, alloc: Global, paths: Paths<'_>) -> Result<Vec<u8>, Fault> {
+    match read_texts(rt, alloc, paths) {
+        Ok(texts) => linted(alloc, paths, &texts.diagram, &texts.game),
+        Err(fault) => Err(fault),
+    }
+}
+
+/// The picture of a family, of which these are the texts, on the page that a script of a file leaves, and how the
+/// script ends.
+fn drawn_after_file<T: Threads + Wait + Sync>(
+    rt: &HostRuntime,
+    threads: &T,
+    alloc: Global,
+    subject: Subject,
+    texts: &Texts,
+    family: &Family,
+    script: &str,
+) -> Result<(Ending, Vec<u8>), Fault>
+    requires { (arc_value family.now.game).features ≡ feature_count (arc_value family.now.diagram).lines }
+{
+    match read_script(rt, script) {
+        Ok(script) => drawn_after(threads, alloc, subject, texts, family, &script),
+        Err(fault) => Err(fault),
+    }
+}
+
+/// The same of texts that are read.
+fn drawn_after_texts<T: Threads + Wait + Sync>(
+    rt: &HostRuntime,
+    threads: &T,
+    alloc: Global,
+    subject: Subject,
+    texts: &Texts,
+    script: &str,
+) -> Result<(Ending, Vec<u8>), Fault> {
+    match Family::read(alloc, &texts.diagram, &texts.game) {
+        Ok(family) => drawn_after_file(rt, threads, alloc, subject, texts, &family, script),
+        Err(fault) => Err(fault),
+    }
+}
+
+/// The same of two files.
+fn drawn_after_files<T: Threads + Wait + Sync>(
+    rt: &HostRuntime,
+    threads: &T,
+    alloc: Global,
+    paths: Paths<'_>,
+    subject: Subject,
+    script: &str,
+) -> Result<(Ending, Vec<u8>), Fault> {
+    match read_texts(rt, alloc, paths) {
+        Ok(texts) => drawn_after_texts(rt, threads, alloc, subject, &texts, script),
+        Err(fault) => Err(fault),
+    }
 }
 
 /// Writes a picture of a family on the page that a script of a file leaves.
@@ -261,19 +496,13 @@ fn draw_after<T: Threads + Wait + Sync>(
     subject: Subject,
     script: &str,
 ) -> Result<End, Fault> {
-    let texts = read_texts(rt, alloc, paths)?;
-    let family = Family::read(alloc, &texts.diagram, &texts.game)?;
-    let script = read_script(rt, script)?;
-    let (ending, picture) = drawn_after(threads, alloc, subject, &texts, family, &script)?;
-    put(&mut Device::writer(rt.stdout().lock()), &picture)?;
-    Ok(ended(ending))
-}
-
-/// Writes what looks wrong in a family.
-fn lint(rt: &HostRuntime, alloc: Global, paths: Paths<'_>) -> Result<(), Fault> {
-    let texts = read_texts(rt, alloc, paths)?;
-    let lines = linted(alloc, paths, &texts.diagram, &texts.game)?;
-    put(&mut Device::writer(rt.stdout().lock()), &lines)
+    match drawn_after_files(rt, threads, alloc, paths, subject, script) {
+        Ok((ending, picture)) => match put_out(rt, &picture) {
+            Ok(_) => Ok(ended(ending)),
+            Err(fault) => Err(fault),
+        },
+        Err(fault) => Err(fault),
+    }
 }
 
 /// Does what the words ask for. The runtime is handed in twice: for its files, and for the threads of the lifters.
@@ -299,7 +528,11 @@ fn carry_out<T: Threads + Wait + Sync>(
             };
             // The parser takes no other number of lifters.
             let lifters = (*lifters).clamp(1, 64);
-            run_files(rt, threads, alloc, *paths, script, lifters, manner, *names)
+            if *names {
+                run_named_files(rt, threads, alloc, *paths, script, lifters, manner)
+            } else {
+                run_files(rt, threads, alloc, *paths, script, lifters, manner)
+            }
         }
         Task::Desk {
             paths,
@@ -310,34 +543,20 @@ fn carry_out<T: Threads + Wait + Sync>(
             sit(rt, threads, alloc, *paths, lifters, *names)
         }
         Task::Project { paths, features } => {
-            let family = read_family(rt, alloc, *paths)?;
-            let text = family.projected(alloc, features)?;
-            put(&mut Device::writer(rt.stdout().lock()), &text)?;
-            Ok(End::Done)
+            put_made(rt, projected(rt, alloc, *paths, features))
         }
-        Task::Check { paths } => {
-            let family = read_family(rt, alloc, *paths)?;
-            let text = family.counted(alloc)?;
-            put(&mut Device::writer(rt.stdout().lock()), &text)?;
-            Ok(End::Done)
-        }
+        Task::Check { paths } => put_made(rt, counted(rt, alloc, *paths)),
         Task::Draw {
             paths,
             subject,
             script: None,
-        } => {
-            draw(rt, alloc, *paths, *subject)?;
-            Ok(End::Done)
-        }
+        } => put_made(rt, picture(rt, alloc, *paths, *subject)),
         Task::Draw {
             paths,
             subject,
             script: Some(script),
         } => draw_after(rt, threads, alloc, *paths, *subject, script),
-        Task::Lint { paths } => {
-            lint(rt, alloc, *paths)?;
-            Ok(End::Done)
-        }
+        Task::Lint { paths } => put_made(rt, warned(rt, alloc, *paths)),
     }
 }
 
@@ -369,32 +588,59 @@ fn carry_out_asked<T: Threads + Wait + Sync>(
     ended
 }
 
+/// Writes a line and the lines that explain it. Where this fails, the status is all that tells of the fault.
+fn put_told<W: Sink + Drop>(mut writer: W, line: &[u8], lines: &[u8]) {
+    let _ = writer.put(line);
+    let _ = writer.put(lines);
+}
+
 /// Tells of a fault, or where a strict script was refused, in one line on standard error, and then in the lines that
 /// explain it.
 fn tell(rt: &HostRuntime, line: Result<Vec<u8>, AllocError>, lines: &[u8]) {
-    let mut writer = Device::writer(rt.stderr().lock());
-    let told = match line {
-        Ok(line) => writer.put(&line),
-        Err(_) => writer.put(b"vpgdesk: Memory\n"),
-    };
-    // Where this fails too, the status is all that tells of the fault.
-    let _ = told;
-    let _ = writer.put(lines);
+    let writer = Device::writer(rt.stderr().lock());
+    match line {
+        Ok(line) => put_told(writer, &line, lines),
+        Err(_) => put_told(writer, b"vpgdesk: Memory\n", lines),
+    }
 }
 
 /// Prints what is told of the words: help and the version to standard output, what is wrong with them to standard error.
 fn print(rt: &HostRuntime, told: &clap::Error) -> Result<End, Fault> {
-    match told.kind() {
-        ErrorKind::OutOfMemory => Err(Fault::Memory),
-        ErrorKind::DisplayHelp | ErrorKind::DisplayVersion => match told.print(rt) {
-            Ok(()) => Ok(End::Done),
-            Err(_) => Err(Fault::Write),
-        },
-        _ => {
-            // Where this fails, the status is all that tells of the words.
-            let _ = told.print(rt);
-            Ok(End::WrongWords)
-        }
+    let kind = told.kind();
+    if matches!(kind, ErrorKind::OutOfMemory) {
+        return Err(Fault::Memory);
+    }
+    let is_printed = told.print(rt).is_ok();
+    match kind {
+        ErrorKind::DisplayHelp | ErrorKind::DisplayVersion if is_printed => Ok(End::Done),
+        ErrorKind::DisplayHelp | ErrorKind::DisplayVersion => Err(Fault::Write),
+        // Where it isn't printed, the status is all that tells of the words.
+        _ => Ok(End::WrongWords),
+    }
+}
+
+/// Does what these words ask for.
+fn obey_words<T: Threads + Wait + Sync>(
+    rt: &HostRuntime,
+    threads: &T,
+    alloc: Global,
+    words: &[String],
+    lines: &mut Vec<u8>,
+) -> Result<End, Fault> {
+    match read(alloc, words) {
+        Ok(asked) => carry_out_asked(rt, threads, alloc, &asked, lines),
+        Err(told) => print(rt, &told),
+    }
+}
+
+/// Tells that the words can't be read, for this reason.
+fn refuse_words(rt: &HostRuntime, alloc: Global, why: io::ErrorKind) -> Result<End, Fault> {
+    if why == io::ErrorKind::OutOfMemory {
+        return Err(Fault::Memory);
+    }
+    match not_text(alloc) {
+        Ok(told) => print(rt, &told),
+        Err(_) => Err(Fault::Memory),
     }
 }
 
@@ -405,14 +651,15 @@ fn obey<T: Threads + Wait + Sync>(
     alloc: Global,
     lines: &mut Vec<u8>,
 ) -> Result<End, Fault> {
-    let words: Vec<String> = match env::args(rt) {
-        Ok(words) => words.collect(alloc)?,
-        Err(error) if error.kind() == io::ErrorKind::OutOfMemory => return Err(Fault::Memory),
-        Err(_) => return print(rt, &not_text(alloc)?),
-    };
-    match read(alloc, &words) {
-        Ok(asked) => carry_out_asked(rt, threads, alloc, &asked, lines),
-        Err(told) => print(rt, &told),
+    match env::args(rt) {
+        Ok(words) => {
+            let words: Result<Vec<String>, AllocError> = words.collect(alloc);
+            match words {
+                Ok(words) => obey_words(rt, threads, alloc, &words, lines),
+                Err(_) => Err(Fault::Memory),
+            }
+        }
+        Err(error) => refuse_words(rt, alloc, error.kind()),
     }
 }
 

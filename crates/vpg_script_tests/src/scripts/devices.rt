@@ -1,5 +1,5 @@
 //! Runs that end before their script does, on the built-in family of the program.
-use super::rows::{family, outcome};
+use super::runs::{DIAGRAM, GAME, ends_so, outcome};
 use super::{FailsAt, ThenFails};
 use std::alloc::Global;
 use std::io;
@@ -8,8 +8,8 @@ use std::sync::Wait;
 use std::test::*;
 use std::thread::Threads;
 use vpg_desk::OpenFault;
-use vpg_report::{RunFault, run};
-use vpg_script::{Device, LineFault};
+use vpg_report::RunFault;
+use vpg_script::LineFault;
 
 /// What the first example of a session answers.
 const ANSWERS: &[u8] =
@@ -38,104 +38,84 @@ impl Read for Comments {
     }
 }
 
-/// What a run over a reader answers.
-fn answers<T: Threads + Wait + Sync, R: Read + Drop>(
+/// Whether a run over a reader ends so, and answers just this.
+fn is_answered<T: Threads + Wait + Sync, R: Read + Drop>(
     rt: &T,
     alloc: Global,
     reader: R,
-) -> Option<(Result<(), RunFault>, Vec<u8>)> {
-    let (game, diagram) = family(alloc)?;
-    if game.features() != diagram.features() {
-        return None;
-    }
-    let mut reader = Device::reader(reader);
-    let mut writer = Device::writer(Vec::new(alloc));
-    let result = run(rt, alloc, game, diagram, &mut reader, &mut writer, 1);
-    Some((result, writer.into_writer()))
+    ended: Result<(), RunFault>,
+    answers: &[u8],
+) -> bool {
+    ends_so(rt, alloc, 1, DIAGRAM, GAME, reader, ended, answers)
 }
 
-/// What a run writes to a writer that fails at this call.
-fn written<T: Threads + Wait + Sync>(
-    rt: &T,
-    alloc: Global,
-    calls: u32,
-) -> Option<(Result<(), RunFault>, Vec<u8>)> {
-    let (game, diagram) = family(alloc)?;
-    if game.features() != diagram.features() {
-        return None;
+/// Whether what a run wrote is a prefix of the answers, and all of them where it came to its end.
+fn is_prefix(ended: Result<(), RunFault>, got: &[u8]) -> bool {
+    match ended {
+        Ok(()) => got == ANSWERS,
+        Err(fault) => {
+            fault == RunFault::Write && got.len() < ANSWERS.len() && ANSWERS.starts_with(got)
+        }
     }
-    let mut reader = Device::reader(b"exclude f\nsettle\nshow\n".as_slice());
-    let mut writer = Device::writer(FailsAt {
-        got: Vec::new(alloc),
-        calls,
-    });
-    let result = run(rt, alloc, game, diagram, &mut reader, &mut writer, 1);
-    Some((result, writer.into_writer().got))
 }
 
 /// Whether a run that could write this often ends as it should, after a prefix of the answers.
 fn writes_a_prefix<T: Threads + Wait + Sync>(rt: &T, alloc: Global, calls: u32) -> bool {
-    match written(rt, alloc, calls) {
-        Some((Ok(()), got)) => got.as_slice() == ANSWERS,
-        Some((Err(fault), got)) => {
-            fault == RunFault::Write && got.len() < ANSWERS.len() && ANSWERS.starts_with(&got)
-        }
+    let script = b"exclude f\nsettle\nshow\n".as_slice();
+    let writer = FailsAt {
+        got: Vec::new(alloc),
+        calls,
+    };
+    match outcome(rt, alloc, script, writer) {
+        Some((ended, writer)) => is_prefix(ended, &writer.got),
         None => false,
     }
 }
 
-/// So many `#` without a line's end.
-fn comment(alloc: Global, bytes: usize) -> Option<Vec<u8>> {
-    vec![in alloc; b'#'; bytes].ok()
+/// Whether a run over so many `#` without a line's end ends so, without an answer.
+fn is_comment<T: Threads + Wait + Sync>(
+    rt: &T,
+    alloc: Global,
+    bytes: usize,
+    ended: Result<(), RunFault>,
+) -> bool {
+    match vec![in alloc; b'#'; bytes] {
+        Ok(text) => is_answered(rt, alloc, text.as_slice(), ended, b""),
+        Err(_) => false,
+    }
 }
 
 #[test]
 fn a_faulty_line_ends_the_run(rt: HostRuntime) -> Result<(), Fail> {
-    let got = answers(&rt, rt.alloc(), b"show\nfrob\nshow\n".as_slice());
-    let fault = RunFault::Line {
+    let script = b"show\nfrob\nshow\n".as_slice();
+    let ended = Err(RunFault::Line {
         line: 2,
         fault: LineFault::Word,
-    };
-    assert!(rt;
-        got.is_some_and(|(ended, got)| ended == Err(fault)
-            && got.as_slice()
-                == b"decisions\nfull no\nsettled no\n0 0 0 possible unsure\n1 0 0 possible unsure\n".as_slice())
-    );
+    });
+    let answers = b"decisions\nfull no\nsettled no\n0 0 0 possible unsure\n1 0 0 possible unsure\n";
+    assert!(rt; is_answered(&rt, rt.alloc(), script, ended, answers));
     Ok(())
 }
 
 #[test]
 fn a_line_has_a_longest_length(rt: HostRuntime) -> Result<(), Fail> {
-    let long = comment(rt.alloc(), 4097).and_then(|text| answers(&rt, rt.alloc(), text.as_slice()));
-    let fault = RunFault::Line {
+    let ended = Err(RunFault::Line {
         line: 1,
         fault: LineFault::TooLong,
-    };
-    assert!(rt; long.is_some_and(|(ended, got)| ended == Err(fault) && got.is_empty()));
-    let longest = comment(rt.alloc(), 4096).and_then(|text| answers(
-        &rt,
-        rt.alloc(),
-        text.as_slice(),
-    ));
-    assert!(rt; longest.is_some_and(|(ended, got)| ended.is_ok() && got.is_empty()));
+    });
+    assert!(rt; is_comment(&rt, rt.alloc(), 4097, ended));
+    assert!(rt; is_comment(&rt, rt.alloc(), 4096, Ok(())));
     Ok(())
 }
 
 #[test]
 fn a_reader_that_fails(rt: HostRuntime) -> Result<(), Fail> {
-    let at_once = answers(&rt, rt.alloc(), ThenFails { bytes: b"" });
-    assert!(rt; at_once.is_some_and(|(ended, got)| ended == Err(RunFault::Read) && got.is_empty()));
-    let later = answers(
-        &rt,
-        rt.alloc(),
-        ThenFails {
-            bytes: b"exclude f\n",
-        },
-    );
-    assert!(rt;
-        later.is_some_and(|(ended, got)| ended == Err(RunFault::Read)
-            && got.as_slice() == b"done 1\n".as_slice())
-    );
+    let read = Err(RunFault::Read);
+    assert!(rt; is_answered(&rt, rt.alloc(), ThenFails { bytes: b"" }, read, b""));
+    let later = ThenFails {
+        bytes: b"exclude f\n",
+    };
+    assert!(rt; is_answered(&rt, rt.alloc(), later, read, b"done 1\n"));
     Ok(())
 }
 
@@ -146,38 +126,38 @@ fn reads_are_counted(rt: HostRuntime) -> Result<(), Fail> {
         feed: true,
         left: Some(16_777_215),
     };
-    let read = answers(&rt, rt.alloc(), most);
-    assert!(rt; read.is_some_and(|(ended, got)| ended.is_ok() && got.is_empty()));
+    assert!(rt; is_answered(&rt, rt.alloc(), most, Ok(()), b""));
     let endless = Comments {
         feed: false,
         left: None,
     };
-    let unread = answers(&rt, rt.alloc(), endless);
-    assert!(rt; unread.is_some_and(|(ended, got)| ended == Err(RunFault::Read) && got.is_empty()));
+    assert!(rt; is_answered(&rt, rt.alloc(), endless, Err(RunFault::Read), b""));
     Ok(())
+}
+
+/// The first number of calls, of those below this one, after which a run doesn't end as it should.
+fn first_other<T: Threads + Wait + Sync>(rt: &T, alloc: Global, most: u32) -> Option<u32> {
+    for calls in 0..most {
+        if !writes_a_prefix(rt, alloc, calls) {
+            return Some(calls);
+        }
+    }
+    None
 }
 
 #[test]
 fn a_writer_that_fails(rt: HostRuntime) -> Result<(), Fail> {
-    for calls in 0..60 {
-        assert!(rt; writes_a_prefix(&rt, rt.alloc(), calls), "{calls}");
-    }
+    assert_eq!(rt; first_other(&rt, rt.alloc(), 60), None);
     Ok(())
 }
 
 #[test]
 fn a_diagram_in_conflict_is_not_opened(rt: HostRuntime) -> Result<(), Fail> {
-    let refused = outcome(
-        &rt,
-        rt.alloc(),
-        1,
-        "root r / mandatory r a / excludes r a",
-        "0 0 0 0;",
-        "show",
-    );
-    let fault = RunFault::Open {
+    let diagram = "root r / mandatory r a / excludes r a";
+    let ended = Err(RunFault::Open {
         fault: OpenFault::Conflict { feature: 0 },
-    };
-    assert!(rt; refused.is_some_and(|(ended, got)| ended == Err(fault) && got.is_empty()));
+    });
+    let script = b"show\n".as_slice();
+    assert!(rt; ends_so(&rt, rt.alloc(), 1, diagram, "0 0 0 0;", script, ended, b""));
     Ok(())
 }

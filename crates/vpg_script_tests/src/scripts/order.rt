@@ -1,6 +1,6 @@
 //! Each answer is written whole before more of the script is asked for.
 
-use super::rows::family;
+use super::runs::outcome;
 use std::alloc::Global;
 use std::io;
 use std::io::{Read, Write};
@@ -8,8 +8,6 @@ use std::sync::Wait;
 use std::sync::atomic::{AtomicU64, Ordering};
 use std::test::*;
 use std::thread::Threads;
-use vpg_report::run;
-use vpg_script::Device;
 
 const SCRIPT: &[u8] = b"exclude f\n# none\nsettle\n\nshow\n";
 
@@ -67,19 +65,16 @@ impl Write for Counts<'_> {
 }
 
 /// Runs the script, and says whether it came to its end.
-fn ends<T: Threads + Wait + Sync>(rt: &T, alloc: Global, seen: &Seen) -> Option<bool> {
-    let (game, diagram) = family(alloc)?;
-    if game.features() != diagram.features() {
-        return None;
-    }
-    let mut reader = Device::reader(Looks {
+fn ends<T: Threads + Wait + Sync>(rt: &T, alloc: Global, seen: &Seen) -> bool {
+    let reader = Looks {
         script: SCRIPT,
         line: 0,
         seen,
-    });
-    let mut writer = Device::writer(Counts { seen });
-    let result = run(rt, alloc, game, diagram, &mut reader, &mut writer, 1);
-    Some(result.is_ok())
+    };
+    match outcome(rt, alloc, reader, Counts { seen }) {
+        Some((ended, _)) => ended.is_ok(),
+        None => false,
+    }
 }
 
 #[test]
@@ -88,8 +83,11 @@ fn an_answer_is_written_before_more_is_read(rt: HostRuntime) -> Result<(), Fail>
         written: AtomicU64::new(0),
         missed: AtomicU64::new(0),
     };
-    assert_eq!(rt; ends(&rt, rt.alloc(), &seen), Some(true));
-    assert_eq!(rt; seen.missed.load(Ordering::SeqCst), 0);
-    assert_eq!(rt; seen.written.load(Ordering::SeqCst), 94);
+    let ended = ends(&rt, rt.alloc(), &seen);
+    let (missed, written) = (
+        seen.missed.load(Ordering::SeqCst),
+        seen.written.load(Ordering::SeqCst),
+    );
+    assert_eq!(rt; (ended, missed, written), (true, 0, 94));
     Ok(())
 }

@@ -1,20 +1,13 @@
 //! Worked scripts, each with its whole output, by 1, 4 and 64 lifters. Lines are separated by ` / `.
 ghost use Rattle.std.specs.Prelude.{◌≤◌};
 
+use super::runs::{DIAGRAM, GAME, ends_so, put_lines};
 use std::alloc::Global;
 use std::fmt::Write;
-use std::sync::{Arc, Wait};
+use std::process::Abort;
+use std::sync::Wait;
 use std::test::*;
 use std::thread::Threads;
-use vpg_diagram::Diagram;
-use vpg_game::GuardedGame;
-use vpg_report::{RunFault, run};
-use vpg_script::Device;
-
-/// The diagram and the game of most examples.
-const DIAGRAM: &str = "root r / optional r f / optional r g";
-
-const GAME: &str = "parity 1; 0 1 0 1[f],0; 1 2 1 0[g],1;";
 
 /// A game of one vertex that Even wins.
 const DOT: &str = "0 0 0 0;";
@@ -25,70 +18,6 @@ struct Row {
     game: &'static str,
     script: &'static str,
     answers: &'static str,
-}
-
-/// The text with a line feed in place of each ` / ` and at its end.
-fn lines(alloc: Global, text: &str) -> Option<Vec<u8>> {
-    let mut out = Vec::new(alloc);
-    for (n, line) in text.split(" / ").enumerate() {
-        if n > 0 {
-            out.push(b'\n').ok()?;
-        }
-        out.extend_from_slice(line.as_bytes()).ok()?;
-    }
-    out.push(b'\n').ok()?;
-    Some(out)
-}
-
-fn diagram_of(alloc: Global, text: &str) -> Option<Diagram> {
-    Diagram::read(alloc, &lines(alloc, text)?).ok()
-}
-
-fn game_of(alloc: Global, text: &str, diagram: &Diagram) -> Option<GuardedGame> {
-    GuardedGame::read(alloc, text.as_bytes(), diagram.names()).ok()
-}
-
-fn carry_out<T: Threads + Wait + Sync>(
-    rt: &T,
-    alloc: Global,
-    lifters: u32,
-    game: GuardedGame,
-    diagram: Diagram,
-    script: &[u8],
-) -> Option<(Result<(), RunFault>, Vec<u8>)>
-    requires { (1 ≤ lifters) × (lifters ≤ 64) }
-{
-    if game.features() != diagram.features() {
-        return None;
-    }
-    let game = Arc::new(alloc, game).ok()?;
-    let diagram = Arc::new(alloc, diagram).ok()?;
-    let mut reader = Device::reader(script);
-    let mut writer = Device::writer(Vec::new(alloc));
-    let result = run(rt, alloc, game, diagram, &mut reader, &mut writer, lifters);
-    Some((result, writer.into_writer()))
-}
-
-/// The family of most examples.
-pub(super) fn family(alloc: Global) -> Option<(Arc<GuardedGame>, Arc<Diagram>)> {
-    let diagram = diagram_of(alloc, DIAGRAM)?;
-    let game = game_of(alloc, GAME, &diagram)?;
-    Some((Arc::new(alloc, game).ok()?, Arc::new(alloc, diagram).ok()?))
-}
-
-pub(super) fn outcome<T: Threads + Wait + Sync>(
-    rt: &T,
-    alloc: Global,
-    lifters: u32,
-    diagram: &str,
-    game: &str,
-    script: &str,
-) -> Option<(Result<(), RunFault>, Vec<u8>)>
-    requires { (1 ≤ lifters) × (lifters ≤ 64) }
-{
-    let diagram = diagram_of(alloc, diagram)?;
-    let game = game_of(alloc, game, &diagram)?;
-    carry_out(rt, alloc, lifters, game, diagram, &lines(alloc, script)?)
 }
 
 /// Whether the script ends without a fault, and answers just this.
@@ -103,13 +32,18 @@ fn is_answered<T: Threads + Wait + Sync>(
 ) -> bool
     requires { (1 ≤ lifters) × (lifters ≤ 64) }
 {
-    let Some((result, got)) = outcome(rt, alloc, lifters, diagram, game, script) else {
-        return false;
-    };
-    let Some(wanted) = lines(alloc, answers) else {
-        return false;
-    };
-    result.is_ok() && got.as_slice() == wanted.as_slice()
+    let (mut text, mut wanted) = (Vec::new(alloc), Vec::new(alloc));
+    let done = put_lines(alloc, script, &mut text) & put_lines(alloc, answers, &mut wanted);
+    done && ends_so(
+        rt,
+        alloc,
+        lifters,
+        diagram,
+        game,
+        text.as_slice(),
+        Ok(()),
+        &wanted,
+    )
 }
 
 fn holds_by<T: Threads + Wait + Sync>(rt: &T, alloc: Global, lifters: u32, row: &Row) -> bool
@@ -138,6 +72,12 @@ fn first_wrong<T: Threads + Wait + Sync>(rt: &T, alloc: Global, rows: &[Row]) ->
         }
     }
     None
+}
+
+/// Asserts that each row holds.
+fn all_hold<T: Threads + Wait + Sync + Abort + AllocGlobal>(rt: &T, rows: &[Row]) {
+    let wrong = first_wrong(rt, rt.alloc(), rows);
+    assert_eq!(rt; wrong, None);
 }
 
 static SETTLING: [Row; 11] = [
@@ -698,109 +638,110 @@ static MOVES: [Row; 2] = [
 
 #[test]
 fn settling_and_showing(rt: HostRuntime) -> Result<(), Fail> {
-    assert_eq!(rt; first_wrong(&rt, rt.alloc(), &SETTLING), None);
+    all_hold(&rt, &SETTLING);
     Ok(())
 }
 
 #[test]
 fn changes_undone_and_redone(rt: HostRuntime) -> Result<(), Fail> {
-    assert_eq!(rt; first_wrong(&rt, rt.alloc(), &CHANGES), None);
+    all_hold(&rt, &CHANGES);
     Ok(())
 }
 
 #[test]
 fn harvests_that_come_late(rt: HostRuntime) -> Result<(), Fail> {
-    assert_eq!(rt; first_wrong(&rt, rt.alloc(), &HARVESTS), None);
+    all_hold(&rt, &HARVESTS);
     Ok(())
 }
 
 #[test]
 fn what_decisions_make_known(rt: HostRuntime) -> Result<(), Fail> {
-    assert_eq!(rt; first_wrong(&rt, rt.alloc(), &KNOWLEDGE), None);
+    all_hold(&rt, &KNOWLEDGE);
     Ok(())
 }
 
 #[test]
 fn plans_on_full_settled_pages(rt: HostRuntime) -> Result<(), Fail> {
-    assert_eq!(rt; first_wrong(&rt, rt.alloc(), &PLANS), None);
+    all_hold(&rt, &PLANS);
     Ok(())
 }
 
 #[test]
 fn verdicts_counted(rt: HostRuntime) -> Result<(), Fail> {
-    assert_eq!(rt; first_wrong(&rt, rt.alloc(), &COUNTS), None);
+    all_hold(&rt, &COUNTS);
     Ok(())
 }
 
 #[test]
 fn other_verdicts_told(rt: HostRuntime) -> Result<(), Fail> {
-    assert_eq!(rt; first_wrong(&rt, rt.alloc(), &OTHER_VERDICTS), None);
+    all_hold(&rt, &OTHER_VERDICTS);
     Ok(())
 }
 
 #[test]
 fn pictures_drawn(rt: HostRuntime) -> Result<(), Fail> {
-    assert_eq!(rt; first_wrong(&rt, rt.alloc(), &PICTURES), None);
+    all_hold(&rt, &PICTURES);
     Ok(())
 }
 
 #[test]
 fn products_left(rt: HostRuntime) -> Result<(), Fail> {
-    assert_eq!(rt; first_wrong(&rt, rt.alloc(), &PRODUCTS_LEFT), None);
+    all_hold(&rt, &PRODUCTS_LEFT);
     Ok(())
 }
 
 #[test]
 fn one_feature_told(rt: HostRuntime) -> Result<(), Fail> {
-    assert_eq!(rt; first_wrong(&rt, rt.alloc(), &KNOWN), None);
+    all_hold(&rt, &KNOWN);
     Ok(())
 }
 
 #[test]
 fn vertices_shown_and_asserted(rt: HostRuntime) -> Result<(), Fail> {
-    assert_eq!(rt; first_wrong(&rt, rt.alloc(), &SIGHTS), None);
+    all_hold(&rt, &SIGHTS);
     Ok(())
 }
 
 #[test]
 fn reasons_told(rt: HostRuntime) -> Result<(), Fail> {
-    assert_eq!(rt; first_wrong(&rt, rt.alloc(), &WHYS), None);
+    all_hold(&rt, &WHYS);
     Ok(())
 }
 
 #[test]
 fn products_found(rt: HostRuntime) -> Result<(), Fail> {
-    assert_eq!(rt; first_wrong(&rt, rt.alloc(), &EXAMPLES), None);
+    all_hold(&rt, &EXAMPLES);
     Ok(())
 }
 
 #[test]
 fn decisions_offered(rt: HostRuntime) -> Result<(), Fail> {
-    assert_eq!(rt; first_wrong(&rt, rt.alloc(), &OFFERS), None);
+    all_hold(&rt, &OFFERS);
     Ok(())
 }
 
 #[test]
 fn needs_and_repairs_told(rt: HostRuntime) -> Result<(), Fail> {
-    assert_eq!(rt; first_wrong(&rt, rt.alloc(), &NEEDS_AND_REPAIRS), None);
+    all_hold(&rt, &NEEDS_AND_REPAIRS);
     Ok(())
 }
 
 #[test]
 fn moves_told(rt: HostRuntime) -> Result<(), Fail> {
-    assert_eq!(rt; first_wrong(&rt, rt.alloc(), &MOVES), None);
+    all_hold(&rt, &MOVES);
     Ok(())
 }
 
-/// Vertices of Even with an edge to themselves alone, each of an odd priority of its own.
-fn climbers(alloc: Global, vertices: u32) -> Option<String> {
-    let mut text = String::new(alloc);
+/// Appends vertices of Even with an edge to themselves alone, each of an odd priority of its own; or answers that there
+/// was no memory.
+fn put_climbers(vertices: u32, text: &mut String) -> bool {
+    let mut done = true;
     let mut priority: u32 = 1;
     for v in 0..vertices {
-        write!(text, "{v} {priority} 0 {v};").ok()?;
+        done &= write!(text, "{v} {priority} 0 {v};").is_ok();
         priority = priority.saturating_add(2);
     }
-    Some(text)
+    done
 }
 
 /// With 62 odd priorities the top is 2^62, and the vertex of the greatest priority rises to it in two lifts.
@@ -809,10 +750,9 @@ fn rises_to_the_limit<T: Threads + Wait + Sync>(rt: &T, alloc: Global) -> bool {
         "lift hopeful 61 / lift hopeful 61 / lift hopeful 61 / lift hopeful 0 / lift dual 61 / trail";
     let answers =
         "added 1 / added 1 / added 0 / added 1 / added 0 / hopeful 61 0 2305843009213693952 / hopeful 61 2305843009213693952 4611686018427387904 / hopeful 0 0 1 / entries 3";
-    match climbers(alloc, 62) {
-        Some(game) => is_answered(rt, alloc, 1, DIAGRAM, game.as_str(), script, answers),
-        None => false,
-    }
+    let mut game = String::new(alloc);
+    put_climbers(62, &mut game)
+        && is_answered(rt, alloc, 1, DIAGRAM, game.as_str(), script, answers)
 }
 
 #[test]

@@ -1,25 +1,13 @@
-//! Runs of scripts that are refused memory, and runs whose reader or writer fails.
-//!
-//! A script with a line for each command is run with no memory at all, and with sixteen bytes more each time, until it
-//! is run to its end. What a run wrote before it ended in `Memory` is each time a prefix of the answers. Then a reader
-//! and a writer fail at each of their calls in turn, with ample memory and with little. Behind each run the office is
-//! ended: nothing has the game any more.
-//!
-//! With a word after its name the program takes no memory from itself, marks each run for `bench/refused.py`, and has
-//! no device fail.
-#![tactic(auto)]
+//! Runs that memory or a device ends, and a line for each kind.
 
-mod devices;
-mod family;
-mod scripts;
-
-use crate::family::Family;
+use crate::family::{DIAGRAM, Family, GAME};
 use crate::scripts::MOST_BYTES;
+use crate::{devices, scripts};
 use anyhow::{Context, Result};
 use std::alloc::Global;
+use std::io;
 use std::sync::Wait;
 use std::thread::Threads;
-use std::{env, io};
 use vpg_scarce::{Heap, Report};
 
 /// Writes what came of runs over devices that fail.
@@ -60,16 +48,30 @@ fn fail_with_little<R: Threads + Wait + Sync + Print>(
     Ok(())
 }
 
-fn main(rt: HostRuntime) -> Result<()> {
-    let words: Vec<String> = env::args(&rt)?.collect(rt.alloc())?;
-    let mut heap = Heap::new(rt.alloc(), words.len())?;
-    let mut report = Report::new(rt.alloc())?;
-    let family = Family::read(rt.alloc()).context("no family")?;
-    scripts::refuse(&rt, &mut heap, &mut report, &family).context("no room")?;
-    report.write(&rt, &heap)?;
+/// Has runs of this family refused memory, and devices fail, unless runs are marked.
+fn refuse_of<R: Threads + Wait + Sync + Print>(
+    rt: &R,
+    heap: &mut Heap,
+    report: &mut Report,
+    family: &Family,
+) -> Result<()> {
+    scripts::refuse(rt, heap, report, family).context("no room")?;
+    report.write(rt, heap)?;
     if !heap.is_marked() {
-        fail_devices(&rt, rt.alloc(), &family)?;
-        fail_with_little(&rt, &mut heap, &family)?;
+        fail_devices(rt, heap.alloc(), family)?;
+        fail_with_little(rt, heap, family)?;
     }
     Ok(())
+}
+
+/// Does so with the family of most examples. Runs are marked where the program was called with a word.
+pub(crate) fn refuse_all<R: Threads + Wait + Sync + Print>(
+    rt: &R,
+    alloc: Global,
+    words: usize,
+) -> Result<()> {
+    let mut heap = Heap::new(alloc, words)?;
+    let mut report = Report::new(alloc)?;
+    let family = Family::read(alloc, DIAGRAM, GAME)?;
+    refuse_of(rt, &mut heap, &mut report, &family)
 }

@@ -1,19 +1,25 @@
-//! What no clause says: what is told of the end of a script, with which text. The family of most rows is the one that is built in.
-use crate::ending::{End, ended, refused_line};
-use crate::running::run_script;
-use crate::{DIAGRAM, GAME};
+//! Scripts carried out on families: what is told of their end, with which text. The family of most rows is the one that
+//! is built in.
+ghost use Rattle.std.specs.Prelude.{◌≡◌};
+
 use std::alloc::{AllocError, Global};
 use std::io::{self, Read, Write};
 use std::sync::Wait;
 use std::test::*;
 use std::thread::Threads;
 use vpg_family::{Family, Fault, line_of};
-use vpg_script::{Device, Ending, Manner};
-use vpg_words::{Task, read};
+use vpg_running::{DIAGRAM, End, GAME, end_of, refused_line, run_script};
+use vpg_script::{Device, Ending, Manner, Sink, Source};
 
 /// Each line is answered, and a fault ends the script.
 const PLAIN: Manner = Manner {
     is_strict: false,
+    goes_on: false,
+};
+
+/// The first refusal ends the script.
+const STRICT: Manner = Manner {
+    is_strict: true,
     goes_on: false,
 };
 
@@ -53,21 +59,48 @@ static ROWS: [Row; 4] = [
     },
 ];
 
+/// How a script ends on a family of these texts.
+fn ending<T: Threads + Wait + Sync, R: Source, W: Sink>(
+    rt: &T,
+    alloc: Global,
+    texts: (&str, &str),
+    reader: &mut R,
+    writer: &mut W,
+    manner: Manner,
+) -> Result<Ending, Fault>
+    requires { R.calls reader.old ≡ 0 }
+{
+    match Family::read(alloc, texts.0.as_bytes(), texts.1.as_bytes()) {
+        Ok(family) => run_script(rt, alloc, family, reader, writer, 1, manner),
+        Err(fault) => Err(fault),
+    }
+}
+
 /// What a row's script writes.
-fn answer<T: Threads + Wait + Sync>(rt: &T, alloc: Global, row: &Row) -> Result<Vec<u8>, Fault> {
-    let family = Family::read(alloc, row.diagram.as_bytes(), row.game.as_bytes())?;
+fn answers<T: Threads + Wait + Sync>(rt: &T, alloc: Global, row: &Row) -> Result<Vec<u8>, Fault> {
+    let texts = (row.diagram, row.game);
     let mut reader = Device::reader(row.script.as_bytes());
     let mut writer = Device::writer(Vec::new(alloc));
-    run_script(rt, alloc, family, &mut reader, &mut writer, 1, PLAIN)?;
-    Ok(writer.into_writer())
+    match ending(rt, alloc, texts, &mut reader, &mut writer, PLAIN) {
+        Ok(_) => Ok(writer.into_writer()),
+        Err(fault) => Err(fault),
+    }
+}
+
+/// What a row writes.
+fn written<T: Threads + Wait + Sync>(
+    rt: &T,
+    alloc: Global,
+    row: &Row,
+) -> Result<Vec<u8>, AllocError> {
+    match answers(rt, alloc, row) {
+        Ok(text) => Ok(text),
+        Err(fault) => line_of(alloc, &fault),
+    }
 }
 
 fn holds<T: Threads + Wait + Sync>(rt: &T, alloc: Global, row: &Row) -> bool {
-    let written = match answer(rt, alloc, row) {
-        Ok(text) => Ok(text),
-        Err(fault) => line_of(alloc, &fault),
-    };
-    written.is_ok_and(|text| text.as_slice() == row.written.as_bytes())
+    written(rt, alloc, row).is_ok_and(|text| text.as_slice() == row.written.as_bytes())
 }
 
 /// The place of the first row that doesn't hold.
@@ -112,32 +145,16 @@ fn unwritten<T: Threads + Wait + Sync>(
     alloc: Global,
     script: &str,
 ) -> Result<Ending, Fault> {
-    let family = Family::read(alloc, DIAGRAM.as_bytes(), GAME.as_bytes())?;
     let mut reader = Device::reader(script.as_bytes());
-    run_script(
-        rt,
-        alloc,
-        family,
-        &mut reader,
-        &mut Device::writer(Broken),
-        1,
-        PLAIN,
-    )
+    let mut writer = Device::writer(Broken);
+    ending(rt, alloc, (DIAGRAM, GAME), &mut reader, &mut writer, PLAIN)
 }
 
 /// How a script ends that comes from a broken device.
 fn unread<T: Threads + Wait + Sync>(rt: &T, alloc: Global) -> Result<Ending, Fault> {
-    let family = Family::read(alloc, DIAGRAM.as_bytes(), GAME.as_bytes())?;
+    let mut reader = Device::reader(Broken);
     let mut writer = Device::writer(Vec::new(alloc));
-    run_script(
-        rt,
-        alloc,
-        family,
-        &mut Device::reader(Broken),
-        &mut writer,
-        1,
-        PLAIN,
-    )
+    ending(rt, alloc, (DIAGRAM, GAME), &mut reader, &mut writer, PLAIN)
 }
 
 #[test]
@@ -154,81 +171,26 @@ fn broken_devices(rt: HostRuntime) -> Result<(), Fail> {
     Ok(())
 }
 
-/// The program's name and the words behind it.
-fn line(alloc: Global, words: &str) -> Result<Vec<String>, AllocError> {
-    let mut line = Vec::new(alloc);
-    line.push(String::from_str(alloc, "vpgdesk")?)?;
-    for word in words.split(' ') {
-        line.push(String::from_str(alloc, word)?)?;
-    }
-    Ok(line)
-}
-
-/// The manner that words of a run ask for: whether it is strict, and whether it goes on.
-fn manner(alloc: Global, words: &str) -> Option<(bool, bool)> {
-    let line = line(alloc, words).ok()?;
-    let asked = read(alloc, &line).ok()?;
-    match &asked.task {
-        Task::Run {
-            strict,
-            keep_going,
-            ..
-        } => Some((*strict, *keep_going)),
-        _ => None,
-    }
-}
-
-#[test]
-fn words_of_manners(rt: HostRuntime) -> Result<(), Fail> {
-    for (words, wanted) in [
-        ("run g d s", Some((false, false))),
-        ("run --strict g d s", Some((true, false))),
-        ("run g d s --keep-going", Some((false, true))),
-        (
-            "run g --keep-going d --lifters 2 s --strict",
-            Some((true, true)),
-        ),
-        ("run g d s -- --strict", None),
-        ("run g d s --strict --strict", None),
-        ("run g d s --strict=1", None),
-        ("run g d s --keep", None),
-        ("check g d --strict", None),
-    ] {
-        assert!(rt; manner(rt.alloc(), words) == wanted, "at {words}");
-    }
-    Ok(())
-}
-
 /// What a script ends with in a manner, on the family that is built in.
-fn end_of<T: Threads + Wait + Sync>(
+fn end<T: Threads + Wait + Sync>(
     rt: &T,
     alloc: Global,
     script: &str,
     manner: Manner,
 ) -> Result<End, Fault> {
-    let family = Family::read(alloc, DIAGRAM.as_bytes(), GAME.as_bytes())?;
     let mut reader = Device::reader(script.as_bytes());
     let mut writer = Device::writer(Vec::new(alloc));
-    let ending = run_script(rt, alloc, family, &mut reader, &mut writer, 1, manner)?;
-    Ok(ended(ending))
+    let ending = ending(rt, alloc, (DIAGRAM, GAME), &mut reader, &mut writer, manner);
+    end_of(ending)
 }
 
 #[test]
 fn ends_of_manners(rt: HostRuntime) -> Result<(), Fail> {
-    let strict = Manner {
-        is_strict: true,
-        goes_on: false,
-    };
-    assert!(rt; matches!(end_of(&rt, rt.alloc(), "show", strict), Ok(End::Done)));
+    assert!(rt; matches!(end(&rt, rt.alloc(), "show", STRICT), Ok(End::Done)));
+    assert!(rt; matches!(end(&rt, rt.alloc(), "assert full", PLAIN), Ok(End::Failed)));
     assert!(rt;
         matches!(
-            end_of(&rt, rt.alloc(), "assert full", PLAIN),
-            Ok(End::Failed)
-        )
-    );
-    assert!(rt;
-        matches!(
-            end_of(&rt, rt.alloc(), "show\nundo\nfrob", strict),
+            end(&rt, rt.alloc(), "show\nundo\nfrob", STRICT),
             Ok(End::Refused { line: 2 })
         )
     );

@@ -1,8 +1,9 @@
-//! The family of most examples, and runs on it.
+//! A family, and runs on it.
 
 ghost use Rattle.std.specs.Prelude.{◌≡◌};
 
 use crate::devices::{Gives, Takes};
+use anyhow::Result;
 use std::alloc::Global;
 use std::sync::{Arc, Wait};
 use std::thread::Threads;
@@ -12,26 +13,42 @@ use vpg_report::{RunFault, run};
 use vpg_script::{Device, Sink, Source};
 
 /// The diagram and the game of most examples.
-const DIAGRAM: &[u8] = b"root r\noptional r f\noptional r g\n";
+pub(crate) const DIAGRAM: &[u8] = b"root r\noptional r f\noptional r g\n";
 
-const GAME: &[u8] = b"parity 1; 0 1 0 1[f],0; 1 2 1 0[g],1;";
+pub(crate) const GAME: &[u8] = b"parity 1; 0 1 0 1[f],0; 1 2 1 0[g],1;";
 
 /// A game with its diagram.
-#[derive(Drop)]
 pub(crate) struct Family {
     game: Arc<GuardedGame>,
     diagram: Arc<Diagram>,
 }
 
+// Not derived, so that letting one go is one call: a derived way would be proved anew at each exit that owns one.
+impl Drop for Family {
+    fn drop(self) {
+        let Family {
+            game: _,
+            diagram: _,
+        } = self;
+    }
+}
+
+fn diagram_of(alloc: Global, text: &[u8]) -> Result<Arc<Diagram>> {
+    let diagram = Diagram::read(alloc, text)?;
+    Ok(Arc::new(alloc, diagram)?)
+}
+
+fn game_of(alloc: Global, text: &[u8], diagram: &Diagram) -> Result<Arc<GuardedGame>> {
+    let game = GuardedGame::read(alloc, text, diagram.names())?;
+    Ok(Arc::new(alloc, game)?)
+}
+
 impl Family {
-    /// The game and the diagram of most examples.
-    pub(crate) fn read(alloc: Global) -> Option<Family> {
-        let diagram = Diagram::read(alloc, DIAGRAM).ok()?;
-        let game = GuardedGame::read(alloc, GAME, diagram.names()).ok()?;
-        Some(Family {
-            game: Arc::new(alloc, game).ok()?,
-            diagram: Arc::new(alloc, diagram).ok()?,
-        })
+    /// The family of these texts.
+    pub(crate) fn read(alloc: Global, diagram: &[u8], game: &[u8]) -> Result<Family> {
+        let diagram = diagram_of(alloc, diagram)?;
+        let game = game_of(alloc, game, &diagram)?;
+        Ok(Family { game, diagram })
     }
 
     /// Whether nothing else has the game, as each office of it has.
@@ -40,8 +57,8 @@ impl Family {
     }
 }
 
-/// Runs a script on the family. Nothing where there is no run.
-fn carry_out<R: Threads + Wait + Sync, S: Source, T: Sink>(
+/// Runs a script on a family. Nothing where there is no run.
+pub(crate) fn run_on<R: Threads + Wait + Sync, S: Source, T: Sink>(
     rt: &R,
     alloc: Global,
     family: &Family,
@@ -71,6 +88,6 @@ pub(crate) fn outcome<R: Threads + Wait + Sync>(
 ) -> Option<Result<(), RunFault>> {
     let mut reader = Device::reader(gives);
     let mut writer = Device::writer(takes);
-    let ended = carry_out(rt, alloc, family, lifters, &mut reader, &mut writer);
+    let ended = run_on(rt, alloc, family, lifters, &mut reader, &mut writer);
     if family.is_alone() { ended } else { None }
 }

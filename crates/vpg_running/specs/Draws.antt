@@ -1,12 +1,12 @@
 -- The picture of a family on the page that a script leaves.
-use Rattle.std.specs.Prelude.{ℕ, true, false, List, [], ◌++◌, Option, Some, Ok, codes}
+use Rattle.std.specs.Prelude.{ℕ, false, List, [], ◌++◌, Option, Some, Ok, codes}
 use Rattle.vpg_diagram.specs.DiagramText.{NamedDiagram}
 use Rattle.vpg_game.specs.Game.{NamedGame}
 use Rattle.vpg_script.specs.declared.serving.Manner.{Manner}
 use Rattle.vpg_script.specs.declared.serving.Ending.{Ending}
 use Rattle.vpg_family.specs.Pages.{IsRedrawn}
 use Rattle.vpg_family.specs.declared.drawing.Subject.{Subject}
-use Rattle.vpgdesk.specs.Runs.{IsRun}
+use Rattle.vpg_running.specs.Runs.{IsRun}
 
 -- a script with a line `draw` behind it
 abbrev pub drawing_script : List ℕ → List ℕ

@@ -1,7 +1,7 @@
 //! How the program ends.
-ghost use Rattle.std.specs.Prelude.{◌≡◌, IfOk};
+ghost use Rattle.std.specs.Prelude.{◌≡◌, Ok, Err, IfOk, IfErr};
 ghost use Rattle.std.specs.Process.{exit_status};
-ghost use Rattle.vpgdesk.specs.Ends.{ended, status_of, refused_text};
+ghost use Rattle.vpg_running.specs.Ends.{ended, status_of, refused_text};
 
 use std::alloc::{AllocError, Global};
 use std::process::ExitCode;
@@ -10,7 +10,7 @@ use vpg_script::Ending;
 
 /// How the program ends where it doesn't fail.
 #[derive(Clone, Copy)]
-pub(crate) enum End {
+pub enum End {
     /// What the words ask for is done.
     Done,
     /// A strict script was refused at the line of this number, from 1, and this is told.
@@ -22,7 +22,7 @@ pub(crate) enum End {
 }
 
 /// How the program ends behind a script that ended so.
-pub(crate) fn ended(ending: Ending) -> End
+pub fn ended(ending: Ending) -> End
     ensures { result ≡ ended ending }
 {
     match ending {
@@ -32,8 +32,19 @@ pub(crate) fn ended(ending: Ending) -> End
     }
 }
 
+/// How the program ends behind a run that ended so, or failed.
+pub fn end_of(run: Result<Ending, Fault>) -> Result<End, Fault>
+    ensures ok { IfOk run (λ ending. result ≡ Ok (ended ending)) }
+    ensures fault { IfErr run (λ fault. result ≡ Err fault) }
+{
+    match run {
+        Ok(ending) => Ok(ended(ending)),
+        Err(fault) => Err(fault),
+    }
+}
+
 /// The status of the program.
-pub(crate) fn status(ended: &Result<End, Fault>) -> ExitCode
+pub fn status(ended: &Result<End, Fault>) -> ExitCode
     ensures { exit_status result ≡ status_of ended.now }
 {
     match ended {
@@ -45,7 +56,7 @@ pub(crate) fn status(ended: &Result<End, Fault>) -> ExitCode
 }
 
 /// The line that tells where a strict script was refused.
-pub(crate) fn refused_line(alloc: Global, line: u64) -> Result<Vec<u8>, AllocError>
+pub fn refused_line(alloc: Global, line: u64) -> Result<Vec<u8>, AllocError>
     ensures { IfOk result (λ text. text.items ≡ refused_text line) }
 {
     let number = line.to_string(alloc)?;

@@ -2,7 +2,7 @@
 ghost use Rattle.std.specs.Arc.{arc_value};
 ghost use Rattle.std.specs.Prelude.{◌≡◌, IfOk};
 ghost use Rattle.vpg_diagram.specs.FeatureDiagram.{feature_count};
-ghost use Rattle.vpgdesk.specs.Draws.{drawing_script, AreWritten, IsDrawnAfter};
+ghost use Rattle.vpg_running.specs.Draws.{drawing_script, AreWritten, IsDrawnAfter};
 
 use crate::running::run_script;
 use std::alloc::{AllocError, Global};
@@ -47,22 +47,28 @@ fn answered<T: Threads + Wait + Sync>(
 
 /// The picture of a family, of which these are the texts, on the page that a script leaves, and how the script ends.
 #[tactic(auto, using(crate::proofs::Draws::drawn))]
-pub(crate) fn drawn_after<T: Threads + Wait + Sync>(
+pub fn drawn_after<T: Threads + Wait + Sync>(
     rt: &T,
     alloc: Global,
     subject: Subject,
     texts: &Texts,
-    family: Family,
+    family: &Family,
     script: &[u8],
 ) -> Result<(Ending, Vec<u8>), Fault>
-    requires { (arc_value family.game).features ≡ feature_count (arc_value family.diagram).lines }
-    ensures { IfOk result (λ drawn. IsDrawnAfter subject (arc_value family.diagram) (arc_value family.game)
+    requires { (arc_value family.now.game).features ≡ feature_count (arc_value family.now.diagram).lines }
+    ensures { IfOk result (λ drawn. IsDrawnAfter subject (arc_value family.now.diagram) (arc_value family.now.game)
         texts.now.diagram.items texts.now.game.items script.now drawn.0 drawn.1.items) }
 {
-    let game = family.game.clone()?;
-    let diagram = family.diagram.clone()?;
-    let (ending, written) = answered(rt, alloc, family, script)?;
-    match redrawn(alloc, subject, &diagram, &game, texts, &written) {
+    let again = family.again()?;
+    let (ending, written) = answered(rt, alloc, again, script)?;
+    match redrawn(
+        alloc,
+        subject,
+        &family.diagram,
+        &family.game,
+        texts,
+        &written,
+    ) {
         Ok(picture) => Ok((ending, picture)),
         Err(fault) => Err(fault),
     }

@@ -2,7 +2,7 @@
 ghost use Rattle.std.specs.Arc.{arc_value};
 ghost use Rattle.std.specs.Prelude.{◌≡◌, ◌≤◌, ◌⊎◌, ℕ, true, IsErrOf};
 ghost use Rattle.vpg_diagram.specs.FeatureDiagram.{feature_count};
-ghost use Rattle.vpgdesk.specs.Runs.{TellsOpening, IsRun, UnlessScriptFails, UnlessOutputFails};
+ghost use Rattle.vpg_running.specs.Runs.{TellsOpening, IsRun, UnlessScriptFails, UnlessOutputFails};
 
 use std::alloc::Global;
 use std::sync::Wait;
@@ -26,7 +26,7 @@ fn not_opened(alloc: Global, diagram: &Diagram, fault: OpenFault) -> Fault
 }
 
 /// Carries a script out at an office of the family, in a manner.
-pub(crate) fn run_script<T: Threads + Wait + Sync, R: Source, W: Sink>(
+pub fn run_script<T: Threads + Wait + Sync, R: Source, W: Sink>(
     rt: &T,
     alloc: Global,
     family: Family,

@@ -1,0 +1,82 @@
+//! The example families in the folder that the program runs in.
+
+use crate::family::{Family, run_on};
+use anyhow::{Context, Result, bail};
+use std::alloc::{AllocError, Global};
+use std::fs::{self, File};
+use std::sync::Wait;
+use std::thread::Threads;
+use vpg_script::Device;
+
+/// The folders of the families.
+const FAMILIES: [&str; 5] = [
+    "mine_pump",
+    "vending_machine",
+    "elevator",
+    "body_comfort",
+    "sessions",
+];
+
+/// Where a file of a family is.
+fn path_of(alloc: Global, family: &str, file: &str) -> Result<String, AllocError> {
+    format!(in alloc; "{family}/{file}")
+}
+
+/// What a file of a family holds.
+fn text_of(rt: &HostRuntime, alloc: Global, family: &str, file: &str) -> Result<Vec<u8>> {
+    let path = path_of(alloc, family, file)?;
+    Ok(fs::read(rt, path.as_str())?)
+}
+
+fn script_of(rt: &HostRuntime, alloc: Global, family: &str) -> Result<File> {
+    let path = path_of(alloc, family, "script")?;
+    Ok(File::open(rt, path.as_str())?)
+}
+
+/// The family in a folder.
+fn family_in(rt: &HostRuntime, alloc: Global, name: &str) -> Result<Family> {
+    let diagram = text_of(rt, alloc, name, "diagram")?;
+    let game = text_of(rt, alloc, name, "game")?;
+    Family::read(alloc, &diagram, &game)
+}
+
+/// Answers a script on standard output.
+fn answer<T: Threads + Wait + Sync>(
+    rt: &HostRuntime,
+    threads: &T,
+    alloc: Global,
+    family: &Family,
+    script: File,
+) -> Result<()> {
+    let mut reader = Device::reader(script);
+    let mut writer = Device::writer(rt.stdout().lock());
+    match run_on(threads, alloc, family, 1, &mut reader, &mut writer) {
+        Some(ended) => Ok(ended?),
+        None => bail!("no run"),
+    }
+}
+
+/// Carries out the script of a family. The runtime is handed in twice: for its files, and for threads.
+fn carry_out<T: Threads + Wait + Sync>(
+    rt: &HostRuntime,
+    threads: &T,
+    alloc: Global,
+    name: &str,
+) -> Result<()> {
+    println!(rt; "{name}")?;
+    let script = script_of(rt, alloc, name)?;
+    let family = family_in(rt, alloc, name)?;
+    answer(rt, threads, alloc, &family, script)
+}
+
+/// Carries out the script of each family.
+pub(crate) fn carry_out_all<T: Threads + Wait + Sync>(
+    rt: &HostRuntime,
+    threads: &T,
+    alloc: Global,
+) -> Result<()> {
+    for name in FAMILIES {
+        carry_out(rt, threads, alloc, name).context(name)?;
+    }
+    Ok(())
+}
