@@ -13,6 +13,7 @@ mod orders;
 mod sweeps;
 
 use anyhow::{Context, Result};
+use std::alloc::Global;
 use std::env;
 use std::sync::Wait;
 use std::thread::Threads;
@@ -25,11 +26,35 @@ fn refuse<R: Threads + Wait + Sync>(rt: &R, heap: &mut Heap, report: &mut Report
     sweeps::refuse(rt, heap, report)
 }
 
-fn main(rt: HostRuntime) -> Result<()> {
-    let words: Vec<String> = env::args(&rt)?.collect(rt.alloc())?;
-    let mut heap = Heap::new(rt.alloc(), words.len())?;
-    let mut report = Report::new(rt.alloc())?;
-    refuse(&rt, &mut heap, &mut report).context("no order")?;
-    report.write(&rt, &heap)?;
+/// Makes each call with little memory, and writes what came of each.
+fn report_all<R: Threads + Wait + Sync + Print>(
+    rt: &R,
+    heap: &mut Heap,
+    report: &mut Report,
+) -> Result<()> {
+    refuse(rt, heap, report).context("no order")?;
+    report.write(rt, heap)?;
     Ok(())
+}
+
+/// Does so with the memory of the process. Calls are marked where the program was called with a word.
+fn report_within<R: Threads + Wait + Sync + Print>(
+    rt: &R,
+    alloc: Global,
+    words: usize,
+) -> Result<()> {
+    let mut heap = Heap::new(alloc, words)?;
+    let mut report = Report::new(alloc)?;
+    report_all(rt, &mut heap, &mut report)
+}
+
+/// How many words the program was called with, its name among them.
+fn words_of(rt: &HostRuntime) -> Result<usize> {
+    let words: Vec<String> = env::args(rt)?.collect(rt.alloc())?;
+    Ok(words.len())
+}
+
+fn main(rt: HostRuntime) -> Result<()> {
+    let words = words_of(&rt)?;
+    report_within(&rt, rt.alloc(), words)
 }

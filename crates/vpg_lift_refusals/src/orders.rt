@@ -1,15 +1,18 @@
 //! The order that is carried.
 
 ghost use Rattle.std.specs.Arc.{arc_value};
-ghost use Rattle.std.specs.Prelude.{◌≡◌};
+ghost use Rattle.std.specs.Prelude.{◌≡◌, map};
 ghost use Rattle.vpg_diagram.specs.FeatureDiagram.{feature_count};
+ghost use Rattle.vpg_partial.specs.Known.{literal_of};
+ghost use Rattle.vpg_partial.specs.TableLaws.{AreChoicesOf};
 
-use std::alloc::Global;
+use std::alloc::{AllocError, Global};
 use std::sync::Arc;
 use vpg_diagram::Diagram;
 use vpg_game::GuardedGame;
 use vpg_measure::laws::orders::zeros_are_opening;
-use vpg_measure::{Order, Table};
+use vpg_measure::{Order, Refused, Table};
+use vpg_partial::Decision;
 
 /// The diagram and the game of most examples.
 const DIAGRAM: &[u8] = b"root r\noptional r f\noptional r g\n";
@@ -19,15 +22,21 @@ const GAME: &[u8] = b"parity 1; 0 1 0 1[f],0; 1 2 1 0[g],1;";
 /// Lets an order go. A function that does so itself takes the prover seconds.
 pub(crate) fn let_go(_order: Order) {}
 
-/// The order of no decisions with two tables of zeros.
-fn order_of(alloc: Global, game: Arc<GuardedGame>, diagram: Arc<Diagram>) -> Option<Order>
-    requires { (arc_value game).features ≡ feature_count (arc_value diagram).lines }
+/// The order of decisions with two tables of zeros, or why there is none.
+fn order_of(
+    alloc: Global,
+    game: Arc<GuardedGame>,
+    diagram: Arc<Diagram>,
+    decisions: Vec<Decision>,
+) -> Result<Result<Order, Refused>, AllocError>
+    requires features { (arc_value game).features ≡ feature_count (arc_value diagram).lines }
+    requires named { AreChoicesOf (arc_value diagram).lines (map literal_of decisions.items) }
 {
     zeros_are_opening();
     let vertices = game.vertices() as u32;
-    let hopeful = Table::zero(alloc, vertices).ok()?;
-    let dual = Table::zero(alloc, vertices).ok()?;
-    Order::of(alloc, game, diagram, Vec::new(alloc), hopeful, dual).ok()
+    let hopeful = Table::zero(alloc, vertices)?;
+    let dual = Table::zero(alloc, vertices)?;
+    Ok(Order::of(alloc, game, diagram, decisions, hopeful, dual))
 }
 
 fn diagram_of(alloc: Global) -> Option<Arc<Diagram>> {
@@ -47,7 +56,10 @@ pub(crate) fn first_order(alloc: Global) -> Option<Order> {
     if game.features() != diagram.features() {
         return None;
     }
-    order_of(alloc, game, diagram)
+    match order_of(alloc, game, diagram, Vec::new(alloc)) {
+        Ok(order) => order.ok(),
+        Err(_) => None,
+    }
 }
 
 /// The values of both tables of two vertices.

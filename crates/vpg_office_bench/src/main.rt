@@ -40,7 +40,7 @@ use crate::day::work_in_two;
 use crate::reading::{change_and_look, change_and_read, change_unread};
 use crate::watcher::follow;
 use crate::words::task_of;
-use crate::working::{are_in_order, calls_of, decide, joined, places_of_all};
+use crate::working::{Held, Places, are_in_order, calls_of, decide, joined, places_of_all};
 use anyhow::{Context, Result, bail};
 use std::alloc::Global;
 use std::marker::Brand;
@@ -116,8 +116,22 @@ struct Told {
     further: u64,
 }
 
-/// What came of some work, and the tokens that are left.
-pub(crate) type Left<L> = (Result<Done, Stopped>, Option<Undo<L>>, Option<Redo<L>>);
+/// What came of some work, and the token that is left.
+pub(crate) type Left<L> = (Result<Done, Stopped>, Held<L>);
+
+/// What came of rounds, whose calls stand at these places.
+fn done_in_order<L: Terms, R: Wait>(
+    rt: &R,
+    office: &Office<L>,
+    places: &[Option<Places>],
+) -> Option<Done> {
+    match calls_of(rt, office) {
+        Some(calls) => Some(Done::Calls {
+            in_order: are_in_order(places, calls),
+        }),
+        None => None,
+    }
+}
 
 /// Whether the calls of so many sessions, so many rounds each, stand in order.
 fn call_at_once<L: Terms + Send + Sync, R: Threads + Wait + Sync>(
@@ -127,10 +141,10 @@ fn call_at_once<L: Terms + Send + Sync, R: Threads + Wait + Sync>(
     sessions: u32,
     rounds: u32,
 ) -> Option<Done> {
-    let places = places_of_all(rt, alloc, office, sessions, rounds)?;
-    let calls = calls_of(rt, office)?;
-    let in_order = are_in_order(places.as_slice(), calls);
-    Some(Done::Calls { in_order })
+    match places_of_all(rt, alloc, office, sessions, rounds) {
+        Some(places) => done_in_order(rt, office, places.as_slice()),
+        None => None,
+    }
 }
 
 /// One session makes changes while others read: how many reads.
@@ -157,8 +171,23 @@ fn change<L: Terms + Send + Sync, R: Threads + Wait + Sync>(
 
 /// The token of one more session that decides the feature 1.
 fn last_token<L: Terms, R: Wait>(rt: &R, alloc: Global, office: &Office<L>) -> Option<Undo<L>> {
-    let mut seat = joined(rt, office)?;
-    decide(rt, alloc, office, &mut seat, 1, true)
+    match joined(rt, office) {
+        Some(mut seat) => decide(rt, alloc, office, &mut seat, 1, true),
+        None => None,
+    }
+}
+
+/// What came of some work, with the token of one more session.
+fn with_last_token<L: Terms, R: Wait>(
+    rt: &R,
+    alloc: Global,
+    office: &Office<L>,
+    done: Option<Done>,
+) -> Left<L> {
+    match last_token(rt, alloc, office) {
+        Some(token) => (done.ok_or(Stopped::Refused), Held::Undo(token)),
+        None => (Err(Stopped::Refused), Held::Nothing),
+    }
 }
 
 /// Does the task.
@@ -179,32 +208,27 @@ fn carry_out<L: Terms + Send + Sync, R: Threads + Wait + Sync>(
             readers,
         } => change(rt, alloc, office, feature, rounds, how, readers),
     };
-    match last_token(rt, alloc, office) {
-        Some(token) => (done.ok_or(Stopped::Refused), Some(token), None),
-        None => (Err(Stopped::Refused), None, None),
-    }
+    with_last_token(rt, alloc, office, done)
 }
 
-/// Ends the office with the tokens that are left.
+/// Ends the office with the token that is left.
 fn end<L: Terms, R: Wait>(
     rt: &R,
     office: Office<L>,
     front: &mut Front<L>,
     undos: Vec<Undo<L>>,
     redos: Vec<Redo<L>>,
-    undo: Option<Undo<L>>,
-    redo: Option<Redo<L>>,
+    held: Held<L>,
 ) -> u64
     requires undos { (vec_len undos ≡ 0) × (1 ≤ vec_capacity undos) }
     requires redos { (vec_len redos ≡ 0) × (1 ≤ vec_capacity redos) }
 {
     let mut undos = undos;
     let mut redos = redos;
-    if let Some(undo) = undo {
-        undos.push_reserved(undo);
-    }
-    if let Some(redo) = redo {
-        redos.push_reserved(redo);
+    match held {
+        Held::Nothing => {}
+        Held::Undo(token) => undos.push_reserved(token),
+        Held::Redo(token) => redos.push_reserved(token),
     }
     office.end(rt, front, undos, redos)
 }
@@ -227,8 +251,8 @@ fn work<L: Terms + Send + Sync, R: Threads + Wait + Sync>(
         let _further = office.end(rt, &mut front, undos, Vec::new(alloc));
         return None;
     };
-    let (done, undo, redo) = carry_out(rt, alloc, &office, task, seen);
-    let further = end(rt, office, &mut front, undos, redos, undo, redo);
+    let (done, held) = carry_out(rt, alloc, &office, task, seen);
+    let further = end(rt, office, &mut front, undos, redos, held);
     let calls = front.len();
     Some(Told {
         done,

@@ -1,6 +1,6 @@
 //! Readers beside a session that changes the page: watchers, and readers of the same sheet behind a mutex.
 use crate::working::{Seat, change_often, decide, joined, undo};
-use std::alloc::{AllocError, Global};
+use std::alloc::Global;
 use std::sync::atomic::{AtomicU64, Ordering};
 use std::sync::{Arc, Mutex, Wait};
 use std::thread;
@@ -11,19 +11,24 @@ use vpg_watch::{Sheet, Watch};
 /// The sheet of an office that a session last put there.
 type Shown<L> = Mutex<Arc<Sheet<Front<L>>>>;
 
-/// Opens so many watches.
+/// Opens so many watches, unless one is refused. Whether none is.
 fn open_watches<L: Terms, R: Wait>(
     rt: &R,
     alloc: Global,
     office: &Office<L>,
     count: u32,
     watches: &mut Vec<Watch<Front<L>>>,
-) -> Option<()> {
+) -> bool {
     for _ in 0..count {
-        let watch = office.watch(rt, alloc).ok()?;
-        watches.push(watch).ok()?;
+        let is_open = match office.watch(rt, alloc) {
+            Ok(watch) => watches.push(watch).is_ok(),
+            Err(_) => false,
+        };
+        if !is_open {
+            return false;
+        }
     }
-    Some(())
+    true
 }
 
 /// So many watches.
@@ -34,9 +39,10 @@ fn watches<L: Terms, R: Wait>(
     count: u32,
 ) -> Option<Vec<Watch<Front<L>>>> {
     let mut watches = Vec::new(alloc);
-    match open_watches(rt, alloc, office, count, &mut watches) {
-        Some(()) => Some(watches),
-        None => None,
+    if open_watches(rt, alloc, office, count, &mut watches) {
+        Some(watches)
+    } else {
+        None
     }
 }
 
@@ -104,9 +110,11 @@ fn read_all<L: Terms + Send + Sync, R: Threads + Wait + Sync>(
     rt: &R,
     watches: Vec<Watch<Front<L>>>,
     ended: &AtomicU64,
-) -> Result<u64, AllocError> {
-    let reads = thread::map_vec(rt, watches, &|watch| read_alone(rt, watch, ended))?;
-    Ok(sum_of(reads.as_slice()))
+) -> Option<u64> {
+    match thread::map_vec(rt, watches, &|watch| read_alone(rt, watch, ended)) {
+        Ok(reads) => Some(sum_of(reads.as_slice())),
+        Err(_) => None,
+    }
 }
 
 /// Reads behind the mutex in so many threads: how many sheets together.
@@ -116,9 +124,11 @@ fn look_all<L: Terms + Send + Sync, R: Threads + Wait + Sync>(
     shown: &Shown<L>,
     readers: u32,
     ended: &AtomicU64,
-) -> Result<u64, AllocError> {
-    let reads = thread::map_indices(rt, alloc, readers as usize, &|_| look_on(rt, shown, ended))?;
-    Ok(sum_of(reads.as_slice()))
+) -> Option<u64> {
+    match thread::map_indices(rt, alloc, readers as usize, &|_| look_on(rt, shown, ended)) {
+        Ok(reads) => Some(sum_of(reads.as_slice())),
+        Err(_) => None,
+    }
 }
 
 /// Puts the sheet that a watch reads behind the mutex.
@@ -128,8 +138,29 @@ fn show<L: Terms, R: Wait>(rt: &R, watch: &mut Watch<Front<L>>, shown: &Shown<L>
     }
 }
 
-/// A session makes changes, and each change's sheet is put behind the mutex, unless a call is refused.
+/// A session decides a feature and undoes that, unless a call is refused; each change's sheet is put behind the mutex.
 fn decide_and_show<L: Terms, R: Wait>(
+    rt: &R,
+    alloc: Global,
+    office: &Office<L>,
+    seat: &mut Seat<L>,
+    watch: &mut Watch<Front<L>>,
+    feature: u16,
+    shown: &Shown<L>,
+) -> bool {
+    let Some(token) = decide(rt, alloc, office, seat, feature, true) else {
+        return false;
+    };
+    show(rt, watch, shown);
+    let is_undone = undo(rt, alloc, office, seat, token);
+    if is_undone {
+        show(rt, watch, shown);
+    }
+    is_undone
+}
+
+/// As `decide_and_show`, so often, by a watch that is opened for it.
+fn show_changes<L: Terms, R: Wait>(
     rt: &R,
     alloc: Global,
     office: &Office<L>,
@@ -138,16 +169,29 @@ fn decide_and_show<L: Terms, R: Wait>(
     feature: u16,
     rounds: u32,
     shown: &Shown<L>,
-) -> Option<()> {
+) -> bool {
     for _ in 0..rounds {
-        let token = decide(rt, alloc, office, seat, feature, true)?;
-        show(rt, watch, shown);
-        if !undo(rt, alloc, office, seat, token) {
-            return None;
+        if !decide_and_show(rt, alloc, office, seat, watch, feature, shown) {
+            return false;
         }
-        show(rt, watch, shown);
     }
-    Some(())
+    true
+}
+
+/// A session makes changes, and each change's sheet is put behind the mutex.
+fn show_by_watch<L: Terms, R: Wait>(
+    rt: &R,
+    alloc: Global,
+    office: &Office<L>,
+    seat: &mut Seat<L>,
+    feature: u16,
+    rounds: u32,
+    shown: &Shown<L>,
+) -> bool {
+    match office.watch(rt, alloc) {
+        Ok(mut watch) => show_changes(rt, alloc, office, seat, &mut watch, feature, rounds, shown),
+        Err(_) => false,
+    }
 }
 
 /// A further session makes changes, and each change's sheet is put behind the mutex.
@@ -158,12 +202,11 @@ fn try_shown_changes<L: Terms, R: Wait>(
     feature: u16,
     rounds: u32,
     shown: &Shown<L>,
-) -> Option<()> {
-    let mut seat = joined(rt, office)?;
-    let mut watch = office.watch(rt, alloc).ok()?;
-    decide_and_show(
-        rt, alloc, office, &mut seat, &mut watch, feature, rounds, shown,
-    )
+) -> bool {
+    match joined(rt, office) {
+        Some(mut seat) => show_by_watch(rt, alloc, office, &mut seat, feature, rounds, shown),
+        None => false,
+    }
 }
 
 /// As `change_often`; each change's sheet is put behind the mutex.
@@ -175,7 +218,7 @@ fn change_and_show<L: Terms, R: Wait>(
     rounds: u32,
     shown: &Shown<L>,
     ended: &AtomicU64,
-) -> Option<()> {
+) -> bool {
     let changed = try_shown_changes(rt, alloc, office, feature, rounds, shown);
     ended.store(1, Ordering::SeqCst);
     changed
@@ -190,11 +233,29 @@ pub fn change_unread<L: Terms, R: Wait>(
     rounds: u32,
     readers: u32,
 ) -> Option<u64> {
-    let _watches = watches(rt, alloc, office, readers)?;
-    match change_often(rt, alloc, office, feature, rounds, &AtomicU64::new(0)) {
-        Some(()) => Some(0),
-        None => None,
-    }
+    let watches = watches(rt, alloc, office, readers);
+    let changed = watches.is_some()
+        && change_often(rt, alloc, office, feature, rounds, &AtomicU64::new(0));
+    if changed { Some(0) } else { None }
+}
+
+/// One session makes changes while these watches are read: how many reads.
+fn change_beside<L: Terms + Send + Sync, R: Threads + Wait + Sync>(
+    rt: &R,
+    alloc: Global,
+    office: &Office<L>,
+    feature: u16,
+    rounds: u32,
+    watches: Vec<Watch<Front<L>>>,
+) -> Option<u64> {
+    let ended = AtomicU64::new(0);
+    // what comes first here goes last where no thread can be made
+    let (reads, changed) = join(
+        rt,
+        || read_all(rt, watches, &ended),
+        || change_often(rt, alloc, office, feature, rounds, &ended),
+    );
+    if changed { reads } else { None }
 }
 
 /// One session makes changes while so many watches are read: how many reads.
@@ -206,16 +267,10 @@ pub fn change_and_read<L: Terms + Send + Sync, R: Threads + Wait + Sync>(
     rounds: u32,
     readers: u32,
 ) -> Option<u64> {
-    let watches = watches(rt, alloc, office, readers)?;
-    let ended = AtomicU64::new(0);
-    // what comes first here goes last where no thread can be made
-    let (reads, changed) = join(
-        rt,
-        || read_all(rt, watches, &ended),
-        || change_often(rt, alloc, office, feature, rounds, &ended),
-    );
-    let reads = reads.ok();
-    if changed.is_some() { reads } else { None }
+    match watches(rt, alloc, office, readers) {
+        Some(watches) => change_beside(rt, alloc, office, feature, rounds, watches),
+        None => None,
+    }
 }
 
 /// The sheet that is shown now.
@@ -224,8 +279,29 @@ fn first_sheet<L: Terms, R: Wait>(
     alloc: Global,
     office: &Office<L>,
 ) -> Option<Arc<Sheet<Front<L>>>> {
-    let mut watch = office.watch(rt, alloc).ok()?;
-    read(&mut watch).ok()
+    match office.watch(rt, alloc) {
+        Ok(mut watch) => read(&mut watch).ok(),
+        Err(_) => None,
+    }
+}
+
+/// One session makes changes and puts their sheets behind this mutex, where so many threads read: how many reads.
+fn change_shown<L: Terms + Send + Sync, R: Threads + Wait + Sync>(
+    rt: &R,
+    alloc: Global,
+    office: &Office<L>,
+    feature: u16,
+    rounds: u32,
+    readers: u32,
+    shown: &Shown<L>,
+) -> Option<u64> {
+    let ended = AtomicU64::new(0);
+    let (reads, changed) = join(
+        rt,
+        || look_all(rt, alloc, shown, readers, &ended),
+        || change_and_show(rt, alloc, office, feature, rounds, shown, &ended),
+    );
+    if changed { reads } else { None }
 }
 
 /// One session makes changes and puts their sheets behind a mutex, where so many threads read: how many reads.
@@ -237,13 +313,16 @@ pub fn change_and_look<L: Terms + Send + Sync, R: Threads + Wait + Sync>(
     rounds: u32,
     readers: u32,
 ) -> Option<u64> {
-    let shown = Mutex::new(first_sheet(rt, alloc, office)?);
-    let ended = AtomicU64::new(0);
-    let (reads, changed) = join(
-        rt,
-        || look_all(rt, alloc, &shown, readers, &ended),
-        || change_and_show(rt, alloc, office, feature, rounds, &shown, &ended),
-    );
-    let reads = reads.ok();
-    if changed.is_some() { reads } else { None }
+    match first_sheet(rt, alloc, office) {
+        Some(sheet) => change_shown(
+            rt,
+            alloc,
+            office,
+            feature,
+            rounds,
+            readers,
+            &Mutex::new(sheet),
+        ),
+        None => None,
+    }
 }

@@ -12,10 +12,28 @@ pub struct Seat<L: Terms> {
     pub front: Front<L>,
 }
 
+/// The token of a change that was made or undone, until it is spent.
+pub enum Held<L: Terms> {
+    Nothing,
+    Undo(Undo<L>),
+    Redo(Redo<L>),
+}
+
 /// A further session.
 pub fn joined<L: Terms, R: Wait>(rt: &R, office: &Office<L>) -> Option<Seat<L>> {
-    let (session, front) = office.join(rt).ok()?;
-    Some(Seat { session, front })
+    match office.join(rt) {
+        Ok((session, front)) => Some(Seat { session, front }),
+        Err(_) => None,
+    }
+}
+
+/// What a refused call gives back. Whoever lets a fault go himself takes the prover seconds.
+pub fn taken_back<L: Terms, F: Drop, T>(returned: Returned<L, F, T>) -> T {
+    let Returned {
+        fault: _fault,
+        value,
+    } = returned;
+    value
 }
 
 /// The token of a decision, unless it is refused.
@@ -51,13 +69,7 @@ fn keep<L: Terms, R: Wait>(rt: &R, office: &Office<L>, seat: &mut Seat<L>, token
     for _ in rt.forever() {
         match seat.session.keep(rt, office, &mut seat.front, token) {
             Ok(()) => return,
-            Err(returned) => {
-                let Returned {
-                    fault: _fault,
-                    value,
-                } = returned;
-                token = value;
-            }
+            Err(returned) => token = taken_back(returned),
         }
     }
     unreachable!()
@@ -69,16 +81,24 @@ fn forget<L: Terms, R: Wait>(rt: &R, office: &Office<L>, seat: &mut Seat<L>, tok
     for _ in rt.forever() {
         match seat.session.forget(rt, office, &mut seat.front, token) {
             Ok(()) => return,
-            Err(returned) => {
-                let Returned {
-                    fault: _fault,
-                    value,
-                } = returned;
-                token = value;
-            }
+            Err(returned) => token = taken_back(returned),
         }
     }
     unreachable!()
+}
+
+/// The token that is held once a decision is to be taken back: that of the undone one, unless it is refused.
+pub fn undone<L: Terms, R: Wait>(
+    rt: &R,
+    alloc: Global,
+    office: &Office<L>,
+    seat: &mut Seat<L>,
+    token: Undo<L>,
+) -> Held<L> {
+    match seat.session.undo(rt, alloc, office, &mut seat.front, token) {
+        Ok(token) => Held::Redo(token),
+        Err(returned) => Held::Undo(taken_back(returned)),
+    }
 }
 
 /// Takes a decision back by its token, and spends what is left: whether it was taken back.
@@ -89,17 +109,14 @@ pub fn undo<L: Terms, R: Wait>(
     seat: &mut Seat<L>,
     token: Undo<L>,
 ) -> bool {
-    match seat.session.undo(rt, alloc, office, &mut seat.front, token) {
-        Ok(token) => {
+    match undone(rt, alloc, office, seat, token) {
+        Held::Nothing => true,
+        Held::Redo(token) => {
             forget(rt, office, seat, token);
             true
         }
-        Err(returned) => {
-            let Returned {
-                fault: _fault,
-                value,
-            } = returned;
-            keep(rt, office, seat, value);
+        Held::Undo(token) => {
+            keep(rt, office, seat, token);
             false
         }
     }
@@ -132,7 +149,26 @@ impl Places {
     }
 }
 
-/// Decides a feature and retracts it: four calls, unless one is refused.
+/// Spends a token, and notes the place of that call and of the one before it.
+fn keep_noted<L: Terms, R: Wait>(
+    rt: &R,
+    office: &Office<L>,
+    seat: &mut Seat<L>,
+    token: Option<Undo<L>>,
+    places: &mut Places,
+) -> bool {
+    match token {
+        Some(token) => {
+            places.note(seat.front.len());
+            keep(rt, office, seat, token);
+            places.note(seat.front.len());
+            true
+        }
+        None => false,
+    }
+}
+
+/// Decides a feature and retracts it: four calls, unless one is refused. Whether none is.
 fn round<L: Terms, R: Wait>(
     rt: &R,
     alloc: Global,
@@ -140,16 +176,13 @@ fn round<L: Terms, R: Wait>(
     seat: &mut Seat<L>,
     feature: u16,
     places: &mut Places,
-) -> Option<()> {
-    let token = decide(rt, alloc, office, seat, feature, true)?;
-    places.note(seat.front.len());
-    keep(rt, office, seat, token);
-    places.note(seat.front.len());
-    let token = retract(rt, alloc, office, seat, feature)?;
-    places.note(seat.front.len());
-    keep(rt, office, seat, token);
-    places.note(seat.front.len());
-    Some(())
+) -> bool {
+    let decided = decide(rt, alloc, office, seat, feature, true);
+    if !keep_noted(rt, office, seat, decided, places) {
+        return false;
+    }
+    let retracted = retract(rt, alloc, office, seat, feature);
+    keep_noted(rt, office, seat, retracted, places)
 }
 
 /// So many rounds on the feature of the session's number, and the places of their calls, unless one is refused.
@@ -163,7 +196,9 @@ fn rounds_of<L: Terms, R: Wait>(
     let mut places = Places::none();
     let feature = seat.session.number() as u16;
     for _ in 0..rounds {
-        round(rt, alloc, office, seat, feature, &mut places)?;
+        if !round(rt, alloc, office, seat, feature, &mut places) {
+            return None;
+        }
     }
     Some(places)
 }
@@ -175,8 +210,10 @@ fn places_of<L: Terms, R: Wait>(
     office: &Office<L>,
     rounds: u32,
 ) -> Option<Places> {
-    let mut seat = joined(rt, office)?;
-    rounds_of(rt, alloc, office, &mut seat, rounds)
+    match joined(rt, office) {
+        Some(mut seat) => rounds_of(rt, alloc, office, &mut seat, rounds),
+        None => None,
+    }
 }
 
 /// The places of the calls of so many sessions, each in a thread of its own.
@@ -212,7 +249,15 @@ pub fn are_in_order(all: &[Option<Places>], calls: usize) -> bool {
     in_order && sum.saturating_mul(2) == calls.saturating_mul(calls.saturating_add(1))
 }
 
-/// A session decides a feature and undoes that so often: three calls a time, unless one is refused.
+/// How many calls the log has.
+pub fn calls_of<L: Terms, R: Wait>(rt: &R, office: &Office<L>) -> Option<usize> {
+    match office.join(rt) {
+        Ok((_session, front)) => Some(front.len()),
+        Err(_) => None,
+    }
+}
+
+/// A session decides a feature and undoes that so often: three calls a time, unless one is refused. Whether none is.
 fn decide_and_undo<L: Terms, R: Wait>(
     rt: &R,
     alloc: Global,
@@ -220,14 +265,17 @@ fn decide_and_undo<L: Terms, R: Wait>(
     seat: &mut Seat<L>,
     feature: u16,
     rounds: u32,
-) -> Option<()> {
+) -> bool {
     for _ in 0..rounds {
-        let token = decide(rt, alloc, office, seat, feature, true)?;
-        if !undo(rt, alloc, office, seat, token) {
-            return None;
+        let is_undone = match decide(rt, alloc, office, seat, feature, true) {
+            Some(token) => undo(rt, alloc, office, seat, token),
+            None => false,
+        };
+        if !is_undone {
+            return false;
         }
     }
-    Some(())
+    true
 }
 
 /// A further session makes changes.
@@ -237,15 +285,11 @@ fn try_changes<L: Terms, R: Wait>(
     office: &Office<L>,
     feature: u16,
     rounds: u32,
-) -> Option<()> {
-    let mut seat = joined(rt, office)?;
-    decide_and_undo(rt, alloc, office, &mut seat, feature, rounds)
-}
-
-/// How many calls the log has.
-pub fn calls_of<L: Terms, R: Wait>(rt: &R, office: &Office<L>) -> Option<usize> {
-    let seat = joined(rt, office)?;
-    Some(seat.front.len())
+) -> bool {
+    match joined(rt, office) {
+        Some(mut seat) => decide_and_undo(rt, alloc, office, &mut seat, feature, rounds),
+        None => false,
+    }
 }
 
 /// A further session makes changes. Then it is told that this has ended.
@@ -256,7 +300,7 @@ pub fn change_often<L: Terms, R: Wait>(
     feature: u16,
     rounds: u32,
     ended: &AtomicU64,
-) -> Option<()> {
+) -> bool {
     let changed = try_changes(rt, alloc, office, feature, rounds);
     ended.store(1, Ordering::SeqCst);
     changed

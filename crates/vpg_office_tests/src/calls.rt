@@ -1,5 +1,5 @@
-//! Calls of sessions without their clauses: what follows a call is then proved with few facts beside it. A refusal that a
-//! test does not expect stops it.
+//! Calls of sessions without their clauses: what follows a call is then proved with few facts beside it. What a test never
+//! expects, as a full log, stops it.
 ghost use Rattle.std.specs.Prelude.{◌<◌, length};
 
 use std::process::Abort;
@@ -12,10 +12,26 @@ use vpg_office::{
 };
 
 /// A session with its front.
-#[derive(Drop)]
 pub struct Seat<L: Terms> {
     pub session: Session<L>,
     pub front: Front<L>,
+}
+
+// Not derived, so that letting one go is one call: a derived way would be proved anew at each exit that owns one.
+impl<L: Terms> Drop for Seat<L> {
+    fn drop(self) {
+        let Seat {
+            session: _,
+            front: _,
+        } = self;
+    }
+}
+
+/// The token of a change that was made or undone, until it is spent.
+pub enum Held<L: Terms> {
+    Nothing,
+    Undo(Undo<L>),
+    Redo(Redo<L>),
 }
 
 pub fn joined<L: Terms, R: Wait + Abort>(rt: &R, office: &Office<L>) -> Seat<L> {
@@ -25,8 +41,24 @@ pub fn joined<L: Terms, R: Wait + Abort>(rt: &R, office: &Office<L>) -> Seat<L> 
     }
 }
 
+/// Why the desk refused.
+fn refusal<L: Terms, F>(rt: &impl Abort, fault: Fault<L, F>) -> F {
+    match fault {
+        Fault::Refused { fault } => fault,
+        _ => panic!(rt; "not refused by the desk"),
+    }
+}
+
+/// What a call gave that isn't refused.
+pub fn given<T, F>(rt: &impl Abort, answer: Result<T, F>) -> T {
+    match answer {
+        Ok(given) => given,
+        Err(_) => panic!(rt; "refused"),
+    }
+}
+
 /// The token of a decision, or why there is none.
-fn try_decide<L: Terms, R: Wait + Abort + AllocGlobal>(
+pub fn decide<L: Terms, R: Wait + Abort + AllocGlobal>(
     rt: &R,
     office: &Office<L>,
     seat: &mut Seat<L>,
@@ -38,40 +70,12 @@ fn try_decide<L: Terms, R: Wait + Abort + AllocGlobal>(
         .decide(rt, rt.alloc(), office, &mut seat.front, feature, value)
     {
         Ok(token) => Ok(token),
-        Err(Fault::Refused { fault }) => Err(fault),
-        Err(_) => panic!(rt; "not decided"),
-    }
-}
-
-pub fn decide<L: Terms, R: Wait + Abort + AllocGlobal>(
-    rt: &R,
-    office: &Office<L>,
-    seat: &mut Seat<L>,
-    feature: u16,
-    value: bool,
-) -> Undo<L> {
-    match try_decide(rt, office, seat, feature, value) {
-        Ok(token) => token,
-        Err(fault) => panic!(rt; "{fault}"),
-    }
-}
-
-/// Why a feature isn't decided.
-pub fn undecided<L: Terms, R: Wait + Abort + AllocGlobal>(
-    rt: &R,
-    office: &Office<L>,
-    seat: &mut Seat<L>,
-    feature: u16,
-    value: bool,
-) -> DecideFault {
-    match try_decide(rt, office, seat, feature, value) {
-        Ok(_) => panic!(rt; "decided"),
-        Err(fault) => fault,
+        Err(fault) => Err(refusal(rt, fault)),
     }
 }
 
 /// The token of a retraction, or why there is none.
-fn try_retract<L: Terms, R: Wait + Abort + AllocGlobal>(
+pub fn retract<L: Terms, R: Wait + Abort + AllocGlobal>(
     rt: &R,
     office: &Office<L>,
     seat: &mut Seat<L>,
@@ -82,33 +86,39 @@ fn try_retract<L: Terms, R: Wait + Abort + AllocGlobal>(
         .retract(rt, rt.alloc(), office, &mut seat.front, feature)
     {
         Ok(token) => Ok(token),
-        Err(Fault::Refused { fault }) => Err(fault),
-        Err(_) => panic!(rt; "not retracted"),
+        Err(fault) => Err(refusal(rt, fault)),
     }
 }
 
-pub fn retract<L: Terms, R: Wait + Abort + AllocGlobal>(
+/// The token that is held once a change is undone, and why it isn't.
+pub fn undo<L: Terms, R: Wait + Abort + AllocGlobal>(
     rt: &R,
     office: &Office<L>,
     seat: &mut Seat<L>,
-    feature: u16,
-) -> Undo<L> {
-    match try_retract(rt, office, seat, feature) {
-        Ok(token) => token,
-        Err(fault) => panic!(rt; "{fault}"),
+    token: Undo<L>,
+) -> (Held<L>, Option<UndoFault>) {
+    match seat
+        .session
+        .undo(rt, rt.alloc(), office, &mut seat.front, token)
+    {
+        Ok(token) => (Held::Redo(token), None),
+        Err(Returned { fault, value }) => (Held::Undo(value), Some(refusal(rt, fault))),
     }
 }
 
-/// Why a decision isn't retracted.
-pub fn unretracted<L: Terms, R: Wait + Abort + AllocGlobal>(
+/// The token that is held once a change is redone, and why it isn't.
+pub fn redo<L: Terms, R: Wait + Abort + AllocGlobal>(
     rt: &R,
     office: &Office<L>,
     seat: &mut Seat<L>,
-    feature: u16,
-) -> RetractFault {
-    match try_retract(rt, office, seat, feature) {
-        Ok(_) => panic!(rt; "retracted"),
-        Err(fault) => fault,
+    token: Redo<L>,
+) -> (Held<L>, Option<RedoFault>) {
+    match seat
+        .session
+        .redo(rt, rt.alloc(), office, &mut seat.front, token)
+    {
+        Ok(token) => (Held::Undo(token), None),
+        Err(Returned { fault, value }) => (Held::Redo(value), Some(refusal(rt, fault))),
     }
 }
 
@@ -136,94 +146,6 @@ pub fn forget<L: Terms, R: Wait + Abort>(
     }
 }
 
-/// The token of the undone change, or the refused one and why.
-fn try_undo<L: Terms, R: Wait + Abort + AllocGlobal>(
-    rt: &R,
-    office: &Office<L>,
-    seat: &mut Seat<L>,
-    token: Undo<L>,
-) -> Result<Redo<L>, (UndoFault, Undo<L>)> {
-    match seat
-        .session
-        .undo(rt, rt.alloc(), office, &mut seat.front, token)
-    {
-        Ok(token) => Ok(token),
-        Err(Returned { fault, value }) => match fault {
-            Fault::Refused { fault } => Err((fault, value)),
-            _ => panic!(rt; "not undone"),
-        },
-    }
-}
-
-pub fn undo<L: Terms, R: Wait + Abort + AllocGlobal>(
-    rt: &R,
-    office: &Office<L>,
-    seat: &mut Seat<L>,
-    token: Undo<L>,
-) -> Redo<L> {
-    match try_undo(rt, office, seat, token) {
-        Ok(token) => token,
-        Err(_) => panic!(rt; "not undone"),
-    }
-}
-
-/// Why a change isn't undone, and its token.
-pub fn not_undone<L: Terms, R: Wait + Abort + AllocGlobal>(
-    rt: &R,
-    office: &Office<L>,
-    seat: &mut Seat<L>,
-    token: Undo<L>,
-) -> (UndoFault, Undo<L>) {
-    match try_undo(rt, office, seat, token) {
-        Ok(_) => panic!(rt; "undone"),
-        Err(refused) => refused,
-    }
-}
-
-/// The token of the redone change, or the refused one and why.
-fn try_redo<L: Terms, R: Wait + Abort + AllocGlobal>(
-    rt: &R,
-    office: &Office<L>,
-    seat: &mut Seat<L>,
-    token: Redo<L>,
-) -> Result<Undo<L>, (RedoFault, Redo<L>)> {
-    match seat
-        .session
-        .redo(rt, rt.alloc(), office, &mut seat.front, token)
-    {
-        Ok(token) => Ok(token),
-        Err(Returned { fault, value }) => match fault {
-            Fault::Refused { fault } => Err((fault, value)),
-            _ => panic!(rt; "not redone"),
-        },
-    }
-}
-
-pub fn redo<L: Terms, R: Wait + Abort + AllocGlobal>(
-    rt: &R,
-    office: &Office<L>,
-    seat: &mut Seat<L>,
-    token: Redo<L>,
-) -> Undo<L> {
-    match try_redo(rt, office, seat, token) {
-        Ok(token) => token,
-        Err(_) => panic!(rt; "not redone"),
-    }
-}
-
-/// Why a change isn't redone, and its token.
-pub fn not_redone<L: Terms, R: Wait + Abort + AllocGlobal>(
-    rt: &R,
-    office: &Office<L>,
-    seat: &mut Seat<L>,
-    token: Redo<L>,
-) -> (RedoFault, Redo<L>) {
-    match try_redo(rt, office, seat, token) {
-        Ok(_) => panic!(rt; "redone"),
-        Err(refused) => refused,
-    }
-}
-
 pub fn order<L: Terms, R: Wait + Abort + AllocGlobal>(
     rt: &R,
     office: &Office<L>,
@@ -235,8 +157,8 @@ pub fn order<L: Terms, R: Wait + Abort + AllocGlobal>(
     }
 }
 
-/// How many entries it added, or why none and the harvest.
-fn try_commit<L: Terms, R: Wait + Abort + AllocGlobal>(
+/// How many entries a harvest adds, or why it isn't taken, and the harvest.
+pub fn commit<L: Terms, R: Wait + Abort + AllocGlobal>(
     rt: &R,
     office: &Office<L>,
     seat: &mut Seat<L>,
@@ -247,36 +169,7 @@ fn try_commit<L: Terms, R: Wait + Abort + AllocGlobal>(
         .commit(rt, rt.alloc(), office, &mut seat.front, harvest)
     {
         Ok(added) => Ok(added),
-        Err(Returned { fault, value }) => match fault {
-            Fault::Refused { fault } => Err((fault, value)),
-            _ => panic!(rt; "not committed"),
-        },
-    }
-}
-
-/// How many entries a harvest adds.
-pub fn commit<L: Terms, R: Wait + Abort + AllocGlobal>(
-    rt: &R,
-    office: &Office<L>,
-    seat: &mut Seat<L>,
-    harvest: Harvest,
-) -> u32 {
-    match try_commit(rt, office, seat, harvest) {
-        Ok(added) => added,
-        Err(_) => panic!(rt; "not committed"),
-    }
-}
-
-/// Why a harvest isn't taken, and the harvest.
-pub fn uncommitted<L: Terms, R: Wait + Abort + AllocGlobal>(
-    rt: &R,
-    office: &Office<L>,
-    seat: &mut Seat<L>,
-    harvest: Harvest,
-) -> (CommitFault, Harvest) {
-    match try_commit(rt, office, seat, harvest) {
-        Ok(_) => panic!(rt; "committed"),
-        Err(refused) => refused,
+        Err(Returned { fault, value }) => Err((refusal(rt, fault), value)),
     }
 }
 
@@ -318,14 +211,22 @@ pub fn close<L: Terms, R: Wait + Abort>(rt: &R, office: Office<L>, front: &mut F
     }
 }
 
-/// The number of tokens of an office that can't be closed, and the office.
+/// The office, which can't be closed since one token is out.
 pub fn still_open<L: Terms, R: Wait + Abort>(
     rt: &R,
     office: Office<L>,
     front: &mut Front<L>,
-) -> (u64, Office<L>) {
+) -> Office<L> {
     match office.close(rt, front) {
         Ok(()) => panic!(rt; "closed"),
-        Err(TokensOut { tokens, office }) => (tokens, office),
+        Err(TokensOut { tokens, office }) => {
+            assert!(rt; tokens == 1);
+            office
+        }
     }
+}
+
+/// Whether the front has so many calls. Each test ends so, and a call that no session made stands in no log.
+pub fn has_calls<L: Terms>(front: &Front<L>, calls: usize) -> bool {
+    front.len() == calls
 }

@@ -4,7 +4,8 @@ ghost use Rattle.std.specs.Arc.{arc_value};
 ghost use Rattle.std.specs.Prelude.{◌≡◌, ◌≤◌};
 ghost use Rattle.vpg_diagram.specs.FeatureDiagram.{feature_count};
 
-use crate::{changes, logs, watchers};
+use crate::steps::{Step, in_steps};
+use crate::{logs, watchers};
 use std::process::Abort;
 use std::sync::{Arc, Wait};
 use std::test::*;
@@ -25,18 +26,9 @@ pub const G: u16 = 2;
 /// What is done on an office by calls in one thread.
 #[derive(Clone, Copy)]
 pub enum Run {
-    Settle,
-    Refuse,
-    Outdate,
-    Turn,
-    Retract,
-    Seal,
-    Overtake,
-    Tokens,
+    Steps(&'static [Step]),
     Fill,
     Join,
-    WatchTwo,
-    WatchEach,
     WatchClosing,
     WatchEnding,
     WatchOften,
@@ -56,18 +48,9 @@ impl<R: Wait + Abort + AllocGlobal> Work<R> for Run {
         assert!(rt; front.len() == 0);
         assert!(rt; game.vertices() == 2);
         match self {
-            Run::Settle => changes::settle_a_page(rt, office),
-            Run::Refuse => changes::refuse(rt, office),
-            Run::Outdate => changes::outdate(rt, office),
-            Run::Turn => changes::turn_pages(rt, office),
-            Run::Retract => changes::retract_first(rt, office),
-            Run::Seal => changes::seal(rt, office),
-            Run::Overtake => changes::overtake(rt, office),
-            Run::Tokens => changes::tokens_meet(rt, office),
+            Run::Steps(steps) => in_steps(rt, office, steps),
             Run::Fill => logs::fill(rt, office),
             Run::Join => logs::join_often(rt, office),
-            Run::WatchTwo => watchers::watch_two_sessions(rt, office),
-            Run::WatchEach => watchers::watch_each_call(rt, office),
             Run::WatchClosing => watchers::watch_closing(rt, office),
             Run::WatchEnding => watchers::watch_ending(rt, office),
             Run::WatchOften => watchers::watch_often(rt, office),

@@ -1,14 +1,36 @@
 //! Pages of an office as texts.
-use crate::calls::{Seat, commit, order};
-use std::alloc::{AllocError, Global};
+use crate::calls::Seat;
+use std::alloc::Global;
 use std::fmt::Write;
 use std::process::Abort;
 use std::sync::Wait;
 use std::test::*;
-use vpg_measure::{Harvest, Table, Which};
+use vpg_measure::{Table, Which};
 use vpg_office::{Office, Terms};
 use vpg_partial::Decision;
 use vpg_trail::{Assumed, Entry, Page};
+
+/// A text that is written. What finds no memory is noted, and told once the text is whole.
+#[derive(Drop)]
+struct Line {
+    text: String,
+    lacks: bool,
+}
+
+impl Line {
+    fn put(&mut self, words: &str) {
+        self.lacks |= self.text.push_str(words).is_err();
+    }
+
+    /// Writes a number, and a space behind it.
+    fn number(&mut self, number: u64) {
+        self.lacks |= write!(self.text, "{number} ").is_err();
+    }
+
+    fn is(&self, text: &str) -> bool {
+        !self.lacks && self.text.as_str() == text
+    }
+}
 
 /// The feature's name in the diagram of the tests.
 fn name(feature: u16) -> &'static str {
@@ -20,39 +42,40 @@ fn name(feature: u16) -> &'static str {
     }
 }
 
-fn put_decision(text: &mut String, decision: &Decision) -> Result<(), AllocError> {
-    let word = if decision.value { "select" } else { "exclude" };
-    let name = name(decision.feature);
-    let (serial, session) = (decision.serial, decision.session);
-    write!(text, "{word} {name} {serial} by {session}")
+fn put_decision(line: &mut Line, decision: &Decision) {
+    line.put(if decision.value {
+        "select "
+    } else {
+        "exclude "
+    });
+    line.put(name(decision.feature));
+    line.put(" ");
+    line.number(decision.serial);
+    line.put("by ");
+    line.number(decision.session as u64);
 }
 
-fn put_lift(
-    text: &mut String,
-    table: Which,
-    vertex: u32,
-    old: u64,
-    new: u64,
-) -> Result<(), AllocError> {
-    let table = match table {
-        Which::Hopeful => "hopeful",
-        Which::Dual => "dual",
-    };
-    write!(text, "{table} {vertex} {old} {new}")
+fn put_lift(line: &mut Line, table: Which, vertex: u32, old: u64, new: u64) {
+    line.put(match table {
+        Which::Hopeful => "hopeful ",
+        Which::Dual => "dual ",
+    });
+    line.number(vertex as u64);
+    line.number(old);
+    line.number(new);
 }
 
-fn put_assumed(text: &mut String, under: &Assumed) -> Result<(), AllocError> {
+fn put_assumed(line: &mut Line, under: &Assumed) {
     for literal in under.literals() {
-        let sign = if literal.value { "+" } else { "-" };
-        let name = name(literal.feature);
-        write!(text, " {sign}{name}")?;
+        line.put(if literal.value { "+" } else { "-" });
+        line.put(name(literal.feature));
+        line.put(" ");
     }
-    Ok(())
 }
 
-fn put_entry(text: &mut String, entry: &Entry) -> Result<(), AllocError> {
+fn put_entry(line: &mut Line, entry: &Entry) {
     match entry {
-        Entry::Decide(decision) => put_decision(text, decision)?,
+        Entry::Decide(decision) => put_decision(line, decision),
         Entry::Lift {
             table,
             vertex,
@@ -60,42 +83,43 @@ fn put_entry(text: &mut String, entry: &Entry) -> Result<(), AllocError> {
             new,
             under,
         } => {
-            put_lift(text, *table, *vertex, *old, *new)?;
-            put_assumed(text, under)?;
+            put_lift(line, *table, *vertex, *old, *new);
+            put_assumed(line, under);
         }
     }
-    text.push_str(" / ")?;
-    Ok(())
+    line.put("/ ");
 }
 
-fn put_entries(text: &mut String, entries: &[Entry]) -> Result<(), AllocError> {
+fn put_entries(line: &mut Line, entries: &[Entry]) {
     for entry in entries {
-        put_entry(text, entry)?;
+        put_entry(line, entry);
     }
-    Ok(())
 }
 
-fn put_table(text: &mut String, table: &Table) -> Result<(), AllocError> {
+fn put_table(line: &mut Line, table: &Table) {
     for value in table.values() {
-        write!(text, "{value} ")?;
+        line.number(*value);
     }
-    text.push_str("/ ")?;
-    Ok(())
+    line.put("/ ");
 }
 
 /// Its decisions, its entries, and its two tables.
-fn put_page(text: &mut String, page: &Page) -> Result<(), AllocError> {
-    let decisions = page.decisions.as_slice().len();
-    write!(text, "{decisions} decided / ")?;
-    put_entries(text, page.entries.as_slice())?;
-    put_table(text, &page.hopeful)?;
-    put_table(text, &page.dual)
+fn put_page(line: &mut Line, page: &Page) {
+    line.number(page.decisions.as_slice().len() as u64);
+    line.put("decided / ");
+    put_entries(line, page.entries.as_slice());
+    put_table(line, &page.hopeful);
+    put_table(line, &page.dual);
 }
 
-fn shown(alloc: Global, page: &Page) -> Result<String, AllocError> {
-    let mut text = String::new(alloc);
-    put_page(&mut text, page)?;
-    Ok(text)
+/// Whether a page is this text.
+fn is_text(alloc: Global, page: &Page, text: &str) -> bool {
+    let mut line = Line {
+        text: String::new(alloc),
+        lacks: false,
+    };
+    put_page(&mut line, page);
+    line.is(text)
 }
 
 fn page<L: Terms, R: Wait + Abort + AllocGlobal>(
@@ -109,50 +133,12 @@ fn page<L: Terms, R: Wait + Abort + AllocGlobal>(
     }
 }
 
-/// The present page in words.
-pub fn page_text<L: Terms, R: Wait + Abort + AllocGlobal>(
+/// Whether the present page is this text.
+pub fn page_is<L: Terms, R: Wait + Abort + AllocGlobal>(
     rt: &R,
     office: &Office<L>,
     seat: &mut Seat<L>,
-) -> String {
-    match shown(rt.alloc(), &page(rt, office, seat)) {
-        Ok(text) => text,
-        Err(_) => panic!(rt; "no text"),
-    }
-}
-
-/// An order of the present page, lifted until both tables are settled.
-pub fn settled_harvest<L: Terms, R: Wait + Abort + AllocGlobal>(
-    rt: &R,
-    office: &Office<L>,
-    seat: &mut Seat<L>,
-) -> Harvest {
-    Harvest::alone(order(rt, office, seat), 1000)
-}
-
-/// Lifts the present page until both tables are settled, and says how many entries that adds.
-pub fn settle<L: Terms, R: Wait + Abort + AllocGlobal>(
-    rt: &R,
-    office: &Office<L>,
-    seat: &mut Seat<L>,
-) -> u32 {
-    let harvest = settled_harvest(rt, office, seat);
-    commit(rt, office, seat, harvest)
-}
-
-/// Lifts a vertex of the present page's first table once, and says how many entries that adds.
-pub fn lift<L: Terms, R: Wait + Abort + AllocGlobal>(
-    rt: &R,
-    office: &Office<L>,
-    seat: &mut Seat<L>,
-    vertex: u32,
-) -> u32 {
-    let order = order(rt, office, seat);
-    assert!(rt; (vertex as usize) < order.game().vertices());
-    commit(
-        rt,
-        office,
-        seat,
-        Harvest::one(order, Which::Hopeful, vertex),
-    )
+    text: &str,
+) -> bool {
+    is_text(rt.alloc(), &page(rt, office, seat), text)
 }

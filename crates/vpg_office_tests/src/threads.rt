@@ -6,9 +6,9 @@ ghost use Rattle.std.specs.Arc.{arc_value};
 ghost use Rattle.std.specs.Prelude.{◌≡◌, ◌≤◌};
 ghost use Rattle.vpg_diagram.specs.FeatureDiagram.{feature_count};
 
-use crate::calls::{Seat, close, commit, decide, joined, keep, order, retract};
-use crate::offices::{DIAGRAM, F, G, GAME, family};
-use crate::pages::page_text;
+use crate::calls::{Seat, close, commit, decide, given, has_calls, joined, keep, order, retract};
+use crate::offices::{DIAGRAM, F, GAME, family};
+use crate::pages::page_is;
 use crate::watchers::watch_at_once;
 use std::marker::Brand;
 use std::process::Abort;
@@ -22,7 +22,7 @@ use vpg_desk::DecideFault;
 use vpg_diagram::Diagram;
 use vpg_game::GuardedGame;
 use vpg_measure::{Harvest, Order};
-use vpg_office::{Fault, Office, Site, Terms, Undo, may_be_shared};
+use vpg_office::{Office, Site, Terms, Undo, may_be_shared};
 
 /// A diagram with a feature for each of eight sessions.
 const WIDE: &[u8] = b"root r\noptional r f\noptional r g\noptional r a\noptional r b
@@ -31,10 +31,15 @@ optional r c\noptional r d\noptional r e\noptional r h\n";
 /// What is done on an office.
 #[derive(Clone, Copy)]
 pub enum Run {
-    Rounds,
+    /// So many sessions make so many calls in all, in so many rounds each; and the sum of their places.
+    Rounds {
+        sessions: u16,
+        rounds: u32,
+        calls: usize,
+        sum: u64,
+    },
     Race,
     Late,
-    Eight,
     Watch,
 }
 
@@ -56,10 +61,14 @@ fn open_and_run<L: Terms + Send + Sync, R: Threads + Wait + Abort + AllocGlobal 
         panic!(rt; "no office")
     };
     match run {
-        Run::Rounds => rounds_of_two(rt, office),
+        Run::Rounds {
+            sessions,
+            rounds,
+            calls,
+            sum,
+        } => make_rounds(rt, office, sessions, rounds, calls, sum),
         Run::Race => race(rt, office),
         Run::Late => commit_late(rt, office),
-        Run::Eight => eight_at_once(rt, office),
         Run::Watch => watch_at_once(rt, office),
     }
 }
@@ -80,99 +89,236 @@ pub fn on_shared_office<R: Threads + Wait + Abort + AllocGlobal + Sync>(
     open_and_run::<Brand, R>(rt, site, game, diagram, room, run);
 }
 
-/// A feature is decided and retracted so many times.
+/// Where the calls of a session stand in the log.
+#[derive(Clone, Copy)]
+struct Places {
+    last: usize,
+    sum: u64,
+}
+
+impl Places {
+    /// Notes the call that a front of this length ends with. It stands behind the one noted before.
+    fn note(&mut self, rt: &impl Abort, length: usize) {
+        assert!(rt; self.last < length);
+        self.last = length;
+        self.sum = self.sum.saturating_add(length as u64);
+    }
+}
+
+/// A feature is decided and retracted: four calls.
+fn round<L: Terms, R: Wait + Abort + AllocGlobal>(
+    rt: &R,
+    office: &Office<L>,
+    seat: &mut Seat<L>,
+    feature: u16,
+    places: &mut Places,
+) {
+    let token = given(rt, decide(rt, office, seat, feature, true));
+    places.note(rt, seat.front.len());
+    keep(rt, office, seat, token);
+    places.note(rt, seat.front.len());
+    let token = given(rt, retract(rt, office, seat, feature));
+    places.note(rt, seat.front.len());
+    keep(rt, office, seat, token);
+    places.note(rt, seat.front.len());
+}
+
+/// So many rounds, and the sum of the places of their calls, from 1.
 pub fn rounds<L: Terms, R: Wait + Abort + AllocGlobal>(
     rt: &R,
     office: &Office<L>,
-    seat: Seat<L>,
+    seat: &mut Seat<L>,
     feature: u16,
     count: u32,
-) -> Seat<L> {
-    let mut seat = seat;
+) -> u64 {
+    let mut places = Places { last: 0, sum: 0 };
     for _ in 0..count {
-        let token = decide(rt, office, &mut seat, feature, true);
-        keep(rt, office, &mut seat, token);
-        let token = retract(rt, office, &mut seat, feature);
-        keep(rt, office, &mut seat, token);
+        round(rt, office, seat, feature, &mut places);
     }
-    seat
+    places.sum
 }
 
-/// Two sessions, each in a thread of its own.
-fn rounds_at_once<L: Terms + Send + Sync, R: Threads + Wait + Abort + AllocGlobal + Sync>(
-    rt: &R,
-    office: &Office<L>,
-    one: Seat<L>,
-    other: Seat<L>,
-) -> Seat<L> {
-    let (one, _other) = join(
-        rt,
-        || rounds(rt, office, one, F, 100),
-        || rounds(rt, office, other, G, 100),
-    );
-    one
+/// What a session does in a thread of its own.
+#[derive(Clone, Copy)]
+enum Task {
+    /// So many rounds of this feature.
+    Rounds(u16, u32),
+    /// Decides the feature f so.
+    Decide(bool),
 }
 
-/// Two sessions make 400 calls each.
-fn rounds_of_two<L: Terms + Send + Sync, R: Threads + Wait + Abort + AllocGlobal + Sync>(
-    rt: &R,
-    office: Office<L>,
-) {
-    may_be_shared(&office);
-    let one = joined(rt, &office);
-    let other = joined(rt, &office);
-    let mut one = rounds_at_once(rt, &office, one, other);
-    let page = page_text(rt, &office, &mut one);
-    assert_eq!(rt; page.as_str(), "0 decided / 0 0 / 0 0 / ");
-    assert_eq!(rt; one.front.len(), 801);
-    close(rt, office, &mut one.front);
+/// What came of it.
+#[derive(Clone, Copy)]
+enum Did {
+    /// The sum of the places of its calls.
+    Rounds(u64),
+    /// The serial of its change.
+    First(u64),
+    /// The serial of the change that came first.
+    Second(u64),
 }
 
-#[test]
-fn two_threads_decide_and_retract(rt: HostRuntime) -> Result<(), Fail> {
-    on_shared_office(&rt, DIAGRAM, 1000, Run::Rounds);
-    Ok(())
+/// A session at work.
+#[derive(Drop)]
+struct Job<L: Terms> {
+    seat: Seat<L>,
+    task: Task,
 }
 
-/// The serial of the change; or that of the one that came first.
+/// Decides, unless another was first.
 fn try_first<L: Terms, R: Wait + Abort + AllocGlobal>(
     rt: &R,
     office: &Office<L>,
-    seat: Seat<L>,
+    seat: &mut Seat<L>,
     value: bool,
-) -> Result<u64, u64> {
-    let mut seat = seat;
-    match seat
-        .session
-        .decide(rt, rt.alloc(), office, &mut seat.front, F, value)
-    {
+) -> Did {
+    match decide(rt, office, seat, F, value) {
         Ok(token) => {
             let serial = token.serial();
-            keep(rt, office, &mut seat, token);
-            Ok(serial)
+            keep(rt, office, seat, token);
+            Did::First(serial)
         }
-        Err(
-            Fault::Refused {
-                fault: DecideFault::AlreadyDecided { serial },
-            },
-        ) => Err(serial),
+        Err(DecideFault::AlreadyDecided { serial }) => Did::Second(serial),
         Err(_) => panic!(rt; "not decided"),
     }
 }
 
-/// Two sessions decide one feature, each its own way and in a thread of its own.
-fn try_at_once<L: Terms + Send + Sync, R: Threads + Wait + Abort + AllocGlobal + Sync>(
+fn work<L: Terms, R: Wait + Abort + AllocGlobal>(
     rt: &R,
     office: &Office<L>,
-    one: Seat<L>,
-    other: Seat<L>,
-) -> [Result<u64, u64>; 2] {
-    let (one, other) = join(
-        rt,
-        || try_first(rt, office, one, true),
-        || try_first(rt, office, other, false),
-    );
-    [one, other]
+    seat: &mut Seat<L>,
+    task: Task,
+) -> Did {
+    match task {
+        Task::Rounds(feature, count) => Did::Rounds(rounds(rt, office, seat, feature, count)),
+        Task::Decide(value) => try_first(rt, office, seat, value),
+    }
+}
+
+/// As `work`, by a session of its own.
+fn work_alone<L: Terms, R: Wait + Abort + AllocGlobal>(
+    rt: &R,
+    office: &Office<L>,
+    mut job: Job<L>,
+) -> Did {
+    work(rt, office, &mut job.seat, job.task)
+}
+
+/// What came of each job, in a thread of its own.
+fn at_once<L: Terms + Send + Sync, R: Threads + Wait + Abort + AllocGlobal + Sync>(
+    rt: &R,
+    office: &Office<L>,
+    jobs: Vec<Job<L>>,
+) -> Vec<Did> {
+    match thread::map_vec(rt, jobs, &|job| work_alone(rt, office, job)) {
+        Ok(dids) => dids,
+        Err(_) => panic!(rt; "no memory"),
+    }
+}
+
+/// Adds a session with a task.
+fn add_job<L: Terms, R: Wait + Abort>(
+    rt: &R,
+    office: &Office<L>,
+    jobs: &mut Vec<Job<L>>,
+    task: Task,
+) {
+    let seat = joined(rt, office);
+    given(rt, jobs.push(Job { seat, task }));
+}
+
+/// The sum of the places of all calls.
+fn sum_of(dids: &[Did]) -> u64 {
+    let mut sum = 0u64;
+    for did in dids {
+        if let Did::Rounds(places) = *did {
+            sum = sum.saturating_add(places);
+        }
+    }
+    sum
+}
+
+/// The sum of the places of all calls of so many sessions, each with a feature of its own and in a thread of its own.
+fn rounds_at_once<L: Terms + Send + Sync, R: Threads + Wait + Abort + AllocGlobal + Sync>(
+    rt: &R,
+    office: &Office<L>,
+    sessions: u16,
+    count: u32,
+) -> u64 {
+    let mut jobs = Vec::new(rt.alloc());
+    for place in 0..sessions {
+        add_job(
+            rt,
+            office,
+            &mut jobs,
+            Task::Rounds(place.saturating_add(1), count),
+        );
+    }
+    sum_of(at_once(rt, office, jobs).as_slice())
+}
+
+/// Sessions make rounds at once: each call stands at a place of its own, behind those that its session made before.
+fn make_rounds<L: Terms + Send + Sync, R: Threads + Wait + Abort + AllocGlobal + Sync>(
+    rt: &R,
+    office: Office<L>,
+    sessions: u16,
+    count: u32,
+    calls: usize,
+    sum: u64,
+) {
+    may_be_shared(&office);
+    assert!(rt; rounds_at_once(rt, &office, sessions, count) == sum);
+    let mut last = joined(rt, &office);
+    assert!(rt; has_calls(&last.front, calls));
+    assert!(rt; page_is(rt, &office, &mut last, "0 decided / 0 0 / 0 0 / "));
+    assert!(rt; has_calls(&last.front, calls.saturating_add(1)));
+    close(rt, office, &mut last.front);
+}
+
+#[test]
+fn two_threads_decide_and_retract(rt: HostRuntime) -> Result<(), Fail> {
+    let two = Run::Rounds {
+        sessions: 2,
+        rounds: 100,
+        calls: 800,
+        sum: 320_400,
+    };
+    on_shared_office(&rt, DIAGRAM, 1000, two);
+    Ok(())
+}
+
+#[test]
+fn eight_threads_keep_order(rt: HostRuntime) -> Result<(), Fail> {
+    let eight = Run::Rounds {
+        sessions: 8,
+        rounds: 250,
+        calls: 8000,
+        sum: 32_004_000,
+    };
+    on_shared_office(&rt, WIDE, 8001, eight);
+    Ok(())
+}
+
+/// Whether one of two was first, with the serial 1, and the other was told so.
+fn one_is_first(dids: &[Did]) -> bool {
+    if dids.len() != 2 {
+        return false;
+    }
+    matches!(
+        (dids[0], dids[1]),
+        (Did::First(1), Did::Second(1)) | (Did::Second(1), Did::First(1))
+    )
+}
+
+/// Whether of two sessions that decide one feature, each its own way and in a thread of its own, one is the first.
+fn decide_at_once<L: Terms + Send + Sync, R: Threads + Wait + Abort + AllocGlobal + Sync>(
+    rt: &R,
+    office: &Office<L>,
+) -> bool {
+    let mut jobs = Vec::new(rt.alloc());
+    add_job(rt, office, &mut jobs, Task::Decide(true));
+    add_job(rt, office, &mut jobs, Task::Decide(false));
+    one_is_first(at_once(rt, office, jobs).as_slice())
 }
 
 /// One of two sessions is the first.
@@ -180,12 +326,9 @@ fn race<L: Terms + Send + Sync, R: Threads + Wait + Abort + AllocGlobal + Sync>(
     rt: &R,
     office: Office<L>,
 ) {
-    let one = joined(rt, &office);
-    let other = joined(rt, &office);
-    let serials = try_at_once(rt, &office, one, other);
-    assert!(rt; serials == [Ok(1), Err(1)] || serials == [Err(1), Ok(1)]);
+    assert!(rt; decide_at_once(rt, &office));
     let mut third = joined(rt, &office);
-    assert_eq!(rt; third.front.len(), 3);
+    assert!(rt; has_calls(&third.front, 3));
     close(rt, office, &mut third.front);
 }
 
@@ -229,7 +372,7 @@ fn decide_at_gate<L: Terms, R: Wait + Abort + AllocGlobal>(
     gate: &Waiting,
 ) -> Undo<L> {
     let mut seat = seat;
-    let token = decide(rt, office, &mut seat, F, false);
+    let token = given(rt, decide(rt, office, &mut seat, F, false));
     gate.answered.store(1, Ordering::SeqCst);
     token
 }
@@ -258,6 +401,21 @@ fn decide_and_sweep<L: Terms + Send + Sync, R: Threads + Wait + Abort + AllocGlo
     (token, harvest)
 }
 
+/// The harvest is committed, and the page has both.
+fn commit_behind<L: Terms, R: Wait + Abort + AllocGlobal>(
+    rt: &R,
+    office: &Office<L>,
+    seat: &mut Seat<L>,
+    harvest: Harvest,
+) {
+    assert!(rt; given(rt, commit(rt, office, seat, harvest)) == 2);
+    assert!(rt; has_calls(&seat.front, 3));
+    assert!(rt; page_is(rt, office, seat, LATE));
+}
+
+/// The page on which a harvest comes after another session decided.
+const LATE: &str = "1 decided / exclude f 1 by 2 / hopeful 0 0 1 / dual 1 0 1 / 1 0 / 0 1 / ";
+
 /// A harvest comes after another session decided.
 fn commit_late<L: Terms + Send + Sync, R: Threads + Wait + Abort + AllocGlobal + Sync>(
     rt: &R,
@@ -271,14 +429,8 @@ fn commit_late<L: Terms + Send + Sync, R: Threads + Wait + Abort + AllocGlobal +
         passed: AtomicU64::new(0),
     };
     let (token, harvest) = decide_and_sweep(rt, &office, two, order, &gate);
-    assert_eq!(rt; gate.passed.load(Ordering::SeqCst), 1);
-    assert_eq!(rt; commit(rt, &office, &mut one, harvest), 2);
-    assert_eq!(rt; one.front.len(), 3);
-    let page = page_text(rt, &office, &mut one);
-    assert_eq!(rt;
-        page.as_str(),
-        "1 decided / exclude f 1 by 2 / hopeful 0 0 1 / dual 1 0 1 / 1 0 / 0 1 / "
-    );
+    assert!(rt; gate.passed.load(Ordering::SeqCst) == 1);
+    commit_behind(rt, &office, &mut one, harvest);
     keep(rt, &office, &mut one, token);
     close(rt, office, &mut one.front);
 }
@@ -286,110 +438,5 @@ fn commit_late<L: Terms + Send + Sync, R: Threads + Wait + Abort + AllocGlobal +
 #[test]
 fn a_harvest_comes_late(rt: HostRuntime) -> Result<(), Fail> {
     on_shared_office(&rt, DIAGRAM, 10, Run::Late);
-    Ok(())
-}
-
-/// Where the calls of a session stand in the log.
-#[derive(Clone, Copy)]
-struct Places {
-    last: usize,
-    sum: u64,
-}
-
-impl Places {
-    /// Notes the call that a front of this length ends with. It stands behind the one noted before.
-    fn note(&mut self, rt: &impl Abort, length: usize) {
-        assert!(rt; self.last < length);
-        self.last = length;
-        self.sum = self.sum.saturating_add(length as u64);
-    }
-}
-
-/// A session at work on a feature of its own.
-#[derive(Drop)]
-struct Job<L: Terms> {
-    seat: Seat<L>,
-    feature: u16,
-}
-
-/// One round of the job: four calls.
-fn round<L: Terms, R: Wait + Abort + AllocGlobal>(
-    rt: &R,
-    office: &Office<L>,
-    job: &mut Job<L>,
-    places: &mut Places,
-) {
-    let token = decide(rt, office, &mut job.seat, job.feature, true);
-    places.note(rt, job.seat.front.len());
-    keep(rt, office, &mut job.seat, token);
-    places.note(rt, job.seat.front.len());
-    let token = retract(rt, office, &mut job.seat, job.feature);
-    places.note(rt, job.seat.front.len());
-    keep(rt, office, &mut job.seat, token);
-    places.note(rt, job.seat.front.len());
-}
-
-/// So many rounds, and the sum of the places of their calls, from 1.
-fn places_of<L: Terms, R: Wait + Abort + AllocGlobal>(
-    rt: &R,
-    office: &Office<L>,
-    job: Job<L>,
-    count: u32,
-) -> u64 {
-    let mut job = job;
-    let mut places = Places { last: 0, sum: 0 };
-    for _ in 0..count {
-        round(rt, office, &mut job, &mut places);
-    }
-    places.sum
-}
-
-/// A session for each of the features 1 to 8.
-fn eight_jobs<L: Terms, R: Wait + Abort + AllocGlobal>(rt: &R, office: &Office<L>) -> Vec<Job<L>> {
-    let mut jobs = Vec::new(rt.alloc());
-    for feature in 1..9u16 {
-        let seat = joined(rt, office);
-        match jobs.push(Job { seat, feature }) {
-            Ok(()) => {}
-            Err(_) => panic!(rt; "no memory"),
-        }
-    }
-    jobs
-}
-
-/// The sum of the places of all calls of the jobs, each in a thread of its own.
-fn places_of_all<L: Terms + Send + Sync, R: Threads + Wait + Abort + AllocGlobal + Sync>(
-    rt: &R,
-    office: &Office<L>,
-    jobs: Vec<Job<L>>,
-    count: u32,
-) -> u64 {
-    let Ok(sums) = thread::map_vec(rt, jobs, &|job| places_of(rt, office, job, count)) else {
-        panic!(rt; "no memory")
-    };
-    let mut sum = 0u64;
-    for places in sums.as_slice() {
-        sum = sum.saturating_add(*places);
-    }
-    sum
-}
-
-/// Eight sessions make 8,000 calls: each stands at a place of its own, behind those that its session made before.
-fn eight_at_once<L: Terms + Send + Sync, R: Threads + Wait + Abort + AllocGlobal + Sync>(
-    rt: &R,
-    office: Office<L>,
-) {
-    let jobs = eight_jobs(rt, &office);
-    assert_eq!(rt; places_of_all(rt, &office, jobs, 250), 32_004_000);
-    let mut last = joined(rt, &office);
-    assert_eq!(rt; last.front.len(), 8000);
-    let page = page_text(rt, &office, &mut last);
-    assert_eq!(rt; page.as_str(), "0 decided / 0 0 / 0 0 / ");
-    close(rt, office, &mut last.front);
-}
-
-#[test]
-fn eight_threads_keep_order(rt: HostRuntime) -> Result<(), Fail> {
-    on_shared_office(&rt, WIDE, 8001, Run::Eight);
     Ok(())
 }

@@ -1,12 +1,15 @@
 //! Watchers: what they read, and when.
 ghost use Rattle.std.specs.Prelude.{◌≡◌, length};
 
-use crate::calls::{
-    Seat, close, decide, forget, joined, keep, not_redone, not_undone, order, redo, retract,
-    settled, still_open, uncommitted, undecided, undo, unretracted, verdict,
-};
+use crate::calls::{Seat, close, given, joined, still_open};
 use crate::offices::{DIAGRAM, F, G, Run, on_office};
-use crate::pages::{page_text, settle, settled_harvest};
+use crate::steps::At::{First, Second};
+use crate::steps::By::{One, Two};
+use crate::steps::Call::{
+    Calls, Commit, Decide, Forget, Keep, Order, Page, Redo, Retract, Sees, Settled, Undo, Verdict,
+    Watch as Watches,
+};
+use crate::steps::{Step, carry_out, end_of_day, seated};
 use crate::threads::{Run as Shared, on_shared_office, rounds};
 use std::process::Abort;
 use std::sync::Wait;
@@ -26,7 +29,10 @@ fn try_watch<L: Terms, R: Wait + AllocGlobal>(
     office.watch(rt, rt.alloc()).ok()
 }
 
-fn watched<L: Terms, R: Wait + Abort + AllocGlobal>(rt: &R, office: &Office<L>) -> Watch<Front<L>> {
+pub fn watched<L: Terms, R: Wait + Abort + AllocGlobal>(
+    rt: &R,
+    office: &Office<L>,
+) -> Watch<Front<L>> {
     match try_watch(rt, office) {
         Some(watch) => watch,
         None => panic!(rt; "no watch"),
@@ -41,169 +47,131 @@ fn told<L: Terms>(watch: &mut Watch<Front<L>>) -> Option<(u32, bool)> {
     }
 }
 
-/// The watch reads a sheet of so many calls.
-fn sees<L: Terms>(rt: &impl Abort, watch: &mut Watch<Front<L>>, at: u32, settled: bool) {
-    assert!(rt; told(watch) == Some((at, settled)), "not at {at}");
+/// Whether there is a watch, and it reads a sheet of so many calls.
+pub fn sees<L: Terms>(watch: &mut Option<Watch<Front<L>>>, at: u32, settled: bool) -> bool {
+    match watch {
+        Some(watch) => told(watch) == Some((at, settled)),
+        None => false,
+    }
 }
 
-/// The watch reads no sheet.
-fn sees_none<L: Terms>(rt: &impl Abort, watch: &mut Watch<Front<L>>) {
-    assert!(rt; told(watch).is_none());
+/// Whether there is a watch, and it reads no sheet.
+fn sees_none<L: Terms>(watch: &mut Option<Watch<Front<L>>>) -> bool {
+    match watch {
+        Some(watch) => told(watch).is_none(),
+        None => false,
+    }
 }
 
 /// One session decides and another takes the page. A watch is at the decision, and so is one that is asked for then.
-fn see_two_sessions<L: Terms, R: Wait + Abort + AllocGlobal>(
-    rt: &R,
-    office: &Office<L>,
-    one: &mut Seat<L>,
-    two: &mut Seat<L>,
-) {
-    let mut watch = watched(rt, office);
-    sees(rt, &mut watch, 0, false);
-    let token = decide(rt, office, one, F, true);
-    sees(rt, &mut watch, 1, false);
-    let page = page_text(rt, office, two);
-    assert_eq!(rt; page.as_str(), "1 decided / select f 1 by 1 / 0 0 / 0 0 / ");
-    sees(rt, &mut watch, 1, false);
-    let mut second = watched(rt, office);
-    sees(rt, &mut second, 1, false);
-    keep(rt, office, one, token);
-}
-
-pub fn watch_two_sessions<L: Terms, R: Wait + Abort + AllocGlobal>(rt: &R, office: Office<L>) {
-    let mut one = joined(rt, &office);
-    let mut two = joined(rt, &office);
-    see_two_sessions(rt, &office, &mut one, &mut two);
-    assert_eq!(rt; one.front.len(), 3);
-    close(rt, office, &mut one.front);
-}
+const WATCH_TWO: &[Step] = &[
+    (One, Watches),
+    (One, Sees(0, false)),
+    (One, Decide(First, F, true, Ok(1))),
+    (One, Sees(1, false)),
+    (Two, Page("1 decided / select f 1 by 1 / 0 0 / 0 0 / ")),
+    (One, Sees(1, false)),
+    (One, Watches),
+    (One, Sees(1, false)),
+    (One, Keep(First)),
+    (One, Calls(3)),
+];
 
 #[test]
 fn a_watch_is_at_the_last_change(rt: HostRuntime) -> Result<(), Fail> {
-    on_office(&rt, 10, Run::WatchTwo);
+    on_office(&rt, 10, Run::Steps(WATCH_TWO));
     Ok(())
 }
 
-/// Each change is seen, and it isn't seen that its token is kept.
-fn see_changes<L: Terms, R: Wait + Abort + AllocGlobal>(
-    rt: &R,
-    office: &Office<L>,
-    seat: &mut Seat<L>,
-    watch: &mut Watch<Front<L>>,
-) {
-    let token = decide(rt, office, seat, F, false);
-    sees(rt, watch, 1, false);
-    let token = undo(rt, office, seat, token);
-    sees(rt, watch, 2, false);
-    let token = redo(rt, office, seat, token);
-    sees(rt, watch, 3, false);
-    assert_eq!(rt; settle(rt, office, seat), 2);
-    sees(rt, watch, 5, true);
-    let second = retract(rt, office, seat, F);
-    sees(rt, watch, 6, false);
-    keep(rt, office, seat, second);
-    keep(rt, office, seat, token);
-    sees(rt, watch, 6, false);
-}
-
-/// What asks or is refused isn't seen.
-fn see_no_changes<L: Terms, R: Wait + Abort + AllocGlobal>(
-    rt: &R,
-    office: &Office<L>,
-    seat: &mut Seat<L>,
-    watch: &mut Watch<Front<L>>,
-)
-    requires { length L.game.vertices ≡ 2 }
-{
-    assert!(rt; settled(rt, office, &mut seat.session, &mut seat.front) == Ok(false));
-    assert!(rt; verdict(rt, office, seat, 0) == (false, false));
-    let page = page_text(rt, office, seat);
-    assert_eq!(rt; page.as_str(), "0 decided / 0 0 / 0 0 / ");
-    let _order = order(rt, office, seat);
-    assert!(rt; undecided(rt, office, seat, 3, true) == DecideFault::UnknownFeature);
-    assert!(rt; unretracted(rt, office, seat, F) == RetractFault::NotDecided);
-    sees(rt, watch, 6, false);
-}
-
-/// Undos and redos that are refused aren't seen, nor that tokens are forgotten.
-fn see_no_turns<L: Terms, R: Wait + Abort + AllocGlobal>(
-    rt: &R,
-    office: &Office<L>,
-    seat: &mut Seat<L>,
-    watch: &mut Watch<Front<L>>,
-) {
-    let first = decide(rt, office, seat, F, true);
-    let second = decide(rt, office, seat, G, true);
-    let (fault, first) = not_undone(rt, office, seat, first);
-    assert!(rt; fault == UndoFault::NotNewest { newest: 4 });
-    sees(rt, watch, 16, false);
-    let second = undo(rt, office, seat, second);
-    let first = undo(rt, office, seat, first);
-    let (fault, second) = not_redone(rt, office, seat, second);
-    assert!(rt; fault == RedoFault::NotNext { next: 3 });
-    forget(rt, office, seat, first);
-    forget(rt, office, seat, second);
-    sees(rt, watch, 19, false);
-}
-
-/// A harvest that is refused isn't seen.
-fn see_no_harvest<L: Terms, R: Wait + Abort + AllocGlobal>(
-    rt: &R,
-    office: &Office<L>,
-    seat: &mut Seat<L>,
-    watch: &mut Watch<Front<L>>,
-) {
-    let first = decide(rt, office, seat, F, false);
-    let harvest = settled_harvest(rt, office, seat);
-    let second = retract(rt, office, seat, F);
-    let (fault, _harvest) = uncommitted(rt, office, seat, harvest);
-    assert!(rt; fault == CommitFault::Outdated { feature: F });
-    sees(rt, watch, 25, false);
-    keep(rt, office, seat, second);
-    keep(rt, office, seat, first);
-}
-
-pub fn watch_each_call<L: Terms, R: Wait + Abort + AllocGlobal>(rt: &R, office: Office<L>)
-    requires { length L.game.vertices ≡ 2 }
-{
-    let mut seat = joined(rt, &office);
-    let mut watch = watched(rt, &office);
-    see_changes(rt, &office, &mut seat, &mut watch);
-    see_no_changes(rt, &office, &mut seat, &mut watch);
-    see_no_turns(rt, &office, &mut seat, &mut watch);
-    see_no_harvest(rt, &office, &mut seat, &mut watch);
-    close(rt, office, &mut seat.front);
-}
+/// Each change is seen. It isn't seen that a token is kept or forgotten, nor what asks or is refused: an undo, a redo
+/// and a harvest that are refused too.
+const WATCH_EACH: &[Step] = &[
+    (One, Watches),
+    (One, Decide(First, F, false, Ok(1))),
+    (One, Sees(1, false)),
+    (One, Undo(First, None)),
+    (One, Sees(2, false)),
+    (One, Redo(First, None)),
+    (One, Sees(3, false)),
+    (One, Order),
+    (One, Commit(Ok(2))),
+    (One, Sees(5, true)),
+    (One, Retract(Second, F, Ok(2))),
+    (One, Sees(6, false)),
+    (One, Keep(Second)),
+    (One, Keep(First)),
+    (One, Sees(6, false)),
+    (One, Settled(false)),
+    (One, Verdict(0, false, false)),
+    (One, Page("0 decided / 0 0 / 0 0 / ")),
+    (One, Order),
+    (
+        One,
+        Decide(First, 3, true, Err(DecideFault::UnknownFeature)),
+    ),
+    (One, Retract(First, F, Err(RetractFault::NotDecided))),
+    (One, Sees(6, false)),
+    (One, Decide(First, F, true, Ok(3))),
+    (One, Decide(Second, G, true, Ok(4))),
+    (One, Undo(First, Some(UndoFault::NotNewest { newest: 4 }))),
+    (One, Sees(16, false)),
+    (One, Undo(Second, None)),
+    (One, Undo(First, None)),
+    (One, Redo(Second, Some(RedoFault::NotNext { next: 3 }))),
+    (One, Forget(First)),
+    (One, Forget(Second)),
+    (One, Sees(19, false)),
+    (One, Decide(First, F, false, Ok(5))),
+    (One, Order),
+    (One, Retract(Second, F, Ok(6))),
+    (One, Commit(Err(CommitFault::Outdated { feature: F }))),
+    (One, Sees(25, false)),
+    (One, Keep(Second)),
+    (One, Keep(First)),
+];
 
 #[test]
 fn a_watch_sees_changes_alone(rt: HostRuntime) -> Result<(), Fail> {
-    on_office(&rt, 30, Run::WatchEach);
+    on_office(&rt, 30, Run::Steps(WATCH_EACH));
     Ok(())
 }
 
+/// A watch is opened and a change made.
+const OPEN: &[Step] = &[(One, Watches), (One, Decide(First, F, true, Ok(1)))];
+
+/// The watch sees both changes.
+const STILL_OPEN: &[Step] = &[
+    (One, Sees(1, false)),
+    (One, Undo(First, None)),
+    (One, Sees(2, false)),
+    (One, Forget(First)),
+];
+
 /// An office that can't be closed goes on publishing. Once it is closed there is no sheet.
-pub fn watch_closing<L: Terms, R: Wait + Abort + AllocGlobal>(rt: &R, office: Office<L>) {
-    let mut seat = joined(rt, &office);
-    let mut watch = watched(rt, &office);
-    let token = decide(rt, &office, &mut seat, F, true);
-    let (tokens, office) = still_open(rt, office, &mut seat.front);
-    assert_eq!(rt; tokens, 1);
-    sees(rt, &mut watch, 1, false);
-    let token = undo(rt, &office, &mut seat, token);
-    sees(rt, &mut watch, 2, false);
-    forget(rt, &office, &mut seat, token);
-    close(rt, office, &mut seat.front);
-    sees_none(rt, &mut watch);
+pub fn watch_closing<L: Terms, R: Wait + Abort + AllocGlobal>(rt: &R, office: Office<L>)
+    requires { length L.game.vertices ≡ 2 }
+{
+    let (mut table, mut tokens) = seated(rt, &office);
+    carry_out(rt, &office, &mut table, &mut tokens, OPEN);
+    let office = still_open(rt, office, &mut table.one.front);
+    carry_out(rt, &office, &mut table, &mut tokens, STILL_OPEN);
+    end_of_day(rt, office, &mut table, tokens);
+    assert!(rt; sees_none(&mut table.watch));
 }
 
 /// Once an office has ended there is no sheet.
 pub fn watch_ending<L: Terms, R: Wait + Abort + AllocGlobal>(rt: &R, office: Office<L>) {
-    let mut front = joined(rt, &office).front;
-    let mut watch = watched(rt, &office);
-    sees(rt, &mut watch, 0, false);
-    let further = office.end(rt, &mut front, Vec::new(rt.alloc()), Vec::new(rt.alloc()));
-    assert_eq!(rt; further, 0);
-    sees_none(rt, &mut watch);
+    let mut seat = joined(rt, &office);
+    let mut watch = Some(watched(rt, &office));
+    assert!(rt; sees(&mut watch, 0, false));
+    let further = office.end(
+        rt,
+        &mut seat.front,
+        Vec::new(rt.alloc()),
+        Vec::new(rt.alloc()),
+    );
+    assert!(rt; further == 0);
+    assert!(rt; sees_none(&mut watch));
 }
 
 #[test]
@@ -213,24 +181,31 @@ fn a_watch_ends_with_the_office(rt: HostRuntime) -> Result<(), Fail> {
     Ok(())
 }
 
-/// There are 64 watches and no more, until they are let go.
-fn fill_places<L: Terms, R: Wait + Abort + AllocGlobal>(rt: &R, office: &Office<L>) {
+/// So many watches.
+fn opened<L: Terms, R: Wait + Abort + AllocGlobal>(
+    rt: &R,
+    office: &Office<L>,
+    count: u32,
+) -> Vec<Watch<Front<L>>> {
     let mut watches = Vec::new(rt.alloc());
-    for _ in 0..64 {
-        match watches.push(watched(rt, office)) {
-            Ok(()) => {}
-            Err(_) => panic!(rt; "no memory"),
-        }
+    for _ in 0..count {
+        given(rt, watches.push(watched(rt, office)));
     }
-    assert!(rt; try_watch(rt, office).is_none());
-    drop(watches);
-    assert!(rt; try_watch(rt, office).is_some());
+    watches
 }
 
+/// Whether there are 64 watches and no more.
+fn are_all<L: Terms, R: Wait + Abort + AllocGlobal>(rt: &R, office: &Office<L>) -> bool {
+    let _watches = opened(rt, office, 64);
+    try_watch(rt, office).is_none()
+}
+
+/// There are 64 watches and no more, until they are let go.
 pub fn watch_often<L: Terms, R: Wait + Abort + AllocGlobal>(rt: &R, office: Office<L>) {
-    let mut front = joined(rt, &office).front;
-    fill_places(rt, &office);
-    close(rt, office, &mut front);
+    let mut seat = joined(rt, &office);
+    assert!(rt; are_all(rt, &office));
+    assert!(rt; try_watch(rt, &office).is_some());
+    close(rt, office, &mut seat.front);
 }
 
 #[test]
@@ -243,21 +218,23 @@ fn the_last_watch_is_the_64th(rt: HostRuntime) -> Result<(), Fail> {
 fn change_often<L: Terms, R: Wait + Abort + AllocGlobal>(
     rt: &R,
     office: &Office<L>,
-    seat: Seat<L>,
+    seat: &mut Seat<L>,
     ended: &AtomicU64,
-) -> Seat<L> {
-    let seat = rounds(rt, office, seat, F, 500);
+) {
+    rounds(rt, office, seat, F, 500);
     ended.store(1, Ordering::SeqCst);
-    seat
 }
 
 /// Reads until the changes have ended, and then once more. No sheet is of fewer calls than the one before.
-fn read_on<L: Terms, R: Wait + Abort>(rt: &R, watch: Watch<Front<L>>, ended: &AtomicU64) -> u32 {
-    let mut watch = watch;
+fn read_on<L: Terms, R: Wait + Abort>(
+    rt: &R,
+    watch: &mut Watch<Front<L>>,
+    ended: &AtomicU64,
+) -> u32 {
     let mut last = 0;
     for _ in rt.forever() {
         let has_ended = ended.load(Ordering::SeqCst) != 0;
-        let Some((at, _)) = told(&mut watch) else {
+        let Some((at, _)) = told(watch) else {
             panic!(rt; "no sheet")
         };
         assert!(rt; last <= at);
@@ -270,13 +247,22 @@ fn read_on<L: Terms, R: Wait + Abort>(rt: &R, watch: Watch<Front<L>>, ended: &At
     unreachable!()
 }
 
+/// As `read_on`, by a watch of its own.
+fn read_alone<L: Terms, R: Wait + Abort>(
+    rt: &R,
+    mut watch: Watch<Front<L>>,
+    ended: &AtomicU64,
+) -> u32 {
+    read_on(rt, &mut watch, ended)
+}
+
 /// What each watch reads last, in a thread of its own.
 fn read_all<L: Terms + Send + Sync, R: Threads + Wait + Abort + Sync>(
     rt: &R,
     watches: Vec<Watch<Front<L>>>,
     ended: &AtomicU64,
 ) -> Vec<u32> {
-    match thread::map_vec(rt, watches, &|watch| read_on(rt, watch, ended)) {
+    match thread::map_vec(rt, watches, &|watch| read_alone(rt, watch, ended)) {
         Ok(lasts) => lasts,
         Err(_) => panic!(rt; "no memory"),
     }
@@ -286,30 +272,17 @@ fn read_all<L: Terms + Send + Sync, R: Threads + Wait + Abort + Sync>(
 fn change_and_read<L: Terms + Send + Sync, R: Threads + Wait + Abort + AllocGlobal + Sync>(
     rt: &R,
     office: &Office<L>,
-    seat: Seat<L>,
+    seat: &mut Seat<L>,
     watches: Vec<Watch<Front<L>>>,
-) -> (Seat<L>, Vec<u32>) {
+) -> Vec<u32> {
     let ended = AtomicU64::new(0);
-    let (seat, lasts) = join(
+    // what comes first here goes last where no thread can be made
+    let (lasts, _) = join(
         rt,
-        || change_often(rt, office, seat, &ended),
         || read_all(rt, watches, &ended),
+        || change_often(rt, office, seat, &ended),
     );
-    (seat, lasts)
-}
-
-fn eight_watches<L: Terms, R: Wait + Abort + AllocGlobal>(
-    rt: &R,
-    office: &Office<L>,
-) -> Vec<Watch<Front<L>>> {
-    let mut watches = Vec::new(rt.alloc());
-    for _ in 0..8 {
-        match watches.push(watched(rt, office)) {
-            Ok(()) => {}
-            Err(_) => panic!(rt; "no memory"),
-        }
-    }
-    watches
+    lasts
 }
 
 /// Eight watches, each in a thread of its own, read 1,000 changes and end with the last.
@@ -317,9 +290,9 @@ pub fn watch_at_once<L: Terms + Send + Sync, R: Threads + Wait + Abort + AllocGl
     rt: &R,
     office: Office<L>,
 ) {
-    let seat = joined(rt, &office);
-    let watches = eight_watches(rt, &office);
-    let (mut seat, lasts) = change_and_read(rt, &office, seat, watches);
+    let mut seat = joined(rt, &office);
+    let watches = opened(rt, &office, 8);
+    let lasts = change_and_read(rt, &office, &mut seat, watches);
     assert!(rt; lasts.as_slice() == [1999; 8].as_slice());
     close(rt, office, &mut seat.front);
 }

@@ -32,15 +32,27 @@ fn set_text(text: &mut Vec<u8>, writing: &str, line: &mut Line) {
     }
 }
 
+/// Limits of three numbers.
+fn limits_from(budget: Option<u64>, rounds: Option<u64>, trials: Option<u64>) -> Option<Limits> {
+    match (budget, rounds, trials) {
+        (Some(budget), Some(rounds), Some(trials)) => Some(Limits {
+            budget,
+            rounds,
+            trials,
+        }),
+        _ => None,
+    }
+}
+
 /// The limits of a row.
 fn limits_of(writing: &str) -> Option<Limits> {
     let (budget, rest) = writing.split_once(' ')?;
     let (rounds, trials) = rest.split_once(' ')?;
-    Some(Limits {
-        budget: budget.parse::<u64>().ok()?,
-        rounds: rounds.parse::<u64>().ok()?,
-        trials: trials.parse::<u64>().ok()?,
-    })
+    limits_from(
+        budget.parse::<u64>().ok(),
+        rounds.parse::<u64>().ok(),
+        trials.parse::<u64>().ok(),
+    )
 }
 
 /// Takes the limits of a row, which has three numbers.
@@ -128,13 +140,18 @@ fn carry_out_words(rt: &HostRuntime, words: &[String]) -> Result<()> {
     Ok(())
 }
 
-fn main(rt: HostRuntime) -> Result<()> {
-    let words: Vec<String> = env::args(&rt)?.collect(rt.alloc())?;
+/// Carries out the tables that the words name, or those of the folder.
+fn carry_out_all(rt: &HostRuntime, words: &[String]) -> Result<()> {
     if words.len() > 1 {
-        return carry_out_words(&rt, &words[1..]);
+        return carry_out_words(rt, &words[1..]);
     }
     for table in TABLES {
-        carry_out(&rt, table).context(table)?;
+        carry_out(rt, table).context(table)?;
     }
     Ok(())
+}
+
+fn main(rt: HostRuntime) -> Result<()> {
+    let words: Vec<String> = env::args(&rt)?.collect(rt.alloc())?;
+    carry_out_all(&rt, &words)
 }

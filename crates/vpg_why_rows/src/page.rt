@@ -6,7 +6,7 @@ ghost use Rattle.vpg_partial.specs.Known.{literal_of};
 ghost use Rattle.vpg_partial.specs.TableLaws.{AreChoicesOf};
 
 use crate::line::Line;
-use std::alloc::Global;
+use std::alloc::{AllocError, Global};
 use std::sync::Arc;
 use vpg_diagram::Diagram;
 use vpg_game::GuardedGame;
@@ -141,21 +141,21 @@ fn game_of(diagram: &Diagram, text: &[u8], line: &mut Line) -> Option<Arc<Guarde
     }
 }
 
-/// The order of decisions with two tables of zeros, unless it is refused. Nothing where there is no memory for these.
+/// The order of decisions with two tables of zeros, or why there is none.
 fn zeros_over(
     alloc: Global,
     game: Arc<GuardedGame>,
     diagram: Arc<Diagram>,
     decisions: Vec<Decision>,
-) -> Option<Result<Order, Refused>>
+) -> Result<Result<Order, Refused>, AllocError>
     requires features { (arc_value game).features ≡ feature_count (arc_value diagram).lines }
     requires named { AreChoicesOf (arc_value diagram).lines (map literal_of decisions.items) }
 {
     zeros_are_opening();
     let vertices = game.vertices() as u32;
-    let hopeful = Table::zero(alloc, vertices).ok()?;
-    let dual = Table::zero(alloc, vertices).ok()?;
-    Some(Order::of(alloc, game, diagram, decisions, hopeful, dual))
+    let hopeful = Table::zero(alloc, vertices)?;
+    let dual = Table::zero(alloc, vertices)?;
+    Ok(Order::of(alloc, game, diagram, decisions, hopeful, dual))
 }
 
 /// The order with both tables raised by certified bounds.
@@ -174,12 +174,12 @@ pub(crate) fn order_from(texts: &Texts, line: &mut Line) -> Option<Order> {
     let decisions = decisions_of(&diagram, &texts.page, line)?;
     let game = game_of(&diagram, &texts.game, line)?;
     match zeros_over(line.alloc, game, diagram, decisions) {
-        Some(Ok(order)) => raised(order, 1 << 27, line),
-        Some(Err(refused)) => {
+        Ok(Ok(order)) => raised(order, 1 << 27, line),
+        Ok(Err(refused)) => {
             line.show(&refused.fault);
             None
         }
-        None => {
+        Err(_) => {
             line.note(false);
             None
         }
