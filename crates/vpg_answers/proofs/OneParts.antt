@@ -6,8 +6,8 @@ use Rattle.vpg_guards.specs.Formula.{Formula}
 use Rattle.vpg_draw.specs.PartDrawing.{part_drawing}
 use Rattle.vpg_game.specs.declared.player.Player.{Player}
 use Rattle.vpg_game.specs.Guarded.{GuardedGame}
-use Rattle.vpg_measure.specs.declared.which.Which.{Which}
-use Rattle.vpg_measure.specs.declared.which.Which.TheVariants.{Hopeful, Dual}
+use Rattle.vpg_verdict.specs.declared.which.Which.{Which}
+use Rattle.vpg_verdict.specs.declared.which.Which.TheVariants.{Hopeful, Dual}
 use Rattle.vpg_moves.specs.Reachable.{AreReachable}
 use Rattle.vpg_partial.specs.declared.decision.Decision.{Decision}
 use Rattle.vpg_texts.specs.Changed.{verdicts_by}

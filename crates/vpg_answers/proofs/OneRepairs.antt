@@ -4,7 +4,7 @@ use Rattle.std.specs.Prelude.{◌⊎◌, codes, flat_map}
 use Rattle.vpg_diagram.specs.FeatureDiagram.{IsDiagram}
 use Rattle.vpg_diagram.specs.declared.clause.Literal.{Literal}
 use Rattle.vpg_diagram.proofs.Lists.{Contains-nil}
-use Rattle.vpg_measure.specs.declared.which.Which.TheVariants.{Hopeful}
+use Rattle.vpg_verdict.specs.declared.which.Which.TheVariants.{Hopeful}
 use Rattle.vpg_partial.specs.Known.{literal_of}
 use Rattle.vpg_partial.specs.TableLaws.{AreChoicesOf}
 use Rattle.vpg_partial.specs.declared.decision.Decision.{Decision}

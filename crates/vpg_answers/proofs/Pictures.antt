@@ -10,9 +10,9 @@ use Rattle.vpg_game.specs.Game.{NamedGame, graph_of}
 use Rattle.vpg_measure.specs.Games.{GamesView, ArePageGames}
 use Rattle.vpg_measure.specs.Orders.{OrderView}
 use Rattle.vpg_measure.specs.TwoGames.{top_for}
-use Rattle.vpg_measure.specs.declared.verdict.Verdict.{Verdict}
-use Rattle.vpg_measure.specs.declared.which.Which.{Which}
-use Rattle.vpg_measure.specs.declared.which.Which.TheVariants.{Hopeful, Dual}
+use Rattle.vpg_verdict.specs.declared.verdict.Verdict.{Verdict}
+use Rattle.vpg_verdict.specs.declared.which.Which.{Which}
+use Rattle.vpg_verdict.specs.declared.which.Which.TheVariants.{Hopeful, Dual}
 use Rattle.vpg_moves.specs.Moves.{AreWinning, NoneWinsUnder, ChoicesSettleInCaution}
 use Rattle.vpg_moves.specs.Reachable.{AreReachable}
 use Rattle.vpg_partial.specs.Known.{literal_of}

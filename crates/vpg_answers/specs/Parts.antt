@@ -4,8 +4,8 @@ use Rattle.vpg_guards.specs.declared.tri.Tri.{Tri}
 use Rattle.vpg_draw.specs.PartDrawing.{part_drawing}
 use Rattle.vpg_game.specs.declared.player.Player.{Player}
 use Rattle.vpg_measure.specs.TwoGames.{top_for}
-use Rattle.vpg_measure.specs.declared.which.Which.{Which}
-use Rattle.vpg_measure.specs.declared.which.Which.TheVariants.{Hopeful, Dual}
+use Rattle.vpg_verdict.specs.declared.which.Which.{Which}
+use Rattle.vpg_verdict.specs.declared.which.Which.TheVariants.{Hopeful, Dual}
 use Rattle.vpg_moves.specs.Moves.{AreWinning, NoneWinsUnder, ChoicesSettleInCaution}
 use Rattle.vpg_moves.specs.Reachable.{AreReachable}
 use Rattle.vpg_partial.specs.TableLaws.{IsKnownTable}

@@ -6,7 +6,7 @@ use Rattle.vpg_diagram.specs.FeatureDiagram.{feature_count}
 use Rattle.vpg_diagram.specs.declared.clause.Literal.{Literal}
 use Rattle.vpg_measure.specs.Lifts.{IsProgressTable, after_rounds}
 use Rattle.vpg_measure.specs.TwoGames.{levels_for, arena_for}
-use Rattle.vpg_measure.specs.declared.which.Which.{Which}
+use Rattle.vpg_verdict.specs.declared.which.Which.{Which}
 use Rattle.vpg_partial.specs.TableLaws.{IsKnownTable}
 use Rattle.vpg_texts.specs.Scene.{Scene}
 use Rattle.vpg_why.specs.Suffices.{most_trials}

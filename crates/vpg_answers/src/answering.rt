@@ -7,8 +7,9 @@ ghost use Rattle.vpg_texts.specs.Scene.{scene_of};
 use crate::query::Query;
 use crate::{drawing, examples, losses, needs, offers, reasons, repairs, winning};
 use std::alloc::{AllocError, Global};
-use vpg_measure::{Order, Which};
+use vpg_measure::Order;
 use vpg_script::{PageQuestion, VertexQuestion};
+use vpg_verdict::Which;
 use vpg_why::{Aim, Limits};
 
 /// The text of an answer about a vertex.

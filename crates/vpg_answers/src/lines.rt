@@ -7,9 +7,9 @@ ghost use Rattle.vpg_answers.specs.Texts.{choice_line, conflict_line, doubt_text
 use std::alloc::AllocError;
 use vpg_diagram::Literal;
 use vpg_guards::Names;
-use vpg_measure::Which;
 use vpg_partial::Decision;
 use vpg_texts::{blank_name, blank_number};
+use vpg_verdict::Which;
 
 fn name_at(names: &Names, feature: u16) -> &[u8]
     requires { feature < length names.now }

@@ -14,9 +14,10 @@ use crate::reasons::names;
 use std::alloc::{AllocError, Global};
 use vpg_diagram::Literal;
 use vpg_guards::{Names, Tri};
-use vpg_measure::{Order, Which};
+use vpg_measure::Order;
 use vpg_partial::Partial;
 use vpg_texts::blank_number;
+use vpg_verdict::Which;
 use vpg_why::{Limits, Offer, Shown, look_ahead};
 
 /// One more decision, and what it would make of a vertex.

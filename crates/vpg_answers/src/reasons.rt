@@ -10,7 +10,8 @@ use crate::lines;
 use std::alloc::{AllocError, Global};
 use vpg_diagram::Literal;
 use vpg_guards::Names;
-use vpg_measure::{Order, Which};
+use vpg_measure::Order;
+use vpg_verdict::Which;
 use vpg_why::{Limits, why, why_conflict, why_known};
 
 pub(crate) fn names(order: &Order) -> &Names

@@ -15,8 +15,9 @@ use crate::lines;
 use crate::reasons::{identifier, names};
 use std::alloc::{AllocError, Global};
 use vpg_guards::Names;
-use vpg_measure::{Order, Which};
+use vpg_measure::Order;
 use vpg_partial::Decision;
+use vpg_verdict::Which;
 use vpg_why::{Limits, Remedy, Shown, repair, stays_without};
 
 /// Decisions each of which alone, once retracted, leaves a vertex possible.

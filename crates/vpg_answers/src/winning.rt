@@ -10,9 +10,10 @@ ghost use Rattle.vpg_texts.specs.Scene.{scene_of, table_in};
 use crate::lines;
 use crate::reasons::identifier;
 use std::alloc::{AllocError, Global};
-use vpg_measure::{Order, Which};
+use vpg_measure::Order;
 use vpg_moves::{Moves, winning_moves};
 use vpg_texts::blank_number;
+use vpg_verdict::Which;
 use vpg_why::Limits;
 
 /// What the lines of a player's moves begin with.

@@ -28,7 +28,8 @@ use vpg_diagram::Diagram;
 use vpg_game::GuardedGame;
 use vpg_guess::harvest_by_bounds;
 use vpg_measure::laws::orders::zeros_are_opening;
-use vpg_measure::{Harvest, Order, Table, Which};
+use vpg_measure::{Harvest, Order, Table};
+use vpg_verdict::Which;
 
 const DIAGRAM: &[u8] = b"root r\noptional r f\noptional r g\n";
 

@@ -7,8 +7,8 @@ use Rattle.vpg_game.specs.Levels.{top_of}
 use Rattle.vpg_game.specs.declared.levels.Level.{Level}
 use Rattle.vpg_hope.specs.Games.{Game}
 use Rattle.vpg_hope.specs.Arena.{vertex_at}
-use Rattle.vpg_measure.specs.declared.which.Which.{Which}
-use Rattle.vpg_measure.specs.declared.which.Which.TheVariants.{Hopeful, Dual}
+use Rattle.vpg_verdict.specs.declared.which.Which.{Which}
+use Rattle.vpg_verdict.specs.declared.which.Which.TheVariants.{Hopeful, Dual}
 use Rattle.vpg_game.specs.declared.player.Player.TheVariants.{Even, Odd}
 use Rattle.vpg_measure.specs.Lifts.{IsTableOf, best_for, lift_of}
 use Rattle.vpg_measure.proofs.Progs.{least_of-le, greatest_of-le, slice_index-le}

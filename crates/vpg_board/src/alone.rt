@@ -11,7 +11,8 @@ use crate::hints::{Hints, Vertices};
 use crate::predecessors::Predecessors;
 use crate::sweeping::{Gate, HINTED_LIFTS};
 use std::alloc::Global;
-use vpg_measure::{Harvest, Order, Which};
+use vpg_measure::{Harvest, Order};
+use vpg_verdict::Which;
 
 // Lifts a vertex, and where it was raised hints at those that keep an edge to it.
 fn raise_and_hint<J: Vertices>(

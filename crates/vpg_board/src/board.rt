@@ -18,7 +18,8 @@ use atomic_table::{Closed, Table};
 use std::alloc::{AllocError, Global};
 use std::marker::Model;
 use vpg_measure::folding::{best_of_none, better, lift_to};
-use vpg_measure::{Harvest, Order, Which};
+use vpg_measure::{Harvest, Order};
+use vpg_verdict::Which;
 
 /// An order whose two tables several seats raise at once.
 ///

@@ -11,7 +11,8 @@ ghost use Rattle.vpg_board.specs.Chains.{AreLinked, LeadFrom, chain_from, edges_
 use std::alloc::{AllocError, Global};
 use std::marker::Model;
 use vpg_hope::Arena;
-use vpg_measure::{Order, Which};
+use vpg_measure::Order;
+use vpg_verdict::Which;
 
 /// The kept edges to each vertex of a game, as chains: the last edge to a vertex first.
 #[derive(Drop)]

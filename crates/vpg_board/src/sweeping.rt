@@ -19,7 +19,8 @@ use std::alloc::Global;
 use std::marker::Brand;
 use std::sync::Wait;
 use std::thread::{Threads, join};
-use vpg_measure::{Harvest, Order, Which};
+use vpg_measure::{Harvest, Order};
+use vpg_verdict::Which;
 
 /// What each lifter of a sweep calls before each claim and after each lift, of a vertex that it claimed or was hinted
 /// at. Lifters are numbered from 1, which is the calling thread.

@@ -23,9 +23,10 @@ use crate::fault::{ClientFault, Returned, Token};
 use std::alloc::Global;
 use std::sync::{Arc, Wait};
 use vpg_desk::{CommitFault, DecideFault, RedoFault, RetractFault, UndoFault};
-use vpg_measure::{Harvest, Order, PageGames, Verdict};
+use vpg_measure::{Harvest, Order, PageGames};
 use vpg_office::{Never, Redo, Terms, Undo};
 use vpg_trail::Page;
+use vpg_verdict::Verdict;
 
 impl<L: Terms> Client<L> {
     /// Decides a feature in or out, as `Desk::decide`. The token stands for the page that was present. It comes back

@@ -15,9 +15,10 @@ use std::sync::Arc;
 use vpg_diagram::{Diagram, Literal};
 use vpg_game::GuardedGame;
 use vpg_guards::Tri;
-use vpg_measure::{Harvest, Order, PageGames, Which};
+use vpg_measure::{Harvest, Order, PageGames};
 use vpg_partial::Decision;
 use vpg_trail::{Assumed, Entry, Trail, lifts};
+use vpg_verdict::Which;
 
 /// Whether the order is of this game and this diagram.
 fn is_order_of(order: &Order, game: &GuardedGame, diagram: &Diagram) -> bool

@@ -22,8 +22,9 @@ use std::marker::Model;
 use std::sync::Arc;
 use vpg_diagram::Diagram;
 use vpg_game::{GuardedGame, Player};
-use vpg_measure::{Order, PageGames, Verdict, Which, is_progress};
+use vpg_measure::{Order, PageGames, is_progress};
 use vpg_trail::{Decisions, Entries, Page, Trail, decisions_among};
+use vpg_verdict::{Verdict, Which};
 
 /// The most changes that a desk makes.
 pub const MOST_CHANGES: u64 = 1_048_576;

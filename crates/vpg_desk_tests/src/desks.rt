@@ -11,7 +11,8 @@ use vpg_desk::{
 };
 use vpg_diagram::Diagram;
 use vpg_game::GuardedGame;
-use vpg_measure::{Harvest, Order, Verdict, Which};
+use vpg_measure::{Harvest, Order};
+use vpg_verdict::{Verdict, Which};
 
 // Each function that lets a desk, an order or a harvest go itself takes the prover seconds; so all call these.
 

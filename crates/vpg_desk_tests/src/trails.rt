@@ -8,12 +8,13 @@ use std::fmt::Write;
 use std::sync::Arc;
 use std::test::Fail;
 use vpg_diagram::Literal;
-use vpg_measure::{Table, Which};
+use vpg_measure::Table;
 use vpg_partial::Decision;
 use vpg_trail::{
     Assumed, Decisions, Entries, Entry, Trail, decided, decisions_among, kept_after, lifts,
     place_of,
 };
+use vpg_verdict::Which;
 
 const OUT: Decision = Decision {
     serial: 1,

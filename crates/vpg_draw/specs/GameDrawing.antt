@@ -11,7 +11,7 @@ use Rattle.vpg_game.specs.declared.player.Player.{Player}
 use Rattle.vpg_game.specs.declared.player.Player.TheVariants.{Even, Odd}
 use Rattle.vpg_game.specs.Guarded.{GuardedEdge}
 use Rattle.vpg_game.specs.Game.{NamedVertex, NamedGame, vertex_ids, no_vertex}
-use Rattle.vpg_measure.specs.declared.verdict.Verdict.{Verdict}
+use Rattle.vpg_verdict.specs.declared.verdict.Verdict.{Verdict}
 use Rattle.vpg_draw.specs.Labels.{wrapped, choices_text}
 
 -- ---- vertices

@@ -9,7 +9,7 @@ use Rattle.vpg_game.specs.declared.player.Player.{Player}
 use Rattle.vpg_game.specs.declared.player.Player.TheVariants.{Even, Odd}
 use Rattle.vpg_game.specs.Guarded.{GuardedEdge}
 use Rattle.vpg_game.specs.Game.{NamedVertex, NamedGame, no_vertex}
-use Rattle.vpg_measure.specs.declared.verdict.Verdict.{Verdict}
+use Rattle.vpg_verdict.specs.declared.verdict.Verdict.{Verdict}
 use Rattle.vpg_draw.specs.Labels.{choices_text}
 use Rattle.vpg_draw.specs.GameDrawing.{vertex_start, colours_text, no_verdict, style_text, edge_start, defaults_text}
 

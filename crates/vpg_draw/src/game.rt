@@ -11,9 +11,9 @@ use crate::labels::{choices, number, wrapped};
 use std::alloc::{AllocError, Global};
 use vpg_game::{Edge, GuardedGame, Player};
 use vpg_guards::{Guard, Names, Tri};
-use vpg_measure::Verdict;
 use vpg_names::VertexNames;
 use vpg_partial::{Decision, Partial};
+use vpg_verdict::Verdict;
 
 fn shape(owner: Player, out: &mut Vec<u8>) -> Result<(), AllocError>
     ensures { OnOk result (out.new.items ≡ out.old.items ++ shape_text owner) }

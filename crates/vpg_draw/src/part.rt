@@ -12,9 +12,9 @@ use crate::labels::choices;
 use std::alloc::{AllocError, Global};
 use vpg_game::{Edge, GuardedGame, Player};
 use vpg_guards::{Names, Tri};
-use vpg_measure::Verdict;
 use vpg_names::VertexNames;
 use vpg_partial::{Decision, Partial};
+use vpg_verdict::Verdict;
 
 /// Appends what tells the vertex from which the others are reached.
 fn first_mark(is_first: bool, out: &mut Vec<u8>) -> Result<(), AllocError>

@@ -5,7 +5,7 @@ use Rattle.vpg_diagram.specs.DiagramText.{NamedDiagram}
 use Rattle.vpg_game.specs.Game.{NamedGame}
 use Rattle.vpg_partial.specs.Known.{literal_of}
 use Rattle.vpg_partial.specs.declared.decision.Decision.{Decision}
-use Rattle.vpg_measure.specs.declared.verdict.Verdict.{Verdict}
+use Rattle.vpg_verdict.specs.declared.verdict.Verdict.{Verdict}
 use Rattle.vpg_draw.specs.GameDrawing.{game_drawing}
 use Rattle.vpg_names.specs.Spelled.{Told}
 use Rattle.vpg_family.specs.Pictures.{TellsNames}

@@ -12,7 +12,7 @@ use Rattle.vpg_names.specs.Spelled.{Told}
 use Rattle.vpg_partial.specs.Known.{literal_of}
 use Rattle.vpg_partial.specs.TableLaws.{IsKnownTable}
 use Rattle.vpg_partial.specs.declared.decision.Decision.{Decision}
-use Rattle.vpg_measure.specs.declared.verdict.Verdict.{Verdict}
+use Rattle.vpg_verdict.specs.declared.verdict.Verdict.{Verdict}
 use Rattle.vpg_draw.specs.GameDrawing.{game_drawing}
 use Rattle.vpg_draw.specs.FeatureDrawing.{feature_drawing}
 use Rattle.vpg_draw.specs.PartDrawing.{part_drawing}

@@ -13,9 +13,10 @@ use std::alloc::{AllocError, Global};
 use vpg_diagram::Diagram;
 use vpg_draw::{draw_features, draw_game};
 use vpg_game::GuardedGame;
-use vpg_measure::{Verdict, known_under};
+use vpg_measure::known_under;
 use vpg_names::VertexNames;
 use vpg_partial::{Partial, PartialFault};
+use vpg_verdict::Verdict;
 
 /// What is drawn of a family.
 #[derive(Clone, Copy, PartialEq, Eq)]

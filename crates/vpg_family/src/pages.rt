@@ -20,9 +20,10 @@ use vpg_diagram::Diagram;
 use vpg_draw::{draw_features, draw_game};
 use vpg_game::GuardedGame;
 use vpg_guards::Names;
-use vpg_measure::{Verdict, known_under};
+use vpg_measure::known_under;
 use vpg_names::VertexNames;
 use vpg_partial::{Decision, Partial, PartialFault};
+use vpg_verdict::Verdict;
 
 /// How the picture of a game begins, up to the decisions.
 const OPENING: &[u8] = b"digraph game {\n  graph [label=\"decisions";

@@ -16,9 +16,10 @@ use vpg_diagram::Diagram;
 use vpg_draw::draw_part;
 use vpg_game::{GuardedGame, Player};
 use vpg_guards::Names;
-use vpg_measure::{Verdict, known_under};
+use vpg_measure::known_under;
 use vpg_names::VertexNames;
 use vpg_partial::{Decision, Partial, PartialFault};
+use vpg_verdict::Verdict;
 
 /// How the picture of a part begins, up to the decisions.
 const OPENING: &[u8] = b"digraph part {\n  graph [label=\"decisions";

@@ -8,8 +8,9 @@ use crate::raising::{RaisedTable, harvest_of, raised};
 use std::alloc::{AllocError, Global};
 use std::sync::Wait;
 use std::thread::{Threads, join};
-use vpg_measure::{Harvest, Order, Shape, Which};
+use vpg_measure::{Harvest, Order, Shape};
 use vpg_regions::Budget;
+use vpg_verdict::Which;
 
 // A copy of one of an order's tables, raised within a budget of its own.
 fn raised_alone(

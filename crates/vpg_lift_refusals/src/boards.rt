@@ -6,8 +6,9 @@ use crate::orders::{first_order, let_go, values_of};
 use std::alloc::Global;
 use std::sync::Wait;
 use vpg_board::{Board, Gate, OpenGate, Seat};
-use vpg_measure::{Order, Which};
+use vpg_measure::Order;
 use vpg_scarce::{End, Heap, Report, Told, Trial};
+use vpg_verdict::Which;
 
 /// A board that is opened and closed, and the order that it is of.
 #[derive(Drop)]

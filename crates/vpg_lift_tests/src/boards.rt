@@ -9,7 +9,8 @@ use std::sync::Wait;
 use std::test::*;
 use std::thread::{Threads, join};
 use vpg_board::{Board, Seat};
-use vpg_measure::{Harvest, Order, Which};
+use vpg_measure::{Harvest, Order};
+use vpg_verdict::Which;
 
 /// The board of an order, where there is memory.
 fn board_of(alloc: Global, order: Order) -> Result<(Board, Seat), Fail>

@@ -3,7 +3,8 @@
 use crate::given::{is_table, let_go, small};
 use std::alloc::{AllocError, Global};
 use std::test::Fail;
-use vpg_measure::{Certificate, Order, Table, Which, raise_to_bounds};
+use vpg_measure::{Certificate, Order, Table, raise_to_bounds};
+use vpg_verdict::Which;
 
 fn certificate_of(
     alloc: Global,

@@ -13,8 +13,9 @@ use vpg_diagram::Diagram;
 use vpg_game::GuardedGame;
 use vpg_hope::Arena;
 use vpg_measure::laws::orders::zeros_are_opening;
-use vpg_measure::{Harvest, Order, Refused, Shape, Table, Which};
+use vpg_measure::{Harvest, Order, Refused, Shape, Table};
 use vpg_partial::Decision;
+use vpg_verdict::Which;
 
 const SMALL: &[u8] = b"parity 1; 0 1 0 1[f],0; 1 2 1 0[g],1;";
 

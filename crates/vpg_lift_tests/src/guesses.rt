@@ -6,7 +6,8 @@ use std::fmt::Write;
 use std::test::Fail;
 use vpg_game::GuardedGame;
 use vpg_guess::{harvest_by_bounds, harvest_by_bounds_at_once, raise_by_bounds};
-use vpg_measure::{Harvest, Order, Shape, Table, Which};
+use vpg_measure::{Harvest, Order, Shape, Table};
+use vpg_verdict::Which;
 
 // Vertex 0 keeps going round priority 1, vertex 3 does until it leaves for priority 3.
 const EXIT: &[u8] = b"0 1 0 0; 1 3 0 2; 2 4 0 2; 3 1 0 3,1;";

@@ -11,10 +11,11 @@ use std::test::Fail;
 use vpg_diagram::Diagram;
 use vpg_game::{GuardedGame, top_within_limit};
 use vpg_measure::{
-    Harvest, Order, OrderFault, Outcome, Refused, Shape, StrategyFault, Table, Which, is_progress,
-    lift, lifts, prog, settle_alone, strategy,
+    Harvest, Order, OrderFault, Outcome, Refused, Shape, StrategyFault, Table, is_progress, lift,
+    lifts, prog, settle_alone, strategy,
 };
 use vpg_partial::Decision;
+use vpg_verdict::Which;
 
 const LONE: &[u8] = b"0 0 0 0;";
 

@@ -11,7 +11,7 @@ use Rattle.vpg_hope.specs.Arena.{vertex_at}
 use Rattle.vpg_measure.specs.Games.{GamesView, AreGamesOf}
 use Rattle.vpg_measure.specs.Lifts.{lift_of}
 use Rattle.vpg_measure.specs.TwoGames.{IsProgressOf}
-use Rattle.vpg_measure.specs.declared.which.Which.TheVariants.{Hopeful, Dual}
+use Rattle.vpg_verdict.specs.declared.which.Which.TheVariants.{Hopeful, Dual}
 
 -- what some choices of features make of the game, of a diagram over whose features it is
 pub record AreGamesOver (game : NamedGame) (games : GamesView) : Type 0 where

@@ -13,7 +13,6 @@ ghost use Rattle.vpg_measure.specs.GamesFields.{IsSideGame};
 
 use crate::fault::OrderFault;
 use crate::shape::Shape;
-use crate::which::Which;
 use std::alloc::{AllocError, Global};
 use std::marker::Model;
 use std::sync::Arc;
@@ -21,6 +20,7 @@ use vpg_diagram::Diagram;
 use vpg_game::GuardedGame;
 use vpg_hope::Arena;
 use vpg_partial::{Decision, Partial, PartialFault};
+use vpg_verdict::Which;
 
 /// The shape and the kept edges of one of the two games.
 struct SideGame {

@@ -7,8 +7,8 @@ ghost use Rattle.vpg_measure.specs.Orders.{IsHarvest, IsRaised, IsSameOrder, IsS
 use crate::lifts::is_progress;
 use crate::order::Order;
 use crate::table::Table;
-use crate::which::Which;
 use std::marker::Model;
+use vpg_verdict::Which;
 
 /// An order, and two tables on or above its own, below every progress table of its two games.
 ///

@@ -32,8 +32,6 @@ pub mod order;
 pub mod shape;
 mod still;
 pub mod table;
-mod verdict;
-pub mod which;
 
 pub use bounds::{Certificate, raise_to_bounds};
 pub use fault::OrderFault;
@@ -43,5 +41,3 @@ pub use lifts::{Outcome, StrategyFault, is_progress, lift, settle_alone, strateg
 pub use order::{Order, Refused};
 pub use shape::{Shape, prog};
 pub use table::Table;
-pub use verdict::Verdict;
-pub use which::Which;

@@ -18,7 +18,6 @@ use crate::games::PageGames;
 use crate::lifts::{is_progress, raise, settle_alone};
 use crate::shape::Shape;
 use crate::table::Table;
-use crate::which::Which;
 use std::alloc::{AllocError, Global};
 use std::marker::Model;
 use std::mem;
@@ -27,6 +26,7 @@ use vpg_diagram::Diagram;
 use vpg_game::GuardedGame;
 use vpg_hope::Arena;
 use vpg_partial::Decision;
+use vpg_verdict::Which;
 
 /// The game, the diagram, the decisions and both tables of a page, with all that lifters need: the page's games, and
 /// room for two raised tables. It may hold a note that its tables are progress tables; then `check` looks at no edge.

@@ -7,10 +7,10 @@ ghost use Rattle.vpg_game.specs.Levels.{top_of, weight_of, levels_of, prog_of};
 ghost use Rattle.vpg_measure.specs.Lifts.{NumberFitsEdge};
 ghost use Rattle.vpg_measure.specs.TwoGames.{levels_for};
 
-use crate::which::Which;
 use std::alloc::{AllocError, Global};
 use std::marker::Model;
 use vpg_game::{GuardedGame, Level, TOP_LIMIT, odd_counts};
+use vpg_verdict::Which;
 
 /// The levels of a game, greatest priority first.
 pub struct Shape {

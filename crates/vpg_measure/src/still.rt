@@ -10,10 +10,10 @@ ghost use Rattle.vpg_measure.specs.Still.{AreGamesOver, AreBothProgress, IsProgr
 use crate::games::PageGames;
 use crate::lifts::lift;
 use crate::table::Table;
-use crate::which::Which;
 use std::alloc::{AllocError, Global};
 use vpg_game::GuardedGame;
 use vpg_hope::concerned_vertices;
+use vpg_verdict::Which;
 
 impl PageGames {
     /// Whether both tables, which are progress tables of the games before, are progress tables of these games of the

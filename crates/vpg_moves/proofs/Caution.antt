@@ -22,8 +22,8 @@ use Rattle.vpg_hope.proofs.Guards.{restrict_closed, restrict_priorities, same_co
 use Rattle.vpg_hope.proofs.Pages.{remaining_products_are_easier}
 use Rattle.vpg_partial.specs.KnownLaws.{IsRemaining}
 use Rattle.vpg_partial.specs.TableLaws.{IsKnownTable}
-use Rattle.vpg_measure.specs.declared.which.Which.{Which}
-use Rattle.vpg_measure.specs.declared.which.Which.TheVariants.{Hopeful, Dual}
+use Rattle.vpg_verdict.specs.declared.which.Which.{Which}
+use Rattle.vpg_verdict.specs.declared.which.Which.TheVariants.{Hopeful, Dual}
 use Rattle.vpg_measure.specs.Least.{IsLeastTable, IsBelowProgressTables}
 use Rattle.vpg_measure.specs.Lifts.{IsTableOf, AreChoices}
 use Rattle.vpg_measure.specs.Views.{strategy_of}

@@ -13,7 +13,7 @@ use Rattle.vpg_hope.specs.Hope.{product_game, cautious_game}
 use Rattle.vpg_hope.specs.Strategies.{Strategy, Wins}
 use Rattle.vpg_partial.specs.KnownLaws.{IsRemaining}
 use Rattle.vpg_partial.specs.TableLaws.{IsKnownTable}
-use Rattle.vpg_measure.specs.declared.which.Which.{Which}
+use Rattle.vpg_verdict.specs.declared.which.Which.{Which}
 use Rattle.vpg_measure.specs.Least.{IsLeastTable}
 use Rattle.vpg_measure.specs.Lifts.{IsProgressTable, AreChoices, after_rounds}
 use Rattle.vpg_measure.specs.TwoGames.{game_for, levels_for, top_for}

@@ -12,8 +12,9 @@ use crate::settling::{least_table, moves_by};
 use std::alloc::{AllocError, Global};
 use vpg_game::GuardedGame;
 use vpg_hope::Arena;
-use vpg_measure::{Order, PageGames, Shape, Table, Which};
+use vpg_measure::{Order, PageGames, Shape, Table};
 use vpg_partial::Partial;
+use vpg_verdict::Which;
 use vpg_why::Limits;
 
 /// What was found of moves that win in every product that is left.

@@ -4,7 +4,7 @@ use mathlib.Core.Option.{some}
 use lib.ListN.{get_elem?}
 use Rattle.vpg_diagram.specs.DiagramText.{NamedDiagram}
 use Rattle.vpg_game.specs.Game.{NamedGame}
-use Rattle.vpg_measure.specs.declared.verdict.Verdict.{Verdict as Said}
+use Rattle.vpg_verdict.specs.declared.verdict.Verdict.{Verdict as Said}
 use Rattle.vpg_desk.specs.Book.{Family, Book, Settled, IsSettled, Verdict, VerdictIs, opened, IsReply}
 use Rattle.vpg_desk.specs.History.{Event, book_after}
 use Rattle.vpg_office.specs.Fronts.{IsHistory, family_between}

@@ -24,8 +24,9 @@ use crate::log::{Log, Request};
 use crate::terms::Terms;
 use std::alloc::{AllocError, Global};
 use std::sync::{Arc, Wait};
-use vpg_measure::{Order, PageGames, Verdict};
+use vpg_measure::{Order, PageGames};
 use vpg_trail::Page;
+use vpg_verdict::Verdict;
 
 impl<L: Terms> Log<L> {
     /// Whether both tables of the present page are progress tables.

@@ -27,8 +27,9 @@ use std::alloc::Global;
 use std::marker::{Model, PhantomData};
 use std::sync::{Arc, MutexGuard, Wait};
 use vpg_desk::{CommitFault, DecideFault, RedoFault, RetractFault, UndoFault};
-use vpg_measure::{Harvest, Order, PageGames, Verdict};
+use vpg_measure::{Harvest, Order, PageGames};
 use vpg_trail::Page;
+use vpg_verdict::Verdict;
 
 /// A session of an office. It can't be copied. Contracts see its number, from 1 to 1,024.
 #[derive(Drop)]

@@ -3,8 +3,8 @@ use std::io;
 use std::sync::Wait;
 use std::sync::atomic::{AtomicU64, Ordering};
 use std::thread::yield_now;
-use vpg_measure::Verdict;
 use vpg_office::{Front, Terms, read};
+use vpg_verdict::Verdict;
 use vpg_watch::Watch;
 
 /// How often a session looks whether the watcher has read its call.

@@ -5,10 +5,11 @@ ghost use Rattle.std.specs.Prelude.{◌<◌, length};
 use crate::calls::{Seat, end_of};
 use std::alloc::Global;
 use std::sync::Wait;
-use vpg_measure::{Harvest, Order, Which};
+use vpg_measure::{Harvest, Order};
 use vpg_office::{Front, NoWatch, Office, Returned, Terms, read};
 use vpg_scarce::{End, is_same_page};
 use vpg_trail::Page;
+use vpg_verdict::Which;
 
 /// Such a call.
 #[derive(Clone, Copy)]

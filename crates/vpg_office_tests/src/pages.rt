@@ -5,10 +5,11 @@ use std::fmt::Write;
 use std::process::Abort;
 use std::sync::Wait;
 use std::test::*;
-use vpg_measure::{Table, Which};
+use vpg_measure::Table;
 use vpg_office::{Office, Terms};
 use vpg_partial::Decision;
 use vpg_trail::{Assumed, Entry, Page};
+use vpg_verdict::Which;
 
 /// A text that is written. What finds no memory is noted, and told once the text is whole.
 #[derive(Drop)]

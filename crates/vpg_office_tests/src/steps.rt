@@ -12,8 +12,9 @@ use std::process::Abort;
 use std::sync::Wait;
 use std::test::*;
 use vpg_desk::{CommitFault, DecideFault, RedoFault, RetractFault, UndoFault};
-use vpg_measure::{Harvest, Which};
+use vpg_measure::Harvest;
 use vpg_office::{Front, Office, Redo, Terms, Undo};
+use vpg_verdict::Which;
 use vpg_watch::Watch;
 
 /// Which of the two sessions makes a call.

@@ -15,9 +15,10 @@ use std::sync::{Arc, Wait};
 use vpg_diagram::Diagram;
 use vpg_game::GuardedGame;
 use vpg_measure::laws::orders::zeros_are_opening;
-use vpg_measure::{Harvest, Order, OrderFault, Refused, Table, Which};
+use vpg_measure::{Harvest, Order, OrderFault, Refused, Table};
 use vpg_partial::Decision;
 use vpg_scarce::{End, Heap, Report, Trial};
+use vpg_verdict::Which;
 
 /// Lets an order go. A function that does so itself takes the prover seconds.
 fn let_go(_order: Order) {}

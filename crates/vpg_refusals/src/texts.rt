@@ -19,11 +19,12 @@ use std::alloc::{AllocError, Global};
 use std::sync::Arc;
 use vpg_diagram::{Diagram, Literal};
 use vpg_game::GuardedGame;
-use vpg_measure::{Shape, Table, Which};
+use vpg_measure::{Shape, Table};
 use vpg_partial::{Partial, PartialFault};
 use vpg_scarce::{End, Heap, MOST_TRIES, Report, Told, more};
 use vpg_texts::{PlanFault, count, plan, products, show, trail};
 use vpg_trail::{Assumed, Decisions, Entries, Entry, Page};
+use vpg_verdict::Which;
 
 /// What stands in front of what is written.
 const BEFORE: &[u8] = b"before: ";

@@ -11,7 +11,7 @@ use Rattle.vpg_game.specs.Game.{NamedGame, unnamed, graph_of, vertex_ids}
 use Rattle.vpg_diagram.specs.FeatureDiagram.{feature_count}
 use Rattle.vpg_partial.specs.TableLaws.{AreChoicesOf, IsKnownTable}
 use Rattle.vpg_partial.proofs.Closing.{table_exists}
-use Rattle.vpg_measure.specs.declared.verdict.Verdict.{Verdict}
+use Rattle.vpg_verdict.specs.declared.verdict.Verdict.{Verdict}
 use Rattle.vpg_measure.specs.Games.{GamesView, ArePageGames}
 use Rattle.vpg_measure.specs.TwoGames.{top_for, IsTableBelow}
 use Rattle.vpg_measure.proofs.TwoGames.{arena_length}

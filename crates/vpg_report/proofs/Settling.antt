@@ -9,8 +9,8 @@ use Rattle.vpg_diagram.specs.DiagramText.{NamedDiagram}
 use Rattle.vpg_partial.specs.Known.{literal_of}
 use Rattle.vpg_partial.specs.TableLaws.{IsKnownTable}
 use Rattle.vpg_partial.proofs.Tables.{conflicts_stay}
-use Rattle.vpg_measure.specs.declared.which.Which.{Which}
-use Rattle.vpg_measure.specs.declared.which.Which.TheVariants.{Hopeful, Dual}
+use Rattle.vpg_verdict.specs.declared.which.Which.{Which}
+use Rattle.vpg_verdict.specs.declared.which.Which.TheVariants.{Hopeful, Dual}
 use Rattle.vpg_measure.specs.Lifts.{IsBelowTable}
 use Rattle.vpg_measure.specs.Orders.{OrderView, HarvestView, IsOrder, IsSettledHarvest, order_table, harvest_table}
 use Rattle.vpg_measure.specs.TwoGames.{IsTableBelow}

@@ -4,7 +4,7 @@ use Rattle.vpg_guards.specs.declared.tri.Tri.{Tri}
 use Rattle.vpg_guards.specs.Names.{index_of}
 use Rattle.vpg_guards.specs.Known.{kleene}
 use Rattle.vpg_partial.specs.TableLaws.{IsKnownTable}
-use Rattle.vpg_measure.specs.declared.verdict.Verdict.{Verdict}
+use Rattle.vpg_verdict.specs.declared.verdict.Verdict.{Verdict}
 use Rattle.vpg_measure.specs.Lifts.{raised}
 use Rattle.vpg_measure.specs.Orders.{other_table}
 use Rattle.vpg_measure.specs.TwoGames.{levels_for, arena_for}

@@ -26,11 +26,12 @@ use vpg_desk::OpenFault;
 use vpg_diagram::Diagram;
 use vpg_game::GuardedGame;
 use vpg_guards::Names;
-use vpg_measure::{Harvest, Verdict, Which};
+use vpg_measure::Harvest;
 use vpg_office::{NotOpened, Redo, Site, Terms, Undo};
 use vpg_script::{Command, Inquiry, Lookup, Request, ServeFault, Server};
 use vpg_settle::swept;
 use vpg_texts::{has_vertices, look_over, put_changed, put_known_over, verdicts_over};
+use vpg_verdict::{Verdict, Which};
 
 /// How many calls the log of a run's office takes.
 pub(crate) const ROOM: u32 = 1_048_576;

@@ -1,6 +1,6 @@
 -- What sweeps make of an order. This project's own.
 use Rattle.std.specs.Prelude.{◌≡◌, ℕ, zero, suc, ◌+◌, ◌≤◌, ◌⊎◌, Option, Some, None, sum}
-use Rattle.vpg_measure.specs.declared.which.Which.{Which}
+use Rattle.vpg_verdict.specs.declared.which.Which.{Which}
 use Rattle.vpg_measure.specs.Lifts.{IsBelowTable}
 use Rattle.vpg_measure.specs.Orders.{OrderView, HarvestView, IsHarvest, IsOrderAgain, IsSettledHarvest, order_table, harvest_table}
 

@@ -10,7 +10,8 @@ use std::sync::Wait;
 use std::thread::Threads;
 use vpg_board::{Gate, Predecessors, sweep_along};
 use vpg_guess::{harvest_by_bounds, harvest_by_bounds_at_once};
-use vpg_measure::{Harvest, Order, Table, Which};
+use vpg_measure::{Harvest, Order, Table};
+use vpg_verdict::Which;
 
 /// A line with so small a number asks for sweeps alone.
 pub const FEW_SWEEPS: u64 = 4;

@@ -9,9 +9,9 @@ use vpg_diagram::Diagram;
 use vpg_draw::{draw_features, draw_game};
 use vpg_game::GuardedGame;
 use vpg_guards::Names;
-use vpg_measure::Verdict;
 use vpg_names::VertexNames;
 use vpg_partial::{Decision, Partial};
+use vpg_verdict::Verdict;
 
 /// A family.
 #[derive(Drop)]

@@ -7,7 +7,8 @@ ghost use Rattle.vpg_texts.specs.Changed.{change_count, change_line, change_line
 use crate::text::{count_line, hopeless, identifier, number};
 use std::alloc::{AllocError, Global};
 use vpg_game::GuardedGame;
-use vpg_measure::{PageGames, Table, Verdict, Which};
+use vpg_measure::{PageGames, Table};
+use vpg_verdict::{Verdict, Which};
 
 /// Each vertex of the opening page is possible and unsure.
 const UNSEEN: Verdict = Verdict {

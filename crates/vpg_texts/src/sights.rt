@@ -9,8 +9,9 @@ ghost use Rattle.vpg_texts.specs.Sights.{assertion_text, claim_text, failing_tex
 use crate::text::vertex;
 use std::alloc::AllocError;
 use vpg_game::GuardedGame;
-use vpg_measure::{PageGames, Table, Which};
+use vpg_measure::{PageGames, Table};
 use vpg_script::{Assertion, Claim, Lookup};
+use vpg_verdict::Which;
 
 fn vertex_at(game: &GuardedGame, identifier: u32) -> Option<u32>
     ensures vertex { result ≡ vertex_of (vertex_ids game.now.vertices) identifier }

@@ -3,7 +3,7 @@ use Rattle.std.proofs.Common.{◌≡◌, ℕ, ◌-◌, ◌<◌, ◌≤◌, List,
 use Rattle.std.proofs.lemmas.List.{map_push, map-append, take-map, drop-map, length-map, get_or-map, length-take-le, take_rest}
 use Rattle.std.proofs.lemmas.List.Elements.{All-push, All-append, All-map, All-take, All-drop}
 use Rattle.std.proofs.Math.Seq.{drop-append_seam}
-use Rattle.vpg_measure.specs.declared.which.Which.TheVariants.{Hopeful, Dual}
+use Rattle.vpg_verdict.specs.declared.which.Which.TheVariants.{Hopeful, Dual}
 use Rattle.vpg_trail.specs.Page.{Which, Entry as Step, table_of}
 use Rattle.vpg_trail.specs.declared.entry.Entry.{Entry}
 use Rattle.vpg_trail.specs.Shown.{entry_of, VertexBelow, IsTracked, after_entry}

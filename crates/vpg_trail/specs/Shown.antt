@@ -1,7 +1,7 @@
 -- What contracts see of entries, and tables entry by entry.
 use Rattle.std.specs.Prelude.{ℕ, ◌≡◌, ◌<◌, max, slice_index, slice_set, if◌then◌else◌, List, [], ◌∷◌, All, ⊤}
-use Rattle.vpg_measure.specs.declared.which.Which.{Which}
-use Rattle.vpg_measure.specs.declared.which.Which.TheVariants.{Hopeful, Dual}
+use Rattle.vpg_verdict.specs.declared.which.Which.{Which}
+use Rattle.vpg_verdict.specs.declared.which.Which.TheVariants.{Hopeful, Dual}
 use Rattle.vpg_trail.specs.Page.{assumes, same_table, table_of, Entry as Step, Decided, Lifted}
 use Rattle.vpg_trail.specs.WellFormed.{LiftsStandAfter}
 use Rattle.vpg_trail.specs.declared.entry.Entry.{Entry}

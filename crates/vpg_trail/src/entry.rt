@@ -6,8 +6,8 @@ use std::alloc::AllocError;
 use std::marker::Model;
 use std::sync::Arc;
 use vpg_diagram::Literal;
-use vpg_measure::Which;
 use vpg_partial::Decision;
+use vpg_verdict::Which;
 
 /// The decisions that a lift rests on, without their serials, in the order of the page that they were read from.
 #[derive(Drop)]

@@ -6,7 +6,8 @@ ghost use Rattle.vpg_trail.specs.Shown.{entry_of, VertexBelow};
 use crate::entry::{Assumed, Entry};
 use std::alloc::{AllocError, Global};
 use std::sync::Arc;
-use vpg_measure::{Table, Which};
+use vpg_measure::Table;
+use vpg_verdict::Which;
 
 /// One lift for each value above the present one, in the order of the vertices: the lifts of every page that has this
 /// present table.

@@ -6,7 +6,8 @@ ghost use Rattle.vpg_trail.specs.WellFormed.{LiftsStandAfter};
 
 use crate::entry::Entry;
 use std::alloc::{AllocError, Global};
-use vpg_measure::{Table, Which};
+use vpg_measure::Table;
+use vpg_verdict::Which;
 
 /// Raises a value.
 fn raise(values: &mut Table, vertex: u32, new: u64)

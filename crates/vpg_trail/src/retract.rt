@@ -7,7 +7,8 @@ ghost use Rattle.vpg_trail.specs.WellFormed.{LiftsStandAfter};
 use crate::entry::Entry;
 use crate::replay::{replay, take_in};
 use std::alloc::{AllocError, Global};
-use vpg_measure::{Table, Which};
+use vpg_measure::Table;
+use vpg_verdict::Which;
 
 /// What stays of an entry: nothing of a lift that assumed the feature, else the entry with the old value that the
 /// tables give.

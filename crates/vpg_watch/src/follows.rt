@@ -1,6 +1,6 @@
 //! Fronts, as far as sheets need them: what a type has to say of itself so that sheets may stand for its values.
 ghost use Rattle.std.specs.Prelude.{◌≡◌, ◌≤◌, ℕ, Bool, List};
-ghost use Rattle.vpg_measure.specs.declared.verdict.Verdict.{Verdict};
+ghost use Rattle.vpg_verdict.specs.declared.verdict.Verdict.{Verdict};
 
 /// A front: the first so many calls of some row of calls. A row only grows at its end, so of two fronts of one row one
 /// begins with the other.

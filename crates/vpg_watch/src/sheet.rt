@@ -3,7 +3,7 @@ ghost use Rattle.std.specs.Prelude.{◌≡◌, ◌^◌, ◌<◌};
 
 use crate::follows::Follows;
 use std::marker::Model;
-use vpg_measure::Verdict;
+use vpg_verdict::Verdict;
 
 /// A verdict for each vertex, in file order. Contracts see it as a list; it is a `Vec` inside, one verdict in two
 /// bytes: packing them into bits was measured, and takes longer for 65,536 vertices.
@@ -14,7 +14,7 @@ pub struct Verdicts {
 
 impl Model for Verdicts {
     ghost use Rattle.std.specs.Prelude.{List};
-    ghost use Rattle.vpg_measure.specs.declared.verdict.Verdict.{Verdict};
+    ghost use Rattle.vpg_verdict.specs.declared.verdict.Verdict.{Verdict};
 
     ghost Value = { List Verdict };
 

@@ -19,8 +19,8 @@ use Rattle.vpg_hope.proofs.Guards.{same_count as hope_count}
 use Rattle.vpg_partial.specs.KnownLaws.{IsRemaining}
 use Rattle.vpg_partial.specs.TableLaws.{IsKnownTable}
 use Rattle.vpg_partial.proofs.Tables.{remaining_products_complete}
-use Rattle.vpg_measure.specs.declared.which.Which.{Which}
-use Rattle.vpg_measure.specs.declared.which.Which.TheVariants.{Hopeful, Dual}
+use Rattle.vpg_verdict.specs.declared.which.Which.{Which}
+use Rattle.vpg_verdict.specs.declared.which.Which.TheVariants.{Hopeful, Dual}
 use Rattle.vpg_measure.specs.Measures.{Top}
 use Rattle.vpg_measure.specs.Tables.{IsProgressMeasure}
 use Rattle.vpg_measure.specs.TwoGames.{levels_for, arena_for}

@@ -3,7 +3,7 @@ use Rattle.std.specs.Prelude.{ℕ, ⊤, Bool, List, [], ◌∷◌, ◌++◌, IsT
 use Rattle.vpg_diagram.specs.DiagramText.{NamedDiagram}
 use Rattle.vpg_diagram.specs.declared.clause.Literal.{Literal}
 use Rattle.vpg_game.specs.Game.{NamedGame}
-use Rattle.vpg_measure.specs.declared.which.Which.{Which}
+use Rattle.vpg_verdict.specs.declared.which.Which.{Which}
 use Rattle.vpg_partial.specs.declared.decision.Decision.{Decision}
 use Rattle.vpg_why.specs.declared.question.Question.TheVariants as asks
 use Rattle.vpg_why.specs.declared.repairing.Remedy.{Remedy}

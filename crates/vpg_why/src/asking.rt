@@ -18,9 +18,10 @@ use vpg_guards::Tri;
 use vpg_guess::raise_by_bounds;
 use vpg_hope::Arena;
 use vpg_measure::{
-    Order, OrderFault, PageGames, Shape, Table, Which, is_progress, known_under, settle_alone,
+    Order, OrderFault, PageGames, Shape, Table, is_progress, known_under, settle_alone,
 };
 use vpg_partial::{Decision, Partial, PartialFault};
+use vpg_verdict::Which;
 
 // Raises a table by certified bounds and, where these do not settle it, by rounds of lifts; says whether it is a progress table then.
 fn raise(

@@ -8,8 +8,9 @@ ghost use Rattle.vpg_why.specs.Suffices.{Suffice, IsAskable, IsSettled};
 use crate::answering::suffice;
 use crate::question::{Limits, Question, Shown};
 use std::alloc::{AllocError, Global};
-use vpg_measure::{Order, Which};
+use vpg_measure::Order;
 use vpg_partial::Decision;
+use vpg_verdict::Which;
 
 /// Decisions of a page, in its order: those that stay and those to retract.
 #[derive(Drop)]

@@ -12,8 +12,9 @@ use crate::asking::{closed, games_with, is_top, with_one};
 use crate::question::{Aim, Limits, Question, Shown};
 use std::alloc::{AllocError, Global};
 use vpg_guards::Tri;
-use vpg_measure::{Order, PageGames, Which};
+use vpg_measure::{Order, PageGames};
 use vpg_partial::{Decision, Partial};
+use vpg_verdict::Which;
 
 /// What some decisions say of an aim.
 #[derive(Drop)]

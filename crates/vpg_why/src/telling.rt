@@ -14,8 +14,9 @@ use crate::explaining::{Explanation, explain, explain_by};
 use crate::question::{Aim, Limits, Question, Shown};
 use crate::searching::{Example, Found, find};
 use std::alloc::{AllocError, Global};
-use vpg_measure::{Order, Which};
+use vpg_measure::Order;
 use vpg_partial::Decision;
+use vpg_verdict::Which;
 
 /// Which of the page's decisions make the vertex hopeless, by the first table, or sure, by the second: nothing where the page's
 /// table has it not so.

@@ -22,7 +22,8 @@ use crate::page::{Texts, order_from};
 use crate::putting::{
     put_demand, put_found, put_offer, put_remedy, put_verdict, put_why, put_why_lost,
 };
-use vpg_measure::{Order, Which};
+use vpg_measure::Order;
+use vpg_verdict::Which;
 use vpg_why::{
     Aim, Limits, find, look_ahead, look_back, needs, repair, stays_without, why, why_conflict,
     why_known, why_lost,

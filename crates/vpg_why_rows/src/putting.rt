@@ -2,8 +2,8 @@
 
 use crate::line::Line;
 use vpg_diagram::{Diagram, Literal};
-use vpg_measure::Which;
 use vpg_partial::Decision;
+use vpg_verdict::Which;
 use vpg_why::{
     Demand, Example, Explanation, Forced, Found, Offer, Remedy, Retraction, Shown, WhyLost,
 };

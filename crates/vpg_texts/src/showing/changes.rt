@@ -8,8 +8,9 @@ ghost use Rattle.vpg_texts.specs.Changed.{changed_text, verdicts_by};
 use crate::changed;
 use std::alloc::{AllocError, Global};
 use vpg_game::GuardedGame;
-use vpg_measure::{PageGames, Table, Verdict, Which};
+use vpg_measure::{PageGames, Table};
 use vpg_trail::Page;
+use vpg_verdict::{Verdict, Which};
 
 /// What two tables say of each vertex, in file order. They have one number for each vertex, and the games are those of
 /// this game: no guard and no edge is looked at.

@@ -15,8 +15,9 @@ use crate::text;
 use std::alloc::{AllocError, Global};
 use vpg_diagram::Diagram;
 use vpg_game::GuardedGame;
-use vpg_measure::{PageGames, Which};
+use vpg_measure::PageGames;
 use vpg_trail::Page;
+use vpg_verdict::Which;
 
 /// Appends the counts of a page as `count` does, over what its decisions make of its game: no guard is looked at.
 pub fn count_over(

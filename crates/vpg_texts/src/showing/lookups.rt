@@ -22,9 +22,10 @@ use crate::sights;
 use std::alloc::{AllocError, Global};
 use vpg_diagram::Diagram;
 use vpg_game::GuardedGame;
-use vpg_measure::{PageGames, Which};
+use vpg_measure::PageGames;
 use vpg_script::{Assertion, Lookup};
 use vpg_trail::Page;
+use vpg_verdict::Which;
 
 /// Appends the lines of some vertices, as `show` has them.
 fn vertices_over(

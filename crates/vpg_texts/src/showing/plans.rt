@@ -18,8 +18,9 @@ use std::alloc::{AllocError, Global};
 use thiserror::Error;
 use vpg_diagram::Diagram;
 use vpg_game::GuardedGame;
-use vpg_measure::{PageGames, StrategyFault, Table, Which, strategy};
+use vpg_measure::{PageGames, StrategyFault, Table, strategy};
 use vpg_trail::Page;
+use vpg_verdict::Which;
 
 /// Why a page has no plan.
 #[derive(Clone, Copy, Debug, PartialEq, Eq, Error)]

@@ -1,5 +1,5 @@
 use Rattle.std.proofs.Common.{◌≡◌, length}
-use Rattle.vpg_measure.specs.declared.which.Which.TheVariants.{Hopeful, Dual}
+use Rattle.vpg_verdict.specs.declared.which.Which.TheVariants.{Hopeful, Dual}
 use Rattle.vpg_measure.proofs.OrderLemmas.{table_count}
 use Rattle.vpg_answers.proofs.drawing.drawn.Goals as goal
 

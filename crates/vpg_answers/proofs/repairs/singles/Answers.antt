@@ -1,5 +1,5 @@
 use Rattle.std.proofs.Common.{arith, List, length, false, ap}
-use Rattle.vpg_measure.specs.declared.which.Which.TheVariants.{Hopeful}
+use Rattle.vpg_verdict.specs.declared.which.Which.TheVariants.{Hopeful}
 use Rattle.vpg_partial.specs.declared.decision.Decision.{Decision}
 use Rattle.vpg_texts.specs.Scene.{scene_of}
 use Rattle.vpg_answers.specs.Answers.{IsHopelessBy}

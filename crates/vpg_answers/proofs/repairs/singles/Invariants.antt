@@ -1,4 +1,4 @@
-use Rattle.vpg_measure.specs.declared.which.Which.TheVariants.{Hopeful}
+use Rattle.vpg_verdict.specs.declared.which.Which.TheVariants.{Hopeful}
 use Rattle.vpg_texts.specs.Scene.{scene_of}
 use Rattle.vpg_answers.specs.Answers.{IsHopelessBy}
 use Rattle.vpg_answers.specs.Room.{RoundsSettle}

@@ -1,4 +1,4 @@
-use Rattle.vpg_measure.specs.declared.which.Which.TheVariants.{Hopeful, Dual}
+use Rattle.vpg_verdict.specs.declared.which.Which.TheVariants.{Hopeful, Dual}
 use Rattle.vpg_why.specs.Explained.{choices}
 use Rattle.vpg_why.proofs.Asked.{verdict_by}
 use Rattle.vpg_why.proofs.Monotone.{no_conflict}

@@ -1,4 +1,4 @@
-use Rattle.vpg_measure.specs.declared.which.Which.TheVariants.{Hopeful, Dual}
+use Rattle.vpg_verdict.specs.declared.which.Which.TheVariants.{Hopeful, Dual}
 use Rattle.vpg_board.proofs.Kept.{order_edges}
 use Rattle.vpg_board.proofs.predecessors.Predecessors.of.Goals as goal
 

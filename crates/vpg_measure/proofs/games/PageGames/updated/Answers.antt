@@ -1,5 +1,5 @@
 use Rattle.std.proofs.Common.{sym, subst}
-use Rattle.vpg_measure.specs.declared.which.Which.TheVariants.{Hopeful, Dual}
+use Rattle.vpg_verdict.specs.declared.which.Which.TheVariants.{Hopeful, Dual}
 use Rattle.vpg_measure.specs.Games.{GamesView, AreGamesOf}
 use Rattle.vpg_measure.specs.GamesFields.{games_of}
 use Rattle.vpg_measure.proofs.games.PageGames.updated.Goals as goal

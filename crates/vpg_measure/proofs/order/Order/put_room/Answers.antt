@@ -1,5 +1,5 @@
 use Rattle.std.proofs.Common.{length, ap, sym, ◌∙◌}
-use Rattle.vpg_measure.specs.declared.which.Which.TheVariants.{Hopeful, Dual}
+use Rattle.vpg_verdict.specs.declared.which.Which.TheVariants.{Hopeful, Dual}
 use Rattle.vpg_measure.specs.OrderFields.{order_of}
 use Rattle.vpg_measure.specs.Orders.{OrderView}
 use Rattle.vpg_measure.proofs.OrderLemmas.{room_put, table_count, still_settled}

@@ -1,4 +1,4 @@
-use Rattle.vpg_measure.specs.declared.which.Which.TheVariants.{Hopeful, Dual}
+use Rattle.vpg_verdict.specs.declared.which.Which.TheVariants.{Hopeful, Dual}
 use Rattle.vpg_texts.proofs.Settled.{refuted}
 use Rattle.vpg_texts.proofs.showing.plans.choices.Goals as goal
 
