@@ -26,21 +26,20 @@ import families
 import settling
 
 HERE = os.path.dirname(os.path.abspath(__file__))
-MEASURE = """
-pub mod which {
-    #[derive(Clone, Copy)]
-    pub enum Which {
-        Hopeful,
-        Dual,
-    }
+VERDICT = """
+#[derive(Clone, Copy)]
+pub enum Which {
+    Hopeful,
+    Dual,
 }
+"""
+MEASURE = """
 pub struct Order;
 pub struct Harvest;
 pub use self::bounds::{Certificate, raise_to_bounds};
 pub use self::lifts::is_progress;
 pub use self::shape::Shape;
 pub use self::table::Table;
-pub use self::which::Which;
 """
 # what is not copied, and from where on a file is not
 LEFT_OUT = {("vpg_guess", "at_once")}
@@ -79,7 +78,7 @@ def plain(crate, text):
     lines = [line.replace("///", "//") for line in lines if not line.strip().startswith(left_out)]
     text = "\n".join(lines).replace(", Error)]", ")]").replace("\nfn raise_within", "\npub fn raise_within")
     text = re.sub(r"\bcrate::", f"crate::{crate}::", text)
-    text = re.sub(r"^use (vpg_regions|vpg_measure)::", r"use crate::\1::", text, flags=re.M)
+    text = re.sub(r"^use (vpg_regions|vpg_measure|vpg_verdict)::", r"use crate::\1::", text, flags=re.M)
     others = r"^use (vpg_game|vpg_hope(::arena)?|std::(alloc|collections))::"
     text = re.sub(others, "use crate::shim::", text, flags=re.M)
     text = re.sub(r"^use std::marker::Model;", "", text, flags=re.M)
@@ -111,6 +110,7 @@ def copy(root):
     head, tail = around.split("// The crates stand here.\n")
     public = re.findall(r"^pub use [^;]*;", open(f"{root}/crates/vpg_regions/src/lib.rt").read(), flags=re.M)
     crates = {
+        "vpg_verdict": VERDICT,
         "vpg_regions": crate_text(root, "vpg_regions", None) + "\n".join(public).replace("pub use ", "pub use self::"),
         "vpg_guess": crate_text(root, "vpg_guess", None),
         "vpg_measure": crate_text(root, "vpg_measure", ["bounds", "lifts", "shape", "table"]) + MEASURE,
