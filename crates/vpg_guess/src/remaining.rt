@@ -229,7 +229,8 @@ impl Waiting {
         Ok(())
     }
 
-    // Those that move to v, which rose, are to be looked at again. To ask first whether that may raise them takes longer.
+    // Those that move to v, which rose, are to be looked at again. To ask first whether that may raise them takes
+    // longer.
     fn wake(&mut self, ground: &GuessGround, v: u32) -> Result<(), AllocError> {
         self.raises.set(v, self.raises.get(v).saturating_add(1));
         self.rose.set(v, self.falls);
@@ -435,7 +436,29 @@ pub(crate) fn lift_each(
     Ok(risen)
 }
 
-// Lifts a vertex once, if it waits.
+// Lifts a vertex once.
+#[inline(never)]
+fn look_at(
+    shape: &Shape,
+    arena: &Arena,
+    ground: &GuessGround,
+    waiting: &mut Waiting,
+    table: &mut Table,
+    v: u32,
+    budget: &mut Budget,
+) -> Result<(), AllocError>
+    requires { IsTableOf shape.now arena.now table.old }
+    ensures { IsRaisedFrom shape.now arena.now table.old table.new }
+{
+    budget.spend(kept_count(arena, v).saturating_add(1));
+    if ground.even.would_rise(arena, table.values(), v) && lift_vertex(shape, arena, table, v) {
+        waiting.wake(ground, v)?;
+    }
+    Ok(())
+}
+
+// The same, if it waits: most don't, so only this is compiled into the loops over all vertices.
+#[inline(always)]
 fn look(
     shape: &Shape,
     arena: &Arena,
@@ -449,12 +472,10 @@ fn look(
     ensures { IsRaisedFrom shape.now arena.now table.old table.new }
 {
     if waiting.takes(v) {
-        budget.spend(kept_count(arena, v).saturating_add(1));
-        if ground.even.would_rise(arena, table.values(), v) && lift_vertex(shape, arena, table, v) {
-            waiting.wake(ground, v)?;
-        }
+        look_at(shape, arena, ground, waiting, table, v, budget)
+    } else {
+        Ok(())
     }
-    Ok(())
 }
 
 // Lifts what waits in the order of the vertices, once round.
