@@ -35,6 +35,16 @@ impl GuessGround {
         arena: &Arena,
     ) -> Result<GuessGround, AllocError> {
         let even = Scale::of(alloc, arena, shape, Player::Even)?;
+        GuessGround::over(alloc, dual_shape, arena, even)
+    }
+
+    /// The same, with this scale for Even.
+    pub(crate) fn over(
+        alloc: Global,
+        dual_shape: &Shape,
+        arena: &Arena,
+        even: Scale,
+    ) -> Result<GuessGround, AllocError> {
         let odd = Scale::of(alloc, arena, dual_shape, Player::Odd)?;
         let graph = Graph::of(alloc, arena)?;
         Ok(GuessGround { graph, even, odd })
@@ -49,24 +59,6 @@ impl GuessGround {
             }
         }
         Ok(lost)
-    }
-
-    /// The value that a vertex's owner moves to, where it has these successors.
-    fn best(&self, table: &[u64], owner: Player, successors: &[u32]) -> u64 {
-        match owner {
-            Player::Even => least_in(table, successors, self.even.top),
-            Player::Odd => greatest_in(table, successors),
-        }
-    }
-
-    /// Whether a lift raises a vertex, whose value is a number over some edge. The arena is that of the graph.
-    pub(crate) fn would_rise(&self, arena: &Arena, table: &[u64], v: u32) -> bool {
-        if v < arena.vertices() {
-            let best = self.best(table, arena.owner(v), arena.kept(v));
-            self.even.limit(v, value_in(table, v)) <= best
-        } else {
-            false
-        }
     }
 
     /// So many looks at each edge and vertex.
@@ -109,22 +101,6 @@ impl GuessGround {
         }
         Ok(weights)
     }
-}
-
-fn least_in(table: &[u64], vertices: &[u32], top: u64) -> u64 {
-    let mut least = top;
-    for v in vertices {
-        least = least.min(value_in(table, *v));
-    }
-    least
-}
-
-fn greatest_in(table: &[u64], vertices: &[u32]) -> u64 {
-    let mut greatest = 0;
-    for v in vertices {
-        greatest = greatest.max(value_in(table, *v));
-    }
-    greatest
 }
 
 /// A vertex's value in a table.

@@ -5,6 +5,7 @@ ghost use Rattle.vpg_guess.specs.Kept.{IsRaisedFrom};
 ghost use Rattle.vpg_measure.specs.Lifts.{IsTableOf, IsProgressTable, after_rounds};
 
 use crate::ground::{GuessGround, value_in};
+use crate::scale::Scale;
 use std::alloc::{AllocError, Global};
 use std::collections::VecDeque;
 use vpg_hope::Arena;
@@ -228,13 +229,13 @@ impl Waiting {
         Ok(())
     }
 
-    // Those that move to v, which rose, are to be looked at again where that may raise them.
-    fn wake(&mut self, ground: &GuessGround, table: &[u64], v: u32) -> Result<(), AllocError> {
+    // Those that move to v, which rose, are to be looked at again. To ask first whether that may raise them takes
+    // longer.
+    fn wake(&mut self, ground: &GuessGround, v: u32) -> Result<(), AllocError> {
         self.raises.set(v, self.raises.get(v).saturating_add(1));
         self.rose.set(v, self.falls);
-        let value = value_in(table, v);
         for u in ground.graph.predecessors(v) {
-            if !self.waits.get(*u) && ground.even.limit(*u, value_in(table, *u)) <= value {
+            if !self.waits.get(*u) {
                 self.waits.set(*u, true);
                 self.count = self.count.saturating_add(1);
                 self.put_back(*u)?;
@@ -256,7 +257,7 @@ impl Waiting {
             return Ok(());
         }
         for v in risen {
-            self.wake(ground, table, *v)?;
+            self.wake(ground, *v)?;
         }
         Ok(())
     }
@@ -379,7 +380,7 @@ fn ask(arena: &Arena, ground: &GuessGround, table: &[u64]) -> Rising {
         let v = at.saturating_mul(stride);
         if v < ground.graph.vertices() && value_in(table, v) < ground.even.top {
             asked = asked.saturating_add(1);
-            if ground.would_rise(arena, table, v) {
+            if ground.even.would_rise(arena, table, v) {
                 rising = rising.saturating_add(1);
             }
         }
@@ -414,12 +415,13 @@ fn kept_count(arena: &Arena, v: u32) -> usize {
     }
 }
 
-/// Lifts each vertex once, in the order of the vertices, and gives those that rose.
+/// Lifts each vertex that would rise once, in the order of the vertices, and gives those that rose.
 #[tactic(auto, using(crate::proofs::Kept::kept_then))]
 pub(crate) fn lift_each(
     alloc: Global,
     shape: &Shape,
     arena: &Arena,
+    even: &Scale,
     table: &mut Table,
 ) -> Result<Vec<u32>, AllocError>
     requires { IsTableOf shape.now arena.now table.old }
@@ -427,14 +429,36 @@ pub(crate) fn lift_each(
 {
     let mut risen = Vec::new(alloc);
     for v in 0..arena.vertices() {
-        if lift_vertex(shape, arena, table, v) {
+        if even.would_rise(arena, table.values(), v) && lift_vertex(shape, arena, table, v) {
             risen.push(v)?;
         }
     }
     Ok(risen)
 }
 
-// Lifts a vertex once, if it waits.
+// Lifts a vertex once.
+#[inline(never)]
+fn look_at(
+    shape: &Shape,
+    arena: &Arena,
+    ground: &GuessGround,
+    waiting: &mut Waiting,
+    table: &mut Table,
+    v: u32,
+    budget: &mut Budget,
+) -> Result<(), AllocError>
+    requires { IsTableOf shape.now arena.now table.old }
+    ensures { IsRaisedFrom shape.now arena.now table.old table.new }
+{
+    budget.spend(kept_count(arena, v).saturating_add(1));
+    if ground.even.would_rise(arena, table.values(), v) && lift_vertex(shape, arena, table, v) {
+        waiting.wake(ground, v)?;
+    }
+    Ok(())
+}
+
+// The same, if it waits: most don't, so only this is compiled into the loops over all vertices.
+#[inline(always)]
 fn look(
     shape: &Shape,
     arena: &Arena,
@@ -448,12 +472,10 @@ fn look(
     ensures { IsRaisedFrom shape.now arena.now table.old table.new }
 {
     if waiting.takes(v) {
-        budget.spend(kept_count(arena, v).saturating_add(1));
-        if ground.would_rise(arena, table.values(), v) && lift_vertex(shape, arena, table, v) {
-            waiting.wake(ground, table.values(), v)?;
-        }
+        look_at(shape, arena, ground, waiting, table, v, budget)
+    } else {
+        Ok(())
     }
-    Ok(())
 }
 
 // Lifts what waits in the order of the vertices, once round.

@@ -1,4 +1,5 @@
 //! How numbers of measures grow along the edges of a graph.
+use crate::ground::value_in;
 use std::alloc::{AllocError, Global};
 use vpg_game::Player;
 use vpg_hope::Arena;
@@ -143,6 +144,25 @@ impl Scale {
         }
     }
 
+    // The value that a vertex's owner moves to, where it has these successors.
+    fn best(&self, table: &[u64], owner: Player, successors: &[u32]) -> u64 {
+        match owner {
+            Player::Even => least_in(table, successors, self.top),
+            Player::Odd => greatest_in(table, successors),
+        }
+    }
+
+    /// Whether a lift raises a vertex, whose value is a number over some edge. The scale is the arena's for Even. It
+    /// takes no division, so it is faster than a lift.
+    pub(crate) fn would_rise(&self, arena: &Arena, table: &[u64], v: u32) -> bool {
+        if v < arena.vertices() {
+            let best = self.best(table, arena.owner(v), arena.kept(v));
+            self.limit(v, value_in(table, v)) <= best
+        } else {
+            false
+        }
+    }
+
     /// The value without what stands below a weight; the top stays.
     pub(crate) fn cut(&self, value: u64, weight: u64) -> u64 {
         if self.top <= value {
@@ -151,6 +171,22 @@ impl Scale {
             cut(value, weight)
         }
     }
+}
+
+fn least_in(table: &[u64], vertices: &[u32], top: u64) -> u64 {
+    let mut least = top;
+    for v in vertices {
+        least = least.min(value_in(table, *v));
+    }
+    least
+}
+
+fn greatest_in(table: &[u64], vertices: &[u32]) -> u64 {
+    let mut greatest = 0;
+    for v in vertices {
+        greatest = greatest.max(value_in(table, *v));
+    }
+    greatest
 }
 
 /// The greatest multiple of a weight up to a value.
