@@ -8,7 +8,6 @@ use crate::asks::Ask::{Bounds, Ends, Guess, Lifts, Plan};
 use crate::given::{ROOT, copy_of, given, is_table, let_go, order_from, row_of, small};
 use std::process::Abort;
 use std::test::*;
-use vpg_game::GuardedGame;
 use vpg_guess::raise_by_bounds;
 use vpg_hope::Arena;
 use vpg_measure::Outcome::{RanOut, Settled};
@@ -113,14 +112,6 @@ fn raised_by<R: Abort + AllocGlobal>(
     }
 }
 
-/// The shape of the dual of a game, or of its dual.
-fn dual_shape<R: Abort + AllocGlobal>(rt: &R, game: &GuardedGame, which: Which) -> Shape {
-    match which {
-        Hopeful => given(rt, Shape::of_dual(rt.alloc(), game)),
-        Dual => given(rt, Shape::of_dual_of_dual(rt.alloc(), game)),
-    }
-}
-
 /// Whether a table of one of an order's games, raised within a budget, is a progress table.
 fn is_guessed<R: Abort + AllocGlobal>(
     rt: &R,
@@ -131,7 +122,12 @@ fn is_guessed<R: Abort + AllocGlobal>(
 ) -> bool
     requires { IsTableOf (order_levels which order.now) (order_arena which order.now) table.old }
 {
-    let dual = dual_shape(rt, order.game(), which);
+    // of the dual of the game, or of its dual
+    let shape_of_dual = match which {
+        Hopeful => Shape::of_dual(rt.alloc(), order.game()),
+        Dual => Shape::of_dual_of_dual(rt.alloc(), order.game()),
+    };
+    let dual = given(rt, shape_of_dual);
     let (shape, arena) = (order.shape(which), order.arena(which));
     given(
         rt,
@@ -220,11 +216,6 @@ const WITHOUT_F: &[Row] = &[
     (Hopeful, 0, Bounds([3, 0], [0, 0], None), Some(&[0, 0])),
 ];
 
-#[test]
-fn where_the_loop_is_all_that_is_kept(rt: HostRuntime) {
-    ask_all(&rt, small(&rt, &[(1, false)]), WITHOUT_F);
-}
-
 /// Vertex 0 is never Odd's where it may go on to vertex 1.
 const UNDECIDED: &[Row] = &[
     (Hopeful, 0, Lifts([1, 0]), Some(&[1, 0])),
@@ -237,21 +228,11 @@ const UNDECIDED: &[Row] = &[
     ),
 ];
 
-#[test]
-fn where_the_loop_ends(rt: HostRuntime) {
-    ask_all(&rt, small(&rt, &[]), UNDECIDED);
-}
-
 /// With `f` and `g` vertex 0 leaves its loop. A table that isn't settled has no strategy.
 const WITH_BOTH: &[Row] = &[
     (Hopeful, 3, Plan(Some(&[Some(1), None])), None),
     (Hopeful, 0, Plan(None), None),
 ];
-
-#[test]
-fn strategies(rt: HostRuntime) {
-    ask_all(&rt, small(&rt, &[(1, true), (2, true)]), WITH_BOTH);
-}
 
 pub(crate) const BUDGET: u64 = 1_000_000;
 
@@ -262,11 +243,6 @@ const AT_EXIT: &[Row] = &[
     (Hopeful, 0, Guess(BUDGET, true), Some(&[6, 3, 0, 4])),
     (Dual, 0, Guess(BUDGET, true), Some(&[0, 2, 2, 2])),
 ];
-
-#[test]
-fn an_exit_that_is_dear(rt: HostRuntime) {
-    ask_all(&rt, order_from(&rt, ROOT, EXIT, &[]), AT_EXIT);
-}
 
 /// A loop of priority 1, and behind it 60 vertices of odd priorities of their own: the top is 2^61, and no rounds of
 /// lifts would come there. A budget that is spent leaves what was raised until then; the table of the dual is settled
@@ -284,6 +260,10 @@ const CLIMB: &[Row] = &[
 ];
 
 #[test]
-fn a_climb_to_the_top(rt: HostRuntime) {
+fn orders_answer(rt: HostRuntime) {
+    ask_all(&rt, small(&rt, &[(1, false)]), WITHOUT_F);
+    ask_all(&rt, small(&rt, &[]), UNDECIDED);
+    ask_all(&rt, small(&rt, &[(1, true), (2, true)]), WITH_BOTH);
+    ask_all(&rt, order_from(&rt, ROOT, EXIT, &[]), AT_EXIT);
     ask_all(&rt, row_of(&rt, ROOT, 61, true), CLIMB);
 }

@@ -187,9 +187,9 @@ fn claims_of_two<R: Threads + Wait + Sync>(
     both(first, second)
 }
 
-/// What a board's opening seat and three that it splits off claim, each in a thread of its own, and the first with the
-/// others taken in.
-fn claims_of_four<R: Threads + Wait + Abort + Sync>(rt: &R, board: &Board, seat: &mut Seat) -> Noted
+/// Whether a board's opening seat and three that it splits off, each in a thread of its own, claim each place of 62
+/// vertices once. The first takes in the others.
+fn claim_each_once<R: Threads + Wait + Abort + Sync>(rt: &R, board: &Board, seat: &mut Seat) -> bool
     requires sync { IsSync R.row }
     requires board { seat.old.board ≡ board.now }
     ensures { seat.new.board ≡ board.now }
@@ -211,16 +211,7 @@ fn claims_of_four<R: Threads + Wait + Abort + Sync>(rt: &R, board: &Board, seat:
     board.join(seat, second);
     board.join(seat, third);
     board.join(seat, fourth);
-    both(first, last)
-}
-
-/// Whether four seats in four threads claim each place of a board of 62 vertices once.
-fn claim_each_once<R: Threads + Wait + Abort + Sync>(rt: &R, board: &Board, seat: &mut Seat) -> bool
-    requires sync { IsSync R.row }
-    requires board { seat.old.board ≡ board.now }
-    ensures { seat.new.board ≡ board.now }
-{
-    let noted = claims_of_four(rt, board, seat);
+    let noted = both(first, last);
     let all = (1u64 << 62) - 1;
     noted.hopeful == all && noted.dual == all && noted.claims == 124
 }

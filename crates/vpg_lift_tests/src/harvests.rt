@@ -142,11 +142,6 @@ const LIFTS: &[Turn] = &[
     (One(Dual, 1), [[0, 0], [0, 1]], false),
 ];
 
-#[test]
-fn harvests_of_one_lift(rt: HostRuntime) {
-    by_itself(&rt, &[], LIFTS);
-}
-
 /// Rounds and guesses from zeros, without `f`.
 const WITHOUT_F: &[Turn] = &[
     (Alone(0), [[0, 0], [0, 0]], false),
@@ -157,21 +152,11 @@ const WITHOUT_F: &[Turn] = &[
     (AtOnce, [[2, 0], [0, 1]], true),
 ];
 
-#[test]
-fn harvests_of_rounds_and_guesses(rt: HostRuntime) {
-    by_itself(&rt, &[(1, false)], WITHOUT_F);
-}
-
 /// Tables handed in, of one round and then of one more.
 const HANDED_IN: &[Turn] = &[
     (Given(1), [[1, 0], [0, 1]], false),
     (Given(1), [[2, 0], [0, 1]], true),
 ];
-
-#[test]
-fn harvests_handed_in(rt: HostRuntime) {
-    in_turn(&rt, &OpenGate, &[(1, false)], HANDED_IN);
-}
 
 /// One seat claims and lifts each vertex; then the order is settled, and it raises nothing.
 const SEATED: &[Turn] = &[
@@ -183,14 +168,14 @@ const SEATED: &[Turn] = &[
     (Seated(Sitting::Lifts([false; 4])), [[1, 0], [0, 1]], true),
 ];
 
-#[test]
-fn one_seat_settles_the_small_game(rt: HostRuntime) {
-    in_turn(&rt, &OpenGate, &[], SEATED);
-}
-
+/// The opening seat splits 63 times. Nothing is lifted.
 const SPLIT: &[Turn] = &[(Seated(Sitting::Splits), [[0, 0], [0, 0]], false)];
 
 #[test]
-fn the_opening_seat_splits_63_times(rt: HostRuntime) {
+fn harvests(rt: HostRuntime) {
+    by_itself(&rt, &[], LIFTS);
+    by_itself(&rt, &[(1, false)], WITHOUT_F);
+    in_turn(&rt, &OpenGate, &[(1, false)], HANDED_IN);
+    in_turn(&rt, &OpenGate, &[], SEATED);
     in_turn(&rt, &OpenGate, &[], SPLIT);
 }

@@ -95,15 +95,16 @@ fn is_refused<R: Abort + AllocGlobal>(rt: &R, refused: &Refused, refusal: &Refus
 }
 
 /// Stops at an order that isn't refused so.
-fn are_refused<R: Abort + AllocGlobal>(rt: &R, refusals: &[Refusal]) {
-    for k in 0..refusals.len() {
-        let refused = refused(rt, &refusals[k]);
-        assert!(rt; is_refused(rt, &refused, &refusals[k]), "at {k}");
+fn are_refused<R: Abort + AllocGlobal>(rt: &R) {
+    for k in 0..REFUSED.len() {
+        let refused = refused(rt, &REFUSED[k]);
+        assert!(rt; is_refused(rt, &refused, &REFUSED[k]), "at {k}");
     }
 }
 
-/// It is told before a conflict.
-const AT_LIMIT: &[Refusal] = &[
+/// A priority at the limit is told before a conflict. The root names a conflict of the diagram alone; else the first
+/// decision up to which there is one.
+const REFUSED: &[Refusal] = &[
     Refusal {
         game: Lone::AtLimit,
         diagram: OPTIONS,
@@ -118,15 +119,6 @@ const AT_LIMIT: &[Refusal] = &[
         choices: &[(1, true), (0, true)],
         fault: OrderFault::AtLimit,
     },
-];
-
-#[test]
-fn no_order_at_the_limit(rt: HostRuntime) {
-    are_refused(&rt, AT_LIMIT);
-}
-
-/// The root names a conflict of the diagram alone; else the first decision up to which there is one.
-const IN_CONFLICT: &[Refusal] = &[
     Refusal {
         game: Lone::Zero,
         diagram: CONTRADICTORY,
@@ -152,5 +144,5 @@ const IN_CONFLICT: &[Refusal] = &[
 
 #[test]
 fn no_order_with_a_conflict(rt: HostRuntime) {
-    are_refused(&rt, IN_CONFLICT);
+    are_refused(&rt);
 }

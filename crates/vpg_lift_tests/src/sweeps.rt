@@ -110,15 +110,10 @@ fn one_sweep_settles_the_small_game(rt: HostRuntime) {
 }
 
 #[test]
-fn two_lifters_wait_for_one_another(rt: HostRuntime) {
-    let met = met(&rt, Until::Relay, &[settles(Sweep(2)); 2]);
-    assert!(rt; met == (3, 2));
-}
-
-#[test]
-fn four_lifters_meet_before_their_first_claims(rt: HostRuntime) {
-    let met = met(&rt, Until::All(4), &[settles(Sweep(4)); 2]);
-    assert!(rt; met == (15, 4));
+fn lifters_wait_for_one_another(rt: HostRuntime) {
+    let two = met(&rt, Until::Relay, &[settles(Sweep(2)); 2]);
+    let four = met(&rt, Until::All(4), &[settles(Sweep(4)); 2]);
+    assert!(rt; two == (3, 2) && four == (15, 4));
 }
 
 #[test]

@@ -3,7 +3,7 @@ use denote.Param.Send.{IsSync, sendable}
 use Rattle.std.proofs.Crossing.{crosses}
 use Rattle.vpg_board.proofs.Sharing.{board_sync}
 use Rattle.vpg_board.proofs.seat.Seat.TheSendSync as seat
-use Rattle.vpg_lift_tests.proofs.boards.claims_of_four.Goals as goal
+use Rattle.vpg_lift_tests.proofs.boards.claim_each_once.Goals as goal
 
 -- what each captured value may do stands beside the goal, since a search through all of it takes too many steps
 pub join_mut-requires-send-F : goal.join_mut-requires-send-F
