@@ -1,24 +1,26 @@
-//! Ways of settling, to be measured from outside: both tables of a game are raised from zero, until they are settled or so many times.
+//! Ways of settling, to be measured from outside: both tables of a game are raised from zero, until they are settled or
+//! so many times.
 //!
 //!     vpg_bench GAME HOW MOST [LIFTERS]
 //!
-//! HOW is `rounds` for rounds of one thread without sweeps, `sweeps` for just MOST sweeps without hints, `hints` for sweeps with
-//! hints, `counted` for the same with their lifts counted, `guesses` for certified guesses and then sweeps as by `counted` where the
-//! guesses leave anything to lift, and `board` for a board that one seat claims and lifts by calls. MOST is how many sweeps or rounds
-//! there may be, LIFTERS how many lifters a sweep has, 1 to 64 and 1 where it is left out. Other words are refused.
+//! HOW is `rounds` for rounds of one thread without sweeps, `sweeps` for just MOST sweeps without hints, `hints` for
+//! sweeps with hints, `counted` for the same with their lifts counted, `guesses` for certified guesses and then sweeps
+//! as by `counted` where the guesses leave anything to lift, and `board` for a board that one seat claims and lifts by
+//! calls. MOST is how many sweeps or rounds there may be, LIFTERS how many lifters a sweep has, 1 to 64 and 1 where it
+//! is left out. Other words are refused.
 //!
-//! The game is over the features r, f and g. It prints one line: whether the tables are settled, in how many sweeps, how many lifts
-//! were counted, and the sums of both tables. Without words it sweeps a game that is built in. `bench/sweeps.py` runs it, and
-//! measures what it takes.
+//! The game is over the features r, f and g. It prints one line: whether the tables are settled, in how many sweeps,
+//! how many lifts were counted, and the sums of both tables. Without words it sweeps a game that is built in.
+//! `bench/sweeps.py` runs it, and measures what it takes.
 #![tactic(auto)]
 
 ghost use Rattle.std.specs.Arc.{arc_value};
-ghost use Rattle.std.specs.Prelude.{◌≡◌, ◌≤◌, IfOk};
+ghost use Rattle.std.specs.Prelude.{◌≡◌, ◌≤◌, length, IfOk};
 ghost use Rattle.vpg_board.specs.Places.{vertices};
 ghost use Rattle.vpg_diagram.specs.FeatureDiagram.{feature_count};
 
 use anyhow::{Context, Result, bail};
-use std::alloc::Global;
+use std::alloc::{AllocError, Global};
 use std::sync::atomic::{AtomicU64, Ordering};
 use std::sync::{Arc, Wait};
 use std::thread::Threads;
@@ -28,7 +30,7 @@ use vpg_diagram::Diagram;
 use vpg_game::GuardedGame;
 use vpg_guess::harvest_by_bounds;
 use vpg_measure::laws::orders::zeros_are_opening;
-use vpg_measure::{Harvest, Order, Table};
+use vpg_measure::{Harvest, Order, Refused, Table};
 use vpg_verdict::Which;
 
 const DIAGRAM: &[u8] = b"root r\noptional r f\noptional r g\n";
@@ -52,12 +54,12 @@ enum How {
     Seated,
 }
 
-/// What was reached, and by how much.
-#[derive(Drop)]
-struct Reached {
-    harvest: Harvest,
-    sweeps: u64,
-    lifts: u64,
+/// What the words ask for.
+#[derive(Clone, Copy)]
+struct Asked {
+    how: How,
+    most: u64,
+    lifters: u32,
 }
 
 /// Counts the lifts of all lifters.
@@ -74,15 +76,20 @@ impl Gate for Count {
     }
 }
 
-/// The order of a game without decisions, with two tables of zeros. Nothing where there is no memory, or no order.
-fn zeros_over(alloc: Global, game: Arc<GuardedGame>, diagram: Arc<Diagram>) -> Option<Order>
+/// The order of a game without decisions, with two tables of zeros, or why there is none.
+fn zeros_over(
+    alloc: Global,
+    game: Arc<GuardedGame>,
+    diagram: Arc<Diagram>,
+) -> Result<Result<Order, Refused>, AllocError>
     requires { (arc_value game).features ≡ feature_count (arc_value diagram).lines }
 {
+    let decisions = Vec::new(alloc);
     let vertices = game.vertices() as u32;
     zeros_are_opening();
-    let hopeful = Table::zero(alloc, vertices).ok()?;
-    let dual = Table::zero(alloc, vertices).ok()?;
-    Order::of(alloc, game, diagram, Vec::new(alloc), hopeful, dual).ok()
+    let hopeful = Table::zero(alloc, vertices)?;
+    let dual = Table::zero(alloc, vertices)?;
+    Ok(Order::of(alloc, game, diagram, decisions, hopeful, dual))
 }
 
 fn diagram_of(alloc: Global) -> Result<Arc<Diagram>> {
@@ -102,10 +109,11 @@ fn game_of(alloc: Global, text: &[u8], diagram: &Diagram) -> Result<Arc<GuardedG
 fn opening_order(alloc: Global, text: &[u8]) -> Result<Order> {
     let diagram = diagram_of(alloc)?;
     let game = game_of(alloc, text, &diagram)?;
-    zeros_over(alloc, game, diagram).context("no order")
+    zeros_over(alloc, game, diagram)?.ok().context("no order")
 }
 
-/// What is reached in so many sweeps at most. Where the settled ones do not end them, there are just so many.
+/// What is reached in so many sweeps at most, and in how many. Where the settled ones do not end them, there are just
+/// so many.
 fn swept<G: Gate + Sync, T: Threads + Wait + Sync>(
     rt: &T,
     alloc: Global,
@@ -115,7 +123,7 @@ fn swept<G: Gate + Sync, T: Threads + Wait + Sync>(
     lifters: u32,
     gate: &G,
     predecessors: &Predecessors,
-) -> Reached
+) -> (Harvest, u64)
     requires lifters { (1 ≤ lifters) × (lifters ≤ 64) }
     requires predecessors { predecessors.now.vertices ≡ vertices order }
 {
@@ -123,84 +131,38 @@ fn swept<G: Gate + Sync, T: Threads + Wait + Sync>(
     for done in 0..most {
         let harvest = sweep_along(rt, alloc, order, lifters, gate, predecessors);
         if ends_settled && harvest.check() {
-            return Reached {
-                harvest,
-                sweeps: done + 1,
-                lifts: 0,
-            };
+            return (harvest, done + 1);
         }
         order = harvest.again();
     }
-    Reached {
-        harvest: Harvest::alone(order, 0),
-        sweeps: most,
-        lifts: 0,
+    (Harvest::alone(order, 0), most)
+}
+
+/// What hints go along, or nothing without hints.
+fn predecessors_of(alloc: Global, order: &Order, hints: bool) -> Predecessors
+    ensures { result.vertices ≡ vertices order.now }
+{
+    if hints {
+        Predecessors::of_or_none(alloc, order)
+    } else {
+        Predecessors::none(alloc, order)
     }
 }
 
-/// What is reached by sweeps without hints.
-fn plain<T: Threads + Wait + Sync>(
+/// What is reached by sweeps without hints, or by sweeps with hints, until they have settled the tables.
+fn swept_from<G: Gate + Sync, T: Threads + Wait + Sync>(
     rt: &T,
     alloc: Global,
     order: Order,
     lifters: u32,
     most: u64,
-) -> Reached
-    requires { (1 ≤ lifters) × (lifters ≤ 64) }
-{
-    let predecessors = Predecessors::none(alloc, &order);
-    swept(
-        rt,
-        alloc,
-        order,
-        most,
-        false,
-        lifters,
-        &OpenGate,
-        &predecessors,
-    )
-}
-
-/// What is reached by sweeps with hints, until they have settled the tables.
-fn hinted<G: Gate + Sync, T: Threads + Wait + Sync>(
-    rt: &T,
-    alloc: Global,
-    order: Order,
-    lifters: u32,
-    most: u64,
+    hints: bool,
     gate: &G,
-) -> Reached
+) -> (Harvest, u64)
     requires { (1 ≤ lifters) × (lifters ≤ 64) }
 {
-    let predecessors = Predecessors::of_or_none(alloc, &order);
-    swept(rt, alloc, order, most, true, lifters, gate, &predecessors)
-}
-
-/// What is reached by sweeps with hints, each lift counted.
-fn counted<T: Threads + Wait + Sync>(
-    rt: &T,
-    alloc: Global,
-    order: Order,
-    lifters: u32,
-    most: u64,
-) -> Reached
-    requires { (1 ≤ lifters) × (lifters ≤ 64) }
-{
-    let count = Count {
-        lifts: AtomicU64::new(0),
-    };
-    let mut reached = hinted(rt, alloc, order, lifters, most, &count);
-    reached.lifts = count.lifts.load(Ordering::SeqCst);
-    reached
-}
-
-/// A harvest that is reached without sweeps.
-fn unswept(harvest: Harvest) -> Reached {
-    Reached {
-        harvest,
-        sweeps: 0,
-        lifts: 0,
-    }
+    let predecessors = predecessors_of(alloc, &order, hints);
+    swept(rt, alloc, order, most, hints, lifters, gate, &predecessors)
 }
 
 /// The harvest of certified guesses. Where they find no memory, that of the order as it is.
@@ -218,14 +180,15 @@ fn guessed<T: Threads + Wait + Sync>(
     order: Order,
     lifters: u32,
     most: u64,
-) -> Reached
+    count: &Count,
+) -> (Harvest, u64)
     requires { (1 ≤ lifters) × (lifters ≤ 64) }
 {
     let harvest = by_bounds(alloc, order);
     if harvest.check() {
-        unswept(harvest)
+        (harvest, 0)
     } else {
-        counted(rt, alloc, harvest.again(), lifters, most)
+        swept_from(rt, alloc, harvest.again(), lifters, most, true, count)
     }
 }
 
@@ -254,35 +217,32 @@ fn seated(alloc: Global, order: Order) -> Option<Harvest> {
 }
 
 /// What is reached by so many boards, one behind the other.
-fn seated_often(alloc: Global, order: Order, most: u64) -> Option<Reached> {
+fn seated_often(alloc: Global, order: Order, most: u64) -> Option<(Harvest, u64)> {
     let mut order = order;
     for _ in 0..most {
         order = seated(alloc, order)?.again();
     }
-    Some(Reached {
-        harvest: Harvest::alone(order, 0),
-        sweeps: most,
-        lifts: 0,
-    })
+    Some((Harvest::alone(order, 0), most))
 }
 
-/// What is reached as the words ask for. Nothing where a board that one seat lifts finds no memory.
+/// What is reached as the words ask for, and in how many sweeps. Nothing where a board that one seat lifts finds no
+/// memory.
 fn reach<T: Threads + Wait + Sync>(
     rt: &T,
     alloc: Global,
     order: Order,
-    how: How,
-    lifters: u32,
-    most: u64,
-) -> Option<Reached>
-    requires { (1 ≤ lifters) × (lifters ≤ 64) }
+    asked: Asked,
+    count: &Count,
+) -> Option<(Harvest, u64)>
+    requires { (1 ≤ asked.lifters) × (asked.lifters ≤ 64) }
 {
+    let Asked { how, most, lifters } = asked;
     match how {
-        How::Alone => Some(unswept(Harvest::alone(order, most))),
-        How::Plain => Some(plain(rt, alloc, order, lifters, most)),
-        How::Hinted => Some(hinted(rt, alloc, order, lifters, most, &OpenGate)),
-        How::Counted => Some(counted(rt, alloc, order, lifters, most)),
-        How::Guessed => Some(guessed(rt, alloc, order, lifters, most)),
+        How::Alone => Some((Harvest::alone(order, most), 0)),
+        How::Plain => Some(swept_from(rt, alloc, order, lifters, most, false, &OpenGate)),
+        How::Hinted => Some(swept_from(rt, alloc, order, lifters, most, true, &OpenGate)),
+        How::Counted => Some(swept_from(rt, alloc, order, lifters, most, true, count)),
+        How::Guessed => Some(guessed(rt, alloc, order, lifters, most, count)),
         How::Seated => seated_often(alloc, order, most),
     }
 }
@@ -297,10 +257,10 @@ fn sum_of(table: &Table) -> u64 {
 }
 
 /// Tells what was reached, in one line.
-fn tell(rt: &HostRuntime, reached: &Reached) -> Result<()> {
-    let (settled, sweeps, lifts) = (reached.harvest.check(), reached.sweeps, reached.lifts);
-    let hopeful = sum_of(reached.harvest.table(Which::Hopeful));
-    let dual = sum_of(reached.harvest.table(Which::Dual));
+fn tell(rt: &HostRuntime, harvest: &Harvest, sweeps: u64, lifts: u64) -> Result<()> {
+    let settled = harvest.check();
+    let hopeful = sum_of(harvest.table(Which::Hopeful));
+    let dual = sum_of(harvest.table(Which::Dual));
     println!(rt; "settled {settled} sweeps {sweeps} lifts {lifts} sums {hopeful} {dual}")?;
     Ok(())
 }
@@ -328,17 +288,28 @@ fn number_of(word: &str) -> Result<u64> {
 }
 
 /// How many lifters a word names.
-fn lifters_of(word: Option<&String>) -> Result<u32>
+fn lifters_of(word: &str) -> Result<u32>
     ensures { IfOk result (λ lifters. (1 ≤ lifters) × (lifters ≤ 64)) }
 {
-    let Some(word) = word else {
-        return Ok(1);
-    };
-    let lifters = number_of(word.as_str())?;
+    let lifters = number_of(word)?;
     if lifters < 1 || 64 < lifters {
         bail!("there are 1 to 64 lifters");
     }
     Ok(lifters as u32)
+}
+
+/// What words ask for, of which there are at least four.
+fn asked_by(words: &[String]) -> Result<Asked>
+    requires { 4 ≤ length words.now }
+    ensures { IfOk result (λ asked. (1 ≤ asked.lifters) × (asked.lifters ≤ 64)) }
+{
+    let how = how_of(words[2].as_str())?;
+    let most = number_of(words[3].as_str())?;
+    let lifters = match words.get(4) {
+        Some(word) => lifters_of(word.as_str())?,
+        None => 1,
+    };
+    Ok(Asked { how, most, lifters })
 }
 
 /// Raises an order so, and tells what was reached.
@@ -346,26 +317,28 @@ fn measure<T: Threads + Wait + Sync>(
     rt: &HostRuntime,
     threads: &T,
     order: Order,
-    how: How,
-    lifters: u32,
-    most: u64,
+    asked: Asked,
 ) -> Result<()>
-    requires { (1 ≤ lifters) × (lifters ≤ 64) }
+    requires { (1 ≤ asked.lifters) × (asked.lifters ≤ 64) }
 {
-    let reached = reach(threads, rt.alloc(), order, how, lifters, most).context("no memory")?;
-    tell(rt, &reached)
-}
-
-/// The order that the game of a file spells.
-fn order_of_file(rt: &HostRuntime, path: &str) -> Result<Order> {
-    opening_order(rt.alloc(), &fs::read(rt, path)?)
+    let count = Count {
+        lifts: AtomicU64::new(0),
+    };
+    match reach(threads, rt.alloc(), order, asked, &count) {
+        Some((harvest, sweeps)) => tell(rt, &harvest, sweeps, count.lifts.load(Ordering::SeqCst)),
+        None => bail!("no memory"),
+    }
 }
 
 /// Sweeps the game that is built in, by one lifter and by two: what they lift beside the four claims are hints.
 fn sweep_built_in<T: Threads + Wait + Sync>(rt: &HostRuntime, threads: &T) -> Result<()> {
     for lifters in 1..3 {
-        let order = opening_order(rt.alloc(), GAME)?;
-        measure(rt, threads, order, How::Counted, lifters, 1)?;
+        let asked = Asked {
+            how: How::Counted,
+            most: 1,
+            lifters,
+        };
+        measure(rt, threads, opening_order(rt.alloc(), GAME)?, asked)?;
     }
     Ok(())
 }
@@ -375,11 +348,9 @@ fn obey<T: Threads + Wait + Sync>(rt: &HostRuntime, threads: &T, words: &[String
     if words.len() < 4 {
         return sweep_built_in(rt, threads);
     }
-    let how = how_of(words[2].as_str())?;
-    let most = number_of(words[3].as_str())?;
-    let lifters = lifters_of(words.get(4))?;
-    let order = order_of_file(rt, words[1].as_str())?;
-    measure(rt, threads, order, how, lifters, most)
+    let asked = asked_by(words)?;
+    let text = fs::read(rt, words[1].as_str())?;
+    measure(rt, threads, opening_order(rt.alloc(), &text)?, asked)
 }
 
 fn main(rt: HostRuntime) -> Result<()> {

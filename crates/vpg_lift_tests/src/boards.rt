@@ -1,27 +1,47 @@
 //! Claims, lifts and splits worked by hand.
 
-ghost use Rattle.std.specs.Prelude.{◌≡◌, IfOk};
+ghost use Rattle.std.specs.Prelude.{◌≡◌};
 ghost use Rattle.std.specs.Thread.{IsSync};
 
-use crate::given::{is_settled_small, let_go, loops, small};
-use std::alloc::Global;
+use crate::given::{OPTIONS, given, let_go, row_of};
+use std::process::Abort;
 use std::sync::Wait;
 use std::test::*;
-use std::thread::{Threads, join};
+use std::thread::{Threads, join_mut};
 use vpg_board::{Board, Seat};
 use vpg_measure::{Harvest, Order};
 use vpg_verdict::Which;
 
-/// The board of an order, where there is memory.
-fn board_of(alloc: Global, order: Order) -> Result<(Board, Seat), Fail>
-    ensures { IfOk result (λ opened. opened.1.board ≡ opened.0) }
+/// What the opening seat of a board does.
+#[derive(Clone, Copy)]
+pub(crate) enum Sitting {
+    /// It claims and lifts each vertex of two, and each lift answers so.
+    Lifts([bool; 4]),
+    /// It splits as often as it may.
+    Splits,
+    /// With three that it splits off it claims each vertex of 62, each seat in a thread of its own.
+    Four,
+}
+
+/// The board of an order, and its opening seat.
+fn board_of<R: Abort + AllocGlobal>(rt: &R, order: Order) -> (Board, Seat)
+    ensures { result.1.board ≡ result.0 }
 {
-    match Board::open(alloc, order) {
-        Ok(opened) => Ok(opened),
-        Err(order) => {
-            let_go(order);
-            Err("no board")?
-        }
+    match Board::open(rt.alloc(), order) {
+        Ok(opened) => opened,
+        Err(_) => panic!(rt; "no board"),
+    }
+}
+
+/// What a seat splits off.
+fn split_off<R: Abort>(rt: &R, board: &Board, seat: &mut Seat) -> Seat
+    requires { seat.old.board ≡ board.now }
+    ensures seat { seat.new.board ≡ board.now }
+    ensures other { result.board ≡ board.now }
+{
+    match board.split(seat) {
+        Ok(other) => other,
+        Err(_) => panic!(rt; "too many seats"),
     }
 }
 
@@ -30,16 +50,21 @@ fn claims_and_lifts(board: &Board, seat: &mut Seat, which: Which, v: u32) -> Opt
     requires { seat.old.board ≡ board.now }
     ensures { seat.new.board ≡ board.now }
 {
-    let (claimed, u) = board.claim(seat)?;
-    let rose = board.lift(seat, claimed, u);
-    if claimed == which && u == v {
-        Some(rose)
-    } else {
-        None
+    match board.claim(seat) {
+        Some((claimed, u)) => {
+            let rose = board.lift(seat, claimed, u);
+            if claimed == which && u == v {
+                Some(rose)
+            } else {
+                None
+            }
+        }
+        None => None,
     }
 }
 
-/// Whether the four lifts of a board of two vertices answer so, in the order of claims, and two claims behind them find nothing.
+/// Whether the four lifts of a board of two vertices answer so, in the order of claims, and two claims behind them find
+/// nothing.
 fn lifts_answer(board: &Board, seat: &mut Seat, answers: [bool; 4]) -> bool
     requires { seat.old.board ≡ board.now }
     ensures { seat.new.board ≡ board.now }
@@ -51,46 +76,9 @@ fn lifts_answer(board: &Board, seat: &mut Seat, answers: [bool; 4]) -> bool
     let fifth = board.claim(seat);
     let sixth = board.claim(seat);
     let [a, b, c, d] = answers;
-    first == Some(a)
-        && second == Some(b)
-        && third == Some(c)
-        && fourth == Some(d)
+    [first, second, third, fourth] == [Some(a), Some(b), Some(c), Some(d)]
         && fifth.is_none()
         && sixth.is_none()
-}
-
-/// The harvest of a board that its seat closes, where there is memory.
-fn harvest_of(alloc: Global, board: Board, seat: Seat) -> Result<Harvest, Fail>
-    requires { seat.board ≡ board }
-{
-    match board.close(alloc, seat) {
-        Ok(harvest) => Ok(harvest),
-        Err(order) => {
-            let_go(order);
-            Err("no harvest")?
-        }
-    }
-}
-
-/// Whether one seat that claims and lifts each vertex is answered so and settles an order of the small game, and the order of the
-/// tables then.
-fn settled_by(alloc: Global, order: Order, answers: [bool; 4]) -> Result<(bool, Order), Fail> {
-    let (board, seat) = board_of(alloc, order)?;
-    let mut seat = seat;
-    let answered = lifts_answer(&board, &mut seat, answers);
-    let harvest = harvest_of(alloc, board, seat)?;
-    let settled = answered && is_settled_small(&harvest);
-    Ok((settled, harvest.again()))
-}
-
-#[test]
-fn one_seat_settles_the_small_game(rt: HostRuntime) -> Result<(), Fail> {
-    let order = small(rt.alloc(), &[])?;
-    let (first, order) = settled_by(rt.alloc(), order, [true, false, false, true])?;
-    let (second, order) = settled_by(rt.alloc(), order, [false; 4])?;
-    let_go(order);
-    assert_eq!(rt; (first, second), (true, true));
-    Ok(())
 }
 
 /// How often a seat splits, out of this many tries. What is split off is let go.
@@ -122,25 +110,6 @@ fn splits_stop(board: &Board, seat: &mut Seat) -> bool
     refused && rest == 62
 }
 
-/// Lets a board and its seat go by a harvest.
-fn close(alloc: Global, board: Board, seat: Seat) -> Result<(), Fail>
-    requires { seat.board ≡ board }
-{
-    let harvest = harvest_of(alloc, board, seat)?;
-    let_go(harvest.again());
-    Ok(())
-}
-
-#[test]
-fn the_opening_seat_splits_63_times(rt: HostRuntime) -> Result<(), Fail> {
-    let (board, seat) = board_of(rt.alloc(), small(rt.alloc(), &[])?)?;
-    let mut seat = seat;
-    let stop = splits_stop(&board, &mut seat);
-    close(rt.alloc(), board, seat)?;
-    assert!(rt; stop);
-    Ok(())
-}
-
 /// What a seat claimed: the vertices of each table as bits, and how many claims there were.
 #[derive(Clone, Copy)]
 struct Noted {
@@ -164,16 +133,15 @@ fn both(one: Noted, other: Noted) -> Noted {
     }
 }
 
-/// Claims until none is left, out of at most this many tries.
-fn claims_of(board: &Board, seat: Seat, tries: u32) -> (Seat, Noted)
-    requires { seat.board ≡ board.now }
-    ensures { result.0.board ≡ board.now }
+/// Claims until none is left, out of at most a thousand tries.
+fn claims_of(board: &Board, seat: &mut Seat) -> Noted
+    requires { seat.old.board ≡ board.now }
+    ensures { seat.new.board ≡ board.now }
 {
-    let mut seat = seat;
     let mut noted = NOTHING;
-    for _ in 0..tries {
-        let Some((which, v)) = board.claim(&mut seat) else {
-            return (seat, noted);
+    for _ in 0..1000u32 {
+        let Some((which, v)) = board.claim(seat) else {
+            break;
         };
         let bit = 1u64.wrapping_shl(v);
         let (hopeful, dual) = match which {
@@ -189,78 +157,98 @@ fn claims_of(board: &Board, seat: Seat, tries: u32) -> (Seat, Noted)
             },
         );
     }
-    (seat, noted)
+    noted
 }
 
-/// What two seats claim, each in a thread of its own, and the first with the second taken in.
+/// What two seats claim, each in a thread of its own.
 fn claims_of_two<R: Threads + Wait + Sync>(
     rt: &R,
     board: &Board,
-    one: Seat,
-    other: Seat,
-    tries: u32,
-) -> (Seat, Noted)
+    one: &mut Seat,
+    other: &mut Seat,
+) -> Noted
     requires sync { IsSync R.row }
-    requires one { one.board ≡ board.now }
-    requires other { other.board ≡ board.now }
-    ensures { result.0.board ≡ board.now }
+    requires one { one.old.board ≡ board.now }
+    requires other { other.old.board ≡ board.now }
+    ensures one { one.new.board ≡ board.now }
+    ensures other { other.new.board ≡ board.now }
 {
-    let ((one, first), (other, second)) = join(
+    let (first, second) = join_mut(
         rt,
-        move || -> (Seat, Noted)
-            requires { one.board ≡ board.now }
-            ensures { result.0.board ≡ board.entry.now }
-        { claims_of(board, one, tries) },
-        move || -> (Seat, Noted)
-            requires { other.board ≡ board.now }
-            ensures { result.0.board ≡ board.entry.now }
-        { claims_of(board, other, tries) },
+        &mut || -> Noted
+            requires { one.now.board ≡ board.now }
+            ensures { one.exit.now.board ≡ board.entry.now }
+        { claims_of(board, one) },
+        &mut || -> Noted
+            requires { other.now.board ≡ board.now }
+            ensures { other.exit.now.board ≡ board.entry.now }
+        { claims_of(board, other) },
     );
-    let mut one = one;
-    board.join(&mut one, other);
-    (one, both(first, second))
+    both(first, second)
 }
 
-/// What a board's opening seat and three that it splits off claim, each in a thread of its own.
-fn claims_of_four<R: Threads + Wait + Sync>(
+/// Whether a board's opening seat and three that it splits off, each in a thread of its own, claim each place of 62
+/// vertices once. The first takes in the others.
+fn claim_each_once<R: Threads + Wait + Abort + Sync>(rt: &R, board: &Board, seat: &mut Seat) -> bool
+    requires sync { IsSync R.row }
+    requires board { seat.old.board ≡ board.now }
+    ensures { seat.new.board ≡ board.now }
+{
+    let mut second = split_off(rt, board, seat);
+    let mut third = split_off(rt, board, seat);
+    let mut fourth = split_off(rt, board, seat);
+    let (first, last) = join_mut(
+        rt,
+        &mut || -> Noted
+            requires { IsSync R.row × (seat.now.board ≡ board.now) × (second.board ≡ board.now) }
+            ensures { (seat.exit.now.board ≡ board.entry.now) × (second.exit.board ≡ board.entry.now) }
+        { claims_of_two(rt, board, seat, &mut second) },
+        &mut || -> Noted
+            requires { IsSync R.row × (third.board ≡ board.now) × (fourth.board ≡ board.now) }
+            ensures { (third.exit.board ≡ board.entry.now) × (fourth.exit.board ≡ board.entry.now) }
+        { claims_of_two(rt, board, &mut third, &mut fourth) },
+    );
+    board.join(seat, second);
+    board.join(seat, third);
+    board.join(seat, fourth);
+    let noted = both(first, last);
+    let all = (1u64 << 62) - 1;
+    noted.hopeful == all && noted.dual == all && noted.claims == 124
+}
+
+/// Whether a seat does so.
+fn sits<R: Threads + Wait + Abort + Sync>(
     rt: &R,
     board: &Board,
-    seat: Seat,
-    tries: u32,
-) -> (Seat, Noted)
-    requires { seat.board ≡ board.now }
-    ensures { result.0.board ≡ board.now }
+    seat: &mut Seat,
+    sitting: Sitting,
+) -> bool
+    requires sync { IsSync R.row }
+    requires board { seat.old.board ≡ board.now }
+    ensures { seat.new.board ≡ board.now }
 {
-    let mut seat = seat;
-    let (Ok(second), Ok(third), Ok(fourth)) = (
-        board.split(&mut seat),
-        board.split(&mut seat),
-        board.split(&mut seat),
-    ) else {
-        return (seat, NOTHING);
-    };
-    let ((seat, first), (third, last)) = join(
-        rt,
-        move || -> (Seat, Noted)
-            requires { IsSync R.row × (seat.board ≡ board.now) × (second.board ≡ board.now) }
-            ensures { result.0.board ≡ board.entry.now }
-        { claims_of_two(rt, board, seat, second, tries) },
-        move || -> (Seat, Noted)
-            requires { IsSync R.row × (third.board ≡ board.now) × (fourth.board ≡ board.now) }
-            ensures { result.0.board ≡ board.entry.now }
-        { claims_of_two(rt, board, third, fourth, tries) },
-    );
-    let mut seat = seat;
-    board.join(&mut seat, third);
-    (seat, both(first, last))
+    match sitting {
+        Sitting::Lifts(answers) => lifts_answer(board, seat, answers),
+        Sitting::Splits => splits_stop(board, seat),
+        Sitting::Four => claim_each_once(rt, board, seat),
+    }
+}
+
+/// The harvest of a board whose seat does so.
+pub(crate) fn seated<R: Threads + Wait + Abort + AllocGlobal + Sync>(
+    rt: &R,
+    order: Order,
+    sitting: Sitting,
+) -> Harvest
+    requires { IsSync R.row }
+{
+    let (board, mut seat) = board_of(rt, order);
+    assert!(rt; sits(rt, &board, &mut seat, sitting));
+    given(rt, board.close(rt.alloc(), seat))
 }
 
 #[test]
-fn four_seats_in_four_threads_claim_each_place_once(rt: HostRuntime) -> Result<(), Fail> {
-    let (board, seat) = board_of(rt.alloc(), loops(rt.alloc(), 62)?)?;
-    let (seat, noted) = claims_of_four(&rt, &board, seat, 1000);
-    close(rt.alloc(), board, seat)?;
-    let all = (1u64 << 62) - 1;
-    assert!(rt; noted.hopeful == all && noted.dual == all && noted.claims == 124);
-    Ok(())
+fn four_seats_in_four_threads_claim_each_place_once(rt: HostRuntime) {
+    let harvest = seated(&rt, row_of(&rt, OPTIONS, 62, false), Sitting::Four);
+    let_go(harvest.again());
 }

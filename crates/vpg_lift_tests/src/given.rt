@@ -1,56 +1,68 @@
 //! Games, decisions and orders that the tests start from.
 
-ghost use Rattle.std.specs.Prelude.{◌≡◌, ◌↔◌, ◌<◌, map, IsTrue, All};
+ghost use Rattle.std.specs.Prelude.{◌≡◌, ◌↔◌, ◌<◌, map, replicate, IsTrue, All};
 ghost use Rattle.vpg_diagram.specs.FeatureDiagram.{feature_count};
 ghost use Rattle.vpg_partial.specs.Known.{literal_of};
 ghost use Rattle.vpg_partial.specs.TableLaws.{AreChoicesOf};
 ghost use Rattle.vpg_measure.specs.Lifts.{IsTableOf};
 
-use std::alloc::{AllocError, Global};
+use std::process::Abort;
 use std::sync::Arc;
-use std::test::Fail;
+use std::test::*;
 use vpg_diagram::Diagram;
 use vpg_game::GuardedGame;
 use vpg_hope::Arena;
 use vpg_measure::laws::orders::zeros_are_opening;
-use vpg_measure::{Harvest, Order, Refused, Shape, Table};
+use vpg_measure::{Order, Refused, Shape, Table};
 use vpg_partial::Decision;
-use vpg_verdict::Which;
 
 const SMALL: &[u8] = b"parity 1; 0 1 0 1[f],0; 1 2 1 0[g],1;";
 
 pub(crate) const OPTIONS: &[u8] = b"root r\noptional r f\noptional r g\n";
 
+pub(crate) const ROOT: &[u8] = b"root r\n";
+
+/// What a call gave that isn't refused. It stops a test that is refused.
+pub(crate) fn given<T, F>(rt: &impl Abort, answer: Result<T, F>) -> T {
+    match answer {
+        Ok(given) => given,
+        Err(_) => panic!(rt; "refused"),
+    }
+}
+
 /// The diagram of a text, to be shared.
-pub(crate) fn diagram_of(alloc: Global, text: &[u8]) -> Result<Arc<Diagram>, Fail> {
-    Ok(Arc::new(alloc, Diagram::read(alloc, text)?)?)
+pub(crate) fn diagram_of<R: Abort + AllocGlobal>(rt: &R, text: &[u8]) -> Arc<Diagram> {
+    let diagram = given(rt, Diagram::read(rt.alloc(), text));
+    given(rt, Arc::new(rt.alloc(), diagram))
 }
 
 /// The game of a text, with the diagram's features, to be shared.
-pub(crate) fn game_of(
-    alloc: Global,
+pub(crate) fn game_of<R: Abort + AllocGlobal>(
+    rt: &R,
     diagram: &Diagram,
     text: &[u8],
-) -> Result<Arc<GuardedGame>, Fail> {
-    Ok(Arc::new(alloc, GuardedGame::read(alloc, text, diagram.names())?)?)
+) -> Arc<GuardedGame> {
+    let game = given(rt, GuardedGame::read(rt.alloc(), text, diagram.names()));
+    given(rt, Arc::new(rt.alloc(), game))
 }
 
 /// Decisions with serials from 1, each of a feature, in or out.
-pub(crate) fn decisions_of(
-    alloc: Global,
+pub(crate) fn decisions_of<R: Abort + AllocGlobal>(
+    rt: &R,
     choices: &[(u16, bool)],
-) -> Result<Vec<Decision>, AllocError> {
-    let mut decisions = Vec::new(alloc);
+) -> Vec<Decision> {
+    let mut decisions = Vec::new(rt.alloc());
     for k in 0..choices.len() {
         let (feature, value) = choices[k];
-        decisions.push(Decision {
+        let decision = Decision {
             serial: k as u64 + 1,
             session: 1,
             feature,
             value,
-        })?;
+        };
+        given(rt, decisions.push(decision));
     }
-    Ok(decisions)
+    decisions
 }
 
 /// Whether each decision is of one of this many features.
@@ -71,85 +83,78 @@ fn fit(game: &GuardedGame, diagram: &Diagram, decisions: &[Decision]) -> bool
     are_below(diagram.features(), decisions)
 }
 
-/// The order of decisions with two tables of zeros, or why there is none, where game, diagram and decisions fit together.
-pub(crate) fn order_of(
-    alloc: Global,
+/// Zero at each of so many vertices.
+fn zeros<R: Abort + AllocGlobal>(rt: &R, vertices: u32) -> Table
+    ensures { result ≡ replicate vertices 0 }
+{
+    match Table::zero(rt.alloc(), vertices) {
+        Ok(table) => table,
+        Err(_) => panic!(rt; "no memory"),
+    }
+}
+
+/// A copy of a table.
+pub(crate) fn copy_of<R: Abort + AllocGlobal>(rt: &R, table: &Table) -> Table
+    ensures { result ≡ table.now }
+{
+    match table.copy(rt.alloc()) {
+        Ok(copy) => copy,
+        Err(_) => panic!(rt; "no memory"),
+    }
+}
+
+/// The order of decisions with two tables of zeros, or why there is none, where game, diagram and decisions fit
+/// together.
+pub(crate) fn order_of<R: Abort + AllocGlobal>(
+    rt: &R,
     game: Arc<GuardedGame>,
     diagram: Arc<Diagram>,
     decisions: Vec<Decision>,
-) -> Result<Result<Order, Refused>, Fail> {
-    if !fit(&game, &diagram, &decisions) {
-        return Err("no fit")?;
-    }
+) -> Result<Order, Refused> {
+    assert!(rt; fit(&game, &diagram, &decisions));
     zeros_are_opening();
     let vertices = game.vertices() as u32;
-    let hopeful = Table::zero(alloc, vertices)?;
-    let dual = Table::zero(alloc, vertices)?;
-    Ok(Order::of(alloc, game, diagram, decisions, hopeful, dual))
+    let hopeful = zeros(rt, vertices);
+    let dual = zeros(rt, vertices);
+    Order::of(rt.alloc(), game, diagram, decisions, hopeful, dual)
 }
 
 /// Lets an order go. A function that does so itself takes the prover seconds; so all call this one.
 pub(crate) fn let_go(_order: Order) {}
 
-/// Lets go what was refused, as `let_go` does an order.
-fn let_back(_refused: Refused) {}
-
-/// The order of two texts, a diagram's and a game's, with these decisions, or why there is none.
-fn order_or_refused(
-    alloc: Global,
-    options: &[u8],
-    game: &[u8],
-    choices: &[(u16, bool)],
-) -> Result<Result<Order, Refused>, Fail> {
-    let diagram = diagram_of(alloc, options)?;
-    let game = game_of(alloc, &diagram, game)?;
-    let decisions = decisions_of(alloc, choices)?;
-    order_of(alloc, game, diagram, decisions)
-}
-
 /// The order of two texts, a diagram's and a game's, with these decisions.
-pub(crate) fn order_from(
-    alloc: Global,
+pub(crate) fn order_from<R: Abort + AllocGlobal>(
+    rt: &R,
     options: &[u8],
     game: &[u8],
     choices: &[(u16, bool)],
-) -> Result<Order, Fail> {
-    match order_or_refused(alloc, options, game, choices)? {
-        Ok(order) => Ok(order),
-        Err(refused) => {
-            let_back(refused);
-            Err("refused")?
-        }
-    }
+) -> Order {
+    let diagram = diagram_of(rt, options);
+    let game = game_of(rt, &diagram, game);
+    given(rt, order_of(rt, game, diagram, decisions_of(rt, choices)))
 }
 
 /// The order of the game of two vertices with these decisions: feature 1 is `f`, feature 2 is `g`.
-pub(crate) fn small(alloc: Global, choices: &[(u16, bool)]) -> Result<Order, Fail> {
-    order_from(alloc, OPTIONS, SMALL, choices)
+pub(crate) fn small<R: Abort + AllocGlobal>(rt: &R, choices: &[(u16, bool)]) -> Order {
+    order_from(rt, OPTIONS, SMALL, choices)
 }
 
-/// Whether a harvest of the small game without decisions has its progress tables.
-pub(crate) fn is_settled_small(harvest: &Harvest) -> bool {
-    harvest.check()
-        && harvest.table(Which::Hopeful).values() == [1, 0].as_slice()
-        && harvest.table(Which::Dual).values() == [0, 1].as_slice()
-}
-
-/// The text of a game of vertices of Even, each with an edge to itself alone, of the priorities 1, 3, 5 and so on.
-fn loops_text(alloc: Global, count: u32) -> Result<String, Fail> {
-    let mut text = String::new(alloc);
+/// The order without decisions of a game of so many vertices of Even, of the priorities 1, 3, 5 and so on. Each has one
+/// edge, to itself or, where all lead back, to the first.
+pub(crate) fn row_of<R: Abort + AllocGlobal>(
+    rt: &R,
+    options: &[u8],
+    count: u32,
+    lead_back: bool,
+) -> Order {
+    let mut text = String::new(rt.alloc());
     let mut priority = 1u32;
-    for i in 0..count {
-        write!(text, "{i} {priority} 0 {i};")?;
+    for v in 0..count {
+        let to = if lead_back { 0 } else { v };
+        given(rt, write!(text, "{v} {priority} 0 {to};"));
         priority = priority.saturating_add(2);
     }
-    Ok(text)
-}
-
-/// The order of such a game without decisions.
-pub(crate) fn loops(alloc: Global, count: u32) -> Result<Order, Fail> {
-    let text = loops_text(alloc, count)?;
-    order_from(alloc, OPTIONS, text.as_bytes(), &[])
+    order_from(rt, options, text.as_bytes(), &[])
 }
 
 /// Whether this is a table of the arena's measures.

@@ -1,95 +1,72 @@
 //! Sweeps of the game of two vertices by 1 to 64 lifters, and lifters that wait for one another.
 
-ghost use Rattle.std.specs.Prelude.{◌≤◌};
-
-use crate::given::{is_settled_small, let_go, small};
-use std::alloc::Global;
+use crate::harvests::How::{Sweep, Swept};
+use crate::harvests::{How, Turn, in_turn};
+use std::process::Abort;
 use std::sync::Wait;
 use std::sync::atomic::{AtomicU64, Ordering};
 use std::test::*;
 use std::thread;
 use std::thread::Threads;
-use vpg_board::{Gate, OpenGate, sweep};
-use vpg_measure::Order;
+use vpg_board::{Gate, OpenGate};
 
 const MOST_TURNS: u64 = 1_000_000;
 
-/// Where lifters meet: each waits in its first claim until as many have come, and each first claim that met in time is counted.
+/// What a lifter waits for in its first claim.
+#[derive(Clone, Copy)]
+enum Until {
+    /// Nothing.
+    Now,
+    /// That so many lifters have come.
+    All(u32),
+    /// Lifter 1 waits until lifter 2 has lifted, and lifter 2 until lifter 1 has come.
+    Relay,
+}
+
+/// Where lifters meet: each waits in its first claim, and each first claim that went on in time is counted.
 #[derive(Drop)]
 struct Meeting {
-    lifters: u64,
+    until: Until,
+    // one bit for each lifter that came, from lifter 1
     come: AtomicU64,
-    met: AtomicU64,
-    // one bit for each lifter that came
-    seen: AtomicU64,
+    passed: AtomicU64,
+    // whether lifter 2 has lifted
+    lifted: AtomicU64,
 }
 
 impl Meeting {
-    fn of(lifters: u64) -> Meeting {
-        Meeting {
-            lifters,
-            come: AtomicU64::new(0),
-            met: AtomicU64::new(0),
-            seen: AtomicU64::new(0),
+    /// Whether this lifter need not wait.
+    fn may_pass(&self, lifter: u32) -> bool {
+        let come = self.come.load(Ordering::SeqCst);
+        match self.until {
+            Until::Now => true,
+            Until::All(lifters) => come.count_ones() >= lifters,
+            Until::Relay => {
+                if lifter == 1 {
+                    self.lifted.load(Ordering::SeqCst) != 0
+                } else {
+                    come & 1 != 0
+                }
+            }
         }
     }
 }
 
 impl Gate for Meeting {
     fn before_claim(&self, lifter: u32) {
-        if lifter >= 64 {
+        if lifter < 1 || 64 < lifter {
             return;
         }
-        let mark = 1u64 << lifter;
-        if self.seen.fetch_or(mark, Ordering::SeqCst) & mark != 0 {
+        let mark = 1u64 << (lifter - 1);
+        if self.come.fetch_or(mark, Ordering::SeqCst) & mark != 0 {
             return;
         }
-        self.come.fetch_add(1, Ordering::SeqCst);
         for _ in 0..MOST_TURNS {
-            if self.come.load(Ordering::SeqCst) >= self.lifters {
-                self.met.fetch_add(1, Ordering::SeqCst);
+            if self.may_pass(lifter) {
+                self.passed.fetch_add(1, Ordering::SeqCst);
                 return;
             }
             thread::yield_now();
-        }
-    }
-
-    fn after_lift(&self, _lifter: u32) {}
-}
-
-/// Holds lifter 1 in its first claim until lifter 2 has lifted, and lifter 2 in its first claim until lifter 1 has reached its own.
-#[derive(Drop)]
-struct Relay {
-    reached: AtomicU64,
-    lifted: AtomicU64,
-    passed: AtomicU64,
-    seen: AtomicU64,
-}
-
-fn wait_for(word: &AtomicU64, passed: &AtomicU64) {
-    for _ in 0..MOST_TURNS {
-        if word.load(Ordering::SeqCst) != 0 {
-            passed.fetch_add(1, Ordering::SeqCst);
-            return;
-        }
-        thread::yield_now();
-    }
-}
-
-impl Gate for Relay {
-    fn before_claim(&self, lifter: u32) {
-        if lifter > 2 {
-            return;
-        }
-        let mark = 1u64 << lifter;
-        if self.seen.fetch_or(mark, Ordering::SeqCst) & mark != 0 {
-            return;
-        }
-        if lifter == 1 {
-            self.reached.store(1, Ordering::SeqCst);
-            wait_for(&self.lifted, &self.passed);
-        } else {
-            wait_for(&self.reached, &self.passed);
         }
     }
 
@@ -100,65 +77,49 @@ impl Gate for Relay {
     }
 }
 
-/// Whether a sweep of an order has the progress tables of the small game, and the order of its tables.
-fn settled_by<G: Gate + Sync, R: Threads + Wait + Sync>(
+/// A turn that settles the small game without decisions.
+fn settles(how: How) -> Turn {
+    (how, [[1, 0], [0, 1]], true)
+}
+
+/// Which lifters came where turns have settled the small game, and how many first claims went on in time.
+fn met<R: Threads + Wait + Abort + AllocGlobal + Sync>(
     rt: &R,
-    alloc: Global,
-    order: Order,
-    lifters: u32,
-    gate: &G,
-) -> (bool, Order)
-    requires { (1 ≤ lifters) × (lifters ≤ 64) }
-{
-    let harvest = sweep(rt, alloc, order, lifters, gate);
-    let settled = is_settled_small(&harvest);
-    (settled, harvest.again())
-}
-
-/// Whether a sweep with a gate settles the small game, and another one leaves it so.
-fn settles<G: Gate + Sync, R: Threads + Wait + Sync>(
-    rt: &R,
-    alloc: Global,
-    lifters: u32,
-    gate: &G,
-) -> Result<bool, Fail>
-    requires { (1 ≤ lifters) × (lifters ≤ 64) }
-{
-    let order = small(alloc, &[])?;
-    let (first, order) = settled_by(rt, alloc, order, lifters, gate);
-    let (second, order) = settled_by(rt, alloc, order, lifters, gate);
-    let_go(order);
-    Ok(first && second)
-}
-
-#[test]
-fn one_sweep_settles_the_small_game(rt: HostRuntime) -> Result<(), Fail> {
-    for lifters in 1..65 {
-        assert!(rt;
-            settles(&rt, rt.alloc(), lifters, &OpenGate)?,
-            "by {lifters}"
-        );
-    }
-    Ok(())
-}
-
-#[test]
-fn two_lifters_wait_for_one_another(rt: HostRuntime) -> Result<(), Fail> {
-    let relay = Relay {
-        reached: AtomicU64::new(0),
-        lifted: AtomicU64::new(0),
+    until: Until,
+    turns: &[Turn],
+) -> (u64, u64) {
+    let meeting = Meeting {
+        until,
+        come: AtomicU64::new(0),
         passed: AtomicU64::new(0),
-        seen: AtomicU64::new(0),
+        lifted: AtomicU64::new(0),
     };
-    let settled = settles(&rt, rt.alloc(), 2, &relay)?;
-    assert_eq!(rt; (settled, relay.passed.load(Ordering::SeqCst)), (true, 2));
-    Ok(())
+    in_turn(rt, &meeting, &[], turns);
+    (
+        meeting.come.load(Ordering::SeqCst),
+        meeting.passed.load(Ordering::SeqCst),
+    )
+}
+
+// A second sweep leaves it so.
+#[test]
+fn one_sweep_settles_the_small_game(rt: HostRuntime) {
+    for lifters in 1..65 {
+        in_turn(&rt, &OpenGate, &[], &[settles(Sweep(lifters)); 2]);
+    }
 }
 
 #[test]
-fn four_lifters_meet_before_their_first_claims(rt: HostRuntime) -> Result<(), Fail> {
-    let meeting = Meeting::of(4);
-    let settled = settles(&rt, rt.alloc(), 4, &meeting)?;
-    assert_eq!(rt; (settled, meeting.met.load(Ordering::SeqCst)), (true, 4));
-    Ok(())
+fn lifters_wait_for_one_another(rt: HostRuntime) {
+    let two = met(&rt, Until::Relay, &[settles(Sweep(2)); 2]);
+    let four = met(&rt, Until::All(4), &[settles(Sweep(4)); 2]);
+    assert!(rt; two == (3, 2) && four == (15, 4));
+}
+
+#[test]
+fn a_sweep_has_as_many_lifters_as_were_asked_for(rt: HostRuntime) {
+    for (lifters, come) in [(1, 1), (2, 3), (4, 15), (64, u64::MAX)] {
+        let met = met(&rt, Until::Now, &[settles(Swept(lifters))]);
+        assert!(rt; met.0 == come);
+    }
 }
