@@ -1,5 +1,5 @@
-//! Worked calls on desks, as tables: each row is a call and what it gives. Features are numbered in the diagram's order: r
-//! is 0, f is 1, g is 2.
+//! Worked calls on desks, as tables: each row is a call and what it gives. Features are numbered in the diagram's order:
+//! r is 0, f is 1, g is 2.
 ghost use Rattle.std.specs.Prelude.{◌<◌};
 
 use std::alloc::Global;
