@@ -1,11 +1,13 @@
-//! Calls that make something of decisions.
+//! Calls that make something of decisions, and calls that take no memory.
 
 ghost use Rattle.std.specs.Prelude.{◌↔◌, ◌<◌, IsTrue, All};
 ghost use Rattle.vpg_measure.specs.Lifts.{IsTableOf};
 
-use crate::lookups::{ask, ask_guard};
-use crate::{DIAGRAM, GAME};
-use anyhow::{Result, bail};
+use crate::done_if;
+use crate::lookups::{
+    arena_tells, ask_guard, diagram_tells, game_tells, known_tells, measures_tell, names_tell,
+    settles,
+};
 use std::alloc::Global;
 use std::sync::Wait;
 use vpg_diagram::Diagram;
@@ -16,9 +18,9 @@ use vpg_measure::{Shape, StrategyFault, Table, strategy};
 use vpg_partial::{Decision, Partial, PartialFault};
 use vpg_scarce::{End, Heap, Report, Trial};
 
-/// What is made.
+/// What is made, or asked.
 #[derive(Clone, Copy)]
-enum Made {
+enum Call {
     Known,
     Product,
     Arena,
@@ -26,19 +28,34 @@ enum Made {
     Zeros,
     Copy,
     Strategy,
+    AskNames,
+    AskDiagram,
+    AskGame,
+    AskKnown,
+    AskArena,
+    AskMeasures,
+    Settle,
 }
 
-/// What is made, and of what.
+/// What is made of a game and a diagram.
 #[derive(Drop)]
-struct Making<'t> {
-    made: Made,
+struct Parts {
+    known: Partial,
+    shape: Shape,
+    arena: Arena,
+    /// The settled table of the hopeful game.
+    table: Table,
+    /// A table of zeros.
+    zeros: Table,
+}
+
+/// What is made or asked, and of what.
+#[derive(Drop)]
+struct Calling<'t> {
+    call: Call,
     diagram: &'t Diagram,
     game: &'t GuardedGame,
-    known: &'t Partial,
-    shape: &'t Shape,
-    arena: &'t Arena,
-    /// The settled table of the hopeful game.
-    table: &'t Table,
+    parts: &'t mut Parts,
 }
 
 /// All three features decided in.
@@ -91,19 +108,17 @@ fn close_checked(
 }
 
 fn close(alloc: Global, diagram: &Diagram) -> End {
-    let made = close_checked(alloc, diagram, &DECISIONS);
-    match &made {
-        Ok(known) if known.is_full() => End::Done,
+    match close_checked(alloc, diagram, &DECISIONS) {
+        Ok(known) => done_if(known.is_full()),
         Err(PartialFault::Memory) => End::Memory,
-        _ => End::Otherwise,
+        Err(_) => End::Otherwise,
     }
 }
 
 fn make_product(alloc: Global, known: &Partial) -> End {
-    let made = known.product(alloc);
-    match &made {
-        Ok(Some(set)) if set.as_slice() == [true, true, true].as_slice() => End::Done,
-        Ok(_) => End::Otherwise,
+    match known.product(alloc) {
+        Ok(Some(set)) => done_if(set.as_slice() == [true, true, true].as_slice()),
+        Ok(None) => End::Otherwise,
         Err(_) => End::Memory,
     }
 }
@@ -112,37 +127,29 @@ fn make_arena(alloc: Global, game: &GuardedGame, known: &Partial) -> End {
     if known.values().len() != game.features() {
         return End::Otherwise;
     }
-    let made = Arena::hopeful(alloc, game, known);
-    match &made {
-        Ok(arena) if arena.vertices() == 2 => End::Done,
-        Ok(_) => End::Otherwise,
+    match Arena::hopeful(alloc, game, known) {
+        Ok(arena) => done_if(arena.vertices() == 2),
         Err(_) => End::Memory,
     }
 }
 
 fn make_shape(alloc: Global, game: &GuardedGame) -> End {
-    let made = Shape::of(alloc, game);
-    match &made {
-        Ok(shape) if shape.top() == 2 => End::Done,
-        Ok(_) => End::Otherwise,
+    match Shape::of(alloc, game) {
+        Ok(shape) => done_if(shape.top() == 2),
         Err(_) => End::Memory,
     }
 }
 
 fn make_zeros(alloc: Global) -> End {
-    let made = Table::zero(alloc, 3);
-    match &made {
-        Ok(table) if table.values() == [0, 0, 0].as_slice() => End::Done,
-        Ok(_) => End::Otherwise,
+    match Table::zero(alloc, 3) {
+        Ok(table) => done_if(table.values() == [0, 0, 0].as_slice()),
         Err(_) => End::Memory,
     }
 }
 
 fn copy_table(alloc: Global, table: &Table) -> End {
-    let made = table.copy(alloc);
-    match &made {
-        Ok(copy) if copy.values() == table.values() => End::Done,
-        Ok(_) => End::Otherwise,
+    match table.copy(alloc) {
+        Ok(copy) => done_if(copy.values() == table.values()),
         Err(_) => End::Memory,
     }
 }
@@ -159,126 +166,107 @@ fn make_strategy(alloc: Global, shape: &Shape, arena: &Arena, table: &Table) -> 
     if !is_table(shape, arena, table) {
         return End::Otherwise;
     }
-    let made = strategy(alloc, shape, arena, table);
-    match &made {
-        Ok(choices) if choices.as_slice() == [Some(1), None].as_slice() => End::Done,
+    match strategy(alloc, shape, arena, table) {
+        Ok(choices) => done_if(choices.as_slice() == [Some(1), None].as_slice()),
         Err(StrategyFault::Memory) => End::Memory,
-        _ => End::Otherwise,
+        Err(_) => End::Otherwise,
     }
 }
 
-impl<R> Trial<R> for Making<'_> {
+impl<R> Trial<R> for Calling<'_> {
     fn attempt(&mut self, _rt: &R, alloc: Global) -> End {
-        match self.made {
-            Made::Known => close(alloc, self.diagram),
-            Made::Product => make_product(alloc, self.known),
-            Made::Arena => make_arena(alloc, self.game, self.known),
-            Made::Shape => make_shape(alloc, self.game),
-            Made::Zeros => make_zeros(alloc),
-            Made::Copy => copy_table(alloc, self.table),
-            Made::Strategy => make_strategy(alloc, self.shape, self.arena, self.table),
+        let parts = &mut *self.parts;
+        match self.call {
+            Call::Known => close(alloc, self.diagram),
+            Call::Product => make_product(alloc, &parts.known),
+            Call::Arena => make_arena(alloc, self.game, &parts.known),
+            Call::Shape => make_shape(alloc, self.game),
+            Call::Zeros => make_zeros(alloc),
+            Call::Copy => copy_table(alloc, &parts.table),
+            Call::Strategy => make_strategy(alloc, &parts.shape, &parts.arena, &parts.table),
+            Call::AskNames => names_tell(self.diagram.names()),
+            Call::AskDiagram => diagram_tells(self.diagram),
+            Call::AskGame => game_tells(self.game),
+            Call::AskKnown => known_tells(&parts.known),
+            Call::AskArena => arena_tells(&parts.arena),
+            Call::AskMeasures => measures_tell(&parts.shape, &parts.arena, &parts.table),
+            Call::Settle => settles(&parts.shape, &parts.arena, &mut parts.zeros),
         }
     }
 
     fn is_unchanged(&mut self, _rt: &R, _alloc: Global) -> bool {
-        self.known.is_full() && self.table.values() == SETTLED.as_slice()
+        self.parts.known.is_full() && self.parts.table.values() == SETTLED.as_slice()
     }
 }
+
+/// The calls. Those that ask take no memory: what they say is compared where there is none.
+const CALLS: &[(&str, Call)] = &[
+    ("Partial::close", Call::Known),
+    ("Partial::product", Call::Product),
+    ("Arena::hopeful", Call::Arena),
+    ("Shape::of", Call::Shape),
+    ("Table::zero", Call::Zeros),
+    ("Table::copy", Call::Copy),
+    ("strategy", Call::Strategy),
+    ("Names::len, get, name", Call::AskNames),
+    ("Diagram::names, is_product, clauses", Call::AskDiagram),
+    (
+        "GuardedGame::vertices, features, id, find, owner, priority, edges, tops",
+        Call::AskGame,
+    ),
+    ("Partial::value, is_full", Call::AskKnown),
+    ("Arena::kept", Call::AskArena),
+    ("Shape::top, prog, lift, is_progress", Call::AskMeasures),
+    ("settle_alone, Table::get, set", Call::Settle),
+];
 
 /// Makes each with little memory.
-fn refuse_each<R: Wait>(rt: &R, heap: &mut Heap, report: &mut Report, making: &mut Making<'_>) {
-    for (name, made) in [
-        ("Partial::close", Made::Known),
-        ("Partial::product", Made::Product),
-        ("Arena::hopeful", Made::Arena),
-        ("Shape::of", Made::Shape),
-        ("Table::zero", Made::Zeros),
-        ("Table::copy", Made::Copy),
-        ("strategy", Made::Strategy),
-    ] {
-        making.made = made;
-        report.try_call(rt, heap, name, making);
+fn refuse_each<R: Wait>(rt: &R, heap: &mut Heap, report: &mut Report, calling: &mut Calling<'_>) {
+    for (name, call) in CALLS {
+        calling.call = *call;
+        report.try_call(rt, heap, name, calling);
     }
-}
-
-/// What all is made of.
-#[derive(Drop)]
-struct Parts {
-    known: Partial,
-    shape: Shape,
-    arena: Arena,
-    table: Table,
 }
 
 /// The arena where a game has the features of what is known.
-fn arena_of(alloc: Global, game: &GuardedGame, known: &Partial) -> Result<Arena> {
+fn arena_of(alloc: Global, game: &GuardedGame, known: &Partial) -> Option<Arena> {
     if known.values().len() != game.features() {
-        bail!("features");
+        return None;
     }
-    Ok(Arena::hopeful(alloc, game, known)?)
+    Arena::hopeful(alloc, game, known).ok()
 }
 
-fn parts_of(alloc: Global, diagram: &Diagram, game: &GuardedGame) -> Result<Parts> {
-    let known = close_checked(alloc, diagram, &DECISIONS)?;
-    let shape = Shape::of(alloc, game)?;
+fn parts_of(alloc: Global, diagram: &Diagram, game: &GuardedGame) -> Option<Parts> {
+    let known = close_checked(alloc, diagram, &DECISIONS).ok()?;
     let arena = arena_of(alloc, game, &known)?;
-    let table = Table::of(Vec::from_slice(alloc, &SETTLED)?);
-    Ok(Parts {
+    let shape = Shape::of(alloc, game).ok()?;
+    let table = Table::of(Vec::from_slice(alloc, &SETTLED).ok()?);
+    let zeros = Table::zero(alloc, 2).ok()?;
+    Some(Parts {
         known,
         shape,
         arena,
         table,
+        zeros,
     })
 }
 
-/// Makes each of a game and a diagram.
-fn refuse_of<R: Wait>(
+/// Makes each of a game and a diagram with little memory.
+pub(crate) fn refuse<R: Wait>(
     rt: &R,
     heap: &mut Heap,
     report: &mut Report,
     diagram: &Diagram,
     game: &GuardedGame,
-) -> Result<()> {
-    let parts = parts_of(heap.alloc(), diagram, game)?;
-    let zeros = Table::zero(heap.alloc(), 2)?;
-    let mut making = Making {
-        made: Made::Known,
-        diagram,
-        game,
-        known: &parts.known,
-        shape: &parts.shape,
-        arena: &parts.arena,
-        table: &parts.table,
-    };
-    refuse_each(rt, heap, report, &mut making);
-    let measures = (&parts.shape, &parts.arena, &parts.table);
-    ask(
-        rt,
-        heap,
-        report,
-        diagram,
-        game,
-        &parts.known,
-        measures,
-        zeros,
-    );
-    Ok(())
-}
-
-/// Makes each of a diagram.
-fn refuse_over<R: Wait>(
-    rt: &R,
-    heap: &mut Heap,
-    report: &mut Report,
-    diagram: &Diagram,
-) -> Result<()> {
+) -> Option<()> {
     ask_guard(heap, report, diagram.names(), &SET, &KNOWN)?;
-    let game = GuardedGame::read(heap.alloc(), GAME, diagram.names())?;
-    refuse_of(rt, heap, report, diagram, &game)
-}
-
-/// Makes each with little memory.
-pub(crate) fn refuse<R: Wait>(rt: &R, heap: &mut Heap, report: &mut Report) -> Result<()> {
-    let diagram = Diagram::read(heap.alloc(), DIAGRAM)?;
-    refuse_over(rt, heap, report, &diagram)
+    let mut parts = parts_of(heap.alloc(), diagram, game)?;
+    let mut calling = Calling {
+        call: Call::Known,
+        diagram,
+        game,
+        parts: &mut parts,
+    };
+    refuse_each(rt, heap, report, &mut calling);
+    Some(())
 }

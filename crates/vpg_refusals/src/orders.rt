@@ -8,8 +8,7 @@ ghost use Rattle.vpg_partial.specs.Known.{literal_of};
 ghost use Rattle.vpg_partial.specs.TableLaws.{AreChoicesOf};
 
 use crate::decided::are_below;
-use crate::{DIAGRAM, GAME, told_of};
-use anyhow::{Result, bail};
+use crate::told_of;
 use std::alloc::{AllocError, Global};
 use std::sync::{Arc, Wait};
 use vpg_diagram::Diagram;
@@ -78,49 +77,60 @@ fn came_back(refused: Refused) -> bool {
         && refused.dual.values() == [0, 0].as_slice()
 }
 
-/// An order that is made again and again.
-#[derive(Drop)]
-struct Ordering {
+/// An order of these; or how it is refused, with a note where what was handed in came back.
+fn made_of(
+    alloc: Global,
     game: Arc<GuardedGame>,
     diagram: Arc<Diagram>,
+    decisions: Vec<Decision>,
+    is_back: &mut bool,
+) -> Result<Order, End> {
+    if !fit(&game, &diagram, &decisions) {
+        return Err(End::Otherwise);
+    }
+    match order_of(alloc, game, diagram, decisions) {
+        Ok(Ok(order)) => Ok(order),
+        Ok(Err(refused)) => {
+            *is_back = came_back(refused);
+            Err(End::Memory)
+        }
+        Err(_) => Err(End::Memory),
+    }
+}
+
+/// An order that is made again and again.
+#[derive(Drop)]
+struct Ordering<'t> {
+    game: &'t Arc<GuardedGame>,
+    diagram: &'t Arc<Diagram>,
     /// Whether what was handed in last came back.
     is_back: bool,
 }
 
-impl Ordering {
-    /// Makes the order.
-    fn make(
-        &mut self,
-        alloc: Global,
-        game: Arc<GuardedGame>,
-        diagram: Arc<Diagram>,
-        decisions: Vec<Decision>,
-    ) -> End {
-        if !fit(&game, &diagram, &decisions) {
-            return End::Otherwise;
+/// The order; or how it is refused.
+fn made(alloc: Global, ordering: &mut Ordering<'_>) -> Result<Order, End> {
+    let Ok(decisions) = Vec::from_slice(alloc, &DECISIONS) else {
+        return Err(End::Memory);
+    };
+    match (
+        Arc::try_clone(ordering.game),
+        Arc::try_clone(ordering.diagram),
+    ) {
+        (Ok(game), Ok(diagram)) => {
+            made_of(alloc, game, diagram, decisions, &mut ordering.is_back)
         }
-        match order_of(alloc, game, diagram, decisions) {
-            Ok(Ok(order)) => {
-                let_go(order);
-                End::Done
-            }
-            Ok(Err(refused)) => {
-                self.is_back = came_back(refused);
-                End::Memory
-            }
-            Err(_) => End::Memory,
-        }
+        _ => Err(End::Otherwise),
     }
 }
 
-impl<R> Trial<R> for Ordering {
+impl<R> Trial<R> for Ordering<'_> {
     fn attempt(&mut self, _rt: &R, alloc: Global) -> End {
-        let Ok(decisions) = Vec::from_slice(alloc, &DECISIONS) else {
-            return End::Memory;
-        };
-        match (Arc::try_clone(&self.game), Arc::try_clone(&self.diagram)) {
-            (Ok(game), Ok(diagram)) => self.make(alloc, game, diagram, decisions),
-            _ => End::Otherwise,
+        match made(alloc, self) {
+            Ok(order) => {
+                let_go(order);
+                End::Done
+            }
+            Err(end) => end,
         }
     }
 
@@ -223,31 +233,13 @@ fn ask(heap: &mut Heap, report: &mut Report, order: Order) {
     report.note(heap, "Harvest::of", told_of(tells));
 }
 
-/// Asks an order, where there is one.
-fn ask_made(
-    heap: &mut Heap,
-    report: &mut Report,
-    game: Arc<GuardedGame>,
-    diagram: Arc<Diagram>,
-) -> Result<()> {
-    let decisions = Vec::from_slice(heap.alloc(), &DECISIONS)?;
-    if !fit(&game, &diagram, &decisions) {
-        bail!("no fit");
-    }
-    match order_of(heap.alloc(), game, diagram, decisions)? {
-        Ok(order) => ask(heap, report, order),
-        Err(_) => bail!("no order"),
-    }
-    Ok(())
-}
-
-/// Makes an order of these with little memory.
-fn refuse_of<R: Wait>(
+/// Makes an order of a game and a diagram with little memory, and asks it.
+pub(crate) fn refuse<R: Wait>(
     rt: &R,
     heap: &mut Heap,
     report: &mut Report,
-    game: Arc<GuardedGame>,
-    diagram: Arc<Diagram>,
+    diagram: &Arc<Diagram>,
+    game: &Arc<GuardedGame>,
 ) {
     let mut ordering = Ordering {
         game,
@@ -255,23 +247,7 @@ fn refuse_of<R: Wait>(
         is_back: true,
     };
     report.try_call(rt, heap, "Order::of", &mut ordering);
-}
-
-fn game_of(alloc: Global, diagram: &Diagram) -> Result<Arc<GuardedGame>> {
-    let game = GuardedGame::read(alloc, GAME, diagram.names())?;
-    Ok(Arc::new(alloc, game)?)
-}
-
-fn diagram_of(alloc: Global) -> Result<Arc<Diagram>> {
-    let diagram = Diagram::read(alloc, DIAGRAM)?;
-    Ok(Arc::new(alloc, diagram)?)
-}
-
-/// Makes an order with little memory.
-pub(crate) fn refuse<R: Wait>(rt: &R, heap: &mut Heap, report: &mut Report) -> Result<()> {
-    let diagram = diagram_of(heap.alloc())?;
-    let game = game_of(heap.alloc(), &diagram)?;
-    let (game_again, diagram_again) = (Arc::try_clone(&game)?, Arc::try_clone(&diagram)?);
-    refuse_of(rt, heap, report, game, diagram);
-    ask_made(heap, report, game_again, diagram_again)
+    if let Ok(order) = made(heap.alloc(), &mut ordering) {
+        ask(heap, report, order);
+    }
 }

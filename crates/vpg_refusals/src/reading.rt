@@ -1,6 +1,6 @@
 //! Calls that read texts.
 
-use anyhow::Result;
+use crate::done_if;
 use std::alloc::Global;
 use std::sync::Wait;
 use vpg_diagram::{Diagram, DiagramFault};
@@ -45,28 +45,25 @@ fn are_ten(names: &Names) -> bool {
     names.len() == TEN.len()
 }
 
-// Each of these lets go what was read in one place, at its end: more ends take the prover seconds each.
+// Each of these lets go what was read in one place: more ends take the prover seconds each.
 
 fn make_names(alloc: Global) -> End {
-    let made = Names::new(alloc);
-    match &made {
-        Ok(names) if names.len() == 0 => End::Done,
-        Ok(_) => End::Otherwise,
+    match Names::new(alloc) {
+        Ok(names) => done_if(names.len() == 0),
         Err(_) => End::Memory,
     }
 }
 
 fn add_name(alloc: Global, names: &mut Names) -> End {
     match names.add(alloc, b"another") {
-        Ok(10) => End::Done,
+        Ok(place) => done_if(place == 10),
         Err(NameFault::Memory) => End::Memory,
-        _ => End::Otherwise,
+        Err(_) => End::Otherwise,
     }
 }
 
 fn read_guard(alloc: Global, names: &Names) -> End {
-    let read = parse_guard(alloc, b"!(a|b) & true & (c | d | !!e)", names);
-    match &read {
+    match parse_guard(alloc, b"!(a|b) & true & (c | d | !!e)", names) {
         Ok(_) => End::Done,
         Err(GuardFault::Memory) => End::Memory,
         Err(_) => End::Otherwise,
@@ -74,20 +71,18 @@ fn read_guard(alloc: Global, names: &Names) -> End {
 }
 
 fn read_diagram(alloc: Global) -> End {
-    let read = Diagram::read(alloc, DIAGRAM);
-    match &read {
-        Ok(diagram) if diagram.features() == 11 => End::Done,
+    match Diagram::read(alloc, DIAGRAM) {
+        Ok(diagram) => done_if(diagram.features() == 11),
         Err(DiagramFault::Memory) => End::Memory,
-        _ => End::Otherwise,
+        Err(_) => End::Otherwise,
     }
 }
 
 fn read_game(alloc: Global, names: &Names) -> End {
-    let read = GuardedGame::read(alloc, GAME, names);
-    match &read {
-        Ok(game) if game.vertices() == 4 => End::Done,
+    match GuardedGame::read(alloc, GAME, names) {
+        Ok(game) => done_if(game.vertices() == 4),
         Err(GameFault::Memory) => End::Memory,
-        _ => End::Otherwise,
+        Err(_) => End::Otherwise,
     }
 }
 
@@ -108,11 +103,12 @@ impl<R> Trial<R> for Reading {
 }
 
 /// Adds the ten names.
-fn add_ten(alloc: Global, names: &mut Names) -> Result<()> {
+fn add_ten(alloc: Global, names: &mut Names) -> bool {
+    let mut lacks = false;
     for name in TEN {
-        names.add(alloc, name.as_bytes())?;
+        lacks |= names.add(alloc, name.as_bytes()).is_err();
     }
-    Ok(())
+    !lacks
 }
 
 /// Reads each text with little memory.
@@ -129,22 +125,15 @@ fn refuse_each<R: Wait>(rt: &R, heap: &mut Heap, report: &mut Report, reading: &
     }
 }
 
-/// Adds ten names, and reads each text over them with little memory.
-fn refuse_over<R: Wait>(
-    rt: &R,
-    heap: &mut Heap,
-    report: &mut Report,
-    reading: &mut Reading,
-) -> Result<()> {
-    add_ten(heap.alloc(), &mut reading.names)?;
-    refuse_each(rt, heap, report, reading);
-    Ok(())
-}
-
-/// Reads each text with little memory.
-pub(crate) fn refuse<R: Wait>(rt: &R, heap: &mut Heap, report: &mut Report) -> Result<()> {
-    let text = Text::NoNames;
-    let names = Names::new(heap.alloc())?;
-    let mut reading = Reading { text, names };
-    refuse_over(rt, heap, report, &mut reading)
+/// Reads each text over the ten names with little memory.
+pub(crate) fn refuse<R: Wait>(rt: &R, heap: &mut Heap, report: &mut Report) -> Option<()> {
+    let names = Names::new(heap.alloc()).ok()?;
+    let mut reading = Reading {
+        text: Text::NoNames,
+        names,
+    };
+    if add_ten(heap.alloc(), &mut reading.names) {
+        refuse_each(rt, heap, report, &mut reading);
+    }
+    Some(())
 }

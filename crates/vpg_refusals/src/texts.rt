@@ -13,8 +13,6 @@ ghost use Rattle.vpg_trail.specs.Shown.{entry_of};
 
 use crate::decided::DECISIONS;
 use crate::orders::fit;
-use crate::{DIAGRAM, GAME};
-use anyhow::{Result, bail};
 use std::alloc::{AllocError, Global};
 use std::sync::Arc;
 use vpg_diagram::{Diagram, Literal};
@@ -139,7 +137,7 @@ fn put_each(
     page: &Page,
     game: &GuardedGame,
     diagram: &Diagram,
-) -> Result<()>
+)
     requires features { game.now.features ≡ feature_count diagram.now.lines }
     requires named { AreChoicesOf diagram.now.lines (map literal_of page.now.decisions) }
     requires consistent { ¬ (HasConflictOf diagram.now.lines (map literal_of page.now.decisions)) }
@@ -157,11 +155,10 @@ fn put_each(
         ("plan", Text::Plan),
         ("count", Text::Count),
     ] {
-        let mut out = Vec::from_slice(heap.alloc(), BEFORE)?;
+        let mut out = Vec::from_slice(heap.alloc(), BEFORE).unwrap_or(Vec::new(heap.alloc()));
         let told = put_growing(heap, text, page, game, diagram, &mut out);
         report.note(heap, name, told);
     }
-    Ok(())
 }
 
 /// Whether a table has a number up to the top for each vertex.
@@ -219,20 +216,17 @@ fn put_page(
     page: &Page,
     game: &GuardedGame,
     diagram: &Diagram,
-) -> Result<()> {
-    if !fit(game, diagram, page.decisions.as_slice()) {
-        bail!("features");
+) -> Option<()> {
+    if !fit(game, diagram, page.decisions.as_slice()) || !name_all(page, game, diagram) {
+        return None;
     }
-    are_consistent(heap.alloc(), diagram, page)?;
-    let shape = Shape::of(heap.alloc(), game)?;
-    let dual = Shape::of_dual(heap.alloc(), game)?;
-    if !is_within(game, &shape, &page.hopeful) || !is_within(game, &dual, &page.dual) {
-        bail!("tables");
+    are_consistent(heap.alloc(), diagram, page).ok()?;
+    let shape = Shape::of(heap.alloc(), game).ok()?;
+    let dual = Shape::of_dual(heap.alloc(), game).ok()?;
+    if is_within(game, &shape, &page.hopeful) && is_within(game, &dual, &page.dual) {
+        put_each(heap, report, page, game, diagram);
     }
-    if !name_all(page, game, diagram) {
-        bail!("entries");
-    }
-    put_each(heap, report, page, game, diagram)
+    Some(())
 }
 
 /// A decision, and a lift under another.
@@ -264,15 +258,13 @@ fn page_of(alloc: Global) -> Result<Page, AllocError> {
     })
 }
 
-/// Puts each text of a page over a diagram.
-fn put_over(heap: &mut Heap, report: &mut Report, page: &Page, diagram: &Diagram) -> Result<()> {
-    let game = GuardedGame::read(heap.alloc(), GAME, diagram.names())?;
-    put_page(heap, report, page, &game, diagram)
-}
-
-/// Writes each text with little memory.
-pub(crate) fn refuse(heap: &mut Heap, report: &mut Report) -> Result<()> {
-    let diagram = Diagram::read(heap.alloc(), DIAGRAM)?;
-    let page = page_of(heap.alloc())?;
-    put_over(heap, report, &page, &diagram)
+/// Writes each text of a page of a game with little memory.
+pub(crate) fn refuse(
+    heap: &mut Heap,
+    report: &mut Report,
+    diagram: &Diagram,
+    game: &GuardedGame,
+) -> Option<()> {
+    let page = page_of(heap.alloc()).ok()?;
+    put_page(heap, report, &page, game, diagram)
 }

@@ -4,7 +4,7 @@ ghost use Rattle.std.specs.Prelude.{◌≡◌, [], ◌∷◌, map, IfOk};
 ghost use Rattle.vpg_trail.specs.Page.{Decided};
 ghost use Rattle.vpg_trail.specs.Shown.{entry_of};
 
-use anyhow::Result;
+use crate::done_if;
 use std::alloc::{AllocError, Global};
 use std::sync::Wait;
 use vpg_partial::Decision;
@@ -44,10 +44,8 @@ struct Trailing {
 }
 
 fn open(alloc: Global) -> End {
-    let opened = Trail::open(alloc, 2);
-    match &opened {
-        Ok(trail) if trail.entries().is_empty() => End::Done,
-        Ok(_) => End::Otherwise,
+    match Trail::open(alloc, 2) {
+        Ok(trail) => done_if(trail.entries().is_empty()),
         Err(_) => End::Memory,
     }
 }
@@ -110,11 +108,7 @@ fn look(trail: &Trail) -> End {
     if trail.entries().len() != 4 {
         return End::Otherwise;
     }
-    if zeros && trail.level(0) == 0 && trail.level(3) == 3 {
-        End::Done
-    } else {
-        End::Otherwise
-    }
+    done_if(zeros && trail.level(0) == 0 && trail.level(3) == 3)
 }
 
 impl<R> Trial<R> for Trailing {
@@ -151,12 +145,12 @@ fn refuse_each<R: Wait>(rt: &R, heap: &mut Heap, report: &mut Report, trailing: 
 }
 
 /// Opens, extends and cuts a trail with little memory.
-pub(crate) fn refuse<R: Wait>(rt: &R, heap: &mut Heap, report: &mut Report) -> Result<()> {
+pub(crate) fn refuse<R: Wait>(rt: &R, heap: &mut Heap, report: &mut Report) -> Option<()> {
     let mut trailing = Trailing {
         deed: Deed::Open,
-        trail: Trail::open(heap.alloc(), 2)?,
+        trail: Trail::open(heap.alloc(), 2).ok()?,
         entries: 0,
     };
     refuse_each(rt, heap, report, &mut trailing);
-    Ok(())
+    Some(())
 }

@@ -1,7 +1,6 @@
 //! Calls that write texts, and that make a game of another.
 
-use crate::{DIAGRAM, GAME};
-use anyhow::{Result, bail};
+use crate::done_if;
 use std::alloc::Global;
 use std::sync::Wait;
 use vpg_diagram::Diagram;
@@ -41,8 +40,7 @@ fn write_guard(alloc: Global, names: &Names, out: &mut Vec<u8>) -> End {
         Err(_) => return End::Otherwise,
     };
     match guard.write(alloc, names, out) {
-        Ok(()) if out.as_slice() == b"before: !(f | g) & true".as_slice() => End::Done,
-        Ok(()) => End::Otherwise,
+        Ok(()) => done_if(out.as_slice() == b"before: !(f | g) & true".as_slice()),
         Err(_) => End::Memory,
     }
 }
@@ -53,8 +51,7 @@ fn write_game(alloc: Global, game: &GuardedGame, names: &Names, out: &mut Vec<u8
     }
     let written = b"before: parity 1;\n0 1 0 1[f],0;\n1 2 1 0[g],1;\n".as_slice();
     match game.write(alloc, names, out) {
-        Ok(()) if out.as_slice() == written => End::Done,
-        Ok(()) => End::Otherwise,
+        Ok(()) => done_if(out.as_slice() == written),
         Err(_) => End::Memory,
     }
 }
@@ -62,18 +59,16 @@ fn write_game(alloc: Global, game: &GuardedGame, names: &Names, out: &mut Vec<u8
 fn write_plain(alloc: Global, plain: &PlainGame, out: &mut Vec<u8>) -> End {
     let written = b"before: parity 1;\n0 1 0 0;\n1 2 1 0,1;\n".as_slice();
     match plain.write(alloc, out) {
-        Ok(()) if out.as_slice() == written => End::Done,
-        Ok(()) => End::Otherwise,
+        Ok(()) => done_if(out.as_slice() == written),
         Err(_) => End::Memory,
     }
 }
 
 fn make_dual(alloc: Global, game: &GuardedGame) -> End {
-    let made = game.dual(alloc);
-    match &made {
-        Ok(dual) if dual.tops() == game.tops() => End::Done,
+    match game.dual(alloc) {
+        Ok(dual) => done_if(dual.tops() == game.tops()),
         Err(DualFault::Memory) => End::Memory,
-        _ => End::Otherwise,
+        Err(_) => End::Otherwise,
     }
 }
 
@@ -82,8 +77,7 @@ fn make_projection(alloc: Global, game: &GuardedGame, diagram: &Diagram) -> End 
     if diagram.features() != 3 || game.features() != 3 {
         return End::Otherwise;
     }
-    let made = project(alloc, game, diagram, &set);
-    match &made {
+    match project(alloc, game, diagram, &set) {
         Ok(_) => End::Done,
         Err(ProjectFault::Memory) => End::Memory,
         Err(_) => End::Otherwise,
@@ -108,12 +102,7 @@ impl<R> Trial<R> for Writing<'_> {
 }
 
 /// Writes each text with little memory, and makes each game.
-fn refuse_each<R: Wait>(
-    rt: &R,
-    heap: &mut Heap,
-    report: &mut Report,
-    writing: &mut Writing<'_>,
-) -> Result<()> {
+fn refuse_each<R: Wait>(rt: &R, heap: &mut Heap, report: &mut Report, writing: &mut Writing<'_>) {
     for (name, what) in [
         ("parse_guard and Guard::write", What::Guard),
         ("GuardedGame::write", What::Game),
@@ -122,64 +111,35 @@ fn refuse_each<R: Wait>(
         ("PlainGame::write", What::Plain),
     ] {
         writing.what = what;
-        writing.out = Vec::from_slice(heap.alloc(), BEFORE)?;
+        writing.out = Vec::from_slice(heap.alloc(), BEFORE).unwrap_or(Vec::new(heap.alloc()));
         report.try_call(rt, heap, name, writing);
     }
-    Ok(())
 }
 
-/// Does so with the game of one product.
-fn refuse_over<R: Wait>(
+/// The game of the product of `r` and `g`.
+fn plain_of(alloc: Global, diagram: &Diagram, game: &GuardedGame) -> Option<PlainGame> {
+    if diagram.features() != 3 || game.features() != 3 {
+        return None;
+    }
+    project(alloc, game, diagram, &[true, false, true]).ok()
+}
+
+/// Writes each text of a game with little memory, and that of one product.
+pub(crate) fn refuse<R: Wait>(
     rt: &R,
     heap: &mut Heap,
     report: &mut Report,
     diagram: &Diagram,
     game: &GuardedGame,
-    plain: &PlainGame,
-) -> Result<()> {
+) -> Option<()> {
+    let plain = plain_of(heap.alloc(), diagram, game)?;
     let mut writing = Writing {
         what: What::Guard,
         diagram,
         game,
-        plain,
+        plain: &plain,
         out: Vec::new(heap.alloc()),
     };
-    refuse_each(rt, heap, report, &mut writing)
-}
-
-/// The game of the product of `r` and `g`.
-fn plain_of(alloc: Global, diagram: &Diagram, game: &GuardedGame) -> Result<PlainGame> {
-    if diagram.features() != 3 || game.features() != 3 {
-        bail!("features");
-    }
-    Ok(project(alloc, game, diagram, &[true, false, true])?)
-}
-
-/// Does so with a game.
-fn refuse_of<R: Wait>(
-    rt: &R,
-    heap: &mut Heap,
-    report: &mut Report,
-    diagram: &Diagram,
-    game: &GuardedGame,
-) -> Result<()> {
-    let plain = plain_of(heap.alloc(), diagram, game)?;
-    refuse_over(rt, heap, report, diagram, game, &plain)
-}
-
-/// Does so with a diagram.
-fn refuse_in<R: Wait>(
-    rt: &R,
-    heap: &mut Heap,
-    report: &mut Report,
-    diagram: &Diagram,
-) -> Result<()> {
-    let game = GuardedGame::read(heap.alloc(), GAME, diagram.names())?;
-    refuse_of(rt, heap, report, diagram, &game)
-}
-
-/// Writes each text with little memory.
-pub(crate) fn refuse<R: Wait>(rt: &R, heap: &mut Heap, report: &mut Report) -> Result<()> {
-    let diagram = Diagram::read(heap.alloc(), DIAGRAM)?;
-    refuse_in(rt, heap, report, &diagram)
+    refuse_each(rt, heap, report, &mut writing);
+    Some(())
 }
