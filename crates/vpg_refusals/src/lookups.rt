@@ -85,21 +85,20 @@ pub(crate) fn settles(shape: &Shape, arena: &Arena, table: &mut Table) -> End {
 /// A guard of each kind of part.
 const GUARD: &[u8] = b"!(f & g) | r & true";
 
+/// A set of features without the root and `g`, and what is known where only the root is: that it is out.
+const SET: [bool; 3] = [false, true, false];
+
+const KNOWN: [Tri; 3] = [Tri::No, Tri::Unknown, Tri::Unknown];
+
 /// Asks a guard, with no memory, whether it holds in a set, and what is known of it.
-pub(crate) fn ask_guard(
-    heap: &mut Heap,
-    report: &mut Report,
-    names: &Names,
-    set: &[bool],
-    known: &[Tri],
-) -> Option<()> {
-    if set.len() != names.len() || known.len() != names.len() {
-        return None;
+pub(crate) fn ask_guard(heap: &mut Heap, report: &mut Report, names: &Names) {
+    if names.len() != SET.len() {
+        return;
     }
-    let guard = parse_guard(heap.alloc(), GUARD, names).ok()?;
-    heap.leave(0);
-    let tells = guard.eval(set) && matches!(guard.kleene(known), Tri::Unknown);
-    heap.relax();
-    report.note(heap, "Guard::eval, kleene", told_of(tells));
-    Some(())
+    if let Ok(guard) = parse_guard(heap.alloc(), GUARD, names) {
+        heap.leave(0);
+        let tells = guard.eval(&SET) && matches!(guard.kleene(&KNOWN), Tri::Unknown);
+        heap.relax();
+        report.note(heap, "Guard::eval, kleene", told_of(tells));
+    }
 }

@@ -11,6 +11,7 @@
 //! With a word after its name the program takes no memory from itself, and marks each call for `bench/refused.py`.
 #![tactic(auto)]
 
+mod calls;
 mod decided;
 mod lookups;
 mod orders;
@@ -19,6 +20,8 @@ mod texts;
 mod trails;
 mod writing;
 
+use crate::calls::{Call, Calling, DECIDED, Parts, TEXTS, TRAILS, parts_of, try_each};
+use crate::lookups::ask_guard;
 use anyhow::{Context, Result};
 use std::alloc::Global;
 use std::env;
@@ -63,20 +66,29 @@ fn refuse_of<R: Wait>(
     report: &mut Report,
     diagram: &Arc<Diagram>,
     game: &Arc<GuardedGame>,
-) -> Option<()> {
-    writing::refuse(rt, heap, report, diagram, game)?;
-    decided::refuse(rt, heap, report, diagram, game)?;
-    orders::refuse(rt, heap, report, diagram, game);
-    trails::refuse(rt, heap, report)?;
-    texts::refuse(heap, report, diagram, game)
+    parts: &mut Parts,
+) {
+    let mut calling = Calling {
+        call: Call::NewNames,
+        diagram,
+        game,
+        parts,
+    };
+    try_each(rt, heap, report, &mut calling, TEXTS);
+    ask_guard(heap, report, diagram.names());
+    try_each(rt, heap, report, &mut calling, DECIDED);
+    orders::ask(heap, report, game, diagram);
+    try_each(rt, heap, report, &mut calling, TRAILS);
+    texts::refuse(heap, report, diagram, game);
 }
 
 /// Makes each call with little memory.
 fn refuse<R: Wait>(rt: &R, heap: &mut Heap, report: &mut Report) -> Option<()> {
-    reading::refuse(rt, heap, report)?;
     let diagram = diagram_of(heap.alloc())?;
     let game = game_of(heap.alloc(), &diagram)?;
-    refuse_of(rt, heap, report, &diagram, &game)
+    let mut parts = parts_of(heap.alloc(), &diagram, &game)?;
+    refuse_of(rt, heap, report, &diagram, &game, &mut parts);
+    Some(())
 }
 
 /// Makes each call with little memory, and writes what came of each.
@@ -93,13 +105,7 @@ fn report_within<R: Wait + Print>(rt: &R, alloc: Global, words: usize) -> Result
     report_all(rt, &mut heap, &mut report)
 }
 
-/// How many words the program was called with, its name among them.
-fn words_of(rt: &HostRuntime) -> Result<usize> {
-    let words: Vec<String> = env::args(rt)?.collect(rt.alloc())?;
-    Ok(words.len())
-}
-
 fn main(rt: HostRuntime) -> Result<()> {
-    let words = words_of(&rt)?;
+    let words = env::args(&rt)?.count();
     report_within(&rt, rt.alloc(), words)
 }

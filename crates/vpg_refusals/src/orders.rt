@@ -10,13 +10,13 @@ ghost use Rattle.vpg_partial.specs.TableLaws.{AreChoicesOf};
 use crate::decided::are_below;
 use crate::told_of;
 use std::alloc::{AllocError, Global};
-use std::sync::{Arc, Wait};
+use std::sync::Arc;
 use vpg_diagram::Diagram;
 use vpg_game::GuardedGame;
 use vpg_measure::laws::orders::zeros_are_opening;
 use vpg_measure::{Harvest, Order, OrderFault, Refused, Table};
 use vpg_partial::Decision;
-use vpg_scarce::{End, Heap, Report, Trial};
+use vpg_scarce::{End, Heap, Report};
 use vpg_verdict::Which;
 
 /// Lets an order go. A function that does so itself takes the prover seconds.
@@ -68,10 +68,9 @@ fn order_of(
 }
 
 /// Whether all that was handed in came back for want of memory.
-fn came_back(refused: Refused) -> bool {
+fn came_back(refused: &Refused) -> bool {
     refused.fault == OrderFault::Memory
-        && refused.game.vertices() == 2
-        && refused.diagram.features() == 3
+        && [refused.game.vertices(), refused.diagram.features()] == [2, 3]
         && refused.decisions.as_slice() == DECISIONS.as_slice()
         && refused.hopeful.values() == [0, 0].as_slice()
         && refused.dual.values() == [0, 0].as_slice()
@@ -91,63 +90,57 @@ fn made_of(
     match order_of(alloc, game, diagram, decisions) {
         Ok(Ok(order)) => Ok(order),
         Ok(Err(refused)) => {
-            *is_back = came_back(refused);
+            *is_back = came_back(&refused);
             Err(End::Memory)
         }
         Err(_) => Err(End::Memory),
     }
 }
 
-/// An order that is made again and again.
-#[derive(Drop)]
-struct Ordering<'t> {
-    game: &'t Arc<GuardedGame>,
-    diagram: &'t Arc<Diagram>,
-    /// Whether what was handed in last came back.
-    is_back: bool,
-}
-
-/// The order; or how it is refused.
-fn made(alloc: Global, ordering: &mut Ordering<'_>) -> Result<Order, End> {
+/// An order of a game and a diagram; or how it is refused, with a note where what was handed in came back.
+fn made(
+    alloc: Global,
+    game: &Arc<GuardedGame>,
+    diagram: &Arc<Diagram>,
+    is_back: &mut bool,
+) -> Result<Order, End> {
     let Ok(decisions) = Vec::from_slice(alloc, &DECISIONS) else {
         return Err(End::Memory);
     };
-    match (
-        Arc::try_clone(ordering.game),
-        Arc::try_clone(ordering.diagram),
-    ) {
-        (Ok(game), Ok(diagram)) => {
-            made_of(alloc, game, diagram, decisions, &mut ordering.is_back)
-        }
+    match (Arc::try_clone(game), Arc::try_clone(diagram)) {
+        (Ok(game), Ok(diagram)) => made_of(alloc, game, diagram, decisions, is_back),
         _ => Err(End::Otherwise),
     }
 }
 
-impl<R> Trial<R> for Ordering<'_> {
-    fn attempt(&mut self, _rt: &R, alloc: Global) -> End {
-        match made(alloc, self) {
-            Ok(order) => {
-                let_go(order);
-                End::Done
-            }
-            Err(end) => end,
+/// Makes an order, and lets it go.
+pub(crate) fn make_order(
+    alloc: Global,
+    game: &Arc<GuardedGame>,
+    diagram: &Arc<Diagram>,
+    is_back: &mut bool,
+) -> End {
+    match made(alloc, game, diagram, is_back) {
+        Ok(order) => {
+            let_go(order);
+            End::Done
         }
-    }
-
-    fn is_unchanged(&mut self, _rt: &R, _alloc: Global) -> bool {
-        self.is_back
+        Err(end) => end,
     }
 }
 
 /// Whether an order tells what it was made of: with `f` in and `g` out, over tables of zeros.
 fn order_tells(order: &Order) -> bool {
-    order.game().vertices() == 2
-        && order.diagram().features() == 3
+    let arena = order.arena(Which::Dual);
+    [
+        order.game().vertices(),
+        order.diagram().features(),
+        arena.vertices() as usize,
+    ] == [2, 3, 2]
         && order.decisions() == DECISIONS.as_slice()
         && order.hopeful().values() == [0, 0].as_slice()
         && order.dual().values() == [0, 0].as_slice()
         && order.shape(Which::Dual).top() == 2
-        && order.arena(Which::Dual).vertices() == 2
 }
 
 /// Whether a harvest of two vertices has these tables, and says whether they are settled.
@@ -215,7 +208,7 @@ fn handed_in(heap: &mut Heap, order: Order) -> (bool, Order) {
 }
 
 /// Asks an order, and harvests of it, with no memory.
-fn ask(heap: &mut Heap, report: &mut Report, order: Order) {
+fn ask_order(heap: &mut Heap, report: &mut Report, order: Order) {
     heap.leave(0);
     let tells = order_tells(&order);
     heap.relax();
@@ -233,21 +226,15 @@ fn ask(heap: &mut Heap, report: &mut Report, order: Order) {
     report.note(heap, "Harvest::of", told_of(tells));
 }
 
-/// Makes an order of a game and a diagram with little memory, and asks it.
-pub(crate) fn refuse<R: Wait>(
-    rt: &R,
+/// Asks an order of a game and a diagram, and harvests of it, with no memory.
+pub(crate) fn ask(
     heap: &mut Heap,
     report: &mut Report,
-    diagram: &Arc<Diagram>,
     game: &Arc<GuardedGame>,
+    diagram: &Arc<Diagram>,
 ) {
-    let mut ordering = Ordering {
-        game,
-        diagram,
-        is_back: true,
-    };
-    report.try_call(rt, heap, "Order::of", &mut ordering);
-    if let Ok(order) = made(heap.alloc(), &mut ordering) {
-        ask(heap, report, order);
+    let mut is_back = true;
+    if let Ok(order) = made(heap.alloc(), game, diagram, &mut is_back) {
+        ask_order(heap, report, order);
     }
 }

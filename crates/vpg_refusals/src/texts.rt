@@ -13,6 +13,7 @@ ghost use Rattle.vpg_trail.specs.Shown.{entry_of};
 
 use crate::decided::DECISIONS;
 use crate::orders::fit;
+use crate::writing::{is_before, text_before};
 use std::alloc::{AllocError, Global};
 use std::sync::Arc;
 use vpg_diagram::{Diagram, Literal};
@@ -23,9 +24,6 @@ use vpg_scarce::{End, Heap, MOST_TRIES, Report, Told, more};
 use vpg_texts::{PlanFault, count, plan, products, show, trail};
 use vpg_trail::{Assumed, Decisions, Entries, Entry, Page};
 use vpg_verdict::Which;
-
-/// What stands in front of what is written.
-const BEFORE: &[u8] = b"before: ";
 
 /// A text of a page.
 #[derive(Clone, Copy)]
@@ -121,7 +119,7 @@ fn put_growing(
         heap.relax();
         match end {
             End::Done if out.as_slice() == text.written() => return told,
-            End::Memory if out.as_slice() == BEFORE => told = Told::Unchanged,
+            End::Memory if is_before(out.as_slice()) => told = Told::Unchanged,
             End::Memory => return Told::Changed,
             _ => return Told::Otherwise,
         }
@@ -155,7 +153,7 @@ fn put_each(
         ("plan", Text::Plan),
         ("count", Text::Count),
     ] {
-        let mut out = Vec::from_slice(heap.alloc(), BEFORE).unwrap_or(Vec::new(heap.alloc()));
+        let mut out = text_before(heap.alloc());
         let told = put_growing(heap, text, page, game, diagram, &mut out);
         report.note(heap, name, told);
     }
@@ -236,15 +234,14 @@ fn entries_of(alloc: Global) -> Result<Entries, AllocError> {
         value: true,
     };
     let under = Arc::new(alloc, Assumed::new(Vec::from_slice(alloc, &[literal])?))?;
-    let mut entries = Vec::with_capacity(alloc, 2)?;
-    entries.push(Entry::Decide(DECISIONS[0]))?;
-    entries.push(Entry::Lift {
+    let lift = Entry::Lift {
         table: Which::Hopeful,
         vertex: 0,
         old: 0,
         new: 1,
         under,
-    })?;
+    };
+    let entries = Vec::from_array(alloc, [Entry::Decide(DECISIONS[0]), lift])?;
     Ok(Entries::new(entries))
 }
 
@@ -259,12 +256,8 @@ fn page_of(alloc: Global) -> Result<Page, AllocError> {
 }
 
 /// Writes each text of a page of a game with little memory.
-pub(crate) fn refuse(
-    heap: &mut Heap,
-    report: &mut Report,
-    diagram: &Diagram,
-    game: &GuardedGame,
-) -> Option<()> {
-    let page = page_of(heap.alloc()).ok()?;
-    put_page(heap, report, &page, game, diagram)
+pub(crate) fn refuse(heap: &mut Heap, report: &mut Report, diagram: &Diagram, game: &GuardedGame) {
+    if let Ok(page) = page_of(heap.alloc()) {
+        put_page(heap, report, &page, game, diagram);
+    }
 }
