@@ -1,15 +1,13 @@
 //! Calls of a desk, as a table in the order in which they are made.
 
 use crate::desks::{desk_of, open_on, tells, told_of};
-use crate::held::{Held, forgets, hold_redo, hold_undo, keep, let_go, nothing, wait_for_token};
-use std::alloc::{AllocError, Global};
+use crate::held::{Held, forget, forgets, keep, let_go, nothing, wait_for_token};
+use std::alloc::Global;
 use std::sync::{Arc, Wait};
 use vpg_desk::{
     CommitFault, CommitRefused, DecideFault, Desk, OpenFault, RedoFault, RedoRefused, RetractFault,
     TokensOut, Undo, UndoFault, UndoRefused,
 };
-use vpg_diagram::Diagram;
-use vpg_game::GuardedGame;
 use vpg_measure::Harvest;
 use vpg_scarce::{End, Heap, Report, Told, Trial};
 
@@ -82,27 +80,21 @@ fn end_of(is_done: bool, is_memory: bool) -> End {
     }
 }
 
-/// Further owners of both.
-fn again(desk: &Desk) -> Result<(Arc<GuardedGame>, Arc<Diagram>), AllocError> {
-    Ok((
-        Arc::try_clone(desk.game())?,
-        Arc::try_clone(desk.diagram())?,
-    ))
-}
-
 fn open(alloc: Global, desk: &Desk, held: &mut Held) -> End {
-    let Ok((game, diagram)) = again(desk) else {
-        return End::Otherwise;
+    let opened = match (Arc::try_clone(desk.game()), Arc::try_clone(desk.diagram())) {
+        (Ok(game), Ok(diagram)) => open_on(alloc, game, diagram),
+        _ => return End::Otherwise,
     };
-    match open_on(alloc, game, diagram) {
+    match opened {
         Ok(_) => End::Done,
-        Err((OpenFault::Memory, vertices, features)) => {
+        Err((fault, vertices, features)) => {
             held.is_back = vertices == 2 && features == 3;
-            End::Memory
+            end_of(false, fault == OpenFault::Memory)
         }
-        Err(_) => End::Otherwise,
     }
 }
+
+// A token that comes is held. One that was held before is spent, so that no token is lost.
 
 fn decide<R: Wait>(
     rt: &R,
@@ -114,7 +106,7 @@ fn decide<R: Wait>(
 ) -> End {
     match desk.decide(alloc, 1, feature, value) {
         Ok(token) => {
-            hold_undo(rt, desk, held, token);
+            keep(rt, desk, held.undo.replace(token));
             End::Done
         }
         Err(fault) => end_of(false, fault == DecideFault::Memory),
@@ -124,7 +116,7 @@ fn decide<R: Wait>(
 fn retract<R: Wait>(rt: &R, alloc: Global, desk: &mut Desk, held: &mut Held, feature: u16) -> End {
     match desk.retract(alloc, 1, feature) {
         Ok(token) => {
-            hold_undo(rt, desk, held, token);
+            keep(rt, desk, held.undo.replace(token));
             End::Done
         }
         Err(fault) => end_of(false, fault == RetractFault::Memory),
@@ -138,11 +130,11 @@ fn undo<R: Wait>(rt: &R, alloc: Global, desk: &mut Desk, held: &mut Held) -> End
     wait_for_token(rt, desk);
     match desk.undo(alloc, token) {
         Ok(token) => {
-            hold_redo(rt, desk, held, token);
+            forget(rt, desk, held.redo.replace(token));
             End::Done
         }
         Err(UndoRefused { fault, token }) => {
-            hold_undo(rt, desk, held, token);
+            keep(rt, desk, held.undo.replace(token));
             end_of(false, fault == UndoFault::Memory)
         }
     }
@@ -155,11 +147,11 @@ fn redo<R: Wait>(rt: &R, alloc: Global, desk: &mut Desk, held: &mut Held) -> End
     wait_for_token(rt, desk);
     match desk.redo(alloc, token) {
         Ok(token) => {
-            hold_undo(rt, desk, held, token);
+            keep(rt, desk, held.undo.replace(token));
             End::Done
         }
         Err(RedoRefused { fault, token }) => {
-            hold_redo(rt, desk, held, token);
+            forget(rt, desk, held.redo.replace(token));
             end_of(false, fault == RedoFault::Memory)
         }
     }
@@ -243,7 +235,7 @@ fn try_call<R: Wait>(
             report.try_call(rt, heap, name, calling);
         }
         None => {
-            made(rt, heap.alloc(), calling.call, calling.desk, calling.held);
+            calling.attempt(rt, heap.alloc());
         }
     }
 }

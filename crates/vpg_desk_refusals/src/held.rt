@@ -52,21 +52,11 @@ pub(crate) fn keep<R: Wait>(rt: &R, desk: &mut Desk, token: Option<Undo>) {
 }
 
 /// Forgets an undone change, where there is a token.
-fn forget<R: Wait>(rt: &R, desk: &mut Desk, token: Option<Redo>) {
+pub(crate) fn forget<R: Wait>(rt: &R, desk: &mut Desk, token: Option<Redo>) {
     if let Some(token) = token {
         wait_for_token(rt, desk);
         desk.forget(token);
     }
-}
-
-/// Holds the token of a change, and keeps the one that was held.
-pub(crate) fn hold_undo<R: Wait>(rt: &R, desk: &mut Desk, held: &mut Held, token: Undo) {
-    keep(rt, desk, held.undo.replace(token));
-}
-
-/// Holds the token of an undone change, and forgets the one that was held.
-pub(crate) fn hold_redo<R: Wait>(rt: &R, desk: &mut Desk, held: &mut Held, token: Redo) {
-    forget(rt, desk, held.redo.replace(token));
 }
 
 /// Whether the one token that is out is that of an undone change, of this serial; and forgets it.

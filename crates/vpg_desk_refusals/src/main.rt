@@ -23,20 +23,14 @@ fn report_all<R: Wait + Print>(rt: &R, heap: &mut Heap, report: &mut Report) -> 
     Ok(())
 }
 
-/// Does so with the memory of the process. Calls are marked where the program was called with a word.
+/// Does so with the memory of the process. Calls are marked where the program was called with a word behind its name.
 fn report_within<R: Wait + Print>(rt: &R, alloc: Global, words: usize) -> Result<()> {
     let mut heap = Heap::new(alloc, words)?;
     let mut report = Report::new(alloc)?;
     report_all(rt, &mut heap, &mut report)
 }
 
-/// How many words the program was called with, its name among them.
-fn words_of(rt: &HostRuntime) -> Result<usize> {
-    let words: Vec<String> = env::args(rt)?.collect(rt.alloc())?;
-    Ok(words.len())
-}
-
 fn main(rt: HostRuntime) -> Result<()> {
-    let words = words_of(&rt)?;
+    let words = env::args(&rt)?.count();
     report_within(&rt, rt.alloc(), words)
 }
