@@ -6,40 +6,31 @@
 //! With a word after its name the program takes no memory from itself, and marks each call for `bench/refused.py`.
 #![tactic(auto)]
 
-mod changes;
+mod calls;
 mod desks;
-mod looks;
-mod spending;
-mod tokens;
+mod held;
 
 use anyhow::{Context, Result};
+use std::alloc::Global;
 use std::env;
 use std::sync::Wait;
-use vpg_desk::Desk;
 use vpg_scarce::{Heap, Report};
 
-/// Makes each call of a desk with little memory.
-fn use_desk<R: Wait>(rt: &R, heap: &mut Heap, report: &mut Report, desk: &mut Desk) -> Option<()> {
-    changes::refuse(rt, heap, report, desk, changes::Call::Decide)?;
-    looks::refuse(rt, heap, report, desk)?;
-    looks::hand_in(rt, heap, report, desk)?;
-    changes::refuse(rt, heap, report, desk, changes::Call::Retract)
+/// Makes each call with little memory, and writes what came of each.
+fn report_all<R: Wait + Print>(rt: &R, heap: &mut Heap, report: &mut Report) -> Result<()> {
+    calls::refuse(rt, heap, report).context("no desk")?;
+    report.write(rt, heap)?;
+    Ok(())
 }
 
-/// Makes each call with little memory, the opening first.
-fn refuse<R: Wait>(rt: &R, heap: &mut Heap, report: &mut Report) -> Option<()> {
-    desks::refuse(rt, heap, report)?;
-    let mut desk = desks::desk_of(heap.alloc())?;
-    let used = use_desk(rt, heap, report, &mut desk);
-    spending::ask(rt, heap, report, desk);
-    used
+/// Does so with the memory of the process. Calls are marked where the program was called with a word behind its name.
+fn report_within<R: Wait + Print>(rt: &R, alloc: Global, words: usize) -> Result<()> {
+    let mut heap = Heap::new(alloc, words)?;
+    let mut report = Report::new(alloc)?;
+    report_all(rt, &mut heap, &mut report)
 }
 
 fn main(rt: HostRuntime) -> Result<()> {
-    let words: Vec<String> = env::args(&rt)?.collect(rt.alloc())?;
-    let mut heap = Heap::new(rt.alloc(), words.len())?;
-    let mut report = Report::new(rt.alloc())?;
-    refuse(&rt, &mut heap, &mut report).context("no desk")?;
-    report.write(&rt, &heap)?;
-    Ok(())
+    let words = env::args(&rt)?.count();
+    report_within(&rt, rt.alloc(), words)
 }

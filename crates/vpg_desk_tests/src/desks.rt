@@ -1,573 +1,619 @@
-//! Worked calls on desks. Features are numbered in the diagram's order: r is 0, f is 1, g is 2.
-ghost use Rattle.std.specs.Prelude.{◌≡◌, IfSome};
+//! Worked calls on desks, as tables: each row is a call and what it gives. Features are numbered in the diagram's order:
+//! r is 0, f is 1, g is 2.
+ghost use Rattle.std.specs.Prelude.{◌<◌};
 
 use std::alloc::Global;
+use std::mem;
 use std::process::Abort;
 use std::sync::Arc;
 use std::test::*;
 use vpg_desk::{
-    CommitFault, DecideFault, Desk, OpenFault, Redo, RedoFault, RedoRefused, RetractFault, Undo,
-    UndoFault, UndoRefused,
+    CommitFault, CommitRefused, DecideFault, Desk, OpenFault, Redo, RedoFault, RedoRefused,
+    RetractFault, TokensOut, Undo,
 };
 use vpg_diagram::Diagram;
 use vpg_game::GuardedGame;
-use vpg_measure::{Harvest, Order};
+use vpg_measure::Harvest;
 use vpg_verdict::{Verdict, Which};
 
-// Each function that lets a desk, an order or a harvest go itself takes the prover seconds; so all call these.
-
-fn let_go(_desk: Desk) {}
-
-fn let_order_go(_order: Order) {}
+/// The texts of a game and of a diagram.
+#[derive(Clone, Copy)]
+struct Family {
+    game: &'static [u8],
+    diagram: &'static [u8],
+    /// Whether the game's dual stands in its place.
+    is_dual: bool,
+}
 
 /// The diagram and the game of most examples.
 const DIAGRAM: &[u8] = b"root r\noptional r f\noptional r g\n";
 
 const GAME: &[u8] = b"parity 1; 0 1 0 1[f],0; 1 2 1 0[g],1;";
 
+const MOST: Family = Family {
+    game: GAME,
+    diagram: DIAGRAM,
+    is_dual: false,
+};
+
 const F: u16 = 1;
 
 const G: u16 = 2;
 
-fn read_diagram(alloc: Global, text: &[u8]) -> Option<Diagram> {
-    Diagram::read(alloc, text).ok()
+/// Where the token of a change is held.
+#[derive(Clone, Copy)]
+enum At {
+    First,
+    Second,
+    Third,
 }
 
-fn read_game(alloc: Global, text: &[u8], diagram: &Diagram) -> Option<GuardedGame> {
-    GuardedGame::read(alloc, text, diagram.names()).ok()
+/// A call, and what it gives.
+enum Call {
+    /// A token, which is held there; or why there is none. Session 1 makes the call.
+    Decide(At, u16, bool, Option<DecideFault>),
+    /// The same of a retraction, which this session makes.
+    Retract(At, u32, u16, Option<RetractFault>),
+    /// The serial of the token that is held there.
+    Serial(At, u64),
+    /// Spends the token there, for one of the undone change that is held.
+    Undo(At),
+    /// Spends that one, for one that is held there; or why not.
+    Redo(At, Option<RedoFault>),
+    Keep(At),
+    Forget,
+    /// That the desk isn't closed, and how many tokens are out.
+    StaysOpen(u64),
+    /// The settled harvest of the present page is held; or that of a desk on another family.
+    Settle,
+    SettleOther(Family),
+    /// The harvest of the present page with this vertex of the first table lifted once is held.
+    Lift(u32),
+    /// How many vertices the game of the harvest that is held has, and how many clauses its diagram.
+    Sizes(usize, usize),
+    /// How many entries the harvest that is held adds; or why it is refused, and it comes back.
+    Commit(Result<u32, CommitFault>),
+    /// How many entries the present page has, and its two tables.
+    Page(usize, [u64; 2], [u64; 2]),
+    Settled(bool),
+    /// Whether a vertex is hopeless, and whether it is sure.
+    Verdict(u32, bool, bool),
 }
 
-/// A desk on these texts, or why there is none.
-fn open(alloc: Global, game: &[u8], diagram: &[u8]) -> Option<Result<Desk, OpenFault>> {
-    let diagram = read_diagram(alloc, diagram)?;
-    let game = read_game(alloc, game, &diagram)?;
-    open_on(alloc, game, diagram)
+/// What is held beside a desk.
+struct Held {
+    first: Option<Undo>,
+    second: Option<Undo>,
+    third: Option<Undo>,
+    undone: Option<Redo>,
+    harvest: Option<Harvest>,
 }
 
-fn open_on(alloc: Global, game: GuardedGame, diagram: Diagram) -> Option<Result<Desk, OpenFault>> {
-    if game.features() != diagram.features() {
-        return None;
+impl Held {
+    fn at(&mut self, at: At) -> &mut Option<Undo> {
+        match at {
+            At::First => &mut self.first,
+            At::Second => &mut self.second,
+            At::Third => &mut self.third,
+        }
     }
-    let game = Arc::new(alloc, game).ok()?;
-    let diagram = Arc::new(alloc, diagram).ok()?;
+}
+
+/// Lets go what holds no token.
+fn is_free<T>(rt: &impl Abort, place: Option<T>) {
+    match place {
+        None => {}
+        Some(_) => panic!(rt; "a token is held"),
+    }
+}
+
+/// Holds a token where none is.
+fn hold<T>(rt: &impl Abort, place: &mut Option<T>, token: T) {
+    is_free(rt, place.replace(token));
+}
+
+/// Holds the token of a change; or says why there is none.
+fn changed<F>(rt: &impl Abort, place: &mut Option<Undo>, made: Result<Undo, F>) -> Option<F> {
+    match made {
+        Ok(token) => {
+            hold(rt, place, token);
+            None
+        }
+        Err(fault) => Some(fault),
+    }
+}
+
+/// The serial of the token that is held, 0 where none is.
+fn serial_of(place: &Option<Undo>) -> u64 {
+    match place {
+        Some(token) => token.serial(),
+        None => 0,
+    }
+}
+
+/// The token of the change once it is undone.
+fn undone(rt: &impl Abort, alloc: Global, desk: &mut Desk, token: Undo) -> Redo
+    requires { 0 < desk.old.book.tokens }
+{
+    match desk.undo(alloc, token) {
+        Ok(token) => token,
+        Err(_) => panic!(rt; "not undone"),
+    }
+}
+
+/// Redoes the change of the token that is held, for a token that is held there; or says why not.
+fn redone(
+    rt: &impl Abort,
+    alloc: Global,
+    desk: &mut Desk,
+    held: &mut Held,
+    at: At,
+) -> Option<RedoFault>
+    requires { 0 < desk.old.book.tokens }
+{
+    match desk.redo(alloc, held.undone.take().expect(rt, "no token")) {
+        Ok(token) => {
+            hold(rt, held.at(at), token);
+            None
+        }
+        Err(RedoRefused { fault, token }) => {
+            hold(rt, &mut held.undone, token);
+            Some(fault)
+        }
+    }
+}
+
+/// Makes a call that spends a token: whether it gives what it has to.
+fn spends(rt: &impl Abort, alloc: Global, desk: &mut Desk, held: &mut Held, call: &Call) -> bool {
+    assert!(rt; desk.tokens() > 0);
+    match *call {
+        Call::Undo(at) => {
+            let token = held.at(at).take().expect(rt, "no token");
+            hold(rt, &mut held.undone, undone(rt, alloc, desk, token));
+            true
+        }
+        Call::Redo(at, fault) => redone(rt, alloc, desk, held, at) == fault,
+        Call::Keep(at) => {
+            desk.keep(held.at(at).take().expect(rt, "no token"));
+            true
+        }
+        Call::Forget => {
+            desk.forget(held.undone.take().expect(rt, "no token"));
+            true
+        }
+        _ => false,
+    }
+}
+
+fn diagram_of(rt: &impl Abort, alloc: Global, text: &[u8]) -> Diagram {
+    Diagram::read(alloc, text).expect(rt, "no diagram")
+}
+
+fn game_of(rt: &impl Abort, alloc: Global, family: &Family, diagram: &Diagram) -> GuardedGame {
+    let game = GuardedGame::read(alloc, family.game, diagram.names()).expect(rt, "no game");
+    if family.is_dual {
+        game.dual(alloc).expect(rt, "no dual")
+    } else {
+        game
+    }
+}
+
+/// A desk on a family; or why there is none, and both come back.
+fn opened(rt: &impl Abort, alloc: Global, family: &Family) -> Result<Desk, OpenFault> {
+    let diagram = diagram_of(rt, alloc, family.diagram);
+    let game = game_of(rt, alloc, family, &diagram);
+    let game = Arc::new(alloc, game).expect(rt, "no memory");
+    let diagram = Arc::new(alloc, diagram).expect(rt, "no memory");
+    assert!(rt; game.features() == diagram.features());
     match Desk::open(alloc, game, diagram) {
-        Ok(desk) => Some(Ok(desk)),
+        Ok(desk) => Ok(desk),
         Err(refused) => {
-            let same = refused.game.features() == refused.diagram.features();
-            if same { Some(Err(refused.fault)) } else { None }
+            assert!(rt; refused.game.features() == refused.diagram.features());
+            Err(refused.fault)
         }
     }
 }
 
-fn desk_on(rt: &(impl Abort + AllocGlobal), game: &[u8], diagram: &[u8]) -> Desk {
-    match open(rt.alloc(), game, diagram) {
-        Some(Ok(desk)) => desk,
-        _ => panic!(rt; "no desk"),
+fn desk_on(rt: &impl Abort, alloc: Global, family: &Family) -> Desk {
+    opened(rt, alloc, family).expect(rt, "no desk")
+}
+
+/// How many tokens are out of a desk, which isn't closed then and comes back.
+fn tokens_out(rt: &impl Abort, alloc: Global, desk: &mut Desk) -> u64 {
+    match mem::replace(desk, desk_on(rt, alloc, &MOST)).close() {
+        Ok(()) => 0,
+        Err(TokensOut { tokens, desk: back }) => {
+            *desk = back;
+            tokens
+        }
     }
 }
 
-/// A desk on the family of most examples.
-fn desk(rt: &(impl Abort + AllocGlobal)) -> Desk {
-    desk_on(rt, GAME, DIAGRAM)
+/// The settled harvest of a desk's page.
+fn settled(rt: &impl Abort, alloc: Global, desk: &Desk) -> Harvest {
+    Harvest::alone(desk.order(alloc).expect(rt, "no order"), 100)
 }
 
-// Calls without their clauses: what follows a call is then proved with few facts beside it.
-
-fn try_decide(
-    alloc: Global,
-    desk: &mut Desk,
-    feature: u16,
-    value: bool,
-) -> Result<Undo, DecideFault> {
-    desk.decide(alloc, 1, feature, value)
+fn settled_on(rt: &impl Abort, alloc: Global, family: &Family) -> Harvest {
+    let desk = desk_on(rt, alloc, family);
+    settled(rt, alloc, &desk)
 }
 
-fn try_retract(
-    alloc: Global,
-    desk: &mut Desk,
-    session: u32,
-    feature: u16,
-) -> Result<Undo, RetractFault> {
-    desk.retract(alloc, session, feature)
-}
-
-fn settled_order(order: Order) -> Harvest {
-    Harvest::alone(order, 100)
-}
-
-fn decide(rt: &(impl Abort + AllocGlobal), desk: &mut Desk, feature: u16, value: bool) -> Undo {
-    match try_decide(rt.alloc(), desk, feature, value) {
-        Ok(token) => token,
-        Err(fault) => panic!(rt; "{fault}"),
-    }
-}
-
-/// Why a feature isn't decided.
-fn undecided(
-    rt: &(impl Abort + AllocGlobal),
-    desk: &mut Desk,
-    feature: u16,
-    value: bool,
-) -> DecideFault {
-    match try_decide(rt.alloc(), desk, feature, value) {
-        Ok(_) => panic!(rt; "decided"),
-        Err(fault) => fault,
-    }
-}
-
-fn retract(rt: &(impl Abort + AllocGlobal), desk: &mut Desk, feature: u16) -> Undo {
-    match try_retract(rt.alloc(), desk, 2, feature) {
-        Ok(token) => token,
-        Err(fault) => panic!(rt; "{fault}"),
-    }
-}
-
-/// Why a decision isn't retracted.
-fn unretracted(rt: &(impl Abort + AllocGlobal), desk: &mut Desk, feature: u16) -> RetractFault {
-    match try_retract(rt.alloc(), desk, 1, feature) {
-        Ok(_) => panic!(rt; "retracted"),
-        Err(fault) => fault,
-    }
-}
-
-/// The token of the redo, or the refused one and why.
-fn try_undo(
-    rt: &(impl Abort + AllocGlobal),
-    desk: &mut Desk,
-    token: Undo,
-) -> Result<Redo, (UndoFault, Undo)> {
-    assert!(rt; desk.tokens() > 0);
-    match desk.undo(rt.alloc(), token) {
-        Ok(token) => Ok(token),
-        Err(UndoRefused { fault, token }) => Err((fault, token)),
-    }
-}
-
-fn try_redo(
-    rt: &(impl Abort + AllocGlobal),
-    desk: &mut Desk,
-    token: Redo,
-) -> Result<Undo, (RedoFault, Redo)> {
-    assert!(rt; desk.tokens() > 0);
-    match desk.redo(rt.alloc(), token) {
-        Ok(token) => Ok(token),
-        Err(RedoRefused { fault, token }) => Err((fault, token)),
-    }
-}
-
-fn undo(rt: &(impl Abort + AllocGlobal), desk: &mut Desk, token: Undo) -> Redo {
-    match try_undo(rt, desk, token) {
-        Ok(token) => token,
-        Err((fault, _)) => panic!(rt; "{fault}"),
-    }
-}
-
-fn redo(rt: &(impl Abort + AllocGlobal), desk: &mut Desk, token: Redo) -> Undo {
-    match try_redo(rt, desk, token) {
-        Ok(token) => token,
-        Err((fault, _)) => panic!(rt; "{fault}"),
-    }
-}
-
-fn keep(rt: &(impl Abort + AllocGlobal), desk: &mut Desk, token: Undo) {
-    assert!(rt; desk.tokens() > 0);
-    desk.keep(token);
-}
-
-fn forget(rt: &(impl Abort + AllocGlobal), desk: &mut Desk, token: Redo) {
-    assert!(rt; desk.tokens() > 0);
-    desk.forget(token);
-}
-
-fn try_order(alloc: Global, desk: &Desk) -> Option<Order>
-    ensures { IfSome result (λ order. order.game ≡ desk.now.game) }
-{
-    desk.order(alloc).ok()
-}
-
-fn order(rt: &(impl Abort + AllocGlobal), desk: &Desk) -> Order
-    ensures { result.game ≡ desk.now.game }
-{
-    match try_order(rt.alloc(), desk) {
-        Some(order) => order,
-        None => panic!(rt; "no order"),
-    }
-}
-
-/// The number of entries that a harvest adds, or why it is refused. It comes back then.
-fn commit(
-    rt: &(impl Abort + AllocGlobal),
-    desk: &mut Desk,
-    harvest: Harvest,
-) -> Result<u32, (CommitFault, Harvest)> {
-    match desk.commit(rt.alloc(), harvest) {
-        Ok(added) => Ok(added),
-        Err(refused) => Err((refused.fault, refused.harvest)),
-    }
-}
-
-fn added(rt: &(impl Abort + AllocGlobal), desk: &mut Desk, harvest: Harvest) -> u32 {
-    match commit(rt, desk, harvest) {
-        Ok(added) => added,
-        Err((fault, _)) => panic!(rt; "{fault}"),
-    }
-}
-
-fn settle(rt: &(impl Abort + AllocGlobal), desk: &mut Desk) -> u32 {
-    let harvest = settled_order(order(rt, desk));
-    added(rt, desk, harvest)
-}
-
-/// One vertex of the present page's first table lifted once.
-fn lift(rt: &(impl Abort + AllocGlobal), desk: &mut Desk, v: u32) -> u32 {
-    let order = order(rt, desk);
+/// A desk's page with one vertex of the first table lifted once.
+fn lifted(rt: &impl Abort, alloc: Global, desk: &Desk, v: u32) -> Harvest {
+    let order = desk.order(alloc).expect(rt, "no order");
     assert!(rt; (v as usize) < order.game().vertices());
-    added(rt, desk, Harvest::one(order, Which::Hopeful, v))
+    Harvest::one(order, Which::Hopeful, v)
 }
 
-/// How many entries the present page has, and its two tables.
-fn page(rt: &(impl Abort + AllocGlobal), desk: &Desk) -> (usize, [u64; 2], [u64; 2]) {
-    let Ok(page) = desk.page(rt.alloc()) else {
-        panic!(rt; "no page")
-    };
-    let (hopeful, dual) = (page.hopeful.values(), page.dual.values());
-    assert!(rt; hopeful.len() == 2);
-    assert!(rt; dual.len() == 2);
-    (
-        page.entries.as_slice().len(),
-        [hopeful[0], hopeful[1]],
-        [dual[0], dual[1]],
-    )
-}
-
-fn verdict(rt: &(impl Abort + AllocGlobal), desk: &Desk, v: u32) -> Verdict {
-    let order = order(rt, desk);
-    assert!(rt; (v as usize) < order.game().vertices());
-    let verdict = desk.verdict(v);
-    let_order_go(order);
-    verdict
-}
-
-fn fault_of(opened: Option<Result<Desk, OpenFault>>) -> Option<OpenFault> {
-    opened?.err()
-}
-
-/// The dual of a game of the greatest priority that is read.
-fn dual_at_limit(alloc: Global, diagram: &Diagram) -> Option<GuardedGame> {
-    let game = read_game(alloc, b"0 65535 0 0;", diagram)?;
-    game.dual(alloc).ok()
-}
-
-fn open_at_limit(alloc: Global) -> Option<Result<Desk, OpenFault>> {
-    let diagram = read_diagram(alloc, DIAGRAM)?;
-    let dual = dual_at_limit(alloc, &diagram)?;
-    open_on(alloc, dual, diagram)
-}
-
-#[test]
-fn openings_are_refused(rt: HostRuntime) -> Result<(), Fail> {
-    let in_conflict = open(
-        rt.alloc(),
-        b"0 0 0 0;",
-        b"root r\nmandatory r a\nexcludes r a\n",
-    );
-    let conflict = OpenFault::Conflict { feature: 0 };
-    assert!(&rt; fault_of(in_conflict) == Some(conflict));
-    assert!(&rt; fault_of(open_at_limit(rt.alloc())) == Some(OpenFault::AtLimit));
-    Ok(())
-}
-
-/// The token of a change that can't be redone, for another was made since.
-fn overtaken(rt: &(impl Abort + AllocGlobal), desk: &mut Desk, token: Redo) -> Redo {
-    match try_redo(rt, desk, token) {
-        Ok(_) => panic!(rt; "redone"),
-        Err((fault, token)) => {
-            assert!(rt; fault == RedoFault::Overtaken);
-            token
-        }
+/// The harvest that this call gives.
+fn harvest_of(rt: &impl Abort, alloc: Global, desk: &Desk, call: &Call) -> Option<Harvest> {
+    match call {
+        Call::Settle => Some(settled(rt, alloc, desk)),
+        Call::SettleOther(family) => Some(settled_on(rt, alloc, family)),
+        Call::Lift(v) => Some(lifted(rt, alloc, desk, *v)),
+        _ => None,
     }
-}
-
-/// The number of tokens of a desk that can't be closed, and the desk.
-fn still_open(rt: &(impl Abort + AllocGlobal), desk: Desk) -> (u64, Desk) {
-    match desk.close() {
-        Ok(()) => panic!(rt; "closed"),
-        Err(out) => (out.tokens, out.desk),
-    }
-}
-
-/// Closes a desk with no token out.
-fn close(rt: &(impl Abort + AllocGlobal), desk: Desk) {
-    match desk.close() {
-        Ok(()) => {}
-        Err(out) => {
-            let_go(out.desk);
-            panic!(rt; "tokens out")
-        }
-    }
-}
-
-// What a test does with a desk stands in a function that borrows it: one that owns it pays for each of its steps.
-
-/// Decides and undoes a feature, and decides another: the token of the second change, and the overtaken one of the first.
-fn overtake(rt: &(impl Abort + AllocGlobal), desk: &mut Desk) -> (Undo, Redo) {
-    let first = decide(rt, desk, F, true);
-    assert!(rt; first.serial() == 1);
-    let first = undo(rt, desk, first);
-    let second = decide(rt, desk, G, true);
-    assert!(rt; second.serial() == 2);
-    let first = overtaken(rt, desk, first);
-    (second, first)
-}
-
-/// Keeps the second change, and gives the overtaken token of the first.
-fn keep_second(rt: &(impl Abort + AllocGlobal), desk: &mut Desk) -> Redo {
-    let (second, first) = overtake(rt, desk);
-    keep(rt, desk, second);
-    first
-}
-
-#[test]
-fn tokens_are_spent(rt: HostRuntime) -> Result<(), Fail> {
-    let mut desk = desk(&rt);
-    let first = keep_second(&rt, &mut desk);
-    let (tokens, mut desk) = still_open(&rt, desk);
-    forget(&rt, &mut desk, first);
-    close(&rt, desk);
-    assert!(&rt; tokens == 1);
-    Ok(())
-}
-
-/// Spends both tokens, the overtaken one first.
-fn spend_both(rt: &(impl Abort + AllocGlobal), desk: &mut Desk) {
-    let (second, first) = overtake(rt, desk);
-    forget(rt, desk, first);
-    keep(rt, desk, second);
-}
-
-#[test]
-fn a_desk_closes_once_no_token_is_out(rt: HostRuntime) -> Result<(), Fail> {
-    let mut desk = desk(&rt);
-    spend_both(&rt, &mut desk);
-    close(&rt, desk);
-    Ok(())
-}
-
-/// Decides the first of two alternatives, and is refused what doesn't go with it.
-fn decide_one_of_two(rt: &(impl Abort + AllocGlobal), desk: &mut Desk) {
-    let token = decide(rt, desk, 1, true);
-    keep(rt, desk, token);
-    for (feature, fault) in [
-        (3, DecideFault::UnknownFeature),
-        (1, DecideFault::AlreadyDecided { serial: 1 }),
-        (2, DecideFault::Conflict { feature: 2 }),
-    ] {
-        assert!(rt; undecided(rt, desk, feature, true) == fault);
-    }
-    assert!(rt; unretracted(rt, desk, 3) == RetractFault::UnknownFeature);
-}
-
-#[test]
-fn decisions_are_refused(rt: HostRuntime) -> Result<(), Fail> {
-    let mut desk = desk_on(&rt, b"0 0 0 0;", b"root r\nalternative r: a b\n");
-    decide_one_of_two(&rt, &mut desk);
-    let_go(desk);
-    Ok(())
-}
-
-/// Whether the present page has so many entries and these tables.
-fn is_page(
-    rt: &(impl Abort + AllocGlobal),
-    desk: &Desk,
-    entries: usize,
-    hopeful: [u64; 2],
-    dual: [u64; 2],
-) -> bool {
-    page(rt, desk) == (entries, hopeful, dual)
-}
-
-/// Settles, undoes and redoes a change, with a lift between.
-fn turn_pages(rt: &(impl Abort + AllocGlobal), desk: &mut Desk) {
-    let change = decide(rt, desk, F, false);
-    assert!(rt; settle(rt, desk) == 2);
-    let change = undo(rt, desk, change);
-    assert!(rt; is_page(rt, desk, 0, [0, 0], [0, 0]));
-    assert!(rt; lift(rt, desk, 0) == 1);
-    let change = redo(rt, desk, change);
-    assert!(rt; is_page(rt, desk, 3, [2, 0], [0, 1]));
-    assert!(rt; desk.settled());
-    let change = undo(rt, desk, change);
-    assert!(rt; is_page(rt, desk, 1, [1, 0], [0, 0]));
-    forget(rt, desk, change);
-}
-
-#[test]
-fn pages_come_back(rt: HostRuntime) -> Result<(), Fail> {
-    let mut desk = desk(&rt);
-    turn_pages(&rt, &mut desk);
-    close(&rt, desk);
-    Ok(())
-}
-
-/// Whether a vertex has this verdict.
-fn is_verdict(
-    rt: &(impl Abort + AllocGlobal),
-    desk: &Desk,
-    v: u32,
-    hopeless: bool,
-    sure: bool,
-) -> bool {
-    verdict(rt, desk, v) == Verdict { hopeless, sure }
-}
-
-/// Settles, retracts the first of two decisions, and settles again.
-fn settle_and_retract(rt: &(impl Abort + AllocGlobal), desk: &mut Desk) -> Undo {
-    assert!(rt; settle(rt, desk) == 3);
-    assert!(rt; is_verdict(rt, desk, 0, false, true));
-    let back = retract(rt, desk, F);
-    assert!(rt; is_page(rt, desk, 1, [0, 0], [0, 0]));
-    assert!(rt; !desk.settled());
-    assert!(rt; settle(rt, desk) == 2);
-    assert!(rt; is_verdict(rt, desk, 0, false, false));
-    assert!(rt; unretracted(rt, desk, F) == RetractFault::NotDecided);
-    back
-}
-
-/// Decides twice, settles, retracts, and spends all tokens.
-fn retract_first(rt: &(impl Abort + AllocGlobal), desk: &mut Desk) {
-    let f = decide(rt, desk, F, true);
-    let g = decide(rt, desk, G, true);
-    let back = settle_and_retract(rt, desk);
-    keep(rt, desk, back);
-    keep(rt, desk, g);
-    keep(rt, desk, f);
-}
-
-#[test]
-fn retracting_drops_what_was_assumed(rt: HostRuntime) -> Result<(), Fail> {
-    let mut desk = desk(&rt);
-    retract_first(&rt, &mut desk);
-    close(&rt, desk);
-    Ok(())
-}
-
-/// The fault of a harvest that a desk refuses, and the harvest.
-fn refused(
-    rt: &(impl Abort + AllocGlobal),
-    desk: &mut Desk,
-    harvest: Harvest,
-) -> (CommitFault, Harvest) {
-    match commit(rt, desk, harvest) {
-        Ok(_) => panic!(rt; "committed"),
-        Err(refused) => refused,
-    }
-}
-
-/// A harvest of a decision that was retracted since.
-fn late_harvest(rt: &(impl Abort + AllocGlobal), desk: &mut Desk) -> Harvest {
-    let first = decide(rt, desk, F, false);
-    let harvest = settled_order(order(rt, desk));
-    let second = retract(rt, desk, F);
-    keep(rt, desk, second);
-    keep(rt, desk, first);
-    harvest
-}
-
-/// Decides out and keeps.
-fn decide_and_keep(rt: &(impl Abort + AllocGlobal), desk: &mut Desk) {
-    let token = decide(rt, desk, F, false);
-    keep(rt, desk, token);
-}
-
-/// Decides out and retracts a hundred times, and decides out.
-fn decide_often(rt: &(impl Abort + AllocGlobal), desk: &mut Desk) {
-    for _ in 0..100 {
-        decide_and_keep(rt, desk);
-        let token = retract(rt, desk, F);
-        keep(rt, desk, token);
-    }
-    decide_and_keep(rt, desk);
-}
-
-/// Hands in a harvest while its decision doesn't stand, and once it stands again.
-fn hand_in_late(rt: &(impl Abort + AllocGlobal), desk: &mut Desk) {
-    let harvest = late_harvest(rt, desk);
-    let (fault, harvest) = refused(rt, desk, harvest);
-    assert!(rt; fault == CommitFault::Outdated { feature: F });
-    decide_often(rt, desk);
-    assert!(rt; added(rt, desk, harvest) == 2);
-}
-
-#[test]
-fn harvests_come_late(rt: HostRuntime) -> Result<(), Fail> {
-    let mut desk = desk(&rt);
-    hand_in_late(&rt, &mut desk);
-    let late = is_page(&rt, &desk, 3, [2, 0], [0, 1]);
-    let_go(desk);
-    assert!(&rt; late);
-    Ok(())
-}
-
-/// The harvest of a desk on these texts.
-fn harvest_of(rt: &(impl Abort + AllocGlobal), game: &[u8], diagram: &[u8]) -> Harvest {
-    let desk = desk_on(rt, game, diagram);
-    let harvest = settled_order(order(rt, &desk));
-    let_go(desk);
-    harvest
 }
 
 /// How many vertices the harvest's game has, and how many clauses its diagram.
-fn sizes(harvest: &Harvest) -> (usize, usize) {
-    let order = harvest.order();
-    (order.game().vertices(), order.diagram().clauses().len())
-}
-
-/// Whether the harvest of another game or diagram is refused as such, and comes back with these sizes.
-fn is_other(
-    rt: &(impl Abort + AllocGlobal),
-    desk: &mut Desk,
-    harvest: Harvest,
-    expected: (usize, usize),
-) -> bool {
-    let (fault, harvest) = refused(rt, desk, harvest);
-    let same = sizes(&harvest) == expected;
-    let_order_go(harvest.again());
-    same && fault == CommitFault::OtherGame
-}
-
-/// Whether a harvest of another game and one of another diagram are refused.
-fn are_others(rt: &(impl Abort + AllocGlobal), desk: &mut Desk) -> bool {
-    let harvest = harvest_of(rt, b"parity 0; 0 0 0 0[f];", DIAGRAM);
-    let game = is_other(rt, desk, harvest, (1, 3));
-    let harvest = harvest_of(rt, GAME, b"root r\noptional r f\nmandatory r g\n");
-    let diagram = is_other(rt, desk, harvest, (2, 4));
-    game && diagram
-}
-
-#[test]
-fn harvests_of_other_games_come_back(rt: HostRuntime) -> Result<(), Fail> {
-    let mut desk = desk(&rt);
-    let others = are_others(&rt, &mut desk);
-    let_go(desk);
-    assert!(&rt; others);
-    Ok(())
-}
-
-/// Decides, undoes and forgets as often as a desk can.
-fn change_often(rt: &(impl Abort + AllocGlobal), desk: &mut Desk) {
-    for _ in 0..1_048_576 {
-        let token = decide(rt, desk, F, true);
-        let token = undo(rt, desk, token);
-        forget(rt, desk, token);
+fn sizes(harvest: &Option<Harvest>) -> (usize, usize) {
+    match harvest {
+        Some(harvest) => {
+            let order = harvest.order();
+            (order.game().vertices(), order.diagram().clauses().len())
+        }
+        None => (0, 0),
     }
 }
 
+/// Hands in the harvest that is held, which is held still where it is refused.
+fn committed(
+    rt: &impl Abort,
+    alloc: Global,
+    desk: &mut Desk,
+    kept: &mut Option<Harvest>,
+) -> Result<u32, CommitFault> {
+    match desk.commit(alloc, kept.take().expect(rt, "no harvest")) {
+        Ok(added) => Ok(added),
+        Err(CommitRefused { fault, harvest }) => {
+            *kept = Some(harvest);
+            Err(fault)
+        }
+    }
+}
+
+fn is_page(
+    rt: &impl Abort,
+    alloc: Global,
+    desk: &Desk,
+    entries: usize,
+    hopeful: &[u64],
+    dual: &[u64],
+) -> bool {
+    let page = desk.page(alloc).expect(rt, "no page");
+    page.entries.as_slice().len() == entries
+        && page.hopeful.values() == hopeful
+        && page.dual.values() == dual
+}
+
+fn is_verdict(desk: &Desk, v: u32, verdict: Verdict) -> bool {
+    (v as usize) < desk.game().vertices() && desk.verdict(v) == verdict
+}
+
+/// Makes a call that takes no token and gives none: whether it gives what it has to.
+fn looks(
+    rt: &impl Abort,
+    alloc: Global,
+    desk: &mut Desk,
+    harvest: &mut Option<Harvest>,
+    call: &Call,
+) -> bool {
+    match call {
+        Call::StaysOpen(tokens) => tokens_out(rt, alloc, desk) == *tokens,
+        Call::Sizes(vertices, clauses) => sizes(harvest) == (*vertices, *clauses),
+        Call::Commit(gives) => committed(rt, alloc, desk, harvest) == *gives,
+        Call::Page(entries, hopeful, dual) => is_page(rt, alloc, desk, *entries, hopeful, dual),
+        Call::Settled(is) => desk.settled() == *is,
+        Call::Verdict(v, hopeless, sure) => {
+            let verdict = Verdict {
+                hopeless: *hopeless,
+                sure: *sure,
+            };
+            is_verdict(desk, *v, verdict)
+        }
+        _ => {
+            *harvest = harvest_of(rt, alloc, desk, call);
+            harvest.is_some()
+        }
+    }
+}
+
+/// Makes a call: whether it gives what it has to.
+fn gives(rt: &impl Abort, alloc: Global, desk: &mut Desk, held: &mut Held, call: &Call) -> bool {
+    match *call {
+        Call::Decide(at, feature, value, fault) => {
+            let made = desk.decide(alloc, 1, feature, value);
+            changed(rt, held.at(at), made) == fault
+        }
+        Call::Retract(at, session, feature, fault) => {
+            let made = desk.retract(alloc, session, feature);
+            changed(rt, held.at(at), made) == fault
+        }
+        Call::Serial(at, serial) => serial_of(held.at(at)) == serial,
+        Call::Undo(_) | Call::Redo(..) | Call::Keep(_) | Call::Forget => {
+            spends(rt, alloc, desk, held, call)
+        }
+        _ => looks(rt, alloc, desk, &mut held.harvest, call),
+    }
+}
+
+/// Makes each call, which has to give what it says.
+fn carry_out(rt: &impl Abort, alloc: Global, desk: &mut Desk, held: &mut Held, calls: &[Call]) {
+    for k in 0..calls.len() {
+        assert!(rt; gives(rt, alloc, desk, held, &calls[k]), "at call {k}");
+    }
+}
+
+/// Calls that are made so often, one time after the other.
+type Part = (u32, &'static [Call]);
+
+fn carry_out_often(
+    rt: &impl Abort,
+    alloc: Global,
+    desk: &mut Desk,
+    held: &mut Held,
+    (times, calls): Part,
+) {
+    for _ in 0..times {
+        carry_out(rt, alloc, desk, held, calls);
+    }
+}
+
+/// Lets go what is held, where that is no token.
+fn let_go(rt: &impl Abort, held: Held) {
+    let Held {
+        first,
+        second,
+        third,
+        undone,
+        harvest: _,
+    } = held;
+    is_free(rt, first);
+    is_free(rt, second);
+    is_free(rt, third);
+    is_free(rt, undone);
+}
+
+/// Makes all these calls on a desk on a family, and closes it.
+fn run(rt: &impl Abort, alloc: Global, family: &Family, parts: &[Part]) {
+    let mut desk = desk_on(rt, alloc, family);
+    let mut held = Held {
+        first: None,
+        second: None,
+        third: None,
+        undone: None,
+        harvest: None,
+    };
+    for part in parts {
+        carry_out_often(rt, alloc, &mut desk, &mut held, *part);
+    }
+    let_go(rt, held);
+    assert!(rt; desk.close().is_ok());
+}
+
+/// What has no desk, and why.
+const REFUSED: &[(Family, OpenFault)] = &[
+    (
+        Family {
+            game: b"0 0 0 0;",
+            diagram: b"root r\nmandatory r a\nexcludes r a\n",
+            is_dual: false,
+        },
+        OpenFault::Conflict { feature: 0 },
+    ),
+    (
+        Family {
+            game: b"0 65535 0 0;",
+            diagram: DIAGRAM,
+            is_dual: true,
+        },
+        OpenFault::AtLimit,
+    ),
+];
+
 #[test]
-fn changes_are_limited(rt: HostRuntime) -> Result<(), Fail> {
-    let mut desk = desk(&rt);
-    change_often(&rt, &mut desk);
-    let fault = undecided(&rt, &mut desk, F, true);
-    let_go(desk);
-    assert!(&rt; fault == DecideFault::TooManyChanges);
-    Ok(())
+fn openings_are_refused(rt: HostRuntime) {
+    for (family, fault) in REFUSED {
+        assert!(rt; opened(&rt, rt.alloc(), family).err() == Some(*fault));
+    }
+}
+
+/// A change that is undone can't be redone once another is made.
+const OVERTAKE: Part = (
+    1,
+    &[
+        Call::Decide(At::First, F, true, None),
+        Call::Serial(At::First, 1),
+        Call::Undo(At::First),
+        Call::Decide(At::Second, G, true, None),
+        Call::Serial(At::Second, 2),
+        Call::Redo(At::First, Some(RedoFault::Overtaken)),
+    ],
+);
+
+/// Then a desk closes once its last token is spent.
+const SPEND: &[Part] = &[
+    OVERTAKE,
+    (
+        1,
+        &[Call::Keep(At::Second), Call::StaysOpen(1), Call::Forget],
+    ),
+];
+
+/// The overtaken token is spent first.
+const FORGET_FIRST: &[Part] = &[OVERTAKE, (1, &[Call::Forget, Call::Keep(At::Second)])];
+
+/// The first of two alternatives is decided, and what doesn't go with it is refused.
+const REFUSE: &[Part] = &[(
+    1,
+    &[
+        Call::Decide(At::First, 1, true, None),
+        Call::Keep(At::First),
+        Call::Decide(At::First, 3, true, Some(DecideFault::UnknownFeature)),
+        Call::Decide(
+            At::First,
+            1,
+            true,
+            Some(DecideFault::AlreadyDecided { serial: 1 }),
+        ),
+        Call::Decide(
+            At::First,
+            2,
+            true,
+            Some(DecideFault::Conflict { feature: 2 }),
+        ),
+        Call::Retract(At::First, 1, 3, Some(RetractFault::UnknownFeature)),
+    ],
+)];
+
+/// A change is undone and redone, with a lift between: pages come back.
+const TURN: &[Part] = &[(
+    1,
+    &[
+        Call::Decide(At::First, F, false, None),
+        Call::Settle,
+        Call::Commit(Ok(2)),
+        Call::Undo(At::First),
+        Call::Page(0, [0, 0], [0, 0]),
+        Call::Lift(0),
+        Call::Commit(Ok(1)),
+        Call::Redo(At::First, None),
+        Call::Page(3, [2, 0], [0, 1]),
+        Call::Settled(true),
+        Call::Undo(At::First),
+        Call::Page(1, [1, 0], [0, 0]),
+        Call::Forget,
+    ],
+)];
+
+/// Retracting the first of two decisions drops what was assumed.
+const RETRACT: &[Part] = &[(
+    1,
+    &[
+        Call::Decide(At::First, F, true, None),
+        Call::Decide(At::Second, G, true, None),
+        Call::Settle,
+        Call::Commit(Ok(3)),
+        Call::Verdict(0, false, true),
+        Call::Retract(At::Third, 2, F, None),
+        Call::Page(1, [0, 0], [0, 0]),
+        Call::Settled(false),
+        Call::Settle,
+        Call::Commit(Ok(2)),
+        Call::Verdict(0, false, false),
+        Call::Retract(At::First, 1, F, Some(RetractFault::NotDecided)),
+        Call::Keep(At::Third),
+        Call::Keep(At::Second),
+        Call::Keep(At::First),
+    ],
+)];
+
+/// A harvest comes late: its decision was retracted. Once it stands again, much later, the harvest is taken.
+const COME_LATE: &[Part] = &[
+    (
+        1,
+        &[
+            Call::Decide(At::First, F, false, None),
+            Call::Settle,
+            Call::Retract(At::Second, 2, F, None),
+            Call::Keep(At::Second),
+            Call::Keep(At::First),
+            Call::Commit(Err(CommitFault::Outdated { feature: F })),
+        ],
+    ),
+    (
+        100,
+        &[
+            Call::Decide(At::First, F, false, None),
+            Call::Keep(At::First),
+            Call::Retract(At::First, 2, F, None),
+            Call::Keep(At::First),
+        ],
+    ),
+    (
+        1,
+        &[
+            Call::Decide(At::First, F, false, None),
+            Call::Keep(At::First),
+            Call::Commit(Ok(2)),
+            Call::Page(3, [2, 0], [0, 1]),
+        ],
+    ),
+];
+
+/// Harvests of another game and of another diagram come back.
+const HAND_IN_OTHERS: &[Part] = &[(
+    1,
+    &[
+        Call::SettleOther(Family {
+            game: b"parity 0; 0 0 0 0[f];",
+            diagram: DIAGRAM,
+            is_dual: false,
+        }),
+        Call::Commit(Err(CommitFault::OtherGame)),
+        Call::Sizes(1, 3),
+        Call::SettleOther(Family {
+            game: GAME,
+            diagram: b"root r\noptional r f\nmandatory r g\n",
+            is_dual: false,
+        }),
+        Call::Commit(Err(CommitFault::OtherGame)),
+        Call::Sizes(2, 4),
+    ],
+)];
+
+/// Two alternatives, of which the game names none.
+const TWO: Family = Family {
+    game: b"0 0 0 0;",
+    diagram: b"root r\nalternative r: a b\n",
+    is_dual: false,
+};
+
+const RUNS: &[(&Family, &[Part])] = &[
+    (&MOST, SPEND),
+    (&MOST, FORGET_FIRST),
+    (&TWO, REFUSE),
+    (&MOST, TURN),
+    (&MOST, RETRACT),
+    (&MOST, COME_LATE),
+    (&MOST, HAND_IN_OTHERS),
+];
+
+#[test]
+fn calls_give_what_they_should(rt: HostRuntime) {
+    for (family, parts) in RUNS {
+        run(&rt, rt.alloc(), family, parts);
+    }
+}
+
+/// A feature is decided, and that undone and forgotten, as often as a desk can.
+const TO_THE_LIMIT: &[Part] = &[
+    (
+        1_048_576,
+        &[
+            Call::Decide(At::First, F, true, None),
+            Call::Undo(At::First),
+            Call::Forget,
+        ],
+    ),
+    (
+        1,
+        &[Call::Decide(At::First, F, true, Some(DecideFault::TooManyChanges))],
+    ),
+];
+
+#[test]
+fn changes_are_limited(rt: HostRuntime) {
+    run(&rt, rt.alloc(), &MOST, TO_THE_LIMIT);
 }

@@ -1,12 +1,13 @@
 //! Trails by hand: over two vertices, with decisions on the features 1 and 2.
-ghost use Rattle.std.specs.Prelude.{◌≡◌, [], ◌∷◌, IfOk};
+ghost use Rattle.std.specs.Prelude.{◌≡◌, [], ◌∷◌, length};
 ghost use Rattle.vpg_trail.specs.Page.{Decided, Lifted, Hopeful};
 ghost use Rattle.vpg_trail.specs.Shown.{entry_of};
 
 use std::alloc::{AllocError, Global};
 use std::fmt::Write;
+use std::process::Abort;
 use std::sync::Arc;
-use std::test::Fail;
+use std::test::*;
 use vpg_diagram::Literal;
 use vpg_measure::Table;
 use vpg_partial::Decision;
@@ -30,37 +31,60 @@ const IN: Decision = Decision {
     value: true,
 };
 
+/// The same decisions as literals.
+const FIRST: Literal = Literal {
+    feature: 1,
+    value: false,
+};
+
+const SECOND: Literal = Literal {
+    feature: 2,
+    value: true,
+};
+
 // ---- entries as a text, such as `-1; hopeful 0 0 2 -1;`
 
-fn put_choice(text: &mut String, value: bool, feature: u16) -> Result<(), AllocError> {
-    let sign = if value { '+' } else { '-' };
-    write!(text, " {sign}{feature}")
+/// A text that is written. What finds no memory is noted, and told once the text is whole.
+#[derive(Drop)]
+struct Line {
+    text: String,
+    lacks: bool,
 }
 
-fn put_lift(
-    text: &mut String,
-    table: Which,
-    vertex: u32,
-    old: u64,
-    new: u64,
-) -> Result<(), AllocError> {
-    let name = match table {
-        Which::Hopeful => "hopeful",
-        Which::Dual => "dual",
-    };
-    write!(text, " {name} {vertex} {old} {new}")
-}
-
-fn put_assumed(text: &mut String, under: &Assumed) -> Result<(), AllocError> {
-    for literal in under.literals() {
-        put_choice(text, literal.value, literal.feature)?;
+impl Line {
+    fn put(&mut self, words: &str) {
+        self.lacks |= self.text.push_str(words).is_err();
     }
-    Ok(())
+
+    /// Writes a number behind these words.
+    fn number(&mut self, words: &str, number: u64) {
+        self.lacks |= write!(self.text, "{words}{number}").is_err();
+    }
 }
 
-fn put_entry(text: &mut String, entry: &Entry) -> Result<(), AllocError> {
+fn put_choice(line: &mut Line, value: bool, feature: u16) {
+    line.number(if value { " +" } else { " -" }, feature as u64);
+}
+
+fn put_lift(line: &mut Line, table: Which, vertex: u32, old: u64, new: u64) {
+    line.put(match table {
+        Which::Hopeful => " hopeful",
+        Which::Dual => " dual",
+    });
+    line.number(" ", vertex as u64);
+    line.number(" ", old);
+    line.number(" ", new);
+}
+
+fn put_assumed(line: &mut Line, under: &Assumed) {
+    for literal in under.literals() {
+        put_choice(line, literal.value, literal.feature);
+    }
+}
+
+fn put_entry(line: &mut Line, entry: &Entry) {
     match entry {
-        Entry::Decide(decision) => put_choice(text, decision.value, decision.feature)?,
+        Entry::Decide(decision) => put_choice(line, decision.value, decision.feature),
         Entry::Lift {
             table,
             vertex,
@@ -68,139 +92,76 @@ fn put_entry(text: &mut String, entry: &Entry) -> Result<(), AllocError> {
             new,
             under,
         } => {
-            put_lift(text, *table, *vertex, *old, *new)?;
-            put_assumed(text, under)?;
+            put_lift(line, *table, *vertex, *old, *new);
+            put_assumed(line, under);
         }
     }
-    text.push_str(";")?;
-    Ok(())
+    line.put(";");
 }
 
-fn shown(alloc: Global, entries: &[Entry]) -> Result<String, AllocError> {
-    let mut text = String::new(alloc);
+fn put_entries(line: &mut Line, entries: &[Entry]) {
     for entry in entries {
-        put_entry(&mut text, entry)?;
+        put_entry(line, entry);
     }
-    Ok(text)
 }
 
-fn are(alloc: Global, entries: &[Entry], expected: &str) -> Result<bool, AllocError> {
-    Ok(shown(alloc, entries)?.as_str() == expected)
+/// Whether entries are this text.
+fn are(alloc: Global, entries: &[Entry], expected: &str) -> bool {
+    let mut line = Line {
+        text: String::new(alloc),
+        lacks: false,
+    };
+    put_entries(&mut line, entries);
+    !line.lacks && line.text.as_str() == expected
 }
 
 /// Whether the trail has these entries and tables.
-fn is_trail(
-    alloc: Global,
-    trail: &Trail,
-    entries: &str,
-    hopeful: &[u64],
-    dual: &[u64],
-) -> Result<bool, AllocError> {
+fn is_trail(alloc: Global, trail: &Trail, entries: &str, hopeful: &[u64], dual: &[u64]) -> bool {
     let (first, second) = trail.tables();
-    if first.values() != hopeful || second.values() != dual {
-        return Ok(false);
-    }
-    are(alloc, trail.entries(), entries)
+    first.values() == hopeful && second.values() == dual && are(alloc, trail.entries(), entries)
 }
 
-fn level(trail: &Trail, place: usize) -> Option<usize> {
-    if place > trail.entries().len() {
-        return None;
-    }
-    Some(trail.level(place))
+fn assumed(rt: &impl Abort, alloc: Global, literals: &[Literal]) -> Arc<Assumed> {
+    let literals = Vec::from_slice(alloc, literals).expect(rt, "no memory");
+    Arc::new(alloc, Assumed::new(literals)).expect(rt, "no memory")
 }
 
-// ---- trails
+// ---- trails that are made step by step
 
-/// A trail over two vertices with one decision.
-fn decided_trail(alloc: Global, decision: Decision) -> Result<Trail, AllocError>
-    ensures { IfOk result (λ t. t ≡ record { vertices = 2; entries = Decided decision ∷ [] }) }
-{
-    let mut trail = Trail::open(alloc, 2)?;
-    trail.append(Entry::Decide(decision))?;
-    Ok(trail)
-}
-
-/// A lift of the first table at vertex 0, from zero and without assumed decisions.
-fn first_lift(alloc: Global, new: u64) -> Result<Entry, AllocError>
-    ensures { IfOk result (λ e. entry_of e ≡ Lifted (record { table = Hopeful; vertex = 0; old = 0; new = new; under = [] })) }
-{
-    Ok(Entry::Lift {
-        table: Which::Hopeful,
-        vertex: 0,
-        old: 0,
-        new,
-        under: Arc::new(alloc, Assumed::new(Vec::new(alloc)))?,
-    })
-}
-
-/// A trail of a decision and a lift to 2, with a lift to 1 put in place of that one, which comes beside it.
-fn exchanged(alloc: Global) -> Result<(Trail, Vec<Entry>), AllocError> {
-    let mut trail = decided_trail(alloc, OUT)?;
-    trail.append(first_lift(alloc, 2)?)?;
-    let mut suffix = Vec::new(alloc);
-    suffix.push(first_lift(alloc, 1)?)?;
-    let cut = trail.splice(1, suffix)?;
-    Ok((trail, cut))
+/// What is done with a trail.
+enum Deed {
+    Decide(Decision),
+    /// One vertex is raised by a lift from its present value, under these decisions.
+    Raise(Which, u32, u64, &'static [Literal]),
+    /// The decision on a feature is retracted.
+    Retract(u16),
+    /// The same, and taken back.
+    RetractAndBack(u16),
+    /// All entries are taken, and put behind an empty trail at once.
+    PutAgain,
 }
 
 /// Raises one vertex by a lift from its present value.
-fn raise(
-    trail: &mut Trail,
-    table: Which,
-    vertex: u32,
-    new: u64,
-    under: &Arc<Assumed>,
-) -> Result<(), AllocError> {
+fn raise(trail: &mut Trail, table: Which, vertex: u32, new: u64, under: Arc<Assumed>) -> bool {
     if vertex >= trail.vertices() {
-        return Ok(());
+        return false;
     }
     let old = match table {
         Which::Hopeful => trail.hopeful().get(vertex),
         Which::Dual => trail.dual().get(vertex),
     };
     if old < new {
-        trail.append(Entry::Lift {
+        let entry = Entry::Lift {
             table,
             vertex,
             old,
             new,
-            under: under.clone()?,
-        })?;
+            under,
+        };
+        trail.append(entry).is_ok()
+    } else {
+        false
     }
-    Ok(())
-}
-
-fn assumed(alloc: Global, decisions: &[Decision]) -> Result<Arc<Assumed>, AllocError> {
-    let mut literals = Vec::new(alloc);
-    for decision in decisions {
-        literals.push(Literal {
-            feature: decision.feature,
-            value: decision.value,
-        })?;
-    }
-    Ok(Arc::new(alloc, Assumed::new(literals))?)
-}
-
-/// Two decisions; a lift that assumed both, and two lifts that assumed the first alone, one of them of the same vertex.
-fn two_decisions(alloc: Global) -> Result<Trail, AllocError> {
-    let both = assumed(alloc, &[OUT, IN])?;
-    let first = assumed(alloc, &[OUT])?;
-    let mut trail = decided_trail(alloc, OUT)?;
-    trail.append(Entry::Decide(IN))?;
-    raise(&mut trail, Which::Hopeful, 0, 1, &both)?;
-    raise(&mut trail, Which::Hopeful, 0, 2, &first)?;
-    raise(&mut trail, Which::Dual, 1, 1, &first)?;
-    Ok(trail)
-}
-
-/// A decision, and two lifts that assumed nothing.
-fn one_decision(alloc: Global) -> Result<Trail, AllocError> {
-    let none = assumed(alloc, &[])?;
-    let mut trail = decided_trail(alloc, OUT)?;
-    raise(&mut trail, Which::Hopeful, 0, 1, &none)?;
-    raise(&mut trail, Which::Dual, 1, 1, &none)?;
-    Ok(trail)
 }
 
 /// Retracts a feature, and takes that back where this is asked for.
@@ -221,156 +182,204 @@ fn retract(
     Ok(())
 }
 
-/// The same entries, put behind an empty trail all at once.
-fn put_again(mut trail: Trail, alloc: Global) -> Result<Trail, AllocError> {
-    let all = trail.splice(0, Vec::new(alloc))?;
-    trail.extend(all)?;
-    Ok(trail)
+/// Takes all entries, and puts them behind an empty trail at once.
+fn put_again(rt: &impl Abort, alloc: Global, trail: &mut Trail) -> bool {
+    let all = trail.splice(0, Vec::new(alloc)).expect(rt, "no memory");
+    trail.extend(all).is_ok()
 }
+
+/// Does this with a trail: whether it could be done.
+fn does(rt: &impl Abort, alloc: Global, trail: &mut Trail, deed: &Deed) -> bool {
+    match *deed {
+        Deed::Decide(decision) => trail.append(Entry::Decide(decision)).is_ok(),
+        Deed::Raise(table, vertex, new, under) => {
+            raise(trail, table, vertex, new, assumed(rt, alloc, under))
+        }
+        Deed::Retract(feature) => retract(alloc, trail, feature, false).is_ok(),
+        Deed::RetractAndBack(feature) => retract(alloc, trail, feature, true).is_ok(),
+        Deed::PutAgain => put_again(rt, alloc, trail),
+    }
+}
+
+fn carry_out(rt: &impl Abort, alloc: Global, trail: &mut Trail, deeds: &[Deed]) {
+    for deed in deeds {
+        assert!(rt; does(rt, alloc, trail, deed));
+    }
+}
+
+/// A trail over two vertices of which this was made.
+fn made(rt: &impl Abort, alloc: Global, deeds: &[Deed]) -> Trail {
+    let mut trail = Trail::open(alloc, 2).expect(rt, "no memory");
+    carry_out(rt, alloc, &mut trail, deeds);
+    trail
+}
+
+/// Two decisions; a lift that assumed both, and two lifts that assumed the first alone, one of them of the same vertex.
+const TWO_DECISIONS: &[Deed] = &[
+    Deed::Decide(OUT),
+    Deed::Decide(IN),
+    Deed::Raise(Which::Hopeful, 0, 1, &[FIRST, SECOND]),
+    Deed::Raise(Which::Hopeful, 0, 2, &[FIRST]),
+    Deed::Raise(Which::Dual, 1, 1, &[FIRST]),
+];
+
+/// A decision, and two lifts that assumed nothing.
+const ONE_DECISION: &[Deed] = &[
+    Deed::Decide(OUT),
+    Deed::Raise(Which::Hopeful, 0, 1, &[]),
+    Deed::Raise(Which::Dual, 1, 1, &[]),
+];
 
 /// The entries of the trail of two decisions.
-fn two_text() -> &'static str {
-    " -1; +2; hopeful 0 0 1 -1 +2; hopeful 0 1 2 -1; dual 1 0 1 -1;"
-}
+const TWO_TEXT: &str = " -1; +2; hopeful 0 0 1 -1 +2; hopeful 0 1 2 -1; dual 1 0 1 -1;";
 
-fn is_two_decisions(alloc: Global, trail: &Trail) -> Result<bool, AllocError> {
-    is_trail(alloc, trail, two_text(), &[2, 0], &[0, 1])
-}
+/// A trail, what is done with it, and its entries and tables then.
+type Row = (
+    &'static [Deed],
+    Deed,
+    &'static str,
+    &'static [u64],
+    &'static [u64],
+);
 
-fn second_retracted_and_back(alloc: Global) -> Result<bool, AllocError> {
-    let mut trail = two_decisions(alloc)?;
-    retract(alloc, &mut trail, 2, true)?;
-    is_two_decisions(alloc, &trail)
-}
+/// Retracting keeps the lifts that did not assume it.
+const ROWS: &[Row] = &[
+    (
+        TWO_DECISIONS,
+        Deed::Retract(2),
+        " -1; hopeful 0 0 2 -1; dual 1 0 1 -1;",
+        &[2, 0],
+        &[0, 1],
+    ),
+    (
+        TWO_DECISIONS,
+        Deed::RetractAndBack(2),
+        TWO_TEXT,
+        &[2, 0],
+        &[0, 1],
+    ),
+    (
+        ONE_DECISION,
+        Deed::Retract(1),
+        " hopeful 0 0 1; dual 1 0 1;",
+        &[1, 0],
+        &[0, 1],
+    ),
+    (TWO_DECISIONS, Deed::PutAgain, TWO_TEXT, &[2, 0], &[0, 1]),
+];
 
-fn second_retracted(alloc: Global) -> Result<bool, AllocError> {
-    let mut trail = two_decisions(alloc)?;
-    retract(alloc, &mut trail, 2, false)?;
-    let entries = " -1; hopeful 0 0 2 -1; dual 1 0 1 -1;";
-    is_trail(alloc, &trail, entries, &[2, 0], &[0, 1])
-}
-
-fn only_one_retracted(alloc: Global) -> Result<bool, AllocError> {
-    let mut trail = one_decision(alloc)?;
-    retract(alloc, &mut trail, 1, false)?;
-    let entries = " hopeful 0 0 1; dual 1 0 1;";
-    is_trail(alloc, &trail, entries, &[1, 0], &[0, 1])
-}
-
-fn all_put_again(alloc: Global) -> Result<bool, AllocError> {
-    let trail = put_again(two_decisions(alloc)?, alloc)?;
-    is_two_decisions(alloc, &trail)
-}
-
-fn copy_of_two(alloc: Global) -> Result<Entries, AllocError> {
-    let trail = two_decisions(alloc)?;
-    let copy = Entries::copy_of(alloc, trail.entries())?;
-    Ok(Entries::new(copy.into_vec()))
-}
-
-fn copied(alloc: Global) -> Result<bool, AllocError> {
-    let copy = copy_of_two(alloc)?;
-    are(alloc, copy.as_slice(), two_text())
-}
-
-// ---- tests
-
-/// Whether a trail and what was cut from it are those of the exchange.
-fn is_exchange(alloc: Global, trail: &Trail, cut: &[Entry]) -> Result<bool, AllocError> {
-    let back = are(alloc, cut, " hopeful 0 0 2;")?;
-    let left = is_trail(alloc, trail, " -1; hopeful 0 0 1;", &[1, 0], &[0, 0])?;
-    Ok(back && left && level(trail, 0) == Some(0) && level(trail, 2) == Some(1))
-}
-
-fn are_exchanged(alloc: Global) -> Result<bool, AllocError> {
-    let (trail, cut) = exchanged(alloc)?;
-    is_exchange(alloc, &trail, &cut)
+fn holds(rt: &impl Abort, alloc: Global, (deeds, then, entries, hopeful, dual): &Row) -> bool {
+    let mut trail = made(rt, alloc, deeds);
+    does(rt, alloc, &mut trail, then) && is_trail(alloc, &trail, entries, hopeful, dual)
 }
 
 #[test]
-fn a_splice_gives_back_what_it_cuts(rt: HostRuntime) -> Result<(), Fail> {
-    assert!(rt; are_exchanged(rt.alloc())?);
-    Ok(())
+fn entries_are_kept(rt: HostRuntime) {
+    for row in ROWS {
+        assert!(rt; holds(&rt, rt.alloc(), row));
+    }
 }
 
-#[test]
-fn retracting_keeps_the_lifts_that_did_not_assume_it(rt: HostRuntime) -> Result<(), Fail> {
-    assert!(rt; second_retracted(rt.alloc())?);
-    assert!(rt; second_retracted_and_back(rt.alloc())?);
-    assert!(rt; only_one_retracted(rt.alloc())?);
-    Ok(())
+// ---- a splice
+
+/// A lift of the first table at vertex 0, from zero and without assumed decisions.
+fn first_lift(rt: &impl Abort, alloc: Global, new: u64) -> Entry
+    ensures { entry_of result ≡ Lifted (record { table = Hopeful; vertex = 0; old = 0; new = new; under = [] }) }
+{
+    Entry::Lift {
+        table: Which::Hopeful,
+        vertex: 0,
+        old: 0,
+        new,
+        under: Arc::new(alloc, Assumed::new(Vec::new(alloc))).expect(rt, "no memory"),
+    }
 }
 
-#[test]
-fn entries_are_copied_and_put_again(rt: HostRuntime) -> Result<(), Fail> {
-    assert!(rt; all_put_again(rt.alloc())?);
-    assert!(rt; copied(rt.alloc())?);
-    Ok(())
+/// What is cut of a decision and a lift to 2, where a lift to 1 is put in place of that one.
+fn exchange(rt: &impl Abort, alloc: Global, trail: &mut Trail) -> Vec<Entry>
+    requires { trail.old ≡ record { vertices = 2; entries = Decided OUT ∷ [] } }
+{
+    assert!(rt; trail.append(first_lift(rt, alloc, 2)).is_ok());
+    let suffix = Vec::from_array(alloc, [first_lift(rt, alloc, 1)]).expect(rt, "no memory");
+    trail.splice(1, suffix).expect(rt, "no memory")
+}
+
+/// Whether a splice puts in what it is given, and gives back what it cuts.
+fn is_exchanged(rt: &impl Abort, alloc: Global) -> bool {
+    let mut trail = Trail::open(alloc, 2).expect(rt, "no memory");
+    assert!(rt; trail.append(Entry::Decide(OUT)).is_ok());
+    let cut = exchange(rt, alloc, &mut trail);
+    are(alloc, &cut, " hopeful 0 0 2;")
+        && is_trail(alloc, &trail, " -1; hopeful 0 0 1;", &[1, 0], &[0, 0])
+        && level(&trail, 0) == Some(0)
+        && level(&trail, 2) == Some(1)
+}
+
+fn level(trail: &Trail, place: usize) -> Option<usize> {
+    if place > trail.entries().len() {
+        return None;
+    }
+    Some(trail.level(place))
+}
+
+// ---- lists
+
+fn is_copied(rt: &impl Abort, alloc: Global, entries: &[Entry]) -> bool {
+    let copy = Entries::copy_of(alloc, entries).expect(rt, "no memory");
+    let copy = Entries::new(copy.into_vec());
+    are(alloc, copy.as_slice(), TWO_TEXT)
 }
 
 /// Whether the decisions among entries are both, as a list and back.
-fn are_both(alloc: Global, entries: &[Entry]) -> Result<bool, AllocError> {
-    let decisions = Decisions::new(decisions_among(alloc, entries)?);
+fn are_both(rt: &impl Abort, alloc: Global, entries: &[Entry]) -> bool {
+    let decisions = Decisions::new(decisions_among(alloc, entries).expect(rt, "no memory"));
     let listed = decisions.as_slice() == [OUT, IN].as_slice();
     let back = decisions.into_vec();
-    Ok(listed && back.as_slice() == [OUT, IN].as_slice())
+    listed && back.as_slice() == [OUT, IN].as_slice()
 }
 
-/// Whether the second decision is found in its place, one of the root nowhere, and both are listed.
-fn are_found(alloc: Global) -> Result<(bool, bool, bool), AllocError> {
-    let trail = two_decisions(alloc)?;
-    let found = decided(trail.entries(), 2) == Some(IN) && decided(trail.entries(), 0).is_none();
-    let placed = place_of(trail.entries(), 2) == Some(1) && place_of(trail.entries(), 0).is_none();
-    let both = are_both(alloc, trail.entries())?;
-    Ok((found, placed, both))
+/// Whether the second decision is found in its place, and one of the root nowhere.
+fn are_found(entries: &[Entry]) -> bool {
+    decided(entries, 2) == Some(IN)
+        && decided(entries, 0).is_none()
+        && place_of(entries, 2) == Some(1)
+        && place_of(entries, 0).is_none()
 }
-
-#[test]
-fn decisions_are_found(rt: HostRuntime) -> Result<(), Fail> {
-    assert_eq!(rt; are_found(rt.alloc())?, (true, true, true));
-    Ok(())
-}
-
-const SECOND: Literal = Literal {
-    feature: 2,
-    value: true,
-};
 
 /// Whether assumed decisions are held as a list and back, and asked for.
-fn are_held(alloc: Global) -> Result<bool, AllocError> {
-    let assumed = Assumed::new(Vec::from_slice(alloc, &[SECOND])?);
+fn are_held(rt: &impl Abort, alloc: Global) -> bool {
+    let assumed = Assumed::new(Vec::from_slice(alloc, &[SECOND]).expect(rt, "no memory"));
     let held = assumed.has(2) && !assumed.has(1);
     let listed = assumed.literals() == [SECOND].as_slice();
     let back = assumed.into_vec();
-    Ok(held && listed && back.as_slice() == [SECOND].as_slice())
-}
-
-#[test]
-fn assumed_decisions_are_held(rt: HostRuntime) -> Result<(), Fail> {
-    assert!(rt; are_held(rt.alloc())?);
-    Ok(())
+    held && listed && back.as_slice() == [SECOND].as_slice()
 }
 
 /// The lifts of the second table from zero to three values.
-fn lifts_from_zero(alloc: Global, values: Vec<u64>) -> Result<Vec<Entry>, AllocError> {
-    let under = assumed(alloc, &[OUT])?;
-    let present = Table::zero(alloc, 3)?;
-    let values = Table::of(values);
-    if values.values().len() != 3 {
-        return Ok(Vec::new(alloc));
-    }
-    lifts(alloc, Which::Dual, &present, &values, &under, 3)
+fn lifts_to(rt: &impl Abort, alloc: Global, values: &Table) -> Vec<Entry>
+    requires { length values.now ≡ 3 }
+{
+    let under = assumed(rt, alloc, &[FIRST]);
+    let present = Table::zero(alloc, 3).expect(rt, "no memory");
+    lifts(alloc, Which::Dual, &present, values, &under, 3).expect(rt, "no memory")
 }
 
 /// Whether the lifts to a table are these.
-fn are_lifts(alloc: Global) -> Result<bool, AllocError> {
-    let values = Vec::from_slice(alloc, &[2, 0, 1])?;
-    let lifts = lifts_from_zero(alloc, values)?;
+fn are_lifts(rt: &impl Abort, alloc: Global) -> bool {
+    let values = Table::of(Vec::from_slice(alloc, &[2, 0, 1]).expect(rt, "no memory"));
+    assert!(rt; values.values().len() == 3);
+    let lifts = lifts_to(rt, alloc, &values);
     are(alloc, &lifts, " dual 0 0 2 -1; dual 2 0 1 -1;")
 }
 
 #[test]
-fn lifts_raise_to_a_table(rt: HostRuntime) -> Result<(), Fail> {
-    assert!(rt; are_lifts(rt.alloc())?);
-    Ok(())
+fn lists_are_as_made(rt: HostRuntime) {
+    let alloc = rt.alloc();
+    assert!(rt; is_exchanged(&rt, alloc));
+    let trail = made(&rt, alloc, TWO_DECISIONS);
+    assert!(rt; is_copied(&rt, alloc, trail.entries()));
+    assert!(rt; are_both(&rt, alloc, trail.entries()));
+    assert!(rt; are_found(trail.entries()));
+    assert!(rt; are_held(&rt, alloc));
+    assert!(rt; are_lifts(&rt, alloc));
 }

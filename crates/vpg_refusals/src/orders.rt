@@ -8,16 +8,15 @@ ghost use Rattle.vpg_partial.specs.Known.{literal_of};
 ghost use Rattle.vpg_partial.specs.TableLaws.{AreChoicesOf};
 
 use crate::decided::are_below;
-use crate::{DIAGRAM, GAME, told_of};
-use anyhow::{Result, bail};
+use crate::told_of;
 use std::alloc::{AllocError, Global};
-use std::sync::{Arc, Wait};
+use std::sync::Arc;
 use vpg_diagram::Diagram;
 use vpg_game::GuardedGame;
 use vpg_measure::laws::orders::zeros_are_opening;
 use vpg_measure::{Harvest, Order, OrderFault, Refused, Table};
 use vpg_partial::Decision;
-use vpg_scarce::{End, Heap, Report, Trial};
+use vpg_scarce::{End, Heap, Report};
 use vpg_verdict::Which;
 
 /// Lets an order go. A function that does so itself takes the prover seconds.
@@ -69,75 +68,79 @@ fn order_of(
 }
 
 /// Whether all that was handed in came back for want of memory.
-fn came_back(refused: Refused) -> bool {
+fn came_back(refused: &Refused) -> bool {
     refused.fault == OrderFault::Memory
-        && refused.game.vertices() == 2
-        && refused.diagram.features() == 3
+        && [refused.game.vertices(), refused.diagram.features()] == [2, 3]
         && refused.decisions.as_slice() == DECISIONS.as_slice()
         && refused.hopeful.values() == [0, 0].as_slice()
         && refused.dual.values() == [0, 0].as_slice()
 }
 
-/// An order that is made again and again.
-#[derive(Drop)]
-struct Ordering {
+/// An order of these; or how it is refused, with a note where what was handed in came back.
+fn made_of(
+    alloc: Global,
     game: Arc<GuardedGame>,
     diagram: Arc<Diagram>,
-    /// Whether what was handed in last came back.
-    is_back: bool,
-}
-
-impl Ordering {
-    /// Makes the order.
-    fn make(
-        &mut self,
-        alloc: Global,
-        game: Arc<GuardedGame>,
-        diagram: Arc<Diagram>,
-        decisions: Vec<Decision>,
-    ) -> End {
-        if !fit(&game, &diagram, &decisions) {
-            return End::Otherwise;
+    decisions: Vec<Decision>,
+    is_back: &mut bool,
+) -> Result<Order, End> {
+    if !fit(&game, &diagram, &decisions) {
+        return Err(End::Otherwise);
+    }
+    match order_of(alloc, game, diagram, decisions) {
+        Ok(Ok(order)) => Ok(order),
+        Ok(Err(refused)) => {
+            *is_back = came_back(&refused);
+            Err(End::Memory)
         }
-        match order_of(alloc, game, diagram, decisions) {
-            Ok(Ok(order)) => {
-                let_go(order);
-                End::Done
-            }
-            Ok(Err(refused)) => {
-                self.is_back = came_back(refused);
-                End::Memory
-            }
-            Err(_) => End::Memory,
-        }
+        Err(_) => Err(End::Memory),
     }
 }
 
-impl<R> Trial<R> for Ordering {
-    fn attempt(&mut self, _rt: &R, alloc: Global) -> End {
-        let Ok(decisions) = Vec::from_slice(alloc, &DECISIONS) else {
-            return End::Memory;
-        };
-        match (Arc::try_clone(&self.game), Arc::try_clone(&self.diagram)) {
-            (Ok(game), Ok(diagram)) => self.make(alloc, game, diagram, decisions),
-            _ => End::Otherwise,
-        }
+/// An order of a game and a diagram; or how it is refused, with a note where what was handed in came back.
+fn made(
+    alloc: Global,
+    game: &Arc<GuardedGame>,
+    diagram: &Arc<Diagram>,
+    is_back: &mut bool,
+) -> Result<Order, End> {
+    let Ok(decisions) = Vec::from_slice(alloc, &DECISIONS) else {
+        return Err(End::Memory);
+    };
+    match (Arc::try_clone(game), Arc::try_clone(diagram)) {
+        (Ok(game), Ok(diagram)) => made_of(alloc, game, diagram, decisions, is_back),
+        _ => Err(End::Otherwise),
     }
+}
 
-    fn is_unchanged(&mut self, _rt: &R, _alloc: Global) -> bool {
-        self.is_back
+/// Makes an order, and lets it go.
+pub(crate) fn make_order(
+    alloc: Global,
+    game: &Arc<GuardedGame>,
+    diagram: &Arc<Diagram>,
+    is_back: &mut bool,
+) -> End {
+    match made(alloc, game, diagram, is_back) {
+        Ok(order) => {
+            let_go(order);
+            End::Done
+        }
+        Err(end) => end,
     }
 }
 
 /// Whether an order tells what it was made of: with `f` in and `g` out, over tables of zeros.
 fn order_tells(order: &Order) -> bool {
-    order.game().vertices() == 2
-        && order.diagram().features() == 3
+    let arena = order.arena(Which::Dual);
+    [
+        order.game().vertices(),
+        order.diagram().features(),
+        arena.vertices() as usize,
+    ] == [2, 3, 2]
         && order.decisions() == DECISIONS.as_slice()
         && order.hopeful().values() == [0, 0].as_slice()
         && order.dual().values() == [0, 0].as_slice()
         && order.shape(Which::Dual).top() == 2
-        && order.arena(Which::Dual).vertices() == 2
 }
 
 /// Whether a harvest of two vertices has these tables, and says whether they are settled.
@@ -205,7 +208,7 @@ fn handed_in(heap: &mut Heap, order: Order) -> (bool, Order) {
 }
 
 /// Asks an order, and harvests of it, with no memory.
-fn ask(heap: &mut Heap, report: &mut Report, order: Order) {
+fn ask_order(heap: &mut Heap, report: &mut Report, order: Order) {
     heap.leave(0);
     let tells = order_tells(&order);
     heap.relax();
@@ -223,55 +226,15 @@ fn ask(heap: &mut Heap, report: &mut Report, order: Order) {
     report.note(heap, "Harvest::of", told_of(tells));
 }
 
-/// Asks an order, where there is one.
-fn ask_made(
+/// Asks an order of a game and a diagram, and harvests of it, with no memory.
+pub(crate) fn ask(
     heap: &mut Heap,
     report: &mut Report,
-    game: Arc<GuardedGame>,
-    diagram: Arc<Diagram>,
-) -> Result<()> {
-    let decisions = Vec::from_slice(heap.alloc(), &DECISIONS)?;
-    if !fit(&game, &diagram, &decisions) {
-        bail!("no fit");
-    }
-    match order_of(heap.alloc(), game, diagram, decisions)? {
-        Ok(order) => ask(heap, report, order),
-        Err(_) => bail!("no order"),
-    }
-    Ok(())
-}
-
-/// Makes an order of these with little memory.
-fn refuse_of<R: Wait>(
-    rt: &R,
-    heap: &mut Heap,
-    report: &mut Report,
-    game: Arc<GuardedGame>,
-    diagram: Arc<Diagram>,
+    game: &Arc<GuardedGame>,
+    diagram: &Arc<Diagram>,
 ) {
-    let mut ordering = Ordering {
-        game,
-        diagram,
-        is_back: true,
-    };
-    report.try_call(rt, heap, "Order::of", &mut ordering);
-}
-
-fn game_of(alloc: Global, diagram: &Diagram) -> Result<Arc<GuardedGame>> {
-    let game = GuardedGame::read(alloc, GAME, diagram.names())?;
-    Ok(Arc::new(alloc, game)?)
-}
-
-fn diagram_of(alloc: Global) -> Result<Arc<Diagram>> {
-    let diagram = Diagram::read(alloc, DIAGRAM)?;
-    Ok(Arc::new(alloc, diagram)?)
-}
-
-/// Makes an order with little memory.
-pub(crate) fn refuse<R: Wait>(rt: &R, heap: &mut Heap, report: &mut Report) -> Result<()> {
-    let diagram = diagram_of(heap.alloc())?;
-    let game = game_of(heap.alloc(), &diagram)?;
-    let (game_again, diagram_again) = (Arc::try_clone(&game)?, Arc::try_clone(&diagram)?);
-    refuse_of(rt, heap, report, game, diagram);
-    ask_made(heap, report, game_again, diagram_again)
+    let mut is_back = true;
+    if let Ok(order) = made(heap.alloc(), game, diagram, &mut is_back) {
+        ask_order(heap, report, order);
+    }
 }

@@ -1,12 +1,11 @@
 //! Calls that read texts.
 
-use anyhow::Result;
+use crate::done_if;
 use std::alloc::Global;
-use std::sync::Wait;
 use vpg_diagram::{Diagram, DiagramFault};
 use vpg_game::{GameFault, GuardedGame};
 use vpg_guards::{GuardFault, NameFault, Names, parse_guard};
-use vpg_scarce::{End, Heap, Report, Trial};
+use vpg_scarce::End;
 
 const DIAGRAM: &[u8] = b"root r\nmandatory r a\noptional r b\nalternative b: c d\nor a: e f g
 group r 1 2: h i j\nrequires c e\nexcludes d h\n";
@@ -18,25 +17,8 @@ const GAME: &[u8] =
 /// The names of the diagram's features but the root, in another order than its own.
 const TEN: [&str; 10] = ["a", "b", "c", "d", "e", "f", "g", "h", "i", "j"];
 
-/// A text that is read.
-#[derive(Clone, Copy)]
-enum Text {
-    NoNames,
-    Name,
-    Guard,
-    Diagram,
-    Game,
-}
-
-/// A text that is read, and names over which it is.
-#[derive(Drop)]
-struct Reading {
-    text: Text,
-    names: Names,
-}
-
 /// Whether the names are those ten, each at its place.
-fn are_ten(names: &Names) -> bool {
+pub(crate) fn are_ten(names: &Names) -> bool {
     for k in 0..TEN.len() {
         if names.get(TEN[k].as_bytes()) != Some(k as u16) {
             return false;
@@ -45,106 +27,61 @@ fn are_ten(names: &Names) -> bool {
     names.len() == TEN.len()
 }
 
-// Each of these lets go what was read in one place, at its end: more ends take the prover seconds each.
+// Each of these lets go what was read in one place: more ends take the prover seconds each.
 
-fn make_names(alloc: Global) -> End {
-    let made = Names::new(alloc);
-    match &made {
-        Ok(names) if names.len() == 0 => End::Done,
-        Ok(_) => End::Otherwise,
+pub(crate) fn make_names(alloc: Global) -> End {
+    match Names::new(alloc) {
+        Ok(names) => done_if(names.len() == 0),
         Err(_) => End::Memory,
     }
 }
 
-fn add_name(alloc: Global, names: &mut Names) -> End {
+pub(crate) fn add_name(alloc: Global, names: &mut Names) -> End {
     match names.add(alloc, b"another") {
-        Ok(10) => End::Done,
+        Ok(place) => done_if(place == 10),
         Err(NameFault::Memory) => End::Memory,
-        _ => End::Otherwise,
+        Err(_) => End::Otherwise,
     }
 }
 
-fn read_guard(alloc: Global, names: &Names) -> End {
-    let read = parse_guard(alloc, b"!(a|b) & true & (c | d | !!e)", names);
-    match &read {
+pub(crate) fn read_guard(alloc: Global, names: &Names) -> End {
+    match parse_guard(alloc, b"!(a|b) & true & (c | d | !!e)", names) {
         Ok(_) => End::Done,
         Err(GuardFault::Memory) => End::Memory,
         Err(_) => End::Otherwise,
     }
 }
 
-fn read_diagram(alloc: Global) -> End {
-    let read = Diagram::read(alloc, DIAGRAM);
-    match &read {
-        Ok(diagram) if diagram.features() == 11 => End::Done,
+pub(crate) fn read_diagram(alloc: Global) -> End {
+    match Diagram::read(alloc, DIAGRAM) {
+        Ok(diagram) => done_if(diagram.features() == 11),
         Err(DiagramFault::Memory) => End::Memory,
-        _ => End::Otherwise,
+        Err(_) => End::Otherwise,
     }
 }
 
-fn read_game(alloc: Global, names: &Names) -> End {
-    let read = GuardedGame::read(alloc, GAME, names);
-    match &read {
-        Ok(game) if game.vertices() == 4 => End::Done,
+pub(crate) fn read_game(alloc: Global, names: &Names) -> End {
+    match GuardedGame::read(alloc, GAME, names) {
+        Ok(game) => done_if(game.vertices() == 4),
         Err(GameFault::Memory) => End::Memory,
-        _ => End::Otherwise,
+        Err(_) => End::Otherwise,
     }
 }
 
-impl<R> Trial<R> for Reading {
-    fn attempt(&mut self, _rt: &R, alloc: Global) -> End {
-        match self.text {
-            Text::NoNames => make_names(alloc),
-            Text::Name => add_name(alloc, &mut self.names),
-            Text::Guard => read_guard(alloc, &self.names),
-            Text::Diagram => read_diagram(alloc),
-            Text::Game => read_game(alloc, &self.names),
-        }
-    }
-
-    fn is_unchanged(&mut self, _rt: &R, _alloc: Global) -> bool {
-        are_ten(&self.names)
+/// The ten names.
+pub(crate) fn names_of(alloc: Global) -> Option<Names> {
+    let mut names = Names::new(alloc).ok()?;
+    if add_ten(alloc, &mut names) {
+        Some(names)
+    } else {
+        None
     }
 }
 
-/// Adds the ten names.
-fn add_ten(alloc: Global, names: &mut Names) -> Result<()> {
+fn add_ten(alloc: Global, names: &mut Names) -> bool {
+    let mut lacks = false;
     for name in TEN {
-        names.add(alloc, name.as_bytes())?;
+        lacks |= names.add(alloc, name.as_bytes()).is_err();
     }
-    Ok(())
-}
-
-/// Reads each text with little memory.
-fn refuse_each<R: Wait>(rt: &R, heap: &mut Heap, report: &mut Report, reading: &mut Reading) {
-    for (name, text) in [
-        ("Names::new", Text::NoNames),
-        ("parse_guard", Text::Guard),
-        ("Diagram::read", Text::Diagram),
-        ("GuardedGame::read", Text::Game),
-        ("Names::add", Text::Name),
-    ] {
-        reading.text = text;
-        report.try_call(rt, heap, name, reading);
-    }
-}
-
-/// Adds ten names, and reads each text over them with little memory.
-fn refuse_over<R: Wait>(
-    rt: &R,
-    heap: &mut Heap,
-    report: &mut Report,
-    reading: &mut Reading,
-) -> Result<()> {
-    add_ten(heap.alloc(), &mut reading.names)?;
-    refuse_each(rt, heap, report, reading);
-    Ok(())
-}
-
-/// Reads each text with little memory.
-pub(crate) fn refuse<R: Wait>(rt: &R, heap: &mut Heap, report: &mut Report) -> Result<()> {
-    let text = Text::NoNames;
-    let names = Names::new(heap.alloc())?;
-    let mut reading = Reading { text, names };
-    refuse_over(rt, heap, report, &mut reading)
+    !lacks
 }

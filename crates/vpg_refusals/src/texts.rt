@@ -13,8 +13,7 @@ ghost use Rattle.vpg_trail.specs.Shown.{entry_of};
 
 use crate::decided::DECISIONS;
 use crate::orders::fit;
-use crate::{DIAGRAM, GAME};
-use anyhow::{Result, bail};
+use crate::writing::{is_before, text_before};
 use std::alloc::{AllocError, Global};
 use std::sync::Arc;
 use vpg_diagram::{Diagram, Literal};
@@ -25,9 +24,6 @@ use vpg_scarce::{End, Heap, MOST_TRIES, Report, Told, more};
 use vpg_texts::{PlanFault, count, plan, products, show, trail};
 use vpg_trail::{Assumed, Decisions, Entries, Entry, Page};
 use vpg_verdict::Which;
-
-/// What stands in front of what is written.
-const BEFORE: &[u8] = b"before: ";
 
 /// A text of a page.
 #[derive(Clone, Copy)]
@@ -123,7 +119,7 @@ fn put_growing(
         heap.relax();
         match end {
             End::Done if out.as_slice() == text.written() => return told,
-            End::Memory if out.as_slice() == BEFORE => told = Told::Unchanged,
+            End::Memory if is_before(out.as_slice()) => told = Told::Unchanged,
             End::Memory => return Told::Changed,
             _ => return Told::Otherwise,
         }
@@ -139,7 +135,7 @@ fn put_each(
     page: &Page,
     game: &GuardedGame,
     diagram: &Diagram,
-) -> Result<()>
+)
     requires features { game.now.features ≡ feature_count diagram.now.lines }
     requires named { AreChoicesOf diagram.now.lines (map literal_of page.now.decisions) }
     requires consistent { ¬ (HasConflictOf diagram.now.lines (map literal_of page.now.decisions)) }
@@ -157,11 +153,10 @@ fn put_each(
         ("plan", Text::Plan),
         ("count", Text::Count),
     ] {
-        let mut out = Vec::from_slice(heap.alloc(), BEFORE)?;
+        let mut out = text_before(heap.alloc());
         let told = put_growing(heap, text, page, game, diagram, &mut out);
         report.note(heap, name, told);
     }
-    Ok(())
 }
 
 /// Whether a table has a number up to the top for each vertex.
@@ -219,20 +214,17 @@ fn put_page(
     page: &Page,
     game: &GuardedGame,
     diagram: &Diagram,
-) -> Result<()> {
-    if !fit(game, diagram, page.decisions.as_slice()) {
-        bail!("features");
+) -> Option<()> {
+    if !fit(game, diagram, page.decisions.as_slice()) || !name_all(page, game, diagram) {
+        return None;
     }
-    are_consistent(heap.alloc(), diagram, page)?;
-    let shape = Shape::of(heap.alloc(), game)?;
-    let dual = Shape::of_dual(heap.alloc(), game)?;
-    if !is_within(game, &shape, &page.hopeful) || !is_within(game, &dual, &page.dual) {
-        bail!("tables");
+    are_consistent(heap.alloc(), diagram, page).ok()?;
+    let shape = Shape::of(heap.alloc(), game).ok()?;
+    let dual = Shape::of_dual(heap.alloc(), game).ok()?;
+    if is_within(game, &shape, &page.hopeful) && is_within(game, &dual, &page.dual) {
+        put_each(heap, report, page, game, diagram);
     }
-    if !name_all(page, game, diagram) {
-        bail!("entries");
-    }
-    put_each(heap, report, page, game, diagram)
+    Some(())
 }
 
 /// A decision, and a lift under another.
@@ -242,15 +234,14 @@ fn entries_of(alloc: Global) -> Result<Entries, AllocError> {
         value: true,
     };
     let under = Arc::new(alloc, Assumed::new(Vec::from_slice(alloc, &[literal])?))?;
-    let mut entries = Vec::with_capacity(alloc, 2)?;
-    entries.push(Entry::Decide(DECISIONS[0]))?;
-    entries.push(Entry::Lift {
+    let lift = Entry::Lift {
         table: Which::Hopeful,
         vertex: 0,
         old: 0,
         new: 1,
         under,
-    })?;
+    };
+    let entries = Vec::from_array(alloc, [Entry::Decide(DECISIONS[0]), lift])?;
     Ok(Entries::new(entries))
 }
 
@@ -264,15 +255,9 @@ fn page_of(alloc: Global) -> Result<Page, AllocError> {
     })
 }
 
-/// Puts each text of a page over a diagram.
-fn put_over(heap: &mut Heap, report: &mut Report, page: &Page, diagram: &Diagram) -> Result<()> {
-    let game = GuardedGame::read(heap.alloc(), GAME, diagram.names())?;
-    put_page(heap, report, page, &game, diagram)
-}
-
-/// Writes each text with little memory.
-pub(crate) fn refuse(heap: &mut Heap, report: &mut Report) -> Result<()> {
-    let diagram = Diagram::read(heap.alloc(), DIAGRAM)?;
-    let page = page_of(heap.alloc())?;
-    put_over(heap, report, &page, &diagram)
+/// Writes each text of a page of a game with little memory.
+pub(crate) fn refuse(heap: &mut Heap, report: &mut Report, diagram: &Diagram, game: &GuardedGame) {
+    if let Ok(page) = page_of(heap.alloc()) {
+        put_page(heap, report, &page, game, diagram);
+    }
 }

@@ -4,11 +4,10 @@ ghost use Rattle.std.specs.Prelude.{◌≡◌, [], ◌∷◌, map, IfOk};
 ghost use Rattle.vpg_trail.specs.Page.{Decided};
 ghost use Rattle.vpg_trail.specs.Shown.{entry_of};
 
-use anyhow::Result;
+use crate::done_if;
 use std::alloc::{AllocError, Global};
-use std::sync::Wait;
 use vpg_partial::Decision;
-use vpg_scarce::{End, Heap, Report, Trial};
+use vpg_scarce::End;
 use vpg_trail::{Entry, Trail};
 
 const FIRST: Decision = Decision {
@@ -25,34 +24,14 @@ const NEXT: Decision = Decision {
     value: false,
 };
 
-/// What is done with a trail, one after another.
-#[derive(Clone, Copy)]
-enum Deed {
-    Open,
-    Append,
-    Splice,
-    Look,
-}
-
-/// A trail, and what is done with it.
-#[derive(Drop)]
-struct Trailing {
-    deed: Deed,
-    trail: Trail,
-    /// How many entries it has, each the same decision.
-    entries: usize,
-}
-
-fn open(alloc: Global) -> End {
-    let opened = Trail::open(alloc, 2);
-    match &opened {
-        Ok(trail) if trail.entries().is_empty() => End::Done,
-        Ok(_) => End::Otherwise,
+pub(crate) fn open(alloc: Global) -> End {
+    match Trail::open(alloc, 2) {
+        Ok(trail) => done_if(trail.entries().is_empty()),
         Err(_) => End::Memory,
     }
 }
 
-fn append(trail: &mut Trail) -> End {
+pub(crate) fn append(trail: &mut Trail) -> End {
     match trail.append(Entry::Decide(FIRST)) {
         Ok(()) => End::Done,
         Err(refused) if is_first(&refused.value) => End::Memory,
@@ -91,7 +70,7 @@ fn suffix_of(alloc: Global) -> Result<Vec<Entry>, AllocError>
     Ok(Vec::from_array(alloc, entries)?)
 }
 
-fn splice(alloc: Global, trail: &mut Trail) -> End {
+pub(crate) fn splice(alloc: Global, trail: &mut Trail) -> End {
     let Ok(suffix) = suffix_of(alloc) else {
         return End::Memory;
     };
@@ -103,60 +82,21 @@ fn splice(alloc: Global, trail: &mut Trail) -> End {
     }
 }
 
-/// Looks at a trail of four decisions.
-fn look(trail: &Trail) -> End {
+/// Whether both tables of a trail are zero.
+fn are_zeros(trail: &Trail) -> bool {
     let (hopeful, dual) = trail.tables();
-    let zeros = hopeful.values() == [0, 0].as_slice() && dual.values() == [0, 0].as_slice();
+    hopeful.values() == [0, 0].as_slice() && dual.values() == [0, 0].as_slice()
+}
+
+/// Looks at a trail of four decisions.
+pub(crate) fn look(trail: &Trail) -> End {
     if trail.entries().len() != 4 {
         return End::Otherwise;
     }
-    if zeros && trail.level(0) == 0 && trail.level(3) == 3 {
-        End::Done
-    } else {
-        End::Otherwise
-    }
+    done_if(are_zeros(trail) && [trail.level(0), trail.level(3)] == [0, 3])
 }
 
-impl<R> Trial<R> for Trailing {
-    fn attempt(&mut self, _rt: &R, alloc: Global) -> End {
-        match self.deed {
-            Deed::Open => open(alloc),
-            Deed::Append => append(&mut self.trail),
-            Deed::Splice => splice(alloc, &mut self.trail),
-            Deed::Look => look(&self.trail),
-        }
-    }
-
-    fn is_unchanged(&mut self, _rt: &R, _alloc: Global) -> bool {
-        let (hopeful, dual) = self.trail.tables();
-        self.trail.entries().len() == self.entries
-            && are_first(self.trail.entries())
-            && hopeful.values() == [0, 0].as_slice()
-            && dual.values() == [0, 0].as_slice()
-    }
-}
-
-/// Opens, extends and cuts a trail with little memory.
-fn refuse_each<R: Wait>(rt: &R, heap: &mut Heap, report: &mut Report, trailing: &mut Trailing) {
-    for (name, deed, entries) in [
-        ("Trail::open", Deed::Open, 0),
-        ("Trail::append", Deed::Append, 0),
-        ("Trail::splice", Deed::Splice, 1),
-        ("Trail::entries, tables, level", Deed::Look, 4),
-    ] {
-        trailing.deed = deed;
-        trailing.entries = entries;
-        report.try_call(rt, heap, name, trailing);
-    }
-}
-
-/// Opens, extends and cuts a trail with little memory.
-pub(crate) fn refuse<R: Wait>(rt: &R, heap: &mut Heap, report: &mut Report) -> Result<()> {
-    let mut trailing = Trailing {
-        deed: Deed::Open,
-        trail: Trail::open(heap.alloc(), 2)?,
-        entries: 0,
-    };
-    refuse_each(rt, heap, report, &mut trailing);
-    Ok(())
+/// Whether a trail has so many entries, each the first decision.
+pub(crate) fn is_of_first(trail: &Trail, entries: usize) -> bool {
+    trail.entries().len() == entries && are_first(trail.entries()) && are_zeros(trail)
 }

@@ -1,185 +1,87 @@
 //! Calls that write texts, and that make a game of another.
 
-use crate::{DIAGRAM, GAME};
-use anyhow::{Result, bail};
+use crate::done_if;
 use std::alloc::Global;
-use std::sync::Wait;
 use vpg_diagram::Diagram;
 use vpg_game::{DualFault, GuardedGame};
 use vpg_guards::{GuardFault, Names, parse_guard};
 use vpg_hope::{PlainGame, ProjectFault, project};
-use vpg_scarce::{End, Heap, Report, Trial};
+use vpg_scarce::End;
 
 /// What stands in front of what is written.
 const BEFORE: &[u8] = b"before: ";
 
-/// A text that is written, or a game that is made.
-#[derive(Clone, Copy)]
-enum What {
-    Guard,
-    Game,
-    Plain,
-    Dual,
-    Projection,
+/// A text with that alone, which grows with the next byte; empty where there is no memory.
+pub(crate) fn text_before(alloc: Global) -> Vec<u8> {
+    Vec::from_slice(alloc, BEFORE).unwrap_or(Vec::new(alloc))
 }
 
-/// What is written, and behind what.
-#[derive(Drop)]
-struct Writing<'t> {
-    what: What,
-    diagram: &'t Diagram,
-    game: &'t GuardedGame,
-    plain: &'t PlainGame,
-    out: Vec<u8>,
+/// Whether that stands there alone.
+pub(crate) fn is_before(text: &[u8]) -> bool {
+    text == BEFORE
 }
 
 /// Reads a guard and writes it: the guard that is written is within the names where it was read over them.
-fn write_guard(alloc: Global, names: &Names, out: &mut Vec<u8>) -> End {
+pub(crate) fn write_guard(alloc: Global, names: &Names, out: &mut Vec<u8>) -> End {
     let guard = match parse_guard(alloc, b"!(f|g) & true", names) {
         Ok(guard) => guard,
         Err(GuardFault::Memory) => return End::Memory,
         Err(_) => return End::Otherwise,
     };
     match guard.write(alloc, names, out) {
-        Ok(()) if out.as_slice() == b"before: !(f | g) & true".as_slice() => End::Done,
-        Ok(()) => End::Otherwise,
+        Ok(()) => done_if(out.as_slice() == b"before: !(f | g) & true".as_slice()),
         Err(_) => End::Memory,
     }
 }
 
-fn write_game(alloc: Global, game: &GuardedGame, names: &Names, out: &mut Vec<u8>) -> End {
+pub(crate) fn write_game(
+    alloc: Global,
+    game: &GuardedGame,
+    names: &Names,
+    out: &mut Vec<u8>,
+) -> End {
     if names.len() != game.features() {
         return End::Otherwise;
     }
     let written = b"before: parity 1;\n0 1 0 1[f],0;\n1 2 1 0[g],1;\n".as_slice();
     match game.write(alloc, names, out) {
-        Ok(()) if out.as_slice() == written => End::Done,
-        Ok(()) => End::Otherwise,
+        Ok(()) => done_if(out.as_slice() == written),
         Err(_) => End::Memory,
     }
 }
 
-fn write_plain(alloc: Global, plain: &PlainGame, out: &mut Vec<u8>) -> End {
+pub(crate) fn write_plain(alloc: Global, plain: &PlainGame, out: &mut Vec<u8>) -> End {
     let written = b"before: parity 1;\n0 1 0 0;\n1 2 1 0,1;\n".as_slice();
     match plain.write(alloc, out) {
-        Ok(()) if out.as_slice() == written => End::Done,
-        Ok(()) => End::Otherwise,
+        Ok(()) => done_if(out.as_slice() == written),
         Err(_) => End::Memory,
     }
 }
 
-fn make_dual(alloc: Global, game: &GuardedGame) -> End {
-    let made = game.dual(alloc);
-    match &made {
-        Ok(dual) if dual.tops() == game.tops() => End::Done,
+pub(crate) fn make_dual(alloc: Global, game: &GuardedGame) -> End {
+    match game.dual(alloc) {
+        Ok(dual) => done_if(dual.tops() == game.tops()),
         Err(DualFault::Memory) => End::Memory,
-        _ => End::Otherwise,
+        Err(_) => End::Otherwise,
     }
 }
 
-fn make_projection(alloc: Global, game: &GuardedGame, diagram: &Diagram) -> End {
+pub(crate) fn make_projection(alloc: Global, game: &GuardedGame, diagram: &Diagram) -> End {
     let set = [true, false, true];
     if diagram.features() != 3 || game.features() != 3 {
         return End::Otherwise;
     }
-    let made = project(alloc, game, diagram, &set);
-    match &made {
+    match project(alloc, game, diagram, &set) {
         Ok(_) => End::Done,
         Err(ProjectFault::Memory) => End::Memory,
         Err(_) => End::Otherwise,
     }
 }
 
-impl<R> Trial<R> for Writing<'_> {
-    fn attempt(&mut self, _rt: &R, alloc: Global) -> End {
-        let names = self.diagram.names();
-        match self.what {
-            What::Guard => write_guard(alloc, names, &mut self.out),
-            What::Game => write_game(alloc, self.game, names, &mut self.out),
-            What::Plain => write_plain(alloc, self.plain, &mut self.out),
-            What::Dual => make_dual(alloc, self.game),
-            What::Projection => make_projection(alloc, self.game, self.diagram),
-        }
-    }
-
-    fn is_unchanged(&mut self, _rt: &R, _alloc: Global) -> bool {
-        self.out.as_slice() == BEFORE
-    }
-}
-
-/// Writes each text with little memory, and makes each game.
-fn refuse_each<R: Wait>(
-    rt: &R,
-    heap: &mut Heap,
-    report: &mut Report,
-    writing: &mut Writing<'_>,
-) -> Result<()> {
-    for (name, what) in [
-        ("parse_guard and Guard::write", What::Guard),
-        ("GuardedGame::write", What::Game),
-        ("GuardedGame::dual", What::Dual),
-        ("project", What::Projection),
-        ("PlainGame::write", What::Plain),
-    ] {
-        writing.what = what;
-        writing.out = Vec::from_slice(heap.alloc(), BEFORE)?;
-        report.try_call(rt, heap, name, writing);
-    }
-    Ok(())
-}
-
-/// Does so with the game of one product.
-fn refuse_over<R: Wait>(
-    rt: &R,
-    heap: &mut Heap,
-    report: &mut Report,
-    diagram: &Diagram,
-    game: &GuardedGame,
-    plain: &PlainGame,
-) -> Result<()> {
-    let mut writing = Writing {
-        what: What::Guard,
-        diagram,
-        game,
-        plain,
-        out: Vec::new(heap.alloc()),
-    };
-    refuse_each(rt, heap, report, &mut writing)
-}
-
 /// The game of the product of `r` and `g`.
-fn plain_of(alloc: Global, diagram: &Diagram, game: &GuardedGame) -> Result<PlainGame> {
+pub(crate) fn plain_of(alloc: Global, diagram: &Diagram, game: &GuardedGame) -> Option<PlainGame> {
     if diagram.features() != 3 || game.features() != 3 {
-        bail!("features");
+        return None;
     }
-    Ok(project(alloc, game, diagram, &[true, false, true])?)
-}
-
-/// Does so with a game.
-fn refuse_of<R: Wait>(
-    rt: &R,
-    heap: &mut Heap,
-    report: &mut Report,
-    diagram: &Diagram,
-    game: &GuardedGame,
-) -> Result<()> {
-    let plain = plain_of(heap.alloc(), diagram, game)?;
-    refuse_over(rt, heap, report, diagram, game, &plain)
-}
-
-/// Does so with a diagram.
-fn refuse_in<R: Wait>(
-    rt: &R,
-    heap: &mut Heap,
-    report: &mut Report,
-    diagram: &Diagram,
-) -> Result<()> {
-    let game = GuardedGame::read(heap.alloc(), GAME, diagram.names())?;
-    refuse_of(rt, heap, report, diagram, &game)
-}
-
-/// Writes each text with little memory.
-pub(crate) fn refuse<R: Wait>(rt: &R, heap: &mut Heap, report: &mut Report) -> Result<()> {
-    let diagram = Diagram::read(heap.alloc(), DIAGRAM)?;
-    refuse_in(rt, heap, report, &diagram)
+    project(alloc, game, diagram, &[true, false, true]).ok()
 }
