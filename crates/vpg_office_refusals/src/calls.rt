@@ -155,29 +155,35 @@ pub(crate) fn made<L: Terms, R: Wait>(
         return (held, asked(rt, alloc, office, seat, call));
     }
     let Seat { session, front, .. } = seat;
-    match (held, call) {
-        (Held::Nothing, Call::Decide(feature, value)) => {
-            changed(session.decide(rt, alloc, office, front, feature, value))
-        }
-        (Held::Nothing, Call::Retract(feature)) => {
-            changed(session.retract(rt, alloc, office, front, feature))
-        }
-        (Held::Undo(token), Call::Undo) => match session.undo(rt, alloc, office, front, token) {
-            Ok(token) => (Held::Redo(token), End::Done),
-            Err(Returned { fault, value }) => (Held::Undo(value), end_of(fault)),
+    match held {
+        Held::Nothing => match call {
+            Call::Decide(feature, value) => {
+                changed(session.decide(rt, alloc, office, front, feature, value))
+            }
+            Call::Retract(feature) => changed(session.retract(rt, alloc, office, front, feature)),
+            _ => (Held::Nothing, End::Otherwise),
         },
-        (Held::Redo(token), Call::Redo) => match session.redo(rt, alloc, office, front, token) {
-            Ok(token) => (Held::Undo(token), End::Done),
-            Err(Returned { fault, value }) => (Held::Redo(value), end_of(fault)),
+        Held::Undo(token) => match call {
+            Call::Undo => match session.undo(rt, alloc, office, front, token) {
+                Ok(token) => (Held::Redo(token), End::Done),
+                Err(Returned { fault, value }) => (Held::Undo(value), end_of(fault)),
+            },
+            Call::Keep => match session.keep(rt, office, front, token) {
+                Ok(()) => (Held::Nothing, End::Done),
+                Err(Returned { fault, value }) => (Held::Undo(value), end_of(fault)),
+            },
+            _ => (Held::Undo(token), End::Otherwise),
         },
-        (Held::Undo(token), Call::Keep) => match session.keep(rt, office, front, token) {
-            Ok(()) => (Held::Nothing, End::Done),
-            Err(Returned { fault, value }) => (Held::Undo(value), end_of(fault)),
+        Held::Redo(token) => match call {
+            Call::Redo => match session.redo(rt, alloc, office, front, token) {
+                Ok(token) => (Held::Undo(token), End::Done),
+                Err(Returned { fault, value }) => (Held::Redo(value), end_of(fault)),
+            },
+            Call::Forget => match session.forget(rt, office, front, token) {
+                Ok(()) => (Held::Nothing, End::Done),
+                Err(Returned { fault, value }) => (Held::Redo(value), end_of(fault)),
+            },
+            _ => (Held::Redo(token), End::Otherwise),
         },
-        (Held::Redo(token), Call::Forget) => match session.forget(rt, office, front, token) {
-            Ok(()) => (Held::Nothing, End::Done),
-            Err(Returned { fault, value }) => (Held::Redo(value), end_of(fault)),
-        },
-        (held, _) => (held, End::Otherwise),
     }
 }

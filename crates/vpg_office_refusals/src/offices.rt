@@ -218,26 +218,6 @@ fn try_on<L: Terms, R: Wait>(
     (held, tried)
 }
 
-/// Closes an office with no memory: how many tokens were out. Then it is ended.
-fn close<L: Terms, R: Wait>(
-    rt: &R,
-    heap: &mut Heap,
-    office: Office<L>,
-    front: &mut Front<L>,
-) -> u64 {
-    heap.leave(0);
-    let out = match office.close(rt, front) {
-        Ok(()) => 0,
-        Err(TokensOut { tokens, office }) => {
-            let alloc = heap.alloc();
-            let _further = office.end(rt, front, Vec::new(alloc), Vec::new(alloc));
-            tokens
-        }
-    };
-    heap.relax();
-    out
-}
-
 /// A list with room for one thing. Memory is ample, so it is had at the first try.
 fn room<R: Wait, T>(rt: &R, alloc: Global) -> Vec<T>
     ensures { (vec_len result ≡ 0) × (1 ≤ vec_capacity result) }
@@ -271,22 +251,27 @@ fn end<L: Terms, R: Wait>(
     further
 }
 
-/// Closes an office on which nothing is held, or ends it with what is held: how many tokens were out or are missed.
-fn end_or_close<L: Terms, R: Wait>(
+/// Closes an office with no memory, where nothing is held: how many tokens were out. Then it is ended.
+fn close<L: Terms, R: Wait>(
     rt: &R,
     heap: &mut Heap,
     office: Office<L>,
     front: &mut Front<L>,
     held: Held<L>,
-    closes: bool,
 ) -> u64 {
+    let alloc = heap.alloc();
     match held {
         Held::Nothing => {
-            if closes {
-                close(rt, heap, office, front)
-            } else {
-                end(rt, heap, office, front, Held::Nothing)
-            }
+            heap.leave(0);
+            let out = match office.close(rt, front) {
+                Ok(()) => 0,
+                Err(TokensOut { tokens, office }) => {
+                    let _further = office.end(rt, front, Vec::new(alloc), Vec::new(alloc));
+                    tokens
+                }
+            };
+            heap.relax();
+            out
         }
         held => end(rt, heap, office, front, held),
     }
@@ -314,8 +299,11 @@ impl<R: Wait> Work<R> for Try<'_> {
             (Held::Nothing, NOT_TRIED)
         };
         let is_held = serial_of(&held).is_some() as usize == row.call.tokens();
-        let closes = matches!(row.call, Call::Close);
-        let missed = end_or_close(rt, heap, office, &mut front, held, closes);
+        let missed = if matches!(row.call, Call::Close) {
+            close(rt, heap, office, &mut front, held)
+        } else {
+            end(rt, heap, office, &mut front, held)
+        };
         Outcome {
             end: tried.end,
             holds: tried.holds && is_held && missed == 0,
