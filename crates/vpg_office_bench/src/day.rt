@@ -2,14 +2,14 @@
 //! is settled, and the decision is taken back by its token.
 
 use crate::watcher::is_read;
-use crate::working::{Held, Seat, decide, joined, taken_back, undone};
+use crate::working::{Call, Held, Seat, joined, made, taken_back};
 use crate::{Done, Left, Stopped};
 use std::alloc::Global;
 use std::sync::Wait;
 use std::sync::atomic::AtomicU64;
 use std::thread::{Threads, join};
 use vpg_measure::Harvest;
-use vpg_office::{Front, Office, Terms, Undo};
+use vpg_office::{Office, Terms};
 
 /// The feature that is decided.
 const FEATURE: u16 = 1;
@@ -17,14 +17,15 @@ const FEATURE: u16 = 1;
 /// Lets a harvest go that isn't taken, here alone.
 fn let_go(_harvest: Harvest) {}
 
-/// Hands a harvest in: how many lifts that added.
-fn commits<L: Terms, R: Wait>(
+/// Takes an order, lifts until both tables are settled, and commits: how many lifts that added.
+fn lifts<L: Terms, R: Wait>(
     rt: &R,
     alloc: Global,
     office: &Office<L>,
     seat: &mut Seat<L>,
-    harvest: Harvest,
 ) -> Option<u32> {
+    let order = seat.session.order(rt, alloc, office, &mut seat.front).ok()?;
+    let harvest = Harvest::alone(order, 1000);
     match seat
         .session
         .commit(rt, alloc, office, &mut seat.front, harvest)
@@ -34,19 +35,6 @@ fn commits<L: Terms, R: Wait>(
             let_go(taken_back(returned));
             None
         }
-    }
-}
-
-/// Takes an order, lifts until both tables are settled, and commits: how many lifts that added.
-fn lifts<L: Terms, R: Wait>(
-    rt: &R,
-    alloc: Global,
-    office: &Office<L>,
-    seat: &mut Seat<L>,
-) -> Option<u32> {
-    match seat.session.order(rt, alloc, office, &mut seat.front).ok() {
-        Some(order) => commits(rt, alloc, office, seat, Harvest::alone(order, 1000)),
-        None => None,
     }
 }
 
@@ -60,97 +48,70 @@ fn lifts_once<L: Terms, R: Wait>(
     lifts(rt, alloc, office, &mut seat)
 }
 
-/// One session lifts while the other decides the feature out.
+/// One session lifts while the other decides the feature out: how many lifts that added, what is held of the decision,
+/// and whether that was made.
 fn works<L: Terms + Send + Sync, R: Threads + Wait + Sync>(
     rt: &R,
     alloc: Global,
     office: &Office<L>,
     lifter: Seat<L>,
     decider: &mut Seat<L>,
-) -> (Option<u32>, Option<Undo<L>>) {
+) -> (Option<u32>, (Held<L>, bool)) {
     let (lifted, decided) = join(
         rt,
         || lifts_once(rt, alloc, office, lifter),
-        || decide(rt, alloc, office, decider, FEATURE, false),
+        || {
+            made(
+                rt,
+                alloc,
+                office,
+                decider,
+                FEATURE,
+                Held::Nothing,
+                Call::Decide(false),
+            )
+        },
     );
     (lifted, decided)
 }
 
-/// Whether all was done, and what is left of the decision.
-type Spent<L> = (Result<(), Stopped>, Held<L>);
-
-/// Waits until the watcher has read what is said behind the last call of the front.
-fn waits<L: Terms>(seen: &AtomicU64, front: &Front<L>) -> Result<(), Stopped> {
-    if is_read(seen, front.len()) {
-        return Ok(());
-    }
-    Err(Stopped::Unseen)
-}
-
-/// Takes the decision back, and waits for the watcher.
-fn undoes<L: Terms, R: Wait>(
-    rt: &R,
-    alloc: Global,
-    office: &Office<L>,
-    seat: &mut Seat<L>,
-    undo: Undo<L>,
-    seen: &AtomicU64,
-) -> Spent<L> {
-    let held = undone(rt, alloc, office, seat, undo);
-    let done = if is_undone(&held) {
-        waits(seen, &seat.front)
-    } else {
-        Err(Stopped::Refused)
-    };
-    (done, held)
-}
-
-/// Settles the page, and waits for the watcher.
-fn settles<L: Terms, R: Wait>(
-    rt: &R,
-    alloc: Global,
-    office: &Office<L>,
-    seat: &mut Seat<L>,
-    seen: &AtomicU64,
-) -> Result<(), Stopped> {
-    match lifts(rt, alloc, office, seat) {
-        Some(_added) => waits(seen, &seat.front),
-        None => Err(Stopped::Refused),
-    }
-}
-
-/// Settles the page, and takes the decision back once the watcher has read what is said then.
+/// Settles the page, and takes the decision back once the watcher has read what is said then. It waits for the watcher
+/// again behind that. What is held then, and why that was not done.
 fn settles_and_undoes<L: Terms, R: Wait>(
     rt: &R,
     alloc: Global,
     office: &Office<L>,
     seat: &mut Seat<L>,
-    undo: Undo<L>,
+    held: Held<L>,
     seen: &AtomicU64,
-) -> Spent<L> {
-    match settles(rt, alloc, office, seat, seen) {
-        Ok(()) => undoes(rt, alloc, office, seat, undo, seen),
-        Err(stopped) => (Err(stopped), Held::Undo(undo)),
+) -> (Held<L>, Option<Stopped>) {
+    if lifts(rt, alloc, office, seat).is_none() {
+        return (held, Some(Stopped::Refused));
     }
+    if !is_read(seen, seat.front.len()) {
+        return (held, Some(Stopped::Unseen));
+    }
+    let (held, is_undone) = made(rt, alloc, office, seat, FEATURE, held, Call::Undo);
+    let stopped = if !is_undone {
+        Some(Stopped::Refused)
+    } else if !is_read(seen, seat.front.len()) {
+        Some(Stopped::Unseen)
+    } else {
+        None
+    };
+    (held, stopped)
 }
 
-/// Whether a decision was taken back.
-fn is_undone<L: Terms>(held: &Held<L>) -> bool {
-    matches!(held, Held::Redo(_))
-}
-
-/// What came of the work of two, of which one added so many lifts.
+/// What came of the work of two.
 fn done_by_two(
-    spent: Result<(), Stopped>,
+    stopped: Option<Stopped>,
     added: Option<u32>,
     undone: bool,
 ) -> Result<Done, Stopped> {
-    match spent {
-        Ok(()) => match added {
-            Some(added) => Ok(Done::TwoSessions { added, undone }),
-            None => Err(Stopped::Refused),
-        },
-        Err(stopped) => Err(stopped),
+    match (stopped, added) {
+        (None, Some(added)) => Ok(Done::TwoSessions { added, undone }),
+        (Some(stopped), _) => Err(stopped),
+        (None, None) => Err(Stopped::Refused),
     }
 }
 
@@ -163,26 +124,13 @@ fn work_of<L: Terms + Send + Sync, R: Threads + Wait + Sync>(
     decider: &mut Seat<L>,
     seen: &AtomicU64,
 ) -> Left<L> {
-    let (added, undo) = works(rt, alloc, office, lifter, decider);
-    let (spent, held) = match undo {
-        Some(undo) => settles_and_undoes(rt, alloc, office, decider, undo, seen),
-        None => (Err(Stopped::Refused), Held::Nothing),
+    let (added, (held, is_decided)) = works(rt, alloc, office, lifter, decider);
+    let (held, stopped) = if is_decided {
+        settles_and_undoes(rt, alloc, office, decider, held, seen)
+    } else {
+        (held, Some(Stopped::Refused))
     };
-    (done_by_two(spent, added, is_undone(&held)), held)
-}
-
-/// A session joins and works beside this one.
-fn work_beside<L: Terms + Send + Sync, R: Threads + Wait + Sync>(
-    rt: &R,
-    alloc: Global,
-    office: &Office<L>,
-    lifter: Seat<L>,
-    seen: &AtomicU64,
-) -> Left<L> {
-    match joined(rt, office) {
-        Some(mut decider) => work_of(rt, alloc, office, lifter, &mut decider, seen),
-        None => (Err(Stopped::Refused), Held::Nothing),
-    }
+    (done_by_two(stopped, added, stopped.is_none()), held)
 }
 
 /// Two sessions join and work, once the watcher has read what is said at the opening.
@@ -196,7 +144,10 @@ pub(crate) fn work_in_two<L: Terms + Send + Sync, R: Threads + Wait + Sync>(
         return (Err(Stopped::Unseen), Held::Nothing);
     }
     match joined(rt, office) {
-        Some(lifter) => work_beside(rt, alloc, office, lifter, seen),
+        Some(lifter) => match joined(rt, office) {
+            Some(mut decider) => work_of(rt, alloc, office, lifter, &mut decider, seen),
+            None => (Err(Stopped::Refused), Held::Nothing),
+        },
         None => (Err(Stopped::Refused), Held::Nothing),
     }
 }

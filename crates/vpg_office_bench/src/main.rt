@@ -33,14 +33,13 @@ mod words;
 mod working;
 
 ghost use Rattle.std.specs.Arc.{arc_value};
-ghost use Rattle.std.specs.Prelude.{◌≡◌, ◌≤◌, IfOk, vec_len, vec_capacity};
+ghost use Rattle.std.specs.Prelude.{◌≡◌, ◌≤◌, IfOk};
 ghost use Rattle.vpg_diagram.specs.FeatureDiagram.{feature_count};
 
 use crate::day::work_in_two;
-use crate::reading::{change_and_look, change_and_read, change_unread};
 use crate::watcher::follow;
 use crate::words::task_of;
-use crate::working::{Held, Places, are_in_order, calls_of, decide, joined, places_of_all};
+use crate::working::{Call, Held, joined, made, work_at_once};
 use anyhow::{Context, Result, bail};
 use std::alloc::Global;
 use std::marker::Brand;
@@ -50,7 +49,7 @@ use std::thread::{Threads, join};
 use std::{env, fs};
 use vpg_diagram::Diagram;
 use vpg_game::GuardedGame;
-use vpg_office::{Front, Office, Redo, Site, Terms, Undo};
+use vpg_office::{Front, Office, Site, Terms};
 
 /// A feature for each of eight sessions.
 const DIAGRAM: &[u8] = b"root r\noptional r a\noptional r b\noptional r c\noptional r d
@@ -119,78 +118,25 @@ struct Told {
 /// What came of some work, and the token that is left.
 pub(crate) type Left<L> = (Result<Done, Stopped>, Held<L>);
 
-/// What came of rounds, whose calls stand at these places.
-fn done_in_order<L: Terms, R: Wait>(
-    rt: &R,
-    office: &Office<L>,
-    places: &[Option<Places>],
-) -> Option<Done> {
-    match calls_of(rt, office) {
-        Some(calls) => Some(Done::Calls {
-            in_order: are_in_order(places, calls),
-        }),
-        None => None,
-    }
-}
-
-/// Whether the calls of so many sessions, so many rounds each, stand in order.
-fn call_at_once<L: Terms + Send + Sync, R: Threads + Wait + Sync>(
-    rt: &R,
-    alloc: Global,
-    office: &Office<L>,
-    sessions: u32,
-    rounds: u32,
-) -> Option<Done> {
-    match places_of_all(rt, alloc, office, sessions, rounds) {
-        Some(places) => done_in_order(rt, office, places.as_slice()),
-        None => None,
-    }
-}
-
-/// One session makes changes while others read: how many reads.
-fn change<L: Terms + Send + Sync, R: Threads + Wait + Sync>(
-    rt: &R,
-    alloc: Global,
-    office: &Office<L>,
-    feature: u16,
-    rounds: u32,
-    how: How,
-    readers: u32,
-) -> Option<Done> {
-    let reads = match how {
-        How::Alone => change_unread(rt, alloc, office, feature, rounds, 0),
-        How::Idle => change_unread(rt, alloc, office, feature, rounds, readers),
-        How::Watches => change_and_read(rt, alloc, office, feature, rounds, readers),
-        How::Mutex => change_and_look(rt, alloc, office, feature, rounds, readers),
-    };
-    match reads {
-        Some(reads) => Some(Done::Changes { reads }),
-        None => None,
-    }
-}
-
-/// The token of one more session that decides the feature 1.
-fn last_token<L: Terms, R: Wait>(rt: &R, alloc: Global, office: &Office<L>) -> Option<Undo<L>> {
+/// What one more session holds that decides the feature 1, and whether that was done.
+fn decided<L: Terms, R: Wait>(rt: &R, alloc: Global, office: &Office<L>) -> (Held<L>, bool) {
     match joined(rt, office) {
-        Some(mut seat) => decide(rt, alloc, office, &mut seat, 1, true),
-        None => None,
+        Some(mut seat) => {
+            made(
+                rt,
+                alloc,
+                office,
+                &mut seat,
+                1,
+                Held::Nothing,
+                Call::Decide(true),
+            )
+        }
+        None => (Held::Nothing, false),
     }
 }
 
-/// What came of some work, with the token of one more session.
-fn with_last_token<L: Terms, R: Wait>(
-    rt: &R,
-    alloc: Global,
-    office: &Office<L>,
-    done: Option<Done>,
-) -> Left<L> {
-    match last_token(rt, alloc, office) {
-        Some(token) => (done.ok_or(Stopped::Refused), Held::Undo(token)),
-        None => (Err(Stopped::Refused), Held::Nothing),
-    }
-}
-
-/// Does the task.
+/// Does the task. But for that of two sessions a token is left of one more.
 fn carry_out<L: Terms + Send + Sync, R: Threads + Wait + Sync>(
     rt: &R,
     alloc: Global,
@@ -198,39 +144,15 @@ fn carry_out<L: Terms + Send + Sync, R: Threads + Wait + Sync>(
     task: Task,
     seen: &AtomicU64,
 ) -> Left<L> {
-    let done = match task {
-        Task::TwoSessions => return work_in_two(rt, alloc, office, seen),
-        Task::Calls { sessions, rounds } => call_at_once(rt, alloc, office, sessions, rounds),
-        Task::Changes {
-            feature,
-            rounds,
-            how,
-            readers,
-        } => change(rt, alloc, office, feature, rounds, how, readers),
-    };
-    with_last_token(rt, alloc, office, done)
-}
-
-/// Ends the office with the token that is left.
-fn end<L: Terms, R: Wait>(
-    rt: &R,
-    office: Office<L>,
-    front: &mut Front<L>,
-    undos: Vec<Undo<L>>,
-    redos: Vec<Redo<L>>,
-    held: Held<L>,
-) -> u64
-    requires undos { (vec_len undos ≡ 0) × (1 ≤ vec_capacity undos) }
-    requires redos { (vec_len redos ≡ 0) × (1 ≤ vec_capacity redos) }
-{
-    let mut undos = undos;
-    let mut redos = redos;
-    match held {
-        Held::Nothing => {}
-        Held::Undo(token) => undos.push_reserved(token),
-        Held::Redo(token) => redos.push_reserved(token),
+    if matches!(task, Task::TwoSessions) {
+        return work_in_two(rt, alloc, office, seen);
     }
-    office.end(rt, front, undos, redos)
+    let done = work_at_once(rt, alloc, office, task);
+    let (held, is_decided) = decided(rt, alloc, office);
+    match done {
+        Some(done) if is_decided => (Ok(done), held),
+        _ => (Err(Stopped::Refused), held),
+    }
 }
 
 /// Does the task on an office, and ends it. Room for the tokens is made before there are any, since none can be let go.
@@ -243,16 +165,21 @@ fn work<L: Terms + Send + Sync, R: Threads + Wait + Sync>(
     seen: &AtomicU64,
 ) -> Option<Told> {
     let mut front = front;
-    let Ok(undos) = Vec::with_capacity(alloc, 1) else {
+    let Ok(mut undos) = Vec::with_capacity(alloc, 1) else {
         let _further = office.end(rt, &mut front, Vec::new(alloc), Vec::new(alloc));
         return None;
     };
-    let Ok(redos) = Vec::with_capacity(alloc, 1) else {
+    let Ok(mut redos) = Vec::with_capacity(alloc, 1) else {
         let _further = office.end(rt, &mut front, undos, Vec::new(alloc));
         return None;
     };
     let (done, held) = carry_out(rt, alloc, &office, task, seen);
-    let further = end(rt, office, &mut front, undos, redos, held);
+    match held {
+        Held::Nothing => {}
+        Held::Undo(token) => undos.push_reserved(token),
+        Held::Redo(token) => redos.push_reserved(token),
+    }
+    let further = office.end(rt, &mut front, undos, redos);
     let calls = front.len();
     Some(Told {
         done,
@@ -408,35 +335,58 @@ fn work_built_in<T: Threads + Wait + Sync + Print>(
     tell(rt, told)
 }
 
-/// A little of what sessions do without readers.
-const A_LITTLE: [Task; 2] = [
+/// A little of each.
+const A_LITTLE: [Task; 6] = [
     Task::TwoSessions,
     Task::Calls {
         sessions: 8,
         rounds: 250,
     },
+    Task::Changes {
+        feature: 1,
+        rounds: 100,
+        how: How::Alone,
+        readers: 2,
+    },
+    Task::Changes {
+        feature: 1,
+        rounds: 100,
+        how: How::Idle,
+        readers: 2,
+    },
+    Task::Changes {
+        feature: 1,
+        rounds: 100,
+        how: How::Watches,
+        readers: 2,
+    },
+    Task::Changes {
+        feature: 1,
+        rounds: 100,
+        how: How::Mutex,
+        readers: 2,
+    },
 ];
-
-/// Does a little of changes, with readers of each kind.
-fn change_a_little<T: Threads + Wait + Sync + Print>(rt: &HostRuntime, threads: &T) -> Result<()> {
-    for how in [How::Alone, How::Idle, How::Watches, How::Mutex] {
-        let changes = Task::Changes {
-            feature: 1,
-            rounds: 100,
-            how,
-            readers: 2,
-        };
-        work_built_in(rt, threads, changes)?;
-    }
-    Ok(())
-}
 
 /// Does a little of each, on what is built in.
 fn work_on_each<T: Threads + Wait + Sync + Print>(rt: &HostRuntime, threads: &T) -> Result<()> {
     for task in A_LITTLE {
         work_built_in(rt, threads, task)?;
     }
-    change_a_little(rt, threads)
+    Ok(())
+}
+
+/// Does the task on an office on the game and diagram of these files.
+fn told_on_files<T: Threads + Wait + Sync + Print>(
+    rt: &HostRuntime,
+    threads: &T,
+    game: &str,
+    diagram: &str,
+    task: Task,
+) -> Result<Told> {
+    let game = fs::read(rt, game)?;
+    let diagram = fs::read(rt, diagram)?;
+    told_of(threads, rt.alloc(), &game, &diagram, task)
 }
 
 /// Tells how many reads there were, and what came of a task beside.
@@ -445,20 +395,6 @@ fn tell_reads(rt: &HostRuntime, told: Told) -> Result<()> {
         println!(rt; "reads {reads}")?;
     }
     tell(rt, told)
-}
-
-/// Does the task on the game and diagram of these files, and tells of it and of its reads.
-fn work_on_files<T: Threads + Wait + Sync + Print>(
-    rt: &HostRuntime,
-    threads: &T,
-    game: &str,
-    diagram: &str,
-    task: Task,
-) -> Result<()> {
-    let game = fs::read(rt, game)?;
-    let diagram = fs::read(rt, diagram)?;
-    let told = told_of(threads, rt.alloc(), &game, &diagram, task)?;
-    tell_reads(rt, told)
 }
 
 /// Does what the words ask for.
@@ -472,7 +408,8 @@ fn obey<T: Threads + Wait + Sync + Print>(
     }
     let task = task_of(words)?;
     if words.len() > 3 && matches!(task, Task::Changes { .. }) {
-        return work_on_files(rt, threads, words[2].as_str(), words[3].as_str(), task);
+        let told = told_on_files(rt, threads, words[2].as_str(), words[3].as_str(), task)?;
+        return tell_reads(rt, told);
     }
     work_built_in(rt, threads, task)
 }

@@ -2,22 +2,37 @@
 
 ghost use Rattle.std.specs.Prelude.{◌<◌, length};
 
-use crate::looks::{Look, looked};
+use crate::looks::asked;
 use std::alloc::Global;
 use std::sync::Wait;
 use vpg_measure::Harvest;
 use vpg_office::{Fault, Front, Office, Redo, Returned, Session, Terms, Undo};
 use vpg_scarce::End;
+use vpg_trail::Page;
 use vpg_watch::Watch;
 
 /// A session with its front, and what its calls gave.
-#[derive(Drop)]
 pub(crate) struct Seat<L: Terms> {
     pub(crate) session: Session<L>,
     pub(crate) front: Front<L>,
     /// The settled harvest of the order that was given last.
     pub(crate) harvest: Option<Harvest>,
     pub(crate) watch: Option<Watch<Front<L>>>,
+    /// The page that was looked at first.
+    pub(crate) page: Option<Page>,
+}
+
+// Not derived, so that letting one go is one call.
+impl<L: Terms> Drop for Seat<L> {
+    fn drop(self) {
+        let Seat {
+            session: _,
+            front: _,
+            harvest: _,
+            watch: _,
+            page: _,
+        } = self;
+    }
 }
 
 /// The token of the change that was made or undone last, until it is spent.
@@ -36,7 +51,20 @@ pub(crate) enum Call {
     Redo,
     Keep,
     Forget,
-    Look(Look),
+    Order,
+    Commit,
+    Settled,
+    Verdict,
+    Page,
+    /// A further session.
+    Join,
+    /// A copy of the front, which a front of before all calls meets.
+    Meet,
+    Watch,
+    /// What the watch reads.
+    Read,
+    /// What the harvest and its order tell, and what is made of them.
+    Carry,
     /// Opens the office.
     Open,
     /// Closes the office.
@@ -46,13 +74,26 @@ pub(crate) enum Call {
 }
 
 impl Call {
+    /// Whether the call gives a token or spends one.
+    fn is_of_tokens(self) -> bool {
+        matches!(
+            self,
+            Call::Decide(..)
+                | Call::Retract(_)
+                | Call::Undo
+                | Call::Redo
+                | Call::Keep
+                | Call::Forget
+        )
+    }
+
     /// Whether the call is logged.
     pub(crate) fn is_logged(self) -> bool {
-        match self {
-            Call::Look(look) => look.is_logged(),
-            Call::Open | Call::Close | Call::End(_) => false,
-            _ => true,
-        }
+        self.is_of_tokens()
+            || matches!(
+                self,
+                Call::Order | Call::Commit | Call::Settled | Call::Verdict | Call::Page
+            )
     }
 
     /// How many tokens are held as the office is ended or closed.
@@ -81,104 +122,20 @@ pub(crate) fn serial_of<L: Terms>(held: &Held<L>) -> Option<u64> {
     }
 }
 
-fn decide<L: Terms, R: Wait>(
-    rt: &R,
-    alloc: Global,
-    office: &Office<L>,
-    seat: &mut Seat<L>,
-    feature: u16,
-    value: bool,
-) -> (Held<L>, End) {
-    match seat
-        .session
-        .decide(rt, alloc, office, &mut seat.front, feature, value)
-    {
+/// The call that spends the token that is held. Where there is none, it is no call.
+pub(crate) fn spending<L: Terms>(held: &Held<L>) -> Call {
+    match held {
+        Held::Nothing => Call::Close,
+        Held::Undo(_) => Call::Keep,
+        Held::Redo(_) => Call::Forget,
+    }
+}
+
+/// The token of a change, and how that ended.
+fn changed<L: Terms, F: Drop>(answer: Result<Undo<L>, Fault<L, F>>) -> (Held<L>, End) {
+    match answer {
         Ok(token) => (Held::Undo(token), End::Done),
         Err(fault) => (Held::Nothing, end_of(fault)),
-    }
-}
-
-fn retract<L: Terms, R: Wait>(
-    rt: &R,
-    alloc: Global,
-    office: &Office<L>,
-    seat: &mut Seat<L>,
-    feature: u16,
-) -> (Held<L>, End) {
-    match seat
-        .session
-        .retract(rt, alloc, office, &mut seat.front, feature)
-    {
-        Ok(token) => (Held::Undo(token), End::Done),
-        Err(fault) => (Held::Nothing, end_of(fault)),
-    }
-}
-
-fn undo<L: Terms, R: Wait>(
-    rt: &R,
-    alloc: Global,
-    office: &Office<L>,
-    seat: &mut Seat<L>,
-    token: Undo<L>,
-) -> (Held<L>, End) {
-    match seat.session.undo(rt, alloc, office, &mut seat.front, token) {
-        Ok(token) => (Held::Redo(token), End::Done),
-        Err(Returned { fault, value }) => (Held::Undo(value), end_of(fault)),
-    }
-}
-
-fn redo<L: Terms, R: Wait>(
-    rt: &R,
-    alloc: Global,
-    office: &Office<L>,
-    seat: &mut Seat<L>,
-    token: Redo<L>,
-) -> (Held<L>, End) {
-    match seat.session.redo(rt, alloc, office, &mut seat.front, token) {
-        Ok(token) => (Held::Undo(token), End::Done),
-        Err(Returned { fault, value }) => (Held::Redo(value), end_of(fault)),
-    }
-}
-
-fn keep<L: Terms, R: Wait>(
-    rt: &R,
-    office: &Office<L>,
-    seat: &mut Seat<L>,
-    token: Undo<L>,
-) -> (Held<L>, End) {
-    match seat.session.keep(rt, office, &mut seat.front, token) {
-        Ok(()) => (Held::Nothing, End::Done),
-        Err(Returned { fault, value }) => (Held::Undo(value), end_of(fault)),
-    }
-}
-
-fn forget<L: Terms, R: Wait>(
-    rt: &R,
-    office: &Office<L>,
-    seat: &mut Seat<L>,
-    token: Redo<L>,
-) -> (Held<L>, End) {
-    match seat.session.forget(rt, office, &mut seat.front, token) {
-        Ok(()) => (Held::Nothing, End::Done),
-        Err(Returned { fault, value }) => (Held::Redo(value), end_of(fault)),
-    }
-}
-
-/// Makes a call that needs no token and gives none.
-fn other<L: Terms, R: Wait>(
-    rt: &R,
-    alloc: Global,
-    office: &Office<L>,
-    seat: &mut Seat<L>,
-    call: Call,
-) -> End
-    requires { 0 < length L.game.vertices }
-{
-    match call {
-        Call::Look(look) => looked(rt, alloc, office, seat, look),
-        // which is made once all else is done
-        Call::Close | Call::End(_) => End::Done,
-        _ => End::Otherwise,
     }
 }
 
@@ -194,40 +151,39 @@ pub(crate) fn made<L: Terms, R: Wait>(
 ) -> (Held<L>, End)
     requires { 0 < length L.game.vertices }
 {
+    if !call.is_of_tokens() {
+        return (held, asked(rt, alloc, office, seat, call));
+    }
+    let Seat { session, front, .. } = seat;
     match held {
         Held::Nothing => match call {
-            Call::Decide(feature, value) => decide(rt, alloc, office, seat, feature, value),
-            Call::Retract(feature) => retract(rt, alloc, office, seat, feature),
-            _ => (Held::Nothing, other(rt, alloc, office, seat, call)),
+            Call::Decide(feature, value) => {
+                changed(session.decide(rt, alloc, office, front, feature, value))
+            }
+            Call::Retract(feature) => changed(session.retract(rt, alloc, office, front, feature)),
+            _ => (Held::Nothing, End::Otherwise),
         },
         Held::Undo(token) => match call {
-            Call::Undo => undo(rt, alloc, office, seat, token),
-            Call::Keep => keep(rt, office, seat, token),
-            _ => (Held::Undo(token), other(rt, alloc, office, seat, call)),
+            Call::Undo => match session.undo(rt, alloc, office, front, token) {
+                Ok(token) => (Held::Redo(token), End::Done),
+                Err(Returned { fault, value }) => (Held::Undo(value), end_of(fault)),
+            },
+            Call::Keep => match session.keep(rt, office, front, token) {
+                Ok(()) => (Held::Nothing, End::Done),
+                Err(Returned { fault, value }) => (Held::Undo(value), end_of(fault)),
+            },
+            _ => (Held::Undo(token), End::Otherwise),
         },
         Held::Redo(token) => match call {
-            Call::Redo => redo(rt, alloc, office, seat, token),
-            Call::Forget => forget(rt, office, seat, token),
-            _ => (Held::Redo(token), other(rt, alloc, office, seat, call)),
+            Call::Redo => match session.redo(rt, alloc, office, front, token) {
+                Ok(token) => (Held::Undo(token), End::Done),
+                Err(Returned { fault, value }) => (Held::Redo(value), end_of(fault)),
+            },
+            Call::Forget => match session.forget(rt, office, front, token) {
+                Ok(()) => (Held::Nothing, End::Done),
+                Err(Returned { fault, value }) => (Held::Redo(value), end_of(fault)),
+            },
+            _ => (Held::Redo(token), End::Otherwise),
         },
     }
-}
-
-/// Spends a token once that is taken. It is taken at the first try.
-pub(crate) fn spend<L: Terms, R: Wait>(
-    rt: &R,
-    office: &Office<L>,
-    seat: &mut Seat<L>,
-    held: Held<L>,
-) {
-    let mut held = held;
-    for _ in rt.forever() {
-        let (next, _) = match held {
-            Held::Nothing => return,
-            Held::Undo(token) => keep(rt, office, seat, token),
-            Held::Redo(token) => forget(rt, office, seat, token),
-        };
-        held = next;
-    }
-    unreachable!()
 }

@@ -14,9 +14,9 @@ mod presses;
 mod steps;
 
 use crate::calls::Call;
-use crate::looks::Look;
-use crate::offices::{Family, Row, refuse_each};
+use crate::offices::{Family, Line, refuse_each};
 use anyhow::{Context, Result};
+use std::alloc::Global;
 use std::env;
 use std::sync::Wait;
 use vpg_scarce::{Heap, Report};
@@ -36,14 +36,14 @@ const UNDONE: &[Call] = &[
     Call::Undo,
 ];
 
-const ORDERED: &[Call] = &[Call::Decide(F, false), Call::Keep, Call::Look(Look::Order)];
+const ORDERED: &[Call] = &[Call::Decide(F, false), Call::Keep, Call::Order];
 
 /// A decision on f, the lifts that follow from it, and a decision on g.
 const LIFTED: &[Call] = &[
     Call::Decide(F, false),
     Call::Keep,
-    Call::Look(Look::Order),
-    Call::Look(Look::Commit),
+    Call::Order,
+    Call::Commit,
     Call::Decide(G, true),
     Call::Keep,
 ];
@@ -51,8 +51,8 @@ const LIFTED: &[Call] = &[
 const RETRACTED: &[Call] = &[
     Call::Decide(F, false),
     Call::Keep,
-    Call::Look(Look::Order),
-    Call::Look(Look::Commit),
+    Call::Order,
+    Call::Commit,
     Call::Decide(G, true),
     Call::Keep,
     Call::Retract(F),
@@ -61,116 +61,102 @@ const RETRACTED: &[Call] = &[
 const BACK: &[Call] = &[
     Call::Decide(F, false),
     Call::Keep,
-    Call::Look(Look::Order),
-    Call::Look(Look::Commit),
+    Call::Order,
+    Call::Commit,
     Call::Decide(G, true),
     Call::Keep,
     Call::Retract(F),
     Call::Undo,
 ];
 
-const WATCHED: &[Call] = &[Call::Look(Look::Watch), Call::Decide(G, true)];
+const WATCHED: &[Call] = &[Call::Watch, Call::Decide(G, true)];
 
-/// A call, and what is done before it.
-fn row(name: &'static str, before: &'static [Call], call: Call) -> Row {
-    Row {
-        name,
-        is_watched: false,
-        before,
-        call,
-    }
-}
-
-/// A change that is made beside a watch.
-fn watched(name: &'static str, before: &'static [Call], call: Call) -> Row {
-    Row {
-        name,
-        is_watched: true,
-        before,
-        call,
-    }
-}
-
-fn change<R: Wait>(rt: &R, heap: &mut Heap, report: &mut Report, family: &Family) {
-    let rows = [
-        row("Session::decide", ORDERED, Call::Decide(G, true)),
-        row("Session::undo of a decision", DECIDED, Call::Undo),
-        row("Session::redo of a decision", UNDONE, Call::Redo),
-        row("Session::keep", DECIDED, Call::Keep),
-        row("Session::forget", UNDONE, Call::Forget),
-        row("Session::retract", LIFTED, Call::Retract(F)),
-        row("Session::undo of a retraction", RETRACTED, Call::Undo),
-        row("Session::redo of a retraction", BACK, Call::Redo),
-    ];
-    refuse_each(rt, heap, report, family, &rows);
-}
-
-fn look<R: Wait>(rt: &R, heap: &mut Heap, report: &mut Report, family: &Family) {
-    let rows = [
-        row("Session::order", DECIDED, Call::Look(Look::Order)),
-        row("Session::commit", ORDERED, Call::Look(Look::Commit)),
-        row("Session::settled", LIFTED, Call::Look(Look::Settled)),
-        row("Session::verdict", LIFTED, Call::Look(Look::Verdict)),
-        row("Session::page", LIFTED, Call::Look(Look::Page)),
-        row(
-            "calls of an order and of its harvest",
-            ORDERED,
-            Call::Look(Look::Carry),
-        ),
-    ];
-    refuse_each(rt, heap, report, family, &rows);
-}
-
-fn change_beside_watch<R: Wait>(rt: &R, heap: &mut Heap, report: &mut Report, family: &Family) {
-    let rows = [
-        watched(
-            "Session::decide beside a watch",
-            ORDERED,
-            Call::Decide(G, true),
-        ),
-        watched("Session::retract beside a watch", LIFTED, Call::Retract(F)),
-        watched("Session::undo beside a watch", RETRACTED, Call::Undo),
-        watched("Session::redo beside a watch", BACK, Call::Redo),
-        watched(
-            "Session::commit beside a watch",
-            ORDERED,
-            Call::Look(Look::Commit),
-        ),
-    ];
-    refuse_each(rt, heap, report, family, &rows);
-}
-
-fn open_and_end<R: Wait>(rt: &R, heap: &mut Heap, report: &mut Report, family: &Family) {
-    let rows = [
-        row("Office::open", &[], Call::Open),
-        row("Office::join", DECIDED, Call::Look(Look::Join)),
-        row("Front::copy, Office::meet", DECIDED, Call::Look(Look::Meet)),
-        row("Office::watch", DECIDED, Call::Look(Look::Watch)),
-        row("Watch::read of an office", WATCHED, Call::Look(Look::Read)),
-        row("Office::close", LIFTED, Call::Close),
-        row("Office::end", LIFTED, Call::End(0)),
-        row("Office::end with an Undo", DECIDED, Call::End(1)),
-        row("Office::end with a Redo", UNDONE, Call::End(1)),
-    ];
-    refuse_each(rt, heap, report, family, &rows);
-}
+/// The call's name, whether there is a watch from the beginning, what is done before the call, and the call.
+const LINES: &[Line] = &[
+    ("Office::open", false, &[], Call::Open),
+    ("Office::join", false, DECIDED, Call::Join),
+    ("Front::copy, Office::meet", false, DECIDED, Call::Meet),
+    ("Office::watch", false, DECIDED, Call::Watch),
+    ("Watch::read of an office", false, WATCHED, Call::Read),
+    ("Office::close", false, LIFTED, Call::Close),
+    ("Office::end", false, LIFTED, Call::End(0)),
+    ("Office::end with an Undo", false, DECIDED, Call::End(1)),
+    ("Office::end with a Redo", false, UNDONE, Call::End(1)),
+    ("Session::decide", false, ORDERED, Call::Decide(G, true)),
+    ("Session::undo of a decision", false, DECIDED, Call::Undo),
+    ("Session::redo of a decision", false, UNDONE, Call::Redo),
+    ("Session::keep", false, DECIDED, Call::Keep),
+    ("Session::forget", false, UNDONE, Call::Forget),
+    ("Session::retract", false, LIFTED, Call::Retract(F)),
+    (
+        "Session::undo of a retraction",
+        false,
+        RETRACTED,
+        Call::Undo,
+    ),
+    ("Session::redo of a retraction", false, BACK, Call::Redo),
+    ("Session::order", false, DECIDED, Call::Order),
+    ("Session::commit", false, ORDERED, Call::Commit),
+    ("Session::settled", false, LIFTED, Call::Settled),
+    ("Session::verdict", false, LIFTED, Call::Verdict),
+    ("Session::page", false, LIFTED, Call::Page),
+    (
+        "calls of an order and of its harvest",
+        false,
+        ORDERED,
+        Call::Carry,
+    ),
+    (
+        "Session::decide beside a watch",
+        true,
+        ORDERED,
+        Call::Decide(G, true),
+    ),
+    (
+        "Session::retract beside a watch",
+        true,
+        LIFTED,
+        Call::Retract(F),
+    ),
+    ("Session::undo beside a watch", true, RETRACTED, Call::Undo),
+    ("Session::redo beside a watch", true, BACK, Call::Redo),
+    (
+        "Session::commit beside a watch",
+        true,
+        ORDERED,
+        Call::Commit,
+    ),
+];
 
 /// Makes each call with little memory.
 fn refuse<R: Wait>(rt: &R, heap: &mut Heap, report: &mut Report) -> Option<()> {
     let family = Family::read(heap.alloc())?;
-    open_and_end(rt, heap, report, &family);
-    change(rt, heap, report, &family);
-    look(rt, heap, report, &family);
-    change_beside_watch(rt, heap, report, &family);
+    refuse_each(rt, heap, report, &family, LINES);
     presses::refuse(rt, heap, report);
     Some(())
 }
 
-fn main(rt: HostRuntime) -> Result<()> {
-    let words: Vec<String> = env::args(&rt)?.collect(rt.alloc())?;
-    let mut heap = Heap::new(rt.alloc(), words.len())?;
-    let mut report = Report::new(rt.alloc())?;
-    refuse(&rt, &mut heap, &mut report).context("no family")?;
-    report.write(&rt, &heap)?;
+/// Makes each call with little memory, and writes what came of each.
+fn report_all<R: Wait + Print>(rt: &R, heap: &mut Heap, report: &mut Report) -> Result<()> {
+    refuse(rt, heap, report).context("no family")?;
+    report.write(rt, heap)?;
     Ok(())
+}
+
+/// Does so with the memory of the process. Calls are marked where the program was called with a word.
+fn report_within<R: Wait + Print>(rt: &R, alloc: Global, words: usize) -> Result<()> {
+    let mut heap = Heap::new(alloc, words)?;
+    let mut report = Report::new(alloc)?;
+    report_all(rt, &mut heap, &mut report)
+}
+
+/// How many words the program was called with, its name among them.
+fn words_of(rt: &HostRuntime) -> Result<usize> {
+    let words: Vec<String> = env::args(rt)?.collect(rt.alloc())?;
+    Ok(words.len())
+}
+
+fn main(rt: HostRuntime) -> Result<()> {
+    let words = words_of(&rt)?;
+    report_within(&rt, rt.alloc(), words)
 }

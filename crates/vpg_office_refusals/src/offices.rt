@@ -2,8 +2,8 @@
 
 ghost use Rattle.std.specs.Prelude.{◌≡◌, ◌<◌, ◌≤◌, length, vec_len, vec_capacity};
 
-use crate::calls::{Call, Held, Seat, made, serial_of, spend};
-use crate::looks::{Look, is_page, looked, page, shown};
+use crate::calls::{Call, Held, Seat, made, serial_of, spending};
+use crate::looks::{asked, shown};
 use std::alloc::{AllocError, Global};
 use std::sync::{Arc, Wait};
 use vpg_desk::OpenFault;
@@ -11,7 +11,6 @@ use vpg_diagram::Diagram;
 use vpg_game::GuardedGame;
 use vpg_office::{Front, NotBegun, Office, Terms, TokensOut, Work, with_office};
 use vpg_scarce::{Anew, End, Heap, Outcome, Report, tried_anew};
-use vpg_trail::Page;
 
 /// The diagram and the game of most examples.
 const DIAGRAM: &[u8] = b"root r\noptional r f\noptional r g\n";
@@ -58,13 +57,15 @@ impl Family {
 
 /// A call that is tried, and what is done before it with ample memory.
 #[derive(Clone, Copy)]
-pub(crate) struct Row {
-    pub(crate) name: &'static str,
-    /// Whether there is a watch from the beginning.
-    pub(crate) is_watched: bool,
-    pub(crate) before: &'static [Call],
-    pub(crate) call: Call,
+struct Row {
+    /// Whether there is a watch from the beginning, and the call publishes a sheet.
+    is_watched: bool,
+    before: &'static [Call],
+    call: Call,
 }
+
+/// A row with the name of its call before it.
+pub(crate) type Line = (&'static str, bool, &'static [Call], Call);
 
 pub(crate) const NOT_TRIED: Outcome = Outcome {
     end: End::Otherwise,
@@ -84,84 +85,64 @@ struct Try<'t> {
     bytes: usize,
 }
 
-/// Makes all that comes before the call: the token that is held then.
+/// Asks whether the page is settled until the log has one call less than its lists have room for. The row of calls
+/// asks ahead for its next part, and does without where that is refused: then the call that needs it asks again.
+fn fill_up<L: Terms, R: Wait>(rt: &R, heap: &mut Heap, office: &Office<L>, seat: &mut Seat<L>)
+    requires { 0 < length L.game.vertices }
+{
+    let mut asks = !heap.is_marked();
+    for _ in 0..FULL {
+        let calls = seat.front.len();
+        let is_refused = asks && calls == AHEAD;
+        if is_refused {
+            asks = false;
+            heap.leave(0);
+        }
+        if calls < FULL - 1 {
+            asked(rt, heap.alloc(), office, seat, Call::Settled);
+        }
+        if is_refused {
+            heap.relax();
+        }
+    }
+}
+
+/// Makes all that comes before the call, until the log's lists are full. The look at the page is the last of it. The
+/// token that is held then.
 fn prepare<L: Terms, R: Wait>(
     rt: &R,
-    alloc: Global,
+    heap: &mut Heap,
     office: &Office<L>,
     seat: &mut Seat<L>,
     row: &Row,
 ) -> Held<L>
     requires { 0 < length L.game.vertices }
 {
+    let alloc = heap.alloc();
     if row.is_watched {
-        looked(rt, alloc, office, seat, Look::Watch);
+        asked(rt, alloc, office, seat, Call::Watch);
     }
     let mut held = Held::Nothing;
     for call in row.before {
         let (next, _) = made(rt, alloc, office, seat, held, *call);
         held = next;
     }
+    fill_up(rt, heap, office, seat);
+    asked(rt, alloc, office, seat, Call::Page);
     held
 }
 
-/// Asks whether the page is settled until the log has so many calls.
-fn fill<L: Terms, R: Wait>(
-    rt: &R,
-    alloc: Global,
-    office: &Office<L>,
-    seat: &mut Seat<L>,
-    calls: usize,
-)
-    requires { 0 < length L.game.vertices }
-{
-    for _ in 0..calls {
-        if seat.front.len() < calls {
-            looked(rt, alloc, office, seat, Look::Settled);
-        }
-    }
-}
-
-/// Fills the log up to one call less than its lists have room for. The row of calls asks ahead for its next part, and
-/// does without where that is refused: then the call that needs it asks again.
-fn fill_up<L: Terms, R: Wait>(rt: &R, heap: &mut Heap, office: &Office<L>, seat: &mut Seat<L>)
-    requires { 0 < length L.game.vertices }
-{
-    fill(rt, heap.alloc(), office, seat, AHEAD);
-    if !heap.is_marked() {
-        heap.leave(0);
-        looked(rt, heap.alloc(), office, seat, Look::Settled);
-        heap.relax();
-    }
-    fill(rt, heap.alloc(), office, seat, FULL - 1);
-}
-
-/// What is seen of a seat without a call.
-#[derive(Clone, Copy)]
-struct Seen {
-    /// The length of the front.
-    calls: usize,
-    /// Of how many calls the sheet is that is shown.
-    shown: Option<usize>,
-    has_harvest: bool,
-    /// The serial of the token that is held.
-    serial: Option<u64>,
-}
+/// What is seen of a seat without a call: the length of the front; of how many calls the sheet is that is shown;
+/// whether there is a harvest; the serial of the token that is held.
+type Seen = (usize, Option<usize>, bool, Option<u64>);
 
 fn look_at<L: Terms>(seat: &mut Seat<L>, held: &Held<L>) -> Seen {
-    Seen {
-        calls: seat.front.len(),
-        shown: shown(seat),
-        has_harvest: seat.harvest.is_some(),
-        serial: serial_of(held),
-    }
-}
-
-fn is_same(before: Seen, now: Seen) -> bool {
-    now.calls == before.calls
-        && now.shown == before.shown
-        && now.has_harvest == before.has_harvest
-        && now.serial == before.serial
+    (
+        seat.front.len(),
+        shown(seat),
+        seat.harvest.is_some(),
+        serial_of(held),
+    )
 }
 
 /// Whether all is as it has to be once the call is done. It is the last of the front, if it is logged. The sheet of a
@@ -169,14 +150,13 @@ fn is_same(before: Seen, now: Seen) -> bool {
 fn is_done(row: &Row, bytes: usize, before: Seen, now: Seen) -> bool {
     let logged = row.call.is_logged() as usize;
     let needs_sheet = row.is_watched && bytes >= PLENTY;
-    let is_shown = now.shown == Some(now.calls);
-    now.calls == before.calls.saturating_add(logged)
-        && (is_shown || (now.shown == before.shown && !needs_sheet))
+    let is_shown = now.1 == Some(now.0);
+    now.0 == before.0.saturating_add(logged) && (is_shown || (now.1 == before.1 && !needs_sheet))
 }
 
 /// Makes the call with so much memory: the token that is held then, and what came of it. A refused call leaves the
 /// front, what is shown, the harvest, the token and the page; that look at the page is the next call of the log.
-fn try_from<L: Terms, R: Wait>(
+fn try_at<L: Terms, R: Wait>(
     rt: &R,
     heap: &mut Heap,
     office: &Office<L>,
@@ -184,10 +164,10 @@ fn try_from<L: Terms, R: Wait>(
     held: Held<L>,
     row: &Row,
     bytes: usize,
-    page: &Page,
 ) -> (Held<L>, Outcome)
     requires { 0 < length L.game.vertices }
 {
+    let is_looked_at = seat.page.is_some();
     let before = look_at(seat, &held);
     heap.leave(bytes);
     let (held, end) = made(rt, heap.alloc(), office, seat, held, row.call);
@@ -196,56 +176,18 @@ fn try_from<L: Terms, R: Wait>(
     let holds = match end {
         End::Done => is_done(row, bytes, before, now),
         End::Memory => {
-            is_same(before, now)
-                && is_page(rt, heap.alloc(), office, seat, page)
-                && seat.front.len() == before.calls.saturating_add(1)
+            before == now
+                && asked(rt, heap.alloc(), office, seat, Call::Page) == End::Done
+                && seat.front.len() == before.0.saturating_add(1)
         }
         End::Otherwise => false,
     };
+    let holds = is_looked_at && holds;
     (held, Outcome { end, holds })
 }
 
-/// Looks at the page, and makes the call then.
-fn try_call<L: Terms, R: Wait>(
-    rt: &R,
-    heap: &mut Heap,
-    office: &Office<L>,
-    seat: &mut Seat<L>,
-    held: Held<L>,
-    row: &Row,
-    bytes: usize,
-) -> (Held<L>, Outcome)
-    requires { 0 < length L.game.vertices }
-{
-    match page(rt, heap.alloc(), office, seat) {
-        Ok(page) => try_from(rt, heap, office, seat, held, row, bytes, &page),
-        Err(_) => (held, NOT_TRIED),
-    }
-}
-
-/// Makes the call at a seat, and spends the token that is held then, unless it is to be handed in.
-fn try_at<L: Terms, R: Wait>(
-    rt: &R,
-    heap: &mut Heap,
-    office: &Office<L>,
-    seat: Seat<L>,
-    row: &Row,
-    bytes: usize,
-) -> (Held<L>, Outcome)
-    requires { 0 < length L.game.vertices }
-{
-    let mut seat = seat;
-    let held = prepare(rt, heap.alloc(), office, &mut seat, row);
-    fill_up(rt, heap, office, &mut seat);
-    let (held, tried) = try_call(rt, heap, office, &mut seat, held, row, bytes);
-    if row.call.tokens() > 0 {
-        return (held, tried);
-    }
-    spend(rt, office, &mut seat, held);
-    (Held::Nothing, tried)
-}
-
-/// Joins an office, and makes the call: the token that is left, and what came of it.
+/// Joins an office, and makes the call: the token that is left, and what came of it. A token that is not to be handed
+/// in is spent.
 fn try_on<L: Terms, R: Wait>(
     rt: &R,
     heap: &mut Heap,
@@ -255,29 +197,25 @@ fn try_on<L: Terms, R: Wait>(
 ) -> (Held<L>, Outcome)
     requires { 0 < length L.game.vertices }
 {
-    match office.join(rt) {
-        Ok((session, front)) => {
-            let seat = Seat {
-                session,
-                front,
-                harvest: None,
-                watch: None,
-            };
-            try_at(rt, heap, office, seat, row, bytes)
-        }
-        Err(_) => (Held::Nothing, NOT_TRIED),
-    }
-}
-
-/// Closes an office: how many tokens were out. Then it is ended.
-fn close<L: Terms, R: Wait>(rt: &R, alloc: Global, office: Office<L>, front: &mut Front<L>) -> u64 {
-    match office.close(rt, front) {
-        Ok(()) => 0,
-        Err(TokensOut { tokens, office }) => {
-            let _further = office.end(rt, front, Vec::new(alloc), Vec::new(alloc));
-            tokens
-        }
-    }
+    let Ok((session, front)) = office.join(rt) else {
+        return (Held::Nothing, NOT_TRIED);
+    };
+    let mut seat = Seat {
+        session,
+        front,
+        harvest: None,
+        watch: None,
+        page: None,
+    };
+    let held = prepare(rt, heap, office, &mut seat, row);
+    let (held, tried) = try_at(rt, heap, office, &mut seat, held, row, bytes);
+    let last = if row.call.tokens() > 0 {
+        Call::Close
+    } else {
+        spending(&held)
+    };
+    let (held, _) = made(rt, heap.alloc(), office, &mut seat, held, last);
+    (held, tried)
 }
 
 /// A list with room for one thing. Memory is ample, so it is had at the first try.
@@ -293,7 +231,7 @@ fn room<R: Wait, T>(rt: &R, alloc: Global) -> Vec<T>
 }
 
 /// Ends an office with no memory, and hands in what is held: how many tokens are missed.
-fn end_with<L: Terms, R: Wait>(
+fn end<L: Terms, R: Wait>(
     rt: &R,
     heap: &mut Heap,
     office: Office<L>,
@@ -313,40 +251,30 @@ fn end_with<L: Terms, R: Wait>(
     further
 }
 
-/// Closes an office with no memory: how many tokens were out.
-fn close_without<L: Terms, R: Wait>(
+/// Closes an office with no memory, where nothing is held: how many tokens were out. Then it is ended.
+fn close<L: Terms, R: Wait>(
     rt: &R,
     heap: &mut Heap,
     office: Office<L>,
     front: &mut Front<L>,
-) -> u64 {
-    heap.leave(0);
-    let out = close(rt, heap.alloc(), office, front);
-    heap.relax();
-    out
-}
-
-/// Ends an office with no memory, or closes it where nothing is held: whether no token is missed.
-fn end<L: Terms, R: Wait>(
-    rt: &R,
-    heap: &mut Heap,
-    office: Office<L>,
-    front: Front<L>,
     held: Held<L>,
-    closes: bool,
-) -> bool {
-    let mut front = front;
-    let missed = match held {
+) -> u64 {
+    let alloc = heap.alloc();
+    match held {
         Held::Nothing => {
-            if closes {
-                close_without(rt, heap, office, &mut front)
-            } else {
-                end_with(rt, heap, office, &mut front, Held::Nothing)
-            }
+            heap.leave(0);
+            let out = match office.close(rt, front) {
+                Ok(()) => 0,
+                Err(TokensOut { tokens, office }) => {
+                    let _further = office.end(rt, front, Vec::new(alloc), Vec::new(alloc));
+                    tokens
+                }
+            };
+            heap.relax();
+            out
         }
-        held => end_with(rt, heap, office, &mut front, held),
-    };
-    missed == 0
+        held => end(rt, heap, office, front, held),
+    }
 }
 
 impl<R: Wait> Work<R> for Try<'_> {
@@ -361,6 +289,7 @@ impl<R: Wait> Work<R> for Try<'_> {
         _diagram: Arc<Diagram>,
     ) -> Outcome {
         let Try { heap, row, bytes } = self;
+        let mut front = front;
         let (held, tried) = if matches!(row.call, Call::Open) {
             heap.relax();
             (Held::Nothing, OPENED)
@@ -370,11 +299,14 @@ impl<R: Wait> Work<R> for Try<'_> {
             (Held::Nothing, NOT_TRIED)
         };
         let is_held = serial_of(&held).is_some() as usize == row.call.tokens();
-        let closes = matches!(row.call, Call::Close);
-        let ended = end(rt, heap, office, front, held, closes);
+        let missed = if matches!(row.call, Call::Close) {
+            close(rt, heap, office, &mut front, held)
+        } else {
+            end(rt, heap, office, &mut front, held)
+        };
         Outcome {
             end: tried.end,
-            holds: tried.holds && is_held && ended,
+            holds: tried.holds && is_held && missed == 0,
         }
     }
 }
@@ -405,30 +337,6 @@ fn not_opened(refused: NotBegun<Try<'_>>) -> Outcome {
     }
 }
 
-/// Makes a row's call with so much memory, on an office of its own.
-fn try_once<R: Wait>(rt: &R, heap: &mut Heap, family: &Family, row: &Row, bytes: usize) -> Outcome {
-    let Ok((game, diagram)) = again(family) else {
-        return NOT_TRIED;
-    };
-    if game.features() != diagram.features() {
-        return NOT_TRIED;
-    }
-    if matches!(row.call, Call::Open) {
-        heap.leave(bytes);
-    }
-    match with_office(
-        rt,
-        heap.alloc(),
-        game,
-        diagram,
-        ROOM,
-        Try { heap, row, bytes },
-    ) {
-        Ok(tried) => tried,
-        Err(refused) => not_opened(refused),
-    }
-}
-
 /// A row's call on the family.
 #[derive(Drop)]
 struct Rowed<'t> {
@@ -437,22 +345,43 @@ struct Rowed<'t> {
 }
 
 impl<R: Wait> Anew<R> for Rowed<'_> {
+    /// Makes the call with so much memory, on an office of its own.
     fn try_within(&mut self, rt: &R, heap: &mut Heap, bytes: usize) -> Outcome {
-        try_once(rt, heap, self.family, self.row, bytes)
+        let row = self.row;
+        let Ok((game, diagram)) = again(self.family) else {
+            return NOT_TRIED;
+        };
+        if game.features() != diagram.features() {
+            return NOT_TRIED;
+        }
+        if matches!(row.call, Call::Open) {
+            heap.leave(bytes);
+        }
+        let alloc = heap.alloc();
+        match with_office(rt, alloc, game, diagram, ROOM, Try { heap, row, bytes }) {
+            Ok(tried) => tried,
+            Err(refused) => not_opened(refused),
+        }
     }
 }
 
-/// Makes each row's call with little memory, and notes what came of it.
+/// Makes each line's call with little memory, and notes what came of it.
 pub(crate) fn refuse_each<R: Wait>(
     rt: &R,
     heap: &mut Heap,
     report: &mut Report,
     family: &Family,
-    rows: &[Row],
+    lines: &[Line],
 ) {
-    for row in rows {
-        let most = if row.is_watched { PLENTY } else { 0 };
-        let told = tried_anew(rt, heap, &mut Rowed { family, row }, most);
-        report.note(heap, row.name, told);
+    for line in lines {
+        let (name, is_watched, before, call) = *line;
+        let row = Row {
+            is_watched,
+            before,
+            call,
+        };
+        let most = if is_watched { PLENTY } else { 0 };
+        let told = tried_anew(rt, heap, &mut Rowed { family, row: &row }, most);
+        report.note(heap, name, told);
     }
 }

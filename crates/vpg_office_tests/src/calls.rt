@@ -1,20 +1,34 @@
-//! Calls of sessions without their clauses: what follows a call is then proved with few facts beside it. What a test never
-//! expects, as a full log, stops it.
-ghost use Rattle.std.specs.Prelude.{◌<◌, length};
+//! Calls of sessions without their clauses: what follows a call is then proved with few facts beside it. What a test
+//! never expects, as memory that is lacking, stops it.
+ghost use Rattle.std.specs.Prelude.{◌≡◌, length};
 
+use crate::pages::is_text;
+use crate::watchers::{are_all, told, watched};
 use std::process::Abort;
 use std::sync::Wait;
 use std::test::*;
 use vpg_desk::{CommitFault, DecideFault, RedoFault, RetractFault, UndoFault};
 use vpg_measure::{Harvest, Order};
 use vpg_office::{
-    Fault, Front, Office, Redo, Returned, Session, Terms, TokensOut, TooManySessions, Undo,
+    Fault, Front, Never, Office, Redo, Returned, Session, Terms, TooManySessions, Undo,
 };
+use vpg_verdict::Which;
+use vpg_watch::Watch;
 
 /// A session with its front.
 pub struct Seat<L: Terms> {
     pub session: Session<L>,
     pub front: Front<L>,
+}
+
+/// What calls gave, but for tokens.
+pub struct Kept<L: Terms> {
+    /// The front with which the first session began.
+    pub early: Front<L>,
+    pub harvest: Option<Harvest>,
+    pub watch: Option<Watch<Front<L>>>,
+    /// The watch before that one.
+    pub earlier: Option<Watch<Front<L>>>,
 }
 
 // Not derived, so that letting one go is one call: a derived way would be proved anew at each exit that owns one.
@@ -27,6 +41,17 @@ impl<L: Terms> Drop for Seat<L> {
     }
 }
 
+impl<L: Terms> Drop for Kept<L> {
+    fn drop(self) {
+        let Kept {
+            early: _,
+            harvest: _,
+            watch: _,
+            earlier: _,
+        } = self;
+    }
+}
+
 /// The token of a change that was made or undone, until it is spent.
 pub enum Held<L: Terms> {
     Nothing,
@@ -34,10 +59,97 @@ pub enum Held<L: Terms> {
     Redo(Redo<L>),
 }
 
+/// Where a token is held.
+#[derive(Clone, Copy)]
+pub enum At {
+    First,
+    Second,
+    Third,
+}
+
+/// A call.
+#[derive(Clone, Copy)]
+pub enum Call {
+    /// These two give a token, which is held there.
+    Decide(At, u16, bool),
+    Retract(At, u16),
+    /// These spend the token that is held there for another, which is held in its place.
+    Undo(At),
+    Redo(At),
+    Keep(At),
+    Forget(At),
+    /// An order, which is lifted until both tables are settled: the harvest that is held then.
+    Order,
+    /// An order of which this vertex of the first table is lifted once: the harvest that is held then.
+    Lift(u32),
+    /// Hands the harvest in that is held, which comes back where it isn't taken.
+    Commit,
+    Settled,
+    /// As `Settled`, by the front with which the first session began.
+    SettledEarly,
+    Verdict(u32),
+    /// Whether the page is this text.
+    Page(&'static str),
+    /// A further watch. The one before stays.
+    Watch,
+    /// What the last watch reads.
+    Sees,
+    /// How many calls the front has.
+    Calls,
+    /// How many the front has with which the first session began.
+    EarlyCalls,
+    /// How many calls the front of a further session has.
+    Join,
+    /// How many calls the front has once it met that of a further session.
+    Meet,
+    /// Whether all further sessions are numbered from 3, and the 1,025th alone is refused.
+    JoinAll,
+    /// Whether there are 64 watches and no more, until they are let go.
+    WatchAll,
+}
+
+/// What a call gave.
+#[derive(Clone, Copy, PartialEq)]
+pub enum Answer {
+    Done,
+    /// A token of this serial.
+    Token(u64),
+    /// So many entries.
+    Added(u32),
+    Is(bool),
+    /// Whether the vertex is hopeless, and whether it is sure.
+    Says(bool, bool),
+    /// Of how many calls the sheet is, and whether it is settled.
+    Sheet(u32, bool),
+    NoSheet,
+    /// So many calls.
+    Has(usize),
+    /// The log is full, and has so many calls.
+    Full(usize),
+    /// The session made a call since, and the log has so many.
+    Doubled(usize),
+    NotDecided(DecideFault),
+    NotRetracted(RetractFault),
+    NotUndone(UndoFault),
+    NotRedone(RedoFault),
+    NotCommitted(CommitFault),
+}
+
+/// A further session.
 pub fn joined<L: Terms, R: Wait + Abort>(rt: &R, office: &Office<L>) -> Seat<L> {
     match office.join(rt) {
         Ok((session, front)) => Seat { session, front },
         Err(TooManySessions) => panic!(rt; "too many sessions"),
+    }
+}
+
+/// Nothing is kept but the front of a session that begins.
+pub fn none_kept<L: Terms>(seat: &Seat<L>) -> Kept<L> {
+    Kept {
+        early: seat.front.copy(),
+        harvest: None,
+        watch: None,
+        earlier: None,
     }
 }
 
@@ -49,184 +161,196 @@ fn refusal<L: Terms, F>(rt: &impl Abort, fault: Fault<L, F>) -> F {
     }
 }
 
-/// What a call gave that isn't refused.
-pub fn given<T, F>(rt: &impl Abort, answer: Result<T, F>) -> T {
+/// The serial of the change whose token is held, 0 where none is.
+pub fn serial_of<L: Terms>(held: &Held<L>) -> u64 {
+    match held {
+        Held::Nothing => 0,
+        Held::Undo(token) => token.serial(),
+        Held::Redo(token) => token.serial(),
+    }
+}
+
+pub fn is_nothing<L: Terms>(rt: &impl Abort, held: Held<L>) {
+    match held {
+        Held::Nothing => {}
+        _ => panic!(rt; "a token is held"),
+    }
+}
+
+/// What is held of a token's change, and its serial.
+fn undo_of<L: Terms>(token: Undo<L>) -> (Held<L>, Answer) {
+    let serial = token.serial();
+    (Held::Undo(token), Answer::Token(serial))
+}
+
+/// What is held of an undone change's token, and its serial.
+fn redo_of<L: Terms>(token: Redo<L>) -> (Held<L>, Answer) {
+    let serial = token.serial();
+    (Held::Redo(token), Answer::Token(serial))
+}
+
+/// Makes a call that gives a token or spends one: what is held then, and what it gave.
+pub fn made<L: Terms, R: Wait + Abort + AllocGlobal>(
+    rt: &R,
+    office: &Office<L>,
+    seat: &mut Seat<L>,
+    held: Held<L>,
+    call: Call,
+) -> (Held<L>, Answer) {
+    let alloc = rt.alloc();
+    let Seat { session, front } = seat;
+    match held {
+        Held::Nothing => match call {
+            Call::Decide(_, feature, value) => {
+                match session.decide(rt, alloc, office, front, feature, value) {
+                    Ok(token) => undo_of(token),
+                    Err(fault) => (Held::Nothing, Answer::NotDecided(refusal(rt, fault))),
+                }
+            }
+            Call::Retract(_, feature) => {
+                match session.retract(rt, alloc, office, front, feature) {
+                    Ok(token) => undo_of(token),
+                    Err(fault) => (Held::Nothing, Answer::NotRetracted(refusal(rt, fault))),
+                }
+            }
+            _ => panic!(rt; "no token is held"),
+        },
+        Held::Undo(token) => match call {
+            Call::Undo(_) => match session.undo(rt, alloc, office, front, token) {
+                Ok(token) => redo_of(token),
+                Err(Returned { fault, value }) => {
+                    (Held::Undo(value), Answer::NotUndone(refusal(rt, fault)))
+                }
+            },
+            Call::Keep(_) => match session.keep(rt, office, front, token) {
+                Ok(()) => (Held::Nothing, Answer::Done),
+                Err(_) => panic!(rt; "not kept"),
+            },
+            _ => panic!(rt; "the token of a change is held"),
+        },
+        Held::Redo(token) => match call {
+            Call::Redo(_) => match session.redo(rt, alloc, office, front, token) {
+                Ok(token) => undo_of(token),
+                Err(Returned { fault, value }) => {
+                    (Held::Redo(value), Answer::NotRedone(refusal(rt, fault)))
+                }
+            },
+            Call::Forget(_) => match session.forget(rt, office, front, token) {
+                Ok(()) => (Held::Nothing, Answer::Done),
+                Err(_) => panic!(rt; "not forgotten"),
+            },
+            _ => panic!(rt; "the token of an undone change is held"),
+        },
+    }
+}
+
+/// Holds a harvest. Whoever lets one go himself takes the prover seconds.
+fn hold_harvest(held: &mut Option<Harvest>, harvest: Harvest) {
+    *held = Some(harvest);
+}
+
+/// The harvest of an order of which one vertex is lifted, or which is lifted until both tables are settled.
+fn harvest_of(rt: &impl Abort, order: Order, call: Call) -> Harvest {
+    match call {
+        Call::Lift(vertex) => {
+            assert!(rt; (vertex as usize) < order.game().vertices());
+            Harvest::one(order, Which::Hopeful, vertex)
+        }
+        _ => Harvest::alone(order, 1000),
+    }
+}
+
+/// What is said of whether both tables are settled.
+fn settled<L: Terms>(rt: &impl Abort, answer: Result<bool, Fault<L, Never>>) -> Answer {
     match answer {
-        Ok(given) => given,
-        Err(_) => panic!(rt; "refused"),
-    }
-}
-
-/// The token of a decision, or why there is none.
-pub fn decide<L: Terms, R: Wait + Abort + AllocGlobal>(
-    rt: &R,
-    office: &Office<L>,
-    seat: &mut Seat<L>,
-    feature: u16,
-    value: bool,
-) -> Result<Undo<L>, DecideFault> {
-    match seat
-        .session
-        .decide(rt, rt.alloc(), office, &mut seat.front, feature, value)
-    {
-        Ok(token) => Ok(token),
-        Err(fault) => Err(refusal(rt, fault)),
-    }
-}
-
-/// The token of a retraction, or why there is none.
-pub fn retract<L: Terms, R: Wait + Abort + AllocGlobal>(
-    rt: &R,
-    office: &Office<L>,
-    seat: &mut Seat<L>,
-    feature: u16,
-) -> Result<Undo<L>, RetractFault> {
-    match seat
-        .session
-        .retract(rt, rt.alloc(), office, &mut seat.front, feature)
-    {
-        Ok(token) => Ok(token),
-        Err(fault) => Err(refusal(rt, fault)),
-    }
-}
-
-/// The token that is held once a change is undone, and why it isn't.
-pub fn undo<L: Terms, R: Wait + Abort + AllocGlobal>(
-    rt: &R,
-    office: &Office<L>,
-    seat: &mut Seat<L>,
-    token: Undo<L>,
-) -> (Held<L>, Option<UndoFault>) {
-    match seat
-        .session
-        .undo(rt, rt.alloc(), office, &mut seat.front, token)
-    {
-        Ok(token) => (Held::Redo(token), None),
-        Err(Returned { fault, value }) => (Held::Undo(value), Some(refusal(rt, fault))),
-    }
-}
-
-/// The token that is held once a change is redone, and why it isn't.
-pub fn redo<L: Terms, R: Wait + Abort + AllocGlobal>(
-    rt: &R,
-    office: &Office<L>,
-    seat: &mut Seat<L>,
-    token: Redo<L>,
-) -> (Held<L>, Option<RedoFault>) {
-    match seat
-        .session
-        .redo(rt, rt.alloc(), office, &mut seat.front, token)
-    {
-        Ok(token) => (Held::Undo(token), None),
-        Err(Returned { fault, value }) => (Held::Redo(value), Some(refusal(rt, fault))),
-    }
-}
-
-pub fn keep<L: Terms, R: Wait + Abort>(
-    rt: &R,
-    office: &Office<L>,
-    seat: &mut Seat<L>,
-    token: Undo<L>,
-) {
-    match seat.session.keep(rt, office, &mut seat.front, token) {
-        Ok(()) => {}
-        Err(_) => panic!(rt; "not kept"),
-    }
-}
-
-pub fn forget<L: Terms, R: Wait + Abort>(
-    rt: &R,
-    office: &Office<L>,
-    seat: &mut Seat<L>,
-    token: Redo<L>,
-) {
-    match seat.session.forget(rt, office, &mut seat.front, token) {
-        Ok(()) => {}
-        Err(_) => panic!(rt; "not forgotten"),
-    }
-}
-
-pub fn order<L: Terms, R: Wait + Abort + AllocGlobal>(
-    rt: &R,
-    office: &Office<L>,
-    seat: &mut Seat<L>,
-) -> Order {
-    match seat.session.order(rt, rt.alloc(), office, &mut seat.front) {
-        Ok(order) => order,
-        Err(_) => panic!(rt; "no order"),
-    }
-}
-
-/// How many entries a harvest adds, or why it isn't taken, and the harvest.
-pub fn commit<L: Terms, R: Wait + Abort + AllocGlobal>(
-    rt: &R,
-    office: &Office<L>,
-    seat: &mut Seat<L>,
-    harvest: Harvest,
-) -> Result<u32, (CommitFault, Harvest)> {
-    match seat
-        .session
-        .commit(rt, rt.alloc(), office, &mut seat.front, harvest)
-    {
-        Ok(added) => Ok(added),
-        Err(Returned { fault, value }) => Err((refusal(rt, fault), value)),
-    }
-}
-
-/// Whether both tables are settled; or the length of the front that comes back, and why it isn't said.
-pub fn settled<L: Terms, R: Wait + Abort>(
-    rt: &R,
-    office: &Office<L>,
-    session: &mut Session<L>,
-    front: &mut Front<L>,
-) -> Result<bool, (&'static str, usize)> {
-    match session.settled(rt, office, front) {
-        Ok(settled) => Ok(settled),
-        Err(Fault::LogFull { front }) => Err(("full", front.len())),
-        Err(Fault::Doubled { front }) => Err(("doubled", front.len())),
+        Ok(settled) => Answer::Is(settled),
+        Err(Fault::LogFull { front }) => Answer::Full(front.len()),
+        Err(Fault::Doubled { front }) => Answer::Doubled(front.len()),
         Err(_) => panic!(rt; "not said"),
     }
 }
 
-/// What is said of a vertex: whether it is hopeless, and whether it is sure.
-pub fn verdict<L: Terms, R: Wait + Abort>(
+/// Makes a call that is logged, takes no token and gives none.
+pub fn asked<L: Terms, R: Wait + Abort + AllocGlobal>(
     rt: &R,
     office: &Office<L>,
     seat: &mut Seat<L>,
-    vertex: u32,
-) -> (bool, bool)
-    requires { vertex < length L.game.vertices }
+    kept: &mut Kept<L>,
+    call: Call,
+) -> Answer
+    requires { length L.game.vertices ≡ 2 }
 {
-    match seat.session.verdict(rt, office, &mut seat.front, vertex) {
-        Ok(verdict) => (verdict.hopeless, verdict.sure),
-        Err(_) => panic!(rt; "no verdict"),
-    }
-}
-
-/// Ends an office with no token out.
-pub fn close<L: Terms, R: Wait + Abort>(rt: &R, office: Office<L>, front: &mut Front<L>) {
-    match office.close(rt, front) {
-        Ok(()) => {}
-        Err(_) => panic!(rt; "tokens are out"),
-    }
-}
-
-/// The office, which can't be closed since one token is out.
-pub fn still_open<L: Terms, R: Wait + Abort>(
-    rt: &R,
-    office: Office<L>,
-    front: &mut Front<L>,
-) -> Office<L> {
-    match office.close(rt, front) {
-        Ok(()) => panic!(rt; "closed"),
-        Err(TokensOut { tokens, office }) => {
-            assert!(rt; tokens == 1);
-            office
+    let alloc = rt.alloc();
+    match call {
+        Call::Order | Call::Lift(_) => {
+            match seat.session.order(rt, alloc, office, &mut seat.front) {
+                Ok(order) => hold_harvest(&mut kept.harvest, harvest_of(rt, order, call)),
+                Err(_) => panic!(rt; "no order"),
+            }
+            Answer::Done
         }
+        Call::Commit => match kept.harvest.take() {
+            Some(harvest) => match seat
+                .session
+                .commit(rt, alloc, office, &mut seat.front, harvest)
+            {
+                Ok(added) => Answer::Added(added),
+                Err(Returned { fault, value }) => {
+                    hold_harvest(&mut kept.harvest, value);
+                    Answer::NotCommitted(refusal(rt, fault))
+                }
+            },
+            None => panic!(rt; "no harvest is held"),
+        },
+        Call::Settled => settled(rt, seat.session.settled(rt, office, &mut seat.front)),
+        Call::SettledEarly => settled(rt, seat.session.settled(rt, office, &mut kept.early)),
+        Call::Verdict(vertex) if vertex < 2 => {
+            match seat.session.verdict(rt, office, &mut seat.front, vertex) {
+                Ok(verdict) => Answer::Says(verdict.hopeless, verdict.sure),
+                Err(_) => panic!(rt; "no verdict"),
+            }
+        }
+        Call::Page(text) => match seat.session.page(rt, alloc, office, &mut seat.front) {
+            Ok(page) => Answer::Is(is_text(alloc, &page, text)),
+            Err(_) => panic!(rt; "no page"),
+        },
+        _ => looked(rt, office, seat, kept, call),
     }
 }
 
-/// Whether the front has so many calls. Each test ends so, and a call that no session made stands in no log.
-pub fn has_calls<L: Terms>(front: &Front<L>, calls: usize) -> bool {
-    front.len() == calls
+/// Whether all further sessions are numbered from 3, and the 1,025th alone is refused.
+fn join_all<L: Terms, R: Wait + Abort>(rt: &R, office: &Office<L>) -> bool {
+    for number in 3..1025u32 {
+        assert!(rt; joined(rt, office).session.number() == number);
+    }
+    office.join(rt).is_err()
+}
+
+/// Makes a call that is not logged.
+fn looked<L: Terms, R: Wait + Abort + AllocGlobal>(
+    rt: &R,
+    office: &Office<L>,
+    seat: &mut Seat<L>,
+    kept: &mut Kept<L>,
+    call: Call,
+) -> Answer {
+    match call {
+        Call::Watch => {
+            kept.earlier = kept.watch.take();
+            kept.watch = Some(watched(rt, office));
+            Answer::Done
+        }
+        Call::Sees => told(rt, &mut kept.watch),
+        Call::Calls => Answer::Has(seat.front.len()),
+        Call::EarlyCalls => Answer::Has(kept.early.len()),
+        Call::Join => Answer::Has(joined(rt, office).front.len()),
+        Call::Meet => {
+            office.meet(rt, &mut seat.front, &joined(rt, office).front);
+            seat.front.headline();
+            Answer::Has(seat.front.len())
+        }
+        Call::JoinAll => Answer::Is(join_all(rt, office)),
+        Call::WatchAll => Answer::Is(are_all(rt, office)),
+        _ => panic!(rt; "no such call"),
+    }
 }

@@ -1,191 +1,252 @@
-//! Calls of one or two sessions in one thread: what they change, and what refuses them. Each ends with the length of a front,
-//! so that no call that no session made stands in the log.
+//! Calls of one or two sessions in one thread: what they change, and what refuses them.
 
-use crate::offices::{F, G, Run, on_office};
-use crate::steps::At::{First, Second, Third};
-use crate::steps::By::{One, Two};
-use crate::steps::Call::{
+use crate::calls::Answer::{
+    Added, Done, Has, Is, NotCommitted, NotDecided, NotRedone, NotRetracted, NotUndone, Says, Token,
+};
+use crate::calls::At::{First, Second, Third};
+use crate::calls::Call::{
     Calls, Commit, Decide, Forget, Keep, Lift, Order, Page, Redo, Retract, Settled, Undo, Verdict,
 };
-use crate::steps::Step;
+use crate::offices::{F, G, on_each};
+use crate::steps::By::{One, Two};
+use crate::steps::{Day, Step};
 use std::test::Fail;
 use vpg_desk::{CommitFault, DecideFault, RedoFault, RetractFault, UndoFault};
 
 /// One session lifts an opened office's page and looks at it.
 const SETTLE: &[Step] = &[
-    (One, Order),
-    (One, Commit(Ok(2))),
-    (One, Settled(true)),
+    (One, Order, Done),
+    (One, Commit, Added(2)),
+    (One, Settled, Is(true)),
     (
         One,
         Page("0 decided / hopeful 0 0 1 / dual 1 0 1 / 1 0 / 0 1 / "),
+        Is(true),
     ),
-    (One, Verdict(0, false, false)),
-    (One, Verdict(1, false, false)),
-    (One, Calls(6)),
+    (One, Verdict(0), Says(false, false)),
+    (One, Verdict(1), Says(false, false)),
+    (One, Calls, Has(6)),
 ];
-
-#[test]
-fn a_page_is_settled(rt: HostRuntime) -> Result<(), Fail> {
-    on_office(&rt, 10, Run::Steps(SETTLE));
-    Ok(())
-}
 
 const ALREADY: DecideFault = DecideFault::AlreadyDecided { serial: 1 };
 
 /// Two sessions are refused what a desk refuses.
 const REFUSE: &[Step] = &[
-    (One, Decide(First, F, true, Ok(1))),
-    (Two, Decide(Second, F, true, Err(ALREADY))),
-    (Two, Decide(Second, F, false, Err(ALREADY))),
-    (One, Retract(Second, G, Err(RetractFault::NotDecided))),
-    (One, Retract(Second, 0, Err(RetractFault::NotDecided))),
+    (One, Decide(First, F, true), Token(1)),
+    (Two, Decide(Second, F, true), NotDecided(ALREADY)),
+    (Two, Decide(Second, F, false), NotDecided(ALREADY)),
     (
         One,
-        Decide(Second, 3, true, Err(DecideFault::UnknownFeature)),
+        Retract(Second, G),
+        NotRetracted(RetractFault::NotDecided),
     ),
-    (One, Calls(6)),
-    (One, Keep(First)),
+    (
+        One,
+        Retract(Second, 0),
+        NotRetracted(RetractFault::NotDecided),
+    ),
+    (
+        One,
+        Decide(Second, 3, true),
+        NotDecided(DecideFault::UnknownFeature),
+    ),
+    (One, Calls, Has(6)),
+    (One, Keep(First), Done),
 ];
-
-#[test]
-fn sessions_are_refused(rt: HostRuntime) -> Result<(), Fail> {
-    on_office(&rt, 10, Run::Steps(REFUSE));
-    Ok(())
-}
 
 /// A harvest is outdated, and is taken once its decision stands again, which another session made.
 const OUTDATE: &[Step] = &[
-    (One, Decide(First, F, false, Ok(1))),
-    (One, Order),
-    (One, Retract(Second, F, Ok(2))),
-    (One, Commit(Err(CommitFault::Outdated { feature: F }))),
-    (Two, Decide(Third, F, false, Ok(3))),
-    (One, Commit(Ok(2))),
+    (One, Decide(First, F, false), Token(1)),
+    (One, Order, Done),
+    (One, Retract(Second, F), Token(2)),
+    (
+        One,
+        Commit,
+        NotCommitted(CommitFault::Outdated { feature: F }),
+    ),
+    (Two, Decide(Third, F, false), Token(3)),
+    (One, Commit, Added(2)),
     (
         One,
         Page("1 decided / exclude f 3 by 2 / hopeful 0 0 2 -f / dual 1 0 1 -f / 2 0 / 0 1 / "),
+        Is(true),
     ),
-    (Two, Settled(true)),
-    (Two, Verdict(0, true, false)),
-    (Two, Verdict(1, false, false)),
-    (One, Keep(First)),
-    (One, Keep(Second)),
-    (One, Keep(Third)),
-    (One, Calls(13)),
+    (Two, Settled, Is(true)),
+    (Two, Verdict(0), Says(true, false)),
+    (Two, Verdict(1), Says(false, false)),
+    (One, Keep(First), Done),
+    (One, Keep(Second), Done),
+    (One, Keep(Third), Done),
+    (One, Calls, Has(13)),
 ];
-
-#[test]
-fn a_harvest_is_outdated(rt: HostRuntime) -> Result<(), Fail> {
-    on_office(&rt, 20, Run::Steps(OUTDATE));
-    Ok(())
-}
 
 /// One session undoes and redoes its change, and another lifts between.
 const TURN: &[Step] = &[
-    (One, Decide(First, F, false, Ok(1))),
-    (Two, Order),
-    (Two, Commit(Ok(2))),
-    (One, Undo(First, None)),
-    (Two, Page("0 decided / 0 0 / 0 0 / ")),
-    (Two, Lift(0, 1)),
-    (One, Redo(First, None)),
+    (One, Decide(First, F, false), Token(1)),
+    (Two, Order, Done),
+    (Two, Commit, Added(2)),
+    (One, Undo(First), Token(1)),
+    (Two, Page("0 decided / 0 0 / 0 0 / "), Is(true)),
+    (Two, Lift(0), Done),
+    (Two, Commit, Added(1)),
+    (One, Redo(First), Token(1)),
     (
         Two,
         Page("1 decided / exclude f 1 by 1 / hopeful 0 0 2 -f / dual 1 0 1 -f / 2 0 / 0 1 / "),
+        Is(true),
     ),
-    (One, Undo(First, None)),
-    (Two, Page("0 decided / hopeful 0 0 1 / 1 0 / 0 0 / ")),
-    (One, Forget(First)),
-    (One, Calls(12)),
+    (One, Undo(First), Token(1)),
+    (
+        Two,
+        Page("0 decided / hopeful 0 0 1 / 1 0 / 0 0 / "),
+        Is(true),
+    ),
+    (One, Forget(First), Done),
+    (One, Calls, Has(12)),
 ];
 
-#[test]
-fn pages_come_back(rt: HostRuntime) -> Result<(), Fail> {
-    on_office(&rt, 20, Run::Steps(TURN));
-    Ok(())
-}
-
 const LIFTED: &str =
-    "2 decided / select f 1 by 1 / select g 2 by 2 / hopeful 0 0 1 +f +g / dual 0 0 2 +f +g / dual 1 0 2 +f +g / 1 0 / 2 2 / ";
+    "2 decided / select f 1 by 1 / select g 2 by 2 / hopeful 0 0 1 +f +g / dual 0 0 2 +f +g \
+    / dual 1 0 2 +f +g / 1 0 / 2 2 / ";
 
 /// A retraction drops what was assumed, and its undo brings that back.
 const RETRACT_AND_UNDO: &[Step] = &[
-    (One, Decide(First, F, true, Ok(1))),
-    (Two, Decide(Second, G, true, Ok(2))),
-    (One, Order),
-    (One, Commit(Ok(3))),
-    (Two, Retract(Third, F, Ok(3))),
-    (One, Page("1 decided / select g 2 by 2 / 0 0 / 0 0 / ")),
-    (One, Settled(false)),
-    (One, Order),
-    (One, Commit(Ok(2))),
-    (One, Verdict(0, false, false)),
-    (Two, Undo(Third, None)),
-    (One, Verdict(0, false, true)),
-    (One, Page(LIFTED)),
-    (Two, Forget(Third)),
-    (Two, Keep(Second)),
-    (One, Keep(First)),
-    (One, Calls(16)),
+    (One, Decide(First, F, true), Token(1)),
+    (Two, Decide(Second, G, true), Token(2)),
+    (One, Order, Done),
+    (One, Commit, Added(3)),
+    (Two, Retract(Third, F), Token(3)),
+    (
+        One,
+        Page("1 decided / select g 2 by 2 / 0 0 / 0 0 / "),
+        Is(true),
+    ),
+    (One, Settled, Is(false)),
+    (One, Order, Done),
+    (One, Commit, Added(2)),
+    (One, Verdict(0), Says(false, false)),
+    (Two, Undo(Third), Token(3)),
+    (One, Verdict(0), Says(false, true)),
+    (One, Page(LIFTED), Is(true)),
+    (Two, Forget(Third), Done),
+    (Two, Keep(Second), Done),
+    (One, Keep(First), Done),
+    (One, Calls, Has(16)),
 ];
-
-#[test]
-fn a_retraction_is_undone(rt: HostRuntime) -> Result<(), Fail> {
-    on_office(&rt, 20, Run::Steps(RETRACT_AND_UNDO));
-    Ok(())
-}
 
 /// A change below a newer one isn't undone, and not below one that is kept.
 const SEAL: &[Step] = &[
-    (One, Decide(First, F, true, Ok(1))),
-    (Two, Decide(Second, G, true, Ok(2))),
-    (One, Undo(First, Some(UndoFault::NotNewest { newest: 2 }))),
-    (Two, Keep(Second)),
-    (One, Undo(First, Some(UndoFault::Sealed))),
-    (One, Keep(First)),
-    (One, Calls(6)),
+    (One, Decide(First, F, true), Token(1)),
+    (Two, Decide(Second, G, true), Token(2)),
+    (
+        One,
+        Undo(First),
+        NotUndone(UndoFault::NotNewest { newest: 2 }),
+    ),
+    (Two, Keep(Second), Done),
+    (One, Undo(First), NotUndone(UndoFault::Sealed)),
+    (One, Keep(First), Done),
+    (One, Calls, Has(6)),
 ];
-
-#[test]
-fn a_kept_change_seals(rt: HostRuntime) -> Result<(), Fail> {
-    on_office(&rt, 10, Run::Steps(SEAL));
-    Ok(())
-}
 
 /// A change that was undone isn't redone once another session made one.
 const OVERTAKE: &[Step] = &[
-    (One, Decide(First, F, true, Ok(1))),
-    (One, Undo(First, None)),
-    (Two, Decide(Second, G, true, Ok(2))),
-    (One, Redo(First, Some(RedoFault::Overtaken))),
-    (One, Forget(First)),
-    (Two, Keep(Second)),
-    (Two, Calls(6)),
+    (One, Decide(First, F, true), Token(1)),
+    (One, Undo(First), Token(1)),
+    (Two, Decide(Second, G, true), Token(2)),
+    (One, Redo(First), NotRedone(RedoFault::Overtaken)),
+    (One, Forget(First), Done),
+    (Two, Keep(Second), Done),
+    (Two, Calls, Has(6)),
 ];
-
-#[test]
-fn a_change_overtakes(rt: HostRuntime) -> Result<(), Fail> {
-    on_office(&rt, 10, Run::Steps(OVERTAKE));
-    Ok(())
-}
 
 /// Two sessions undo and redo in turns.
 const TOKENS: &[Step] = &[
-    (One, Decide(First, F, true, Ok(1))),
-    (Two, Decide(Second, G, true, Ok(2))),
-    (One, Undo(First, Some(UndoFault::NotNewest { newest: 2 }))),
-    (Two, Undo(Second, None)),
-    (One, Undo(First, None)),
-    (Two, Redo(Second, Some(RedoFault::NotNext { next: 1 }))),
-    (One, Forget(First)),
-    (Two, Redo(Second, Some(RedoFault::Overtaken))),
-    (Two, Forget(Second)),
-    (Two, Calls(9)),
+    (One, Decide(First, F, true), Token(1)),
+    (Two, Decide(Second, G, true), Token(2)),
+    (
+        One,
+        Undo(First),
+        NotUndone(UndoFault::NotNewest { newest: 2 }),
+    ),
+    (Two, Undo(Second), Token(2)),
+    (One, Undo(First), Token(1)),
+    (Two, Redo(Second), NotRedone(RedoFault::NotNext { next: 1 })),
+    (One, Forget(First), Done),
+    (Two, Redo(Second), NotRedone(RedoFault::Overtaken)),
+    (Two, Forget(Second), Done),
+    (Two, Calls, Has(9)),
+];
+
+const DAYS: &[Day] = &[
+    Day {
+        name: "a page is settled",
+        room: 10,
+        calls: 6,
+        before: &[],
+        steps: SETTLE,
+        closes: true,
+    },
+    Day {
+        name: "sessions are refused",
+        room: 10,
+        calls: 7,
+        before: &[],
+        steps: REFUSE,
+        closes: true,
+    },
+    Day {
+        name: "a harvest is outdated",
+        room: 20,
+        calls: 13,
+        before: &[],
+        steps: OUTDATE,
+        closes: true,
+    },
+    Day {
+        name: "pages come back",
+        room: 20,
+        calls: 12,
+        before: &[],
+        steps: TURN,
+        closes: true,
+    },
+    Day {
+        name: "a retraction is undone",
+        room: 20,
+        calls: 16,
+        before: &[],
+        steps: RETRACT_AND_UNDO,
+        closes: true,
+    },
+    Day {
+        name: "a kept change seals",
+        room: 10,
+        calls: 6,
+        before: &[],
+        steps: SEAL,
+        closes: true,
+    },
+    Day {
+        name: "a change overtakes",
+        room: 10,
+        calls: 6,
+        before: &[],
+        steps: OVERTAKE,
+        closes: true,
+    },
+    Day {
+        name: "tokens of two sessions",
+        room: 10,
+        calls: 9,
+        before: &[],
+        steps: TOKENS,
+        closes: true,
+    },
 ];
 
 #[test]
-fn tokens_of_two_sessions(rt: HostRuntime) -> Result<(), Fail> {
-    on_office(&rt, 10, Run::Steps(TOKENS));
+fn sessions_change_pages(rt: HostRuntime) -> Result<(), Fail> {
+    on_each(&rt, DAYS);
     Ok(())
 }

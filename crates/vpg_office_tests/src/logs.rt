@@ -1,103 +1,69 @@
 //! What logs take: calls up to their room, one call of a session since the front that it lends, and 1,024 sessions.
-ghost use Rattle.std.specs.Prelude.{◌≡◌, length};
 
-use crate::calls::{close, given, has_calls, joined, settled, still_open};
-use crate::offices::{F, Run, on_office};
-use crate::steps::At::First;
+use crate::calls::Answer::{Doubled, Full, Has, Is, Says, Token};
+use crate::calls::At::First;
+use crate::calls::Call::{
+    Calls, Decide, EarlyCalls, Join, JoinAll, Meet, Page, Settled, SettledEarly, Verdict,
+};
+use crate::offices::{F, on_each};
 use crate::steps::By::{One, Two};
-use crate::steps::Call::{Calls, Decide, Page, Settled, Verdict};
-use crate::steps::{Step, Table, carry_out, last_undo, seated};
-use std::process::Abort;
-use std::sync::Wait;
-use std::test::*;
-use vpg_office::{Front, Office, Terms, Undo};
+use crate::steps::{Day, Step};
+use std::test::Fail;
 
-/// Two calls of a log of room 4.
-const HALF: &[Step] = &[
-    (One, Calls(0)),
-    (One, Decide(First, F, true, Ok(1))),
-    (One, Calls(1)),
-    (Two, Page("1 decided / select f 1 by 1 / 0 0 / 0 0 / ")),
-    (Two, Calls(2)),
+/// Two sessions fill a log of room 4. Then it refuses, and the other front meets the one of all calls.
+const FILL: &[Step] = &[
+    (One, Calls, Has(0)),
+    (One, Decide(First, F, true), Token(1)),
+    (One, Calls, Has(1)),
+    (
+        Two,
+        Page("1 decided / select f 1 by 1 / 0 0 / 0 0 / "),
+        Is(true),
+    ),
+    (Two, Calls, Has(2)),
+    // by the front of before its last call
+    (One, SettledEarly, Doubled(2)),
+    (One, EarlyCalls, Has(0)),
+    (One, Settled, Is(false)),
+    (One, Calls, Has(3)),
+    (Two, Verdict(0), Says(false, false)),
+    (Two, Calls, Has(4)),
+    (Two, Settled, Full(4)),
+    (One, Meet, Has(4)),
+    (One, Join, Has(4)),
 ];
 
-/// Two more.
-const REST: &[Step] = &[
-    (One, Settled(false)),
-    (One, Calls(3)),
-    (Two, Verdict(0, false, false)),
-    (Two, Calls(4)),
-];
+/// The front that was lent has all calls, though the office can't be closed.
+const FILLED: &[Step] = &[(One, EarlyCalls, Has(4)), (Two, Calls, Has(4))];
 
-/// A session is refused a call by the front of before its last one.
-fn is_doubled<L: Terms, R: Wait + Abort>(
-    rt: &R,
-    office: &Office<L>,
-    table: &mut Table<L>,
-    opening: &mut Front<L>,
-) -> bool {
-    settled(rt, office, &mut table.one.session, opening) == Err(("doubled", 2))
-        && has_calls(opening, 0)
-}
+const JOIN_ALL: &[Step] = &[(One, JoinAll, Is(true))];
 
-/// A full log refuses, and the other front meets the one of all calls.
-fn is_full<L: Terms, R: Wait + Abort>(rt: &R, office: &Office<L>, table: &mut Table<L>) -> bool {
-    let answer = settled(rt, office, &mut table.two.session, &mut table.two.front);
-    office.meet(rt, &mut table.one.front, &table.two.front);
-    table.one.front.headline();
-    answer == Err(("full", 4)) && has_calls(&table.one.front, 4)
-}
-
-/// Ends an office with the one token that is out.
-fn end_with<L: Terms, R: Wait + Abort + AllocGlobal>(
-    rt: &R,
-    office: Office<L>,
-    front: &mut Front<L>,
-    token: Undo<L>,
-) {
-    let mut undos = Vec::new(rt.alloc());
-    given(rt, undos.push(token));
-    let further = office.end(rt, front, undos, Vec::new(rt.alloc()));
-    assert!(rt; further == 0);
-}
-
-/// Two sessions fill a log of room 4, and the office is ended with the one token that is out.
-pub fn fill<L: Terms, R: Wait + Abort + AllocGlobal>(rt: &R, office: Office<L>)
-    requires { length L.game.vertices ≡ 2 }
-{
-    let (mut table, mut tokens) = seated(rt, &office);
-    let mut opening = table.one.front.copy();
-    carry_out(rt, &office, &mut table, &mut tokens, HALF);
-    assert!(rt; is_doubled(rt, &office, &mut table, &mut opening));
-    carry_out(rt, &office, &mut table, &mut tokens, REST);
-    assert!(rt; is_full(rt, &office, &mut table));
-    let third = joined(rt, &office);
-    assert!(rt; has_calls(&third.front, 4));
-    let office = still_open(rt, office, &mut opening);
-    assert!(rt; has_calls(&opening, 4));
-    end_with(rt, office, &mut table.two.front, last_undo(rt, tokens));
-    assert!(rt; has_calls(&table.two.front, 4));
-}
+const LOG_FILLS: &[Day] = &[Day {
+    name: "a log fills",
+    room: 4,
+    calls: 4,
+    before: FILL,
+    steps: FILLED,
+    closes: false,
+}];
 
 #[test]
 fn a_log_fills(rt: HostRuntime) -> Result<(), Fail> {
-    on_office(&rt, 4, Run::Fill);
+    on_each(&rt, LOG_FILLS);
     Ok(())
 }
 
-/// The sessions are numbered from 1. The 1,025th is refused, and no other.
-pub fn join_often<L: Terms, R: Wait + Abort>(rt: &R, office: Office<L>) {
-    let mut first = joined(rt, &office);
-    assert!(rt; first.session.number() == 1);
-    for number in 2..1025u32 {
-        assert!(rt; joined(rt, &office).session.number() == number);
-    }
-    assert!(rt; office.join(rt).is_err());
-    close(rt, office, &mut first.front);
-}
+const LAST_SESSION: &[Day] = &[Day {
+    name: "the last session is the 1,024th",
+    room: 1,
+    calls: 0,
+    before: &[],
+    steps: JOIN_ALL,
+    closes: true,
+}];
 
 #[test]
 fn the_last_session_is_the_1024th(rt: HostRuntime) -> Result<(), Fail> {
-    on_office(&rt, 1, Run::Join);
+    on_each(&rt, LAST_SESSION);
     Ok(())
 }

@@ -1,11 +1,10 @@
-//! Offices for tests: each test's work is done on an office of its own. Features are numbered in the diagram's order: r is 0, f is
-//! 1, g is 2.
+//! Offices for tests: each day is spent on an office of its own. Features are numbered in the diagram's order: r is 0,
+//! f is 1, g is 2.
 ghost use Rattle.std.specs.Arc.{arc_value};
 ghost use Rattle.std.specs.Prelude.{◌≡◌, ◌≤◌};
 ghost use Rattle.vpg_diagram.specs.FeatureDiagram.{feature_count};
 
-use crate::steps::{Step, in_steps};
-use crate::{logs, watchers};
+use crate::steps::{Day, spend};
 use std::process::Abort;
 use std::sync::{Arc, Wait};
 use std::test::*;
@@ -23,18 +22,7 @@ pub const F: u16 = 1;
 
 pub const G: u16 = 2;
 
-/// What is done on an office by calls in one thread.
-#[derive(Clone, Copy)]
-pub enum Run {
-    Steps(&'static [Step]),
-    Fill,
-    Join,
-    WatchClosing,
-    WatchEnding,
-    WatchOften,
-}
-
-impl<R: Wait + Abort + AllocGlobal> Work<R> for Run {
+impl<R: Wait + Abort + AllocGlobal> Work<R> for Day {
     type Answer = ();
 
     fn work<L: Terms + Send + Sync>(
@@ -47,14 +35,7 @@ impl<R: Wait + Abort + AllocGlobal> Work<R> for Run {
     ) {
         assert!(rt; front.len() == 0);
         assert!(rt; game.vertices() == 2);
-        match self {
-            Run::Steps(steps) => in_steps(rt, office, steps),
-            Run::Fill => logs::fill(rt, office),
-            Run::Join => logs::join_often(rt, office),
-            Run::WatchClosing => watchers::watch_closing(rt, office),
-            Run::WatchEnding => watchers::watch_ending(rt, office),
-            Run::WatchOften => watchers::watch_often(rt, office),
-        }
+        spend(rt, office, self);
     }
 }
 
@@ -83,34 +64,40 @@ pub fn family<R: Abort + AllocGlobal>(
     (game, diagram)
 }
 
-/// Does it on an office on these texts, and says why there is none.
+/// Spends a day on an office on these texts, and says why there is none.
 fn on_texts<R: Wait + Abort + AllocGlobal>(
     rt: &R,
     game: &[u8],
     diagram: &[u8],
-    room: u32,
-    run: Run,
-) -> Option<OpenFault>
-    requires { (1 ≤ room) × (room ≤ 1048576) }
-{
+    day: Day,
+) -> Option<OpenFault> {
+    assert!(rt; 1 <= day.room && day.room <= 1000);
     let (game, diagram) = family(rt, game, diagram);
-    match with_office(rt, rt.alloc(), game, diagram, room, run) {
+    match with_office(rt, rt.alloc(), game, diagram, day.room, day) {
         Ok(()) => None,
         Err(refused) => Some(refused.fault),
     }
 }
 
-/// Does it on an office of the family of most examples, whose log takes so many calls.
-pub fn on_office<R: Wait + Abort + AllocGlobal>(rt: &R, room: u32, run: Run)
-    requires { (1 ≤ room) × (room ≤ 1048576) }
-{
-    assert!(rt; on_texts(rt, GAME, DIAGRAM, room, run).is_none());
+/// Spends each day on an office of its own, of the family of most examples.
+pub fn on_each<R: Wait + Abort + AllocGlobal>(rt: &R, days: &[Day]) {
+    for day in days {
+        assert!(rt; on_texts(rt, GAME, DIAGRAM, *day).is_none());
+    }
 }
 
 #[test]
 fn openings_are_refused(rt: HostRuntime) -> Result<(), Fail> {
     let diagram = b"root r\nmandatory r a\nexcludes r a\n";
-    let fault = on_texts(&rt, b"0 0 0 0;", diagram, 1, Run::Join);
+    let day = Day {
+        name: "an opening is refused",
+        room: 1,
+        calls: 0,
+        before: &[],
+        steps: &[],
+        closes: true,
+    };
+    let fault = on_texts(&rt, b"0 0 0 0;", diagram, day);
     assert!(&rt; fault == Some(OpenFault::Conflict { feature: 0 }));
     Ok(())
 }

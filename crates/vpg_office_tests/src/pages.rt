@@ -1,13 +1,7 @@
-//! Pages of an office as texts.
-use crate::calls::Seat;
+//! Pages as texts.
 use std::alloc::Global;
 use std::fmt::Write;
-use std::process::Abort;
-use std::sync::Wait;
-use std::test::*;
 use vpg_measure::Table;
-use vpg_office::{Office, Terms};
-use vpg_partial::Decision;
 use vpg_trail::{Assumed, Entry, Page};
 use vpg_verdict::Which;
 
@@ -16,21 +10,6 @@ use vpg_verdict::Which;
 struct Line {
     text: String,
     lacks: bool,
-}
-
-impl Line {
-    fn put(&mut self, words: &str) {
-        self.lacks |= self.text.push_str(words).is_err();
-    }
-
-    /// Writes a number, and a space behind it.
-    fn number(&mut self, number: u64) {
-        self.lacks |= write!(self.text, "{number} ").is_err();
-    }
-
-    fn is(&self, text: &str) -> bool {
-        !self.lacks && self.text.as_str() == text
-    }
 }
 
 /// The feature's name in the diagram of the tests.
@@ -43,40 +22,21 @@ fn name(feature: u16) -> &'static str {
     }
 }
 
-fn put_decision(line: &mut Line, decision: &Decision) {
-    line.put(if decision.value {
-        "select "
-    } else {
-        "exclude "
-    });
-    line.put(name(decision.feature));
-    line.put(" ");
-    line.number(decision.serial);
-    line.put("by ");
-    line.number(decision.session as u64);
-}
-
-fn put_lift(line: &mut Line, table: Which, vertex: u32, old: u64, new: u64) {
-    line.put(match table {
-        Which::Hopeful => "hopeful ",
-        Which::Dual => "dual ",
-    });
-    line.number(vertex as u64);
-    line.number(old);
-    line.number(new);
-}
-
 fn put_assumed(line: &mut Line, under: &Assumed) {
     for literal in under.literals() {
-        line.put(if literal.value { "+" } else { "-" });
-        line.put(name(literal.feature));
-        line.put(" ");
+        let sign = if literal.value { "+" } else { "-" };
+        line.lacks |= write!(line.text, "{sign}{} ", name(literal.feature)).is_err();
     }
 }
 
 fn put_entry(line: &mut Line, entry: &Entry) {
     match entry {
-        Entry::Decide(decision) => put_decision(line, decision),
+        Entry::Decide(decision) => {
+            let how = if decision.value { "select" } else { "exclude" };
+            let (feature, serial) = (name(decision.feature), decision.serial);
+            let session = decision.session;
+            line.lacks |= write!(line.text, "{how} {feature} {serial} by {session} ").is_err();
+        }
         Entry::Lift {
             table,
             vertex,
@@ -84,62 +44,40 @@ fn put_entry(line: &mut Line, entry: &Entry) {
             new,
             under,
         } => {
-            put_lift(line, *table, *vertex, *old, *new);
+            let which = match table {
+                Which::Hopeful => "hopeful",
+                Which::Dual => "dual",
+            };
+            line.lacks |= write!(line.text, "{which} {vertex} {old} {new} ").is_err();
             put_assumed(line, under);
         }
     }
-    line.put("/ ");
 }
 
 fn put_entries(line: &mut Line, entries: &[Entry]) {
     for entry in entries {
         put_entry(line, entry);
+        line.lacks |= line.text.push_str("/ ").is_err();
     }
 }
 
 fn put_table(line: &mut Line, table: &Table) {
     for value in table.values() {
-        line.number(*value);
+        line.lacks |= write!(line.text, "{value} ").is_err();
     }
-    line.put("/ ");
+    line.lacks |= line.text.push_str("/ ").is_err();
 }
 
-/// Its decisions, its entries, and its two tables.
-fn put_page(line: &mut Line, page: &Page) {
-    line.number(page.decisions.as_slice().len() as u64);
-    line.put("decided / ");
-    put_entries(line, page.entries.as_slice());
-    put_table(line, &page.hopeful);
-    put_table(line, &page.dual);
-}
-
-/// Whether a page is this text.
-fn is_text(alloc: Global, page: &Page, text: &str) -> bool {
+/// Whether a page is this text: its decisions, its entries, and its two tables.
+pub fn is_text(alloc: Global, page: &Page, text: &str) -> bool {
     let mut line = Line {
         text: String::new(alloc),
         lacks: false,
     };
-    put_page(&mut line, page);
-    line.is(text)
-}
-
-fn page<L: Terms, R: Wait + Abort + AllocGlobal>(
-    rt: &R,
-    office: &Office<L>,
-    seat: &mut Seat<L>,
-) -> Page {
-    match seat.session.page(rt, rt.alloc(), office, &mut seat.front) {
-        Ok(page) => page,
-        Err(_) => panic!(rt; "no page"),
-    }
-}
-
-/// Whether the present page is this text.
-pub fn page_is<L: Terms, R: Wait + Abort + AllocGlobal>(
-    rt: &R,
-    office: &Office<L>,
-    seat: &mut Seat<L>,
-    text: &str,
-) -> bool {
-    is_text(rt.alloc(), &page(rt, office, seat), text)
+    let decided = page.decisions.as_slice().len();
+    line.lacks |= write!(line.text, "{decided} decided / ").is_err();
+    put_entries(&mut line, page.entries.as_slice());
+    put_table(&mut line, &page.hopeful);
+    put_table(&mut line, &page.dual);
+    !line.lacks && line.text.as_str() == text
 }

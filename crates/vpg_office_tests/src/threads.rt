@@ -1,15 +1,17 @@
 //! Sessions in threads of their own.
 //!
-//! These offices are opened by `Office::open` itself: what is handed to threads is not yet proved below a method of a trait, as that of
-//! `Work` is.
+//! These offices are opened by `Office::open` itself: what is handed to threads is not yet proved below a method of a
+//! trait, as that of `Work` is.
 ghost use Rattle.std.specs.Arc.{arc_value};
-ghost use Rattle.std.specs.Prelude.{◌≡◌, ◌≤◌};
+ghost use Rattle.std.specs.Prelude.{◌≡◌, ◌≤◌, length};
 ghost use Rattle.vpg_diagram.specs.FeatureDiagram.{feature_count};
 
-use crate::calls::{Seat, close, commit, decide, given, has_calls, joined, keep, order, retract};
+use crate::calls::{
+    Answer, At, Call, Held, Kept, Seat, asked, is_nothing, joined, made, none_kept,
+};
 use crate::offices::{DIAGRAM, F, GAME, family};
-use crate::pages::page_is;
-use crate::watchers::watch_at_once;
+use crate::steps::close;
+use crate::watchers::{told, watched};
 use std::marker::Brand;
 use std::process::Abort;
 use std::sync::atomic::{AtomicU64, Ordering};
@@ -22,25 +24,45 @@ use vpg_desk::DecideFault;
 use vpg_diagram::Diagram;
 use vpg_game::GuardedGame;
 use vpg_measure::{Harvest, Order};
-use vpg_office::{Office, Site, Terms, Undo, may_be_shared};
+use vpg_office::{Front, Office, Site, Terms, Undo, may_be_shared};
+use vpg_watch::Watch;
 
 /// A diagram with a feature for each of eight sessions.
 const WIDE: &[u8] = b"root r\noptional r f\noptional r g\noptional r a\noptional r b
 optional r c\noptional r d\noptional r e\noptional r h\n";
 
+/// What a session does in a thread of its own.
+#[derive(Clone, Copy)]
+enum Task {
+    /// Decides this feature and retracts it so often: four calls each time.
+    Rounds(u16, u32),
+    /// Decides the feature f so.
+    Decide(bool),
+    /// Reads by a watch until another session has made its rounds.
+    Read,
+}
+
+/// What sessions do at once on an office, each in a thread of its own.
+#[derive(Clone, Copy)]
+struct Rush {
+    tasks: &'static [Task],
+    /// What comes of them, or in the other order.
+    gives: &'static [Answer],
+    or: &'static [Answer],
+    /// The sum of the places of all calls in rounds, from 1.
+    sum: u64,
+    /// How many calls the log has at the end.
+    calls: usize,
+    /// Whether the page is empty at the end.
+    is_empty: bool,
+}
+
 /// What is done on an office.
 #[derive(Clone, Copy)]
-pub enum Run {
-    /// So many sessions make so many calls in all, in so many rounds each; and the sum of their places.
-    Rounds {
-        sessions: u16,
-        rounds: u32,
-        calls: usize,
-        sum: u64,
-    },
-    Race,
+enum Run {
+    AtOnce(Rush),
+    /// A harvest comes after another session decided.
     Late,
-    Watch,
 }
 
 /// Opens an office, and does it.
@@ -57,24 +79,18 @@ fn open_and_run<L: Terms + Send + Sync, R: Threads + Wait + Abort + AllocGlobal 
     requires of { (arc_value game ≡ L.game) × (arc_value diagram ≡ L.diagram) }
     requires room { (room ≡ L.limit) × (1 ≤ room) × (room ≤ 1048576) }
 {
+    assert!(rt; game.vertices() == 2);
     let Ok(office) = Office::<L>::open(rt, rt.alloc(), site, game, diagram, room) else {
         panic!(rt; "no office")
     };
     match run {
-        Run::Rounds {
-            sessions,
-            rounds,
-            calls,
-            sum,
-        } => make_rounds(rt, office, sessions, rounds, calls, sum),
-        Run::Race => race(rt, office),
+        Run::AtOnce(rush) => run_at_once(rt, office, rush),
         Run::Late => commit_late(rt, office),
-        Run::Watch => watch_at_once(rt, office),
     }
 }
 
 /// Does it on an office on this diagram, whose log takes so many calls.
-pub fn on_shared_office<R: Threads + Wait + Abort + AllocGlobal + Sync>(
+fn on_shared_office<R: Threads + Wait + Abort + AllocGlobal + Sync>(
     rt: &R,
     diagram: &[u8],
     room: u32,
@@ -113,18 +129,23 @@ fn round<L: Terms, R: Wait + Abort + AllocGlobal>(
     feature: u16,
     places: &mut Places,
 ) {
-    let token = given(rt, decide(rt, office, seat, feature, true));
-    places.note(rt, seat.front.len());
-    keep(rt, office, seat, token);
-    places.note(rt, seat.front.len());
-    let token = given(rt, retract(rt, office, seat, feature));
-    places.note(rt, seat.front.len());
-    keep(rt, office, seat, token);
-    places.note(rt, seat.front.len());
+    let mut held = Held::Nothing;
+    for call in [
+        Call::Decide(At::First, feature, true),
+        Call::Keep(At::First),
+        Call::Retract(At::First, feature),
+        Call::Keep(At::First),
+    ] {
+        let (next, answer) = made(rt, office, seat, held, call);
+        held = next;
+        assert!(rt; matches!(answer, Answer::Token(_) | Answer::Done));
+        places.note(rt, seat.front.len());
+    }
+    is_nothing(rt, held);
 }
 
 /// So many rounds, and the sum of the places of their calls, from 1.
-pub fn rounds<L: Terms, R: Wait + Abort + AllocGlobal>(
+fn rounds<L: Terms, R: Wait + Abort + AllocGlobal>(
     rt: &R,
     office: &Office<L>,
     seat: &mut Seat<L>,
@@ -138,205 +159,262 @@ pub fn rounds<L: Terms, R: Wait + Abort + AllocGlobal>(
     places.sum
 }
 
-/// What a session does in a thread of its own.
-#[derive(Clone, Copy)]
-enum Task {
-    /// So many rounds of this feature.
-    Rounds(u16, u32),
-    /// Decides the feature f so.
-    Decide(bool),
-}
-
-/// What came of it.
-#[derive(Clone, Copy)]
-enum Did {
-    /// The sum of the places of its calls.
-    Rounds(u64),
-    /// The serial of its change.
-    First(u64),
-    /// The serial of the change that came first.
-    Second(u64),
-}
-
-/// A session at work.
-#[derive(Drop)]
-struct Job<L: Terms> {
-    seat: Seat<L>,
-    task: Task,
-}
-
-/// Decides, unless another was first.
+/// Decides, unless another was first: the serial of the change, or why there is none.
 fn try_first<L: Terms, R: Wait + Abort + AllocGlobal>(
     rt: &R,
     office: &Office<L>,
     seat: &mut Seat<L>,
     value: bool,
-) -> Did {
-    match decide(rt, office, seat, F, value) {
-        Ok(token) => {
-            let serial = token.serial();
-            keep(rt, office, seat, token);
-            Did::First(serial)
-        }
-        Err(DecideFault::AlreadyDecided { serial }) => Did::Second(serial),
-        Err(_) => panic!(rt; "not decided"),
-    }
+) -> Answer {
+    let (held, answer) = made(
+        rt,
+        office,
+        seat,
+        Held::Nothing,
+        Call::Decide(At::First, F, value),
+    );
+    let held = match held {
+        Held::Nothing => Held::Nothing,
+        held => made(rt, office, seat, held, Call::Keep(At::First)).0,
+    };
+    is_nothing(rt, held);
+    answer
 }
 
+/// What sessions in threads of their own share.
+#[derive(Drop)]
+struct Shared {
+    /// Whether the rounds have ended.
+    ended: AtomicU64,
+    /// The sum of the places of their calls.
+    places: AtomicU64,
+}
+
+/// Reads until the rounds have ended, and then once more: what is read last. No sheet is of fewer calls than the one
+/// before.
+fn read_on<L: Terms, R: Wait + Abort>(
+    rt: &R,
+    watch: &mut Option<Watch<Front<L>>>,
+    shared: &Shared,
+) -> Answer {
+    let mut last = 0;
+    for _ in rt.forever() {
+        let has_ended = shared.ended.load(Ordering::SeqCst) != 0;
+        let answer = told(rt, watch);
+        let Answer::Sheet(at, _) = answer else {
+            panic!(rt; "no sheet")
+        };
+        assert!(rt; last <= at);
+        last = at;
+        if has_ended {
+            return answer;
+        }
+        thread::yield_now();
+    }
+    unreachable!()
+}
+
+/// A session at work, with a watch where it reads.
+#[derive(Drop)]
+struct Job<L: Terms> {
+    seat: Seat<L>,
+    watch: Option<Watch<Front<L>>>,
+    task: Task,
+}
+
+/// What comes of a job.
 fn work<L: Terms, R: Wait + Abort + AllocGlobal>(
     rt: &R,
     office: &Office<L>,
-    seat: &mut Seat<L>,
-    task: Task,
-) -> Did {
-    match task {
-        Task::Rounds(feature, count) => Did::Rounds(rounds(rt, office, seat, feature, count)),
-        Task::Decide(value) => try_first(rt, office, seat, value),
+    job: Job<L>,
+    shared: &Shared,
+) -> Answer {
+    let mut job = job;
+    match job.task {
+        Task::Rounds(feature, count) => {
+            let sum = rounds(rt, office, &mut job.seat, feature, count);
+            shared.places.fetch_add(sum, Ordering::SeqCst);
+            shared.ended.store(1, Ordering::SeqCst);
+            Answer::Done
+        }
+        Task::Decide(value) => try_first(rt, office, &mut job.seat, value),
+        Task::Read => read_on(rt, &mut job.watch, shared),
     }
 }
 
-/// As `work`, by a session of its own.
-fn work_alone<L: Terms, R: Wait + Abort + AllocGlobal>(
+/// A session for each task. Where no thread can be made, the last goes first.
+fn jobs_of<L: Terms, R: Wait + Abort + AllocGlobal>(
     rt: &R,
     office: &Office<L>,
-    mut job: Job<L>,
-) -> Did {
-    work(rt, office, &mut job.seat, job.task)
+    tasks: &[Task],
+) -> Vec<Job<L>> {
+    let mut jobs = Vec::new(rt.alloc());
+    for task in tasks {
+        let watch = match task {
+            Task::Read => Some(watched(rt, office)),
+            _ => None,
+        };
+        let job = Job {
+            seat: joined(rt, office),
+            watch,
+            task: *task,
+        };
+        match jobs.push(job) {
+            Ok(()) => {}
+            Err(_) => panic!(rt; "no memory"),
+        }
+    }
+    jobs
 }
 
-/// What came of each job, in a thread of its own.
+/// What comes of each job, in a thread of its own.
 fn at_once<L: Terms + Send + Sync, R: Threads + Wait + Abort + AllocGlobal + Sync>(
     rt: &R,
     office: &Office<L>,
     jobs: Vec<Job<L>>,
-) -> Vec<Did> {
-    match thread::map_vec(rt, jobs, &|job| work_alone(rt, office, job)) {
-        Ok(dids) => dids,
+    shared: &Shared,
+) -> Vec<Answer> {
+    match thread::map_vec(rt, jobs, &|job| work(rt, office, job, shared)) {
+        Ok(answers) => answers,
         Err(_) => panic!(rt; "no memory"),
     }
 }
 
-/// Adds a session with a task.
-fn add_job<L: Terms, R: Wait + Abort>(
+/// Whether the page is this text, which is one further call.
+fn page_is<L: Terms, R: Wait + Abort + AllocGlobal>(
     rt: &R,
     office: &Office<L>,
-    jobs: &mut Vec<Job<L>>,
-    task: Task,
-) {
-    let seat = joined(rt, office);
-    given(rt, jobs.push(Job { seat, task }));
+    seat: &mut Seat<L>,
+    kept: &mut Kept<L>,
+    text: &'static str,
+) -> bool
+    requires { length L.game.vertices ≡ 2 }
+{
+    let calls = seat.front.len();
+    asked(rt, office, seat, kept, Call::Page(text)) == Answer::Is(true)
+        && seat.front.len() == calls.saturating_add(1)
 }
 
-/// The sum of the places of all calls.
-fn sum_of(dids: &[Did]) -> u64 {
-    let mut sum = 0u64;
-    for did in dids {
-        if let Did::Rounds(places) = *did {
-            sum = sum.saturating_add(places);
-        }
-    }
-    sum
-}
-
-/// The sum of the places of all calls of so many sessions, each with a feature of its own and in a thread of its own.
-fn rounds_at_once<L: Terms + Send + Sync, R: Threads + Wait + Abort + AllocGlobal + Sync>(
-    rt: &R,
-    office: &Office<L>,
-    sessions: u16,
-    count: u32,
-) -> u64 {
-    let mut jobs = Vec::new(rt.alloc());
-    for place in 0..sessions {
-        add_job(
-            rt,
-            office,
-            &mut jobs,
-            Task::Rounds(place.saturating_add(1), count),
-        );
-    }
-    sum_of(at_once(rt, office, jobs).as_slice())
-}
-
-/// Sessions make rounds at once: each call stands at a place of its own, behind those that its session made before.
-fn make_rounds<L: Terms + Send + Sync, R: Threads + Wait + Abort + AllocGlobal + Sync>(
+/// Sessions work at once: each call stands at a place of its own, behind those that its session made before.
+fn run_at_once<L: Terms + Send + Sync, R: Threads + Wait + Abort + AllocGlobal + Sync>(
     rt: &R,
     office: Office<L>,
-    sessions: u16,
-    count: u32,
-    calls: usize,
-    sum: u64,
-) {
+    rush: Rush,
+)
+    requires { length L.game.vertices ≡ 2 }
+{
     may_be_shared(&office);
-    assert!(rt; rounds_at_once(rt, &office, sessions, count) == sum);
+    let shared = Shared {
+        ended: AtomicU64::new(0),
+        places: AtomicU64::new(0),
+    };
+    let jobs = jobs_of(rt, &office, rush.tasks);
+    let answers = at_once(rt, &office, jobs, &shared);
+    assert!(rt; answers.as_slice() == rush.gives || answers.as_slice() == rush.or);
+    assert!(rt; shared.places.load(Ordering::SeqCst) == rush.sum);
     let mut last = joined(rt, &office);
-    assert!(rt; has_calls(&last.front, calls));
-    assert!(rt; page_is(rt, &office, &mut last, "0 decided / 0 0 / 0 0 / "));
-    assert!(rt; has_calls(&last.front, calls.saturating_add(1)));
+    let mut kept = none_kept(&last);
+    assert!(rt; last.front.len() == rush.calls);
+    assert!(rt; !rush.is_empty || page_is(rt, &office, &mut last, &mut kept, EMPTY));
     close(rt, office, &mut last.front);
 }
 
+const EMPTY: &str = "0 decided / 0 0 / 0 0 / ";
+
+const TWO: Rush = Rush {
+    tasks: &[Task::Rounds(1, 100), Task::Rounds(2, 100)],
+    gives: &[Answer::Done; 2],
+    or: &[],
+    sum: 320_400,
+    calls: 800,
+    is_empty: true,
+};
+
 #[test]
 fn two_threads_decide_and_retract(rt: HostRuntime) -> Result<(), Fail> {
-    let two = Run::Rounds {
-        sessions: 2,
-        rounds: 100,
-        calls: 800,
-        sum: 320_400,
-    };
-    on_shared_office(&rt, DIAGRAM, 1000, two);
+    on_shared_office(&rt, DIAGRAM, 1000, Run::AtOnce(TWO));
     Ok(())
 }
+
+const EIGHT: Rush = Rush {
+    tasks: &[
+        Task::Rounds(1, 250),
+        Task::Rounds(2, 250),
+        Task::Rounds(3, 250),
+        Task::Rounds(4, 250),
+        Task::Rounds(5, 250),
+        Task::Rounds(6, 250),
+        Task::Rounds(7, 250),
+        Task::Rounds(8, 250),
+    ],
+    gives: &[Answer::Done; 8],
+    or: &[],
+    sum: 32_004_000,
+    calls: 8000,
+    is_empty: true,
+};
 
 #[test]
 fn eight_threads_keep_order(rt: HostRuntime) -> Result<(), Fail> {
-    let eight = Run::Rounds {
-        sessions: 8,
-        rounds: 250,
-        calls: 8000,
-        sum: 32_004_000,
-    };
-    on_shared_office(&rt, WIDE, 8001, eight);
+    on_shared_office(&rt, WIDE, 8001, Run::AtOnce(EIGHT));
     Ok(())
 }
 
-/// Whether one of two was first, with the serial 1, and the other was told so.
-fn one_is_first(dids: &[Did]) -> bool {
-    if dids.len() != 2 {
-        return false;
-    }
-    matches!(
-        (dids[0], dids[1]),
-        (Did::First(1), Did::Second(1)) | (Did::Second(1), Did::First(1))
-    )
-}
+const SECOND: Answer = Answer::NotDecided(DecideFault::AlreadyDecided { serial: 1 });
 
-/// Whether of two sessions that decide one feature, each its own way and in a thread of its own, one is the first.
-fn decide_at_once<L: Terms + Send + Sync, R: Threads + Wait + Abort + AllocGlobal + Sync>(
-    rt: &R,
-    office: &Office<L>,
-) -> bool {
-    let mut jobs = Vec::new(rt.alloc());
-    add_job(rt, office, &mut jobs, Task::Decide(true));
-    add_job(rt, office, &mut jobs, Task::Decide(false));
-    one_is_first(at_once(rt, office, jobs).as_slice())
-}
-
-/// One of two sessions is the first.
-fn race<L: Terms + Send + Sync, R: Threads + Wait + Abort + AllocGlobal + Sync>(
-    rt: &R,
-    office: Office<L>,
-) {
-    assert!(rt; decide_at_once(rt, &office));
-    let mut third = joined(rt, &office);
-    assert!(rt; has_calls(&third.front, 3));
-    close(rt, office, &mut third.front);
-}
+/// Two sessions decide one feature, each its own way: one is the first, and the other is told so.
+const RACE: Rush = Rush {
+    tasks: &[Task::Decide(true), Task::Decide(false)],
+    gives: &[Answer::Token(1), SECOND],
+    or: &[SECOND, Answer::Token(1)],
+    sum: 0,
+    calls: 3,
+    is_empty: false,
+};
 
 #[test]
 fn two_threads_decide_one_feature(rt: HostRuntime) -> Result<(), Fail> {
     for _ in 0..20 {
-        on_shared_office(&rt, DIAGRAM, 10, Run::Race);
+        on_shared_office(&rt, DIAGRAM, 10, Run::AtOnce(RACE));
     }
+    Ok(())
+}
+
+const LAST_SHEET: Answer = Answer::Sheet(1999, false);
+
+/// Eight watches read 1,000 changes and end with the last.
+const WATCHED: Rush = Rush {
+    tasks: &[
+        Task::Read,
+        Task::Read,
+        Task::Read,
+        Task::Read,
+        Task::Read,
+        Task::Read,
+        Task::Read,
+        Task::Read,
+        Task::Rounds(F, 500),
+    ],
+    gives: &[
+        LAST_SHEET,
+        LAST_SHEET,
+        LAST_SHEET,
+        LAST_SHEET,
+        LAST_SHEET,
+        LAST_SHEET,
+        LAST_SHEET,
+        LAST_SHEET,
+        Answer::Done,
+    ],
+    or: &[],
+    sum: 2_001_000,
+    calls: 2000,
+    is_empty: false,
+};
+
+#[test]
+fn eight_watches_never_go_back(rt: HostRuntime) -> Result<(), Fail> {
+    on_shared_office(&rt, DIAGRAM, 2000, Run::AtOnce(WATCHED));
     Ok(())
 }
 
@@ -372,9 +450,13 @@ fn decide_at_gate<L: Terms, R: Wait + Abort + AllocGlobal>(
     gate: &Waiting,
 ) -> Undo<L> {
     let mut seat = seat;
-    let token = given(rt, decide(rt, office, &mut seat, F, false));
+    let call = Call::Decide(At::First, F, false);
+    let (held, _) = made(rt, office, &mut seat, Held::Nothing, call);
     gate.answered.store(1, Ordering::SeqCst);
-    token
+    match held {
+        Held::Undo(token) => token,
+        _ => panic!(rt; "not decided"),
+    }
 }
 
 fn sweep_at_gate<R: Threads + Wait + AllocGlobal + Sync>(
@@ -401,37 +483,52 @@ fn decide_and_sweep<L: Terms + Send + Sync, R: Threads + Wait + Abort + AllocGlo
     (token, harvest)
 }
 
-/// The harvest is committed, and the page has both.
-fn commit_behind<L: Terms, R: Wait + Abort + AllocGlobal>(
-    rt: &R,
-    office: &Office<L>,
-    seat: &mut Seat<L>,
-    harvest: Harvest,
-) {
-    assert!(rt; given(rt, commit(rt, office, seat, harvest)) == 2);
-    assert!(rt; has_calls(&seat.front, 3));
-    assert!(rt; page_is(rt, office, seat, LATE));
-}
-
 /// The page on which a harvest comes after another session decided.
 const LATE: &str = "1 decided / exclude f 1 by 2 / hopeful 0 0 1 / dual 1 0 1 / 1 0 / 0 1 / ";
 
-/// A harvest comes after another session decided.
-fn commit_late<L: Terms + Send + Sync, R: Threads + Wait + Abort + AllocGlobal + Sync>(
+/// Another session decides while a session's order is swept: the token.
+fn sweep_late<L: Terms + Send + Sync, R: Threads + Wait + Abort + AllocGlobal + Sync>(
     rt: &R,
-    office: Office<L>,
-) {
-    let mut one = joined(rt, &office);
-    let two = joined(rt, &office);
-    let order = order(rt, &office, &mut one);
+    office: &Office<L>,
+    seat: &mut Seat<L>,
+    kept: &mut Kept<L>,
+) -> Undo<L> {
+    let two = joined(rt, office);
+    let order = match seat.session.order(rt, rt.alloc(), office, &mut seat.front) {
+        Ok(order) => order,
+        Err(_) => panic!(rt; "no order"),
+    };
     let gate = Waiting {
         answered: AtomicU64::new(0),
         passed: AtomicU64::new(0),
     };
-    let (token, harvest) = decide_and_sweep(rt, &office, two, order, &gate);
+    let (token, harvest) = decide_and_sweep(rt, office, two, order, &gate);
     assert!(rt; gate.passed.load(Ordering::SeqCst) == 1);
-    commit_behind(rt, &office, &mut one, harvest);
-    keep(rt, &office, &mut one, token);
+    kept.harvest = Some(harvest);
+    token
+}
+
+/// A harvest comes after another session decided: it is taken, and the page has both.
+fn commit_late<L: Terms + Send + Sync, R: Threads + Wait + Abort + AllocGlobal + Sync>(
+    rt: &R,
+    office: Office<L>,
+)
+    requires { length L.game.vertices ≡ 2 }
+{
+    let mut one = joined(rt, &office);
+    let mut kept = none_kept(&one);
+    let token = sweep_late(rt, &office, &mut one, &mut kept);
+    assert!(rt; asked(rt, &office, &mut one, &mut kept, Call::Commit) == Answer::Added(2));
+    assert!(rt; one.front.len() == 3);
+    assert!(rt; page_is(rt, &office, &mut one, &mut kept, LATE));
+    let (held, _) = made(
+        rt,
+        &office,
+        &mut one,
+        Held::Undo(token),
+        Call::Keep(At::First),
+    );
+    is_nothing(rt, held);
     close(rt, office, &mut one.front);
 }
 
