@@ -7,7 +7,7 @@
 #[cfg(test)]
 mod family;
 #[cfg(test)]
-mod naming;
+mod said;
 #[cfg(test)]
 mod typing;
 #[cfg(test)]

@@ -110,8 +110,8 @@ const DIAGRAM: &str = "root r\noptional r f\noptional r g\n";
 const GAME: &str = "7 0 0 7;";
 
 /// Answers a line that was handed on, as a run does.
-fn answer<W: Sink>(row: &Typing, lines: usize, writer: &mut W) -> Option<()> {
-    match row.answers.get(lines) {
+fn answer<W: Sink>(answers: &[&str], lines: usize, writer: &mut W) -> Option<()> {
+    match answers.get(lines) {
         Some(text) if !text.is_empty() => writer.put(text.as_bytes()).ok(),
         _ => Some(()),
     }
@@ -152,9 +152,32 @@ impl<R: Source + Drop> Counted<R> {
     }
 }
 
-/// What is handed on of a row, and what is said, with so many bytes a read.
-fn typed(alloc: Global, row: &Typing, most: usize) -> Option<(Vec<u8>, Vec<u8>)> {
-    let family = Family::read(alloc, DIAGRAM.as_bytes(), GAME.as_bytes()).ok()?;
+/// Hands on what is typed, with so many bytes a read, and answers each line. `None` where that does not end.
+fn hand_on<R: Source + Drop, W: Sink>(
+    answers: &[&str],
+    most: usize,
+    lines: &mut Counted<R>,
+    writer: &mut W,
+    handed: &mut Vec<u8>,
+) -> Option<()> {
+    let mut answered = 0usize;
+    let mut buf = [0u8; 64];
+    for _ in 0..MOST_READS {
+        let n = lines.fill(&mut buf[..most.min(64)])?;
+        if n == 0 {
+            return Some(());
+        }
+        handed.extend_from_slice(&buf[..n]).ok()?;
+        if handed.last() == Some(&b'\n') {
+            answer(answers, answered, writer)?;
+            answered = answered.saturating_add(1);
+        }
+    }
+    None
+}
+
+/// Whether a row is handed on so, with so many bytes a read, and this is said.
+fn holds(alloc: Global, family: &Family, row: &Typing, most: usize) -> bool {
     let heard = Cell::new(Heard::Nothing);
     let setting = Setting {
         commands: COMMANDS,
@@ -168,35 +191,32 @@ fn typed(alloc: Global, row: &Typing, most: usize) -> Option<(Vec<u8>, Vec<u8>)>
     let mut lines = Counted::new(Typed::new(alloc, setting, reader, talk));
     let mut writer = Ear::new(Device::writer(Vec::new(alloc)), &heard);
     let mut handed = Vec::new(alloc);
-    let mut answered = 0usize;
-    let mut buf = [0u8; 64];
-    for _ in 0..MOST_READS {
-        let n = lines.fill(&mut buf[..most.min(64)])?;
-        if n == 0 {
-            let said = lines.into_source().into_talk().into_writer();
-            return Some((handed, said));
-        }
-        handed.extend_from_slice(&buf[..n]).ok()?;
-        if handed.last() == Some(&b'\n') {
-            answer(row, answered, &mut writer)?;
-            answered = answered.saturating_add(1);
+    let ended = hand_on(row.answers, most, &mut lines, &mut writer, &mut handed);
+    let said = lines.into_source().into_talk().into_writer();
+    ended.is_some()
+        && handed.as_slice() == row.handed.as_bytes()
+        && said.as_slice() == row.said.as_bytes()
+}
+
+/// What is typed in the first row that does not hold, with a byte or with 64 a read.
+fn first_of_family(alloc: Global, family: &Family) -> Option<&'static str> {
+    for row in &TYPINGS {
+        if !holds(alloc, family, row, 1) || !holds(alloc, family, row, 64) {
+            return Some(row.typed);
         }
     }
     None
 }
 
-fn holds(alloc: Global, row: &Typing, most: usize) -> bool {
-    typed(alloc, row, most).is_some_and(|(handed, said)| {
-        handed.as_slice() == row.handed.as_bytes() && said.as_slice() == row.said.as_bytes()
-    })
+fn first_wrong(alloc: Global) -> Option<&'static str> {
+    match Family::read(alloc, DIAGRAM.as_bytes(), GAME.as_bytes()) {
+        Ok(family) => first_of_family(alloc, &family),
+        Err(_) => Some("no family"),
+    }
 }
 
 #[test]
 fn lines_that_are_typed(rt: HostRuntime) -> Result<(), Fail> {
-    for k in 0..TYPINGS.len() {
-        for most in [1, 64] {
-            assert!(rt; holds(rt.alloc(), &TYPINGS[k], most), "row {k}");
-        }
-    }
+    assert_eq!(rt; first_wrong(rt.alloc()), None);
     Ok(())
 }

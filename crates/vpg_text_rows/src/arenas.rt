@@ -7,6 +7,7 @@
 //! - `project SIGNS ~ GAME` is answered what is written of the game of the set of features with `+`, behind a text that
 //!   stood there before.
 
+use crate::asked::Asked;
 use crate::decisions::{close_checked, decisions_of};
 use crate::diagrams::diagram_of;
 use crate::games::game_of;
@@ -56,24 +57,18 @@ fn put_product(known: &Partial, line: &mut Line) {
     }
 }
 
-/// Writes what is asked of what is known.
-fn put_known(asked: &str, known: &Partial, line: &mut Line) {
-    if asked == "close" {
-        put_values(known.values(), line);
-    } else {
-        put_product(known, line);
-    }
-}
-
 /// Answers a row of what decisions make known of a diagram.
-fn told(asked: &str, decisions: &[u8], diagram: &Diagram, line: &mut Line) {
+fn told(asked: &Asked, decisions: &[u8], diagram: &Diagram, line: &mut Line) {
     if let Some(known) = known_of(diagram, decisions, line) {
-        put_known(asked, &known, line);
+        match asked {
+            Asked::Close => put_values(known.values(), line),
+            _ => put_product(&known, line),
+        }
     }
 }
 
 /// Answers a row of what decisions make known.
-fn known_told(asked: &str, text: &[u8], line: &mut Line) {
+fn known_told(asked: &Asked, text: &[u8], line: &mut Line) {
     let (decisions, text) = two_of(text);
     if let Some(diagram) = diagram_of(text, line) {
         told(asked, decisions, &diagram, line);
@@ -93,13 +88,13 @@ fn put_vertices(arena: &Arena, line: &mut Line) {
 }
 
 /// Writes what is left of a game, or of its dual.
-fn put_arena(asked: &str, game: &GuardedGame, known: &Partial, line: &mut Line) {
+fn put_arena(asked: &Asked, game: &GuardedGame, known: &Partial, line: &mut Line) {
     if known.values().len() != game.features() {
         line.put("features");
         return;
     }
     let arena = match asked {
-        "hopeful" => Arena::hopeful(line.alloc, game, known),
+        Asked::Hopeful => Arena::hopeful(line.alloc, game, known),
         _ => Arena::hopeful_of_dual(line.alloc, game, known),
     };
     if let Some(arena) = line.kept(arena) {
@@ -108,7 +103,13 @@ fn put_arena(asked: &str, game: &GuardedGame, known: &Partial, line: &mut Line) 
 }
 
 /// Writes what decisions leave of a game.
-fn put_left(asked: &str, decisions: &[u8], diagram: &Diagram, game: &GuardedGame, line: &mut Line) {
+fn put_left(
+    asked: &Asked,
+    decisions: &[u8],
+    diagram: &Diagram,
+    game: &GuardedGame,
+    line: &mut Line,
+) {
     if let Some(known) = known_of(diagram, decisions, line) {
         put_arena(asked, game, &known, line);
     }
@@ -135,37 +136,31 @@ fn projection(
     }
 }
 
-/// Writes what is written of a plain game behind a text.
-fn put_plain(plain: &PlainGame, line: &mut Line) {
-    let mut out = Vec::new(line.alloc);
-    line.note(out.extend_from_slice(b"plain: ").is_ok());
-    line.note(plain.write(line.alloc, &mut out).is_ok());
-    line.put_text(&out);
-}
-
-/// Writes what is written of the game of a set of features.
+/// Writes what is written of the game of a set of features, behind a text.
 fn put_projected(signs: &[u8], diagram: &Diagram, game: &GuardedGame, line: &mut Line) {
     if let Some(plain) = projection(signs, diagram, game, line) {
-        put_plain(&plain, line);
+        let mut out = Vec::new(line.alloc);
+        line.note(out.extend_from_slice(b"plain: ").is_ok());
+        line.note(plain.write(line.alloc, &mut out).is_ok());
+        line.put_text(&out);
     }
 }
 
 /// Answers a row over the diagram of free features.
-fn free(diagram: &Diagram, asked: &str, text: &[u8], line: &mut Line) {
+fn free(diagram: &Diagram, asked: &Asked, text: &[u8], line: &mut Line) {
     let (first, text) = two_of(text);
     if let Some(game) = game_of(diagram.names(), text, line) {
-        if asked == "project" {
-            put_projected(first, diagram, &game, line);
-        } else {
-            put_left(asked, first, diagram, &game, line);
+        match asked {
+            Asked::Project => put_projected(first, diagram, &game, line),
+            _ => put_left(asked, first, diagram, &game, line),
         }
     }
 }
 
 /// Answers a row, over the diagram of free features where it has none of its own.
-pub(crate) fn answer(diagram: &Diagram, asked: &str, text: &[u8], line: &mut Line) {
+pub(crate) fn answer(diagram: &Diagram, asked: &Asked, text: &[u8], line: &mut Line) {
     match asked {
-        "close" | "product" => known_told(asked, text, line),
+        Asked::Close | Asked::Product => known_told(asked, text, line),
         _ => free(diagram, asked, text, line),
     }
 }

@@ -3,6 +3,7 @@
 ghost use Rattle.std.specs.Prelude.{◌↔◌, ◌<◌, IsTrue, All};
 
 use crate::line::Line;
+use crate::text::parts_of;
 use vpg_diagram::Diagram;
 use vpg_guards::Names;
 use vpg_partial::{Decision, Partial};
@@ -45,20 +46,16 @@ fn decision_of(names: &Names, word: &[u8]) -> Option<Decision> {
     })
 }
 
-/// Adds the decision of a word to a list.
-fn add(names: &Names, word: &[u8], decisions: &mut Vec<Decision>, line: &mut Line) {
-    match decision_of(names, word) {
-        Some(decision) => line.note(decisions.push(decision).is_ok()),
-        None => line.put("feature"),
-    }
-}
-
 /// The decisions of a row.
 pub(crate) fn decisions_of(names: &Names, text: &[u8], line: &mut Line) -> Vec<Decision> {
     let mut decisions = Vec::new(line.alloc);
-    for word in text.split(|sign| *sign == b' ') {
+    let words = parts_of(text, b' ', line);
+    for word in &words {
         if !word.is_empty() {
-            add(names, word, &mut decisions, line);
+            match decision_of(names, word) {
+                Some(decision) => line.note(decisions.push(decision).is_ok()),
+                None => line.put("feature"),
+            }
         }
     }
     decisions

@@ -9,6 +9,7 @@
 //! - `same DIAGRAM ~ DIAGRAM` asks whether both are the same.
 //! - `most-rules` is answered how many rules a diagram may have.
 
+use crate::asked::Asked;
 use crate::line::Line;
 use crate::text::two_of;
 use vpg_diagram::{Clause, Count, Diagram, MOST_RULES};
@@ -35,11 +36,6 @@ fn next_set(set: &mut [bool]) {
     }
 }
 
-/// Whether a set has one value for each feature, and is a product.
-fn is_product(diagram: &Diagram, set: &[bool]) -> bool {
-    set.len() == diagram.features() && diagram.is_product(set)
-}
-
 /// Writes a set as ones and zeros.
 fn put_set(set: &[bool], line: &mut Line) {
     line.put(" ");
@@ -51,7 +47,7 @@ fn put_set(set: &[bool], line: &mut Line) {
 /// The products among the first 32 sets.
 fn put_products(diagram: &Diagram, set: &mut [bool], line: &mut Line) {
     for _ in 0..32 {
-        if is_product(diagram, set) {
+        if set.len() == diagram.features() && diagram.is_product(set) {
             put_set(set, line);
         }
         next_set(set);
@@ -70,8 +66,8 @@ fn put_clause(clause: &Clause, line: &mut Line) {
     }
 }
 
-/// Writes a count, but for its members.
-fn put_range(count: &Count, line: &mut Line) {
+/// Writes a count.
+fn put_count(count: &Count, line: &mut Line) {
     line.put("|");
     line.number(count.parent() as u64);
     line.put(" ");
@@ -79,11 +75,6 @@ fn put_range(count: &Count, line: &mut Line) {
     line.put(" to ");
     line.number(count.high() as u64);
     line.put(" of");
-}
-
-/// Writes a count.
-fn put_count(count: &Count, line: &mut Line) {
-    put_range(count, line);
     for member in count.members() {
         line.put(" ");
         line.number(*member as u64);
@@ -113,13 +104,13 @@ fn put_all_products(diagram: &Diagram, line: &mut Line) {
 }
 
 /// Writes what is asked of a diagram.
-fn put(asked: &str, diagram: &Diagram, line: &mut Line) {
+fn put(asked: &Asked, diagram: &Diagram, line: &mut Line) {
     match asked {
-        "read" => line.put("read"),
-        "names" => put_names(diagram.names(), line),
-        "products" => put_all_products(diagram, line),
-        "clauses" => put_clauses(diagram, line),
-        "counts" => put_counts(diagram, line),
+        Asked::Read => line.put("read"),
+        Asked::Names => put_names(diagram.names(), line),
+        Asked::Products => put_all_products(diagram, line),
+        Asked::Clauses => put_clauses(diagram, line),
+        Asked::Counts => put_counts(diagram, line),
         _ => line.put("no such word"),
     }
 }
@@ -136,16 +127,9 @@ pub(crate) fn diagram_of(text: &[u8], line: &mut Line) -> Option<Diagram> {
 }
 
 /// Answers a row of one diagram.
-fn told(asked: &str, text: &[u8], line: &mut Line) {
+fn told(asked: &Asked, text: &[u8], line: &mut Line) {
     if let Some(diagram) = diagram_of(text, line) {
         put(asked, &diagram, line);
-    }
-}
-
-/// Writes whether a text spells this diagram.
-fn put_same(diagram: &Diagram, text: &[u8], line: &mut Line) {
-    if let Some(other) = diagram_of(text, line) {
-        line.put_yes_or_no(diagram.is_same(&other));
     }
 }
 
@@ -153,15 +137,17 @@ fn put_same(diagram: &Diagram, text: &[u8], line: &mut Line) {
 fn compared(text: &[u8], line: &mut Line) {
     let (first, second) = two_of(text);
     if let Some(diagram) = diagram_of(first, line) {
-        put_same(&diagram, second, line);
+        if let Some(other) = diagram_of(second, line) {
+            line.put_yes_or_no(diagram.is_same(&other));
+        }
     }
 }
 
 /// Answers a row.
-pub(crate) fn answer(asked: &str, text: &[u8], line: &mut Line) {
+pub(crate) fn answer(asked: &Asked, text: &[u8], line: &mut Line) {
     match asked {
-        "same" => compared(text, line),
-        "most-rules" => line.number(MOST_RULES as u64),
+        Asked::Same => compared(text, line),
+        Asked::MostRules => line.number(MOST_RULES as u64),
         _ => told(asked, text, line),
     }
 }

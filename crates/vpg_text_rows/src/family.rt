@@ -5,44 +5,52 @@ use crate::decisions::{are_below, close_checked, decisions_of};
 use crate::line::Line;
 use anyhow::Result;
 use std::alloc::{AllocError, Global};
+use std::fs;
 use vpg_diagram::Diagram;
 use vpg_draw::{draw_features, draw_game};
 use vpg_game::GuardedGame;
-use vpg_guards::Names;
 use vpg_names::VertexNames;
 use vpg_partial::{Decision, Partial};
 use vpg_verdict::Verdict;
 
-/// A family.
-#[derive(Drop)]
-pub struct Family {
-    diagram: Diagram,
+/// A family, and the text of its diagram.
+pub(crate) struct Family {
+    text: String,
+    pub(crate) diagram: Diagram,
     game: GuardedGame,
-    names: VertexNames,
+    pub(crate) names: VertexNames,
 }
 
-impl Family {
-    /// The names of its features.
-    pub fn features(&self) -> &Names {
-        self.diagram.names()
-    }
-
-    /// Where its game starts.
-    pub fn start(&self) -> Option<u64> {
-        self.names.start()
+// Not derived, so that letting one go is one call.
+impl Drop for Family {
+    fn drop(self) {
+        let Family {
+            text: _,
+            diagram: _,
+            game: _,
+            names: _,
+        } = self;
     }
 }
 
 /// The family of these texts.
-pub fn read(alloc: Global, diagram: &[u8], game: &[u8]) -> Result<Family> {
+fn of_texts(alloc: Global, text: String, game: &[u8]) -> Result<Family> {
     let names = VertexNames::read(alloc, game)?;
-    let diagram = Diagram::read(alloc, diagram)?;
+    let diagram = Diagram::read(alloc, text.as_bytes())?;
     let game = GuardedGame::read(alloc, game, diagram.names())?;
     Ok(Family {
+        text,
         diagram,
         game,
         names,
     })
+}
+
+/// The family of the folder.
+pub(crate) fn read(rt: &HostRuntime) -> Result<Family> {
+    let game = fs::read_to_string(rt, "game")?;
+    let text = fs::read_to_string(rt, "diagram")?;
+    of_texts(rt.alloc(), text, game.as_bytes())
 }
 
 /// A verdict for each vertex: hopeless at each second, sure at two of four.
@@ -91,43 +99,38 @@ fn game_picture(
 /// Appends the picture of the diagram, and says whether there was memory for it.
 fn feature_picture(
     alloc: Global,
-    text: &[u8],
-    diagram: &Diagram,
+    family: &Family,
     known: &Partial,
     decisions: &[Decision],
     out: &mut Vec<u8>,
 ) -> bool {
+    let diagram = &family.diagram;
     let count = diagram.names().len();
     known.values().len() == count
         && are_below(count, decisions)
-        && draw_features(alloc, text, diagram, known, decisions, out).is_ok()
+        && draw_features(
+            alloc,
+            family.text.as_bytes(),
+            diagram,
+            known,
+            decisions,
+            out,
+        )
+        .is_ok()
 }
 
 /// Writes both pictures.
-fn put_pictures(
-    family: &Family,
-    text: &[u8],
-    known: &Partial,
-    decisions: &[Decision],
-    line: &mut Line,
-) {
+fn put_pictures(family: &Family, known: &Partial, decisions: &[Decision], line: &mut Line) {
     let mut out = Vec::new(line.alloc);
     line.note(game_picture(line.alloc, family, known, decisions, &mut out));
-    line.note(feature_picture(
-        line.alloc,
-        text,
-        &family.diagram,
-        known,
-        decisions,
-        &mut out,
-    ));
+    line.note(feature_picture(line.alloc, family, known, decisions, &mut out));
     line.put_text(&out);
 }
 
 /// Writes the pictures under the decisions of a row.
-pub(crate) fn answer(family: &Family, text: &[u8], row: &[u8], line: &mut Line) {
-    let decisions = decisions_of(family.features(), row, line);
+pub(crate) fn answer(family: &Family, row: &[u8], line: &mut Line) {
+    let decisions = decisions_of(family.diagram.names(), row, line);
     if let Some(known) = close_checked(&family.diagram, &decisions, line) {
-        put_pictures(family, text, &known, &decisions, line);
+        put_pictures(family, &known, &decisions, line);
     }
 }

@@ -14,8 +14,9 @@
 //! - `odd-counts N..` is answered how many of the priorities are 0, 1 and so on; an even one is counted as none.
 //! - `top N..` is answered the top of these priorities.
 
+use crate::asked::Asked;
 use crate::line::Line;
-use crate::text::{number_of, two_of};
+use crate::text::{number_of, parts_of, two_of};
 use vpg_game::{Edge, GuardedGame, odd_counts, top_within_limit};
 use vpg_guards::{Guard, Names};
 
@@ -80,22 +81,16 @@ fn put_edges(edges: &[Edge], line: &mut Line) {
     line.put(";");
 }
 
-/// Writes what is asked of a vertex, where there is one.
-fn put_vertex(game: &GuardedGame, v: u32, line: &mut Line) {
-    if (v as usize) < game.vertices() {
+/// Writes what is asked of each vertex.
+fn put_vertices(game: &GuardedGame, line: &mut Line) {
+    let count = game.vertices() as u32;
+    for v in 0..count {
         line.number(game.id(v) as u64);
         line.put(" ");
         line.number(game.priority(v) as u64);
         line.put(" ");
         line.debug(&game.owner(v));
         put_edges(game.edges(v), line);
-    }
-}
-
-/// Writes what is asked of each vertex.
-fn put_vertices(game: &GuardedGame, line: &mut Line) {
-    for v in 0..game.vertices() as u32 {
-        put_vertex(game, v, line);
     }
 }
 
@@ -118,15 +113,15 @@ fn put_tops(game: &GuardedGame, line: &mut Line) {
 }
 
 /// Writes what is asked of a game.
-fn put(names: &Names, asked: &str, game: &GuardedGame, line: &mut Line) {
+fn put(names: &Names, asked: &Asked, game: &GuardedGame, line: &mut Line) {
     match asked {
-        "read" => line.put("read"),
-        "write" => put_game(names, game, line),
-        "dual" => put_dual(names, game, line),
-        "dual-of-dual" => put_duals(names, game, line),
-        "look" => put_vertices(game, line),
-        "sizes" => put_sizes(game, line),
-        "tops" => put_tops(game, line),
+        Asked::Read => line.put("read"),
+        Asked::Write => put_game(names, game, line),
+        Asked::Dual => put_dual(names, game, line),
+        Asked::DualOfDual => put_duals(names, game, line),
+        Asked::Look => put_vertices(game, line),
+        Asked::Sizes => put_sizes(game, line),
+        Asked::Tops => put_tops(game, line),
         _ => line.put("no such word"),
     }
 }
@@ -143,7 +138,7 @@ pub(crate) fn game_of(names: &Names, text: &[u8], line: &mut Line) -> Option<Gua
 }
 
 /// Answers a row of one game.
-fn told(names: &Names, asked: &str, text: &[u8], line: &mut Line) {
+fn told(names: &Names, asked: &Asked, text: &[u8], line: &mut Line) {
     if let Some(game) = game_of(names, text, line) {
         put(names, asked, &game, line);
     }
@@ -156,56 +151,57 @@ fn put_same(names: &Names, game: &GuardedGame, text: &[u8], line: &mut Line) {
     }
 }
 
-/// Writes what a row's first part asks of the game of its second.
-fn put_pair(names: &Names, asked: &str, first: &[u8], game: &GuardedGame, line: &mut Line) {
-    if asked == "find" {
-        line.debug(&game.find(number_of(first)));
-    } else {
-        put_same(names, game, first, line);
-    }
-}
-
-/// Answers a row of two parts.
-fn paired(names: &Names, asked: &str, text: &[u8], line: &mut Line) {
+/// Answers a row of two parts: what its first asks of the game of its second.
+fn paired(names: &Names, asked: &Asked, text: &[u8], line: &mut Line) {
     let (first, second) = two_of(text);
     if let Some(game) = game_of(names, second, line) {
-        put_pair(names, asked, first, &game, line);
+        match asked {
+            Asked::Find => line.debug(&game.find(number_of(first))),
+            _ => put_same(names, &game, first, line),
+        }
     }
 }
 
 /// The numbers of a row.
 fn numbers_of(text: &[u8], line: &mut Line) -> Vec<u32> {
     let mut numbers = Vec::new(line.alloc);
-    for word in text.split(|sign| *sign == b' ') {
+    let words = parts_of(text, b' ', line);
+    for word in &words {
         line.note(numbers.push(number_of(word)).is_ok());
     }
     numbers
 }
 
 /// Writes how many priorities are each number.
-fn put_counts(text: &[u8], line: &mut Line) {
-    let priorities = numbers_of(text, line);
-    let counts = odd_counts(line.alloc, &priorities);
+fn put_counts(priorities: &[u32], line: &mut Line) {
+    let counts = odd_counts(line.alloc, priorities);
     if let Some(counts) = line.kept(counts) {
         line.debug(&counts.as_slice());
     }
 }
 
 /// Writes the top of priorities.
-fn put_top(text: &[u8], line: &mut Line) {
-    let priorities = numbers_of(text, line);
-    let top = top_within_limit(line.alloc, &priorities);
+fn put_top(priorities: &[u32], line: &mut Line) {
+    let top = top_within_limit(line.alloc, priorities);
     if let Some(top) = line.kept(top) {
         line.debug(&top);
     }
 }
 
-/// Answers a row.
-pub(crate) fn answer(names: &Names, asked: &str, text: &[u8], line: &mut Line) {
+/// Answers a row of priorities.
+fn counted(asked: &Asked, text: &[u8], line: &mut Line) {
+    let priorities = numbers_of(text, line);
     match asked {
-        "top" => put_top(text, line),
-        "odd-counts" => put_counts(text, line),
-        "find" | "same" => paired(names, asked, text, line),
+        Asked::Top => put_top(&priorities, line),
+        _ => put_counts(&priorities, line),
+    }
+}
+
+/// Answers a row.
+pub(crate) fn answer(names: &Names, asked: &Asked, text: &[u8], line: &mut Line) {
+    match asked {
+        Asked::Top | Asked::OddCounts => counted(asked, text, line),
+        Asked::Find | Asked::Same => paired(names, asked, text, line),
         _ => told(names, asked, text, line),
     }
 }

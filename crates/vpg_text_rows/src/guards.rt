@@ -12,6 +12,7 @@ ghost use Rattle.std.specs.Prelude.{IfSome, length};
 ghost use Rattle.vpg_guards.specs.Formula.{IsBelow};
 ghost use Rattle.vpg_guards.specs.View.{formula_of};
 
+use crate::asked::Asked;
 use crate::line::Line;
 use crate::text::{set_of, two_of};
 use vpg_guards::{Guard, Guards, Names, Tri, parse_guard};
@@ -79,41 +80,21 @@ fn put_truth(names: &Names, signs: &[u8], guard: &Guard, line: &mut Line)
 }
 
 /// Writes what is asked of a guard.
-fn put(names: &Names, asked: &str, signs: &[u8], guard: &Guard, line: &mut Line)
+fn put(names: &Names, asked: &Asked, signs: &[u8], guard: &Guard, line: &mut Line)
     requires { IsBelow (length names.now) (formula_of guard.now) }
 {
     match asked {
-        "read" => line.put("read"),
-        "write" => put_written(names, guard, line),
-        "known" => put_value(names, signs, guard, line),
+        Asked::Read => line.put("read"),
+        Asked::Write => put_written(names, guard, line),
+        Asked::Known => put_value(names, signs, guard, line),
         _ => put_truth(names, signs, guard, line),
     }
 }
 
 /// Answers a row of one guard.
-fn told(names: &Names, asked: &str, signs: &[u8], text: &[u8], line: &mut Line) {
+fn told(names: &Names, asked: &Asked, signs: &[u8], text: &[u8], line: &mut Line) {
     if let Some(guard) = guard_of(names, text, line) {
         put(names, asked, signs, &guard, line);
-    }
-}
-
-/// A guard joined with another by `or`.
-fn or(names: &Names, guard: Guard, text: &[u8], line: &mut Line) -> Option<Guard> {
-    match guard_of(names, text, line) {
-        Some(other) => {
-            let made = guard.or(line.alloc, other);
-            line.kept(made)
-        }
-        None => None,
-    }
-}
-
-/// Two guards joined by `or`.
-fn either(names: &Names, text: &[u8], line: &mut Line) -> Option<Guard> {
-    let (first, second) = two_of(text);
-    match guard_of(names, first, line) {
-        Some(guard) => or(names, guard, second, line),
-        None => None,
     }
 }
 
@@ -129,67 +110,64 @@ fn and_itself(guard: Guard, line: &mut Line) -> Option<Guard> {
     }
 }
 
-/// A guard and its copy, both of which have to hold.
-fn twice(names: &Names, text: &[u8], line: &mut Line) -> Option<Guard> {
-    match guard_of(names, text, line) {
-        Some(guard) => and_itself(guard, line),
-        None => None,
-    }
-}
-
-/// Adds guards to a list.
-fn add_parts(names: &Names, text: &[u8], parts: &mut Vec<Guard>, line: &mut Line) {
-    for part in text.split(|sign| *sign == b'~') {
-        if let Some(guard) = guard_of(names, part, line) {
-            line.note(parts.push(guard).is_ok());
+/// Two guards joined by `or`, or by an `and` of a list, which goes through both forms of a list.
+fn joined(asked: &Asked, guard: Guard, other: Guard, line: &mut Line) -> Option<Guard> {
+    match asked {
+        Asked::Or => {
+            let made = guard.or(line.alloc, other);
+            line.kept(made)
+        }
+        _ => {
+            let mut items = Vec::new(line.alloc);
+            line.note(items.push(guard).is_ok());
+            line.note(items.push(other).is_ok());
+            Some(Guard::All(Guards::new(Guards::new(items).into_vec())))
         }
     }
 }
 
-/// An `and` of a list of guards, which goes through both forms of a list.
-fn all_of(names: &Names, text: &[u8], line: &mut Line) -> Option<Guard> {
-    let mut items = Vec::new(line.alloc);
-    add_parts(names, text, &mut items, line);
-    let parts = Guards::new(items);
-    if parts.as_slice().len() != 2 {
-        line.put("not two parts");
-    }
-    Some(Guard::All(Guards::new(parts.into_vec())))
-}
-
-/// The guard that a row makes.
-fn made(names: &Names, asked: &str, text: &[u8], line: &mut Line) -> Option<Guard> {
+/// The guard that a row makes of a guard, and of another where it has one.
+fn made(names: &Names, asked: &Asked, guard: Guard, text: &[u8], line: &mut Line) -> Option<Guard> {
     match asked {
-        "or" => either(names, text, line),
-        "twice" => twice(names, text, line),
-        "all" => all_of(names, text, line),
-        _ => guard_of(names, text, line),
+        Asked::Same => Some(guard),
+        Asked::Twice => and_itself(guard, line),
+        _ => match guard_of(names, text, line) {
+            Some(other) => joined(asked, guard, other, line),
+            None => None,
+        },
     }
 }
 
-/// Writes whether a text spells this guard.
-fn put_same(names: &Names, text: &[u8], guard: &Guard, line: &mut Line) {
-    if let Some(other) = guard_of(names, text, line) {
-        line.put_yes_or_no(other.is_same(guard));
+/// Writes whether a text spells the guard that a row makes of a guard.
+fn put_same(
+    names: &Names,
+    asked: &Asked,
+    first: &[u8],
+    guard: Guard,
+    text: &[u8],
+    line: &mut Line,
+) {
+    if let Some(guard) = made(names, asked, guard, text, line) {
+        if let Some(other) = guard_of(names, first, line) {
+            line.put_yes_or_no(other.is_same(&guard));
+        }
     }
 }
 
 /// Answers whether a text spells the guard that a row makes.
-fn compared(names: &Names, asked: &str, text: &[u8], line: &mut Line) {
-    let (first, rest) = two_of(text);
-    if let Some(guard) = made(names, asked, rest, line) {
-        put_same(names, first, &guard, line);
+fn compared(names: &Names, asked: &Asked, first: &[u8], rest: &[u8], line: &mut Line) {
+    let (one, other) = two_of(rest);
+    if let Some(guard) = guard_of(names, one, line) {
+        put_same(names, asked, first, guard, other, line);
     }
 }
 
 /// Answers a row.
-pub(crate) fn answer(names: &Names, asked: &str, text: &[u8], line: &mut Line) {
+pub(crate) fn answer(names: &Names, asked: &Asked, text: &[u8], line: &mut Line) {
+    let (first, rest) = two_of(text);
     match asked {
-        "read" | "write" => told(names, asked, b"", text, line),
-        "known" | "holds" => {
-            let (signs, text) = two_of(text);
-            told(names, asked, signs, text, line);
-        }
-        _ => compared(names, asked, text, line),
+        Asked::Read | Asked::Write => told(names, asked, b"", text, line),
+        Asked::Known | Asked::Holds => told(names, asked, first, rest, line),
+        _ => compared(names, asked, first, rest, line),
     }
 }

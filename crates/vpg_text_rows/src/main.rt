@@ -13,6 +13,7 @@
 #![tactic(auto)]
 
 mod arenas;
+mod asked;
 mod decisions;
 mod diagrams;
 mod family;
@@ -23,16 +24,34 @@ mod mistakes;
 mod names;
 mod text;
 
-use crate::family::{Family, read};
+use crate::asked::{Asked, asked_of};
+use crate::family::Family;
 use crate::line::Line;
 use crate::text::spelled;
 use anyhow::{Context, Result, bail};
 use std::fs;
 use vpg_diagram::Diagram;
 
-/// The tables, in the order in which they are answered.
-const TABLES: [&str; 7] = [
-    "names", "guards", "diagrams", "games", "arenas", "pictures", "mistakes",
+/// A table.
+enum Table {
+    Names,
+    Guards,
+    Diagrams,
+    Games,
+    Arenas,
+    Pictures,
+    Mistakes,
+}
+
+/// The tables with their files, in the order in which they are answered.
+static TABLES: [(&str, Table); 7] = [
+    ("names", Table::Names),
+    ("guards", Table::Guards),
+    ("diagrams", Table::Diagrams),
+    ("games", Table::Games),
+    ("arenas", Table::Arenas),
+    ("pictures", Table::Pictures),
+    ("mistakes", Table::Mistakes),
 ];
 
 /// A diagram of the features `a` and `b`, of which guards are.
@@ -42,36 +61,34 @@ const PAIR: &[u8] = b"root a\noptional a b\n";
 const FREE: &[u8] = b"root r\noptional r f\noptional r g\n";
 
 /// What rows are answered over.
-#[derive(Clone, Copy)]
+#[derive(Drop)]
 struct Over<'a> {
     pair: &'a Diagram,
     free: &'a Diagram,
     family: &'a Family,
-    /// The text of the family's diagram.
-    text: &'a str,
 }
 
 /// Writes the answer to what is asked of a text.
-fn answer(over: Over<'_>, table: &str, asked: &str, text: &[u8], line: &mut Line) {
+fn answer(over: &Over<'_>, table: &Table, asked: &Asked, text: &[u8], line: &mut Line) {
     match table {
-        "names" => names::answer(asked, text, line),
-        "guards" => guards::answer(over.pair.names(), asked, text, line),
-        "diagrams" => diagrams::answer(asked, text, line),
-        "games" => games::answer(over.free.names(), asked, text, line),
-        "arenas" => arenas::answer(over.free, asked, text, line),
-        _ => mistakes::answer(over.family.features(), asked, text, line),
+        Table::Names => names::answer(asked, text, line),
+        Table::Guards => guards::answer(over.pair.names(), asked, text, line),
+        Table::Diagrams => diagrams::answer(asked, text, line),
+        Table::Games => games::answer(over.free.names(), asked, text, line),
+        Table::Arenas => arenas::answer(over.free, asked, text, line),
+        _ => mistakes::answer(over.family.diagram.names(), asked, text, line),
     }
 }
 
 /// Writes the answer to a row.
-fn answer_row(over: Over<'_>, table: &str, row: &str, line: &mut Line) {
-    let (asked, writing) = row.split_once(' ').unwrap_or((row, ""));
+fn answer_row(over: &Over<'_>, table: &Table, row: &str, line: &mut Line) {
+    let (word, writing) = row.split_once(' ').unwrap_or((row, ""));
     let text = spelled(writing, line);
-    answer(over, table, asked, &text, line);
+    answer(over, table, asked_of(word), &text, line);
 }
 
 /// Writes a row with its answer behind ` = `, a line feed as `/`.
-fn put_answered(over: Over<'_>, table: &str, row: &str, line: &mut Line) {
+fn put_answered(over: &Over<'_>, table: &Table, row: &str, line: &mut Line) {
     let mut told = Line::new(line.alloc);
     answer_row(over, table, row, &mut told);
     line.note(!told.lacks);
@@ -84,28 +101,52 @@ fn put_answered(over: Over<'_>, table: &str, row: &str, line: &mut Line) {
     line.put("\n");
 }
 
-/// Writes a row, and what is shown at a terminal of it.
-fn put_shown(over: Over<'_>, table: &str, row: &str, line: &mut Line) {
-    line.put("# ");
-    line.put(row);
-    line.put("\n");
-    if table == "pictures" {
-        family::answer(over.family, over.text.as_bytes(), row.as_bytes(), line);
-        line.put("\n");
-    } else if !row.is_empty() && !row.starts_with('#') {
-        answer_row(over, table, row, line);
-    }
-}
-
-/// Writes a row with its answer, or a comment.
-fn put_row(over: Over<'_>, table: &str, row: &str, line: &mut Line) {
-    if table == "pictures" || table == "mistakes" {
-        put_shown(over, table, row, line);
-    } else if row.is_empty() || row.starts_with('#') {
+/// Writes a row that is a comment, and others with their answers.
+fn put_row(over: &Over<'_>, table: &Table, row: &str, line: &mut Line) {
+    if row.is_empty() || row.starts_with('#') {
         line.put(row);
         line.put("\n");
     } else {
         put_answered(over, table, row, line);
+    }
+}
+
+/// Writes a row, and what is said of its mistake.
+fn put_mistake(over: &Over<'_>, table: &Table, row: &str, line: &mut Line) {
+    if !row.is_empty() && !row.starts_with('#') {
+        answer_row(over, table, row, line);
+    }
+}
+
+/// Writes what a row of a table gives.
+fn put_of_table(over: &Over<'_>, table: &Table, row: &str, line: &mut Line) {
+    match table {
+        Table::Pictures => {
+            line.put("# ");
+            line.put(row);
+            line.put("\n");
+            family::answer(over.family, row.as_bytes(), line);
+            line.put("\n");
+        }
+        Table::Mistakes => {
+            line.put("# ");
+            line.put(row);
+            line.put("\n");
+            put_mistake(over, table, row, line);
+        }
+        _ => put_row(over, table, row, line),
+    }
+}
+
+/// Writes what the rows of a table give.
+fn put_rows(over: &Over<'_>, table: &Table, rows: &str, line: &mut Line) {
+    if let Table::Pictures = table {
+        line.put("start ");
+        line.debug(&over.family.names.start());
+        line.put("\n");
+    }
+    for row in rows.lines() {
+        put_of_table(over, table, row, line);
     }
 }
 
@@ -118,70 +159,40 @@ fn print_line(rt: &HostRuntime, line: &Line) -> Result<()> {
     Ok(())
 }
 
-/// Carries out a row.
-fn carry_out_row(rt: &HostRuntime, over: Over<'_>, table: &str, row: &str) -> Result<()> {
+/// Carries out a table.
+fn carry_out(rt: &HostRuntime, over: &Over<'_>, table: &Table, rows: &str) -> Result<()> {
     let mut line = Line::new(rt.alloc());
-    put_row(over, table, row, &mut line);
+    put_rows(over, table, rows, &mut line);
     print_line(rt, &line)
 }
 
-/// Carries out the rows of a table.
-fn carry_out_rows(rt: &HostRuntime, over: Over<'_>, table: &str, rows: &str) -> Result<()> {
-    for row in rows.lines() {
-        carry_out_row(rt, over, table, row)?;
-    }
-    Ok(())
-}
-
-/// Carries out a table.
-fn carry_out(rt: &HostRuntime, over: Over<'_>, table: &str) -> Result<()> {
-    if table == "pictures" {
-        println!(rt; "start {:?}", over.family.start())?;
-    }
-    let rows = fs::read_to_string(rt, table)?;
-    carry_out_rows(rt, over, table, rows.as_str())
+/// Carries out the table of a file.
+fn carry_out_file(rt: &HostRuntime, over: &Over<'_>, file: &str, table: &Table) -> Result<()> {
+    let rows = fs::read_to_string(rt, file)?;
+    carry_out(rt, over, table, rows.as_str())
 }
 
 /// Carries out all tables.
-fn carry_out_all(rt: &HostRuntime, over: Over<'_>) -> Result<()> {
-    for table in TABLES {
-        carry_out(rt, over, table).context(table)?;
+fn carry_out_all(rt: &HostRuntime, over: &Over<'_>) -> Result<()> {
+    for (file, table) in &TABLES {
+        carry_out_file(rt, over, file, table).context(*file)?;
     }
     Ok(())
 }
 
-/// Carries out all tables, over the family of these texts.
-fn over_texts(
-    rt: &HostRuntime,
-    pair: &Diagram,
-    free: &Diagram,
-    text: &str,
-    game: &str,
-) -> Result<()> {
-    let family = read(rt.alloc(), text.as_bytes(), game.as_bytes()).context("family")?;
+/// Carries out all tables, over these diagrams and the family of the folder.
+fn over_family(rt: &HostRuntime, pair: &Diagram, free: &Diagram) -> Result<()> {
+    let family = family::read(rt).context("family")?;
     let over = Over {
         pair,
         free,
         family: &family,
-        text,
     };
-    carry_out_all(rt, over)
-}
-
-/// Carries out all tables, over the family of the folder.
-fn over_free(rt: &HostRuntime, pair: &Diagram, free: &Diagram) -> Result<()> {
-    let text = fs::read_to_string(rt, "diagram")?;
-    let game = fs::read_to_string(rt, "game")?;
-    over_texts(rt, pair, free, text.as_str(), game.as_str())
-}
-
-/// Carries out all tables, guards over these features.
-fn over_pair(rt: &HostRuntime, pair: &Diagram) -> Result<()> {
-    let free = Diagram::read(rt.alloc(), FREE)?;
-    over_free(rt, pair, &free)
+    carry_out_all(rt, &over)
 }
 
 fn main(rt: HostRuntime) -> Result<()> {
     let pair = Diagram::read(rt.alloc(), PAIR)?;
-    over_pair(&rt, &pair)
+    let free = Diagram::read(rt.alloc(), FREE)?;
+    over_family(&rt, &pair, &free)
 }

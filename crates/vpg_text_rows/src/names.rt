@@ -6,26 +6,23 @@
 //! - `at PLACE~NAME~..` is answered the name at the place.
 //! - `is NAME` asks whether it is the name of a feature.
 
+use crate::asked::Asked;
 use crate::line::Line;
-use crate::text::{number_of, two_of};
+use crate::text::{number_of, parts_of, two_of};
 use vpg_guards::{Names, is_feature_name};
-
-/// Adds a name, and writes the answer.
-fn add(names: &mut Names, name: &[u8], line: &mut Line) {
-    match names.add(line.alloc, name) {
-        Ok(place) => line.number(place as u64),
-        Err(fault) => line.show(&fault),
-    }
-    line.put(", ");
-}
 
 /// Adds names, and writes the answer to each, or to the last alone.
 fn add_all(names: &mut Names, text: &[u8], all: bool, line: &mut Line) {
-    for name in text.split(|sign| *sign == b'~') {
+    let parts = parts_of(text, b'~', line);
+    for name in &parts {
         if !all {
             line.text.clear();
         }
-        add(names, name, line);
+        match names.add(line.alloc, name) {
+            Ok(place) => line.number(place as u64),
+            Err(fault) => line.show(&fault),
+        }
+        line.put(", ");
     }
 }
 
@@ -50,29 +47,28 @@ fn put_name(names: &Names, place: u32, line: &mut Line) {
 }
 
 /// Adds all names but the first, and looks that up.
-fn put_found(names: &mut Names, asked: &str, text: &[u8], line: &mut Line) {
+fn put_found(names: &mut Names, asked: &Asked, text: &[u8], line: &mut Line) {
     let (word, others) = two_of(text);
     add_all(names, others, true, line);
     line.text.clear();
-    if asked == "get" {
-        line.debug(&names.get(word));
-    } else {
-        put_name(names, number_of(word), line);
+    match asked {
+        Asked::Get => line.debug(&names.get(word)),
+        _ => put_name(names, number_of(word), line),
     }
 }
 
 /// Answers a row, beginning with no names.
-fn put(names: &mut Names, asked: &str, text: &[u8], line: &mut Line) {
+fn put(names: &mut Names, asked: &Asked, text: &[u8], line: &mut Line) {
     match asked {
-        "add" => put_added(names, text, true, line),
-        "last" => put_added(names, text, false, line),
-        "is" => line.put_yes_or_no(is_feature_name(text)),
+        Asked::Add => put_added(names, text, true, line),
+        Asked::Last => put_added(names, text, false, line),
+        Asked::Is => line.put_yes_or_no(is_feature_name(text)),
         _ => put_found(names, asked, text, line),
     }
 }
 
 /// Answers a row.
-pub(crate) fn answer(asked: &str, text: &[u8], line: &mut Line) {
+pub(crate) fn answer(asked: &Asked, text: &[u8], line: &mut Line) {
     let made = Names::new(line.alloc);
     if let Some(mut names) = line.kept(made) {
         put(&mut names, asked, text, line);

@@ -104,11 +104,26 @@ pub(crate) fn spelled(writing: &str, line: &mut Line) -> Vec<u8> {
 
 /// The two parts of a row's text, which stand beside the first `~`.
 pub(crate) fn two_of(text: &[u8]) -> (&[u8], &[u8]) {
-    let place = text.iter().position(|sign| *sign == b'~');
-    match place {
-        Some(place) => (&text[..place], &text[place + 1..]),
-        None => (text, b""),
+    for place in 0..text.len() {
+        if text[place] == b'~' {
+            return (&text[..place], &text[place + 1..]);
+        }
     }
+    (text, b"")
+}
+
+/// The parts of a text, which stand beside a byte.
+pub(crate) fn parts_of<'t>(text: &'t [u8], beside: u8, line: &mut Line) -> Vec<&'t [u8]> {
+    let mut parts = Vec::new(line.alloc);
+    let mut from = 0;
+    for place in 0..text.len() {
+        if text[place] == beside {
+            line.note(parts.push(&text[from..place]).is_ok());
+            from = place + 1;
+        }
+    }
+    line.note(parts.push(&text[from..]).is_ok());
+    parts
 }
 
 /// The set of the features with `+`.

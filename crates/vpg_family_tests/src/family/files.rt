@@ -1,83 +1,44 @@
 //! Which fault of which file is told first.
 use super::{DIAGRAM, GAME};
+use crate::said::Said;
 use std::alloc::Global;
 use std::fs;
 use std::test::*;
-use vpg_family::{Fault, Paths, line_of, open_script, read_family};
+use vpg_family::{Family, Fault, Paths, open_script, read_family};
 
-/// The files of a game and a diagram, and what is told of them.
-struct Row {
-    game: &'static str,
-    diagram: &'static str,
-    told: &'static str,
-}
-
-/// `none` is missing, `.` is a folder, and `empty` has no bytes.
-static ROWS: [Row; 8] = [
-    Row {
-        game: "none",
-        diagram: "none",
-        told: "vpgdesk: diagram unreadable\n",
-    },
-    Row {
-        game: "game",
-        diagram: ".",
-        told: "vpgdesk: diagram unreadable\n",
-    },
-    Row {
-        game: "none",
-        diagram: "empty",
-        told: "vpgdesk: diagram NoRoot\n",
-    },
-    Row {
-        game: "diagram",
-        diagram: "game",
-        told: "vpgdesk: diagram Syntax 1\n",
-    },
-    Row {
-        game: "none",
-        diagram: "diagram",
-        told: "vpgdesk: game unreadable\n",
-    },
-    Row {
-        game: ".",
-        diagram: "diagram",
-        told: "vpgdesk: game unreadable\n",
-    },
-    Row {
-        game: "empty",
-        diagram: "diagram",
-        told: "vpgdesk: game Syntax 0\n",
-    },
-    Row {
-        game: "game",
-        diagram: "diagram",
-        told: "vertices 2 edges 4 features 3 top 2 2\n",
-    },
+/// The files of a game and a diagram, and what is told of them. `none` is missing, `.` is a folder, and `empty` has no
+/// bytes.
+const ROWS: [[&str; 3]; 8] = [
+    ["none", "none", "vpgdesk: diagram unreadable\n"],
+    ["game", ".", "vpgdesk: diagram unreadable\n"],
+    ["none", "empty", "vpgdesk: diagram NoRoot\n"],
+    ["diagram", "game", "vpgdesk: diagram Syntax 1\n"],
+    ["none", "diagram", "vpgdesk: game unreadable\n"],
+    [".", "diagram", "vpgdesk: game unreadable\n"],
+    ["empty", "diagram", "vpgdesk: game Syntax 0\n"],
+    ["game", "diagram", "vertices 2 edges 4 features 3 top 2 2\n"],
 ];
 
-/// The counts of the family of two files.
-fn counted(rt: &HostRuntime, alloc: Global, row: &Row) -> Result<Vec<u8>, Fault> {
-    let paths = Paths {
-        game: row.game,
-        diagram: row.diagram,
-    };
-    Ok(read_family(rt, alloc, paths)?.counted(alloc)?)
+/// Writes the counts of a family, or the line that tells of its fault.
+fn put_counts(family: Result<Family, Fault>, said: &mut Said) {
+    match family {
+        Ok(family) => said.put_made(family.counted(said.alloc)),
+        Err(fault) => said.put_answer(Err(fault)),
+    }
 }
 
-fn holds(rt: &HostRuntime, alloc: Global, row: &Row) -> bool {
-    let told = match counted(rt, alloc, row) {
-        Ok(text) => Ok(text),
-        Err(fault) => line_of(alloc, &fault),
-    };
-    told.is_ok_and(|text| text.as_slice() == row.told.as_bytes())
+fn holds(rt: &HostRuntime, alloc: Global, row: [&str; 3]) -> bool {
+    let [game, diagram, told] = row;
+    let mut said = Said::new(alloc);
+    put_counts(read_family(rt, alloc, Paths { game, diagram }), &mut said);
+    said.text() == told
 }
 
-/// The place of the first row that doesn't hold.
-fn first_wrong(rt: &HostRuntime, alloc: Global) -> Option<usize> {
-    for k in 0..ROWS.len() {
-        if !holds(rt, alloc, &ROWS[k]) {
-            return Some(k);
+/// What is to be told of the first row that doesn't hold.
+fn first_wrong(rt: &HostRuntime, alloc: Global) -> Option<&'static str> {
+    for row in ROWS {
+        if !holds(rt, alloc, row) {
+            return Some(row[2]);
         }
     }
     None

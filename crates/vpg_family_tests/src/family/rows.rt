@@ -1,0 +1,459 @@
+//! Families, what is asked of them, and what is written then.
+use super::{DIAGRAM, GAME};
+
+/// A diagram that contradicts itself, and a game that Even wins.
+const NONE: &str = "root r\nmandatory r a\nexcludes r a\n";
+
+const DOT: &str = "0 0 0 0;";
+
+/// The first vertex has a name.
+const HERE: &str = "0 1 0 1[f],0 \"he\\re\"; 1 2 1 0[g],1;";
+
+/// The vertex 1 has no name.
+const DOOR: &str = "0 1 0 1[f],0 \"door\topen\"; 1 2 1 0[g],1; 12 0 1 0 \"+f or fewer\";";
+
+/// A family, what is asked of it, and what is written to standard output, or else to standard error.
+#[derive(Drop)]
+pub(super) struct Row<'t> {
+    /// A word. `project` is asked of the words of a text with one blank between them, `redraw` of what a script wrote,
+    /// `pass-on` and `name` of an answer; `draw` and `redraw` are so of the game, and with `-features` of the diagram.
+    pub(super) asked: &'t str,
+    pub(super) text: &'t str,
+    pub(super) diagram: &'t str,
+    pub(super) game: &'t str,
+    pub(super) written: &'t str,
+}
+
+/// What a part of a row stands for: a text by its name, or itself.
+fn meant(part: &str) -> &str {
+    match part {
+        "DIAGRAM" => DIAGRAM,
+        "GAME" => GAME,
+        "NONE" => NONE,
+        "DOT" => DOT,
+        "HERE" => HERE,
+        "DOOR" => DOOR,
+        _ => part,
+    }
+}
+
+/// What stands before the next `¦`, and behind it.
+fn cut(text: &str) -> (&str, &str) {
+    text.split_once('¦').unwrap_or((text, ""))
+}
+
+/// The row that is written so.
+pub(super) fn row_of(writing: &str) -> Row<'_> {
+    let (_, rest) = cut(writing);
+    let (asked, rest) = cut(rest);
+    let (diagram, rest) = cut(rest);
+    let (game, rest) = cut(rest);
+    let (text, written) = cut(rest);
+    Row {
+        asked,
+        text,
+        diagram: meant(diagram),
+        game: meant(game),
+        written,
+    }
+}
+
+/// The rows, each with a `§` behind it. The parts of a row stand beside `¦`: a remark, what is asked, the texts of the
+/// diagram and of the game or their names, the text that is asked about, and what is written.
+pub(super) static TABLES: [&str; 7] = [REFUSED, DONE, PICTURES, PAGES, PASSED, NAMED, WARNED];
+
+/// Families that are refused, and words that name no product.
+const REFUSED: &str = "\
+¦check¦¦¦¦vpgdesk: diagram NoRoot\n§\
+¦check¦root r\nroot s¦0 0 0 7;¦¦vpgdesk: diagram TwoRoots 2\n§\
+¦check¦root r\nmandatory s f¦GAME¦¦vpgdesk: diagram UnknownFeature 2\n§\
+¦project¦root r\noptional r f\nmandatory r f¦GAME¦x¦vpgdesk: diagram TwoParents 3\n§\
+¦check¦root 9¦GAME¦¦vpgdesk: diagram Syntax 1\n§\
+¦check¦root r\ngroup r 2 1: a b¦GAME¦¦vpgdesk: diagram BadRange 2\n§\
+¦check¦DIAGRAM¦¦¦vpgdesk: game Syntax 0\n§\
+¦check¦DIAGRAM¦0 1 0 1[f¦¦vpgdesk: game Syntax 9\n§\
+¦check¦DIAGRAM¦0 2 2 0;¦¦vpgdesk: game BadOwner 4\n§\
+¦check¦DIAGRAM¦0 65536 0 0;¦¦vpgdesk: game PriorityTooLarge 2\n§\
+¦check¦DIAGRAM¦0 0 0 0[f &];¦¦vpgdesk: game Guard 8 Syntax 3\n§\
+¦check¦DIAGRAM¦0 0 0 0[h];¦¦vpgdesk: game Guard 8 UnknownFeature 0\n§\
+¦check¦DIAGRAM¦0 0 0 0; 0 0 0 0;¦¦vpgdesk: game DoubleVertex 0\n§\
+¦project¦DIAGRAM¦parity 0; 0 0 0 7;¦x¦vpgdesk: game MissingVertex 7\n§\
+¦project¦DIAGRAM¦GAME¦g x y¦vpgdesk: UnknownFeature x\n§\
+¦project¦DIAGRAM¦GAME¦r f\ng\u{7f}¦vpgdesk: UnknownFeature f?g?\n§\
+¦project¦DIAGRAM¦GAME¦g¦vpgdesk: NotAProduct\n§\
+";
+
+/// What is counted, and what a product leaves.
+const DONE: &str = "\
+¦check¦DIAGRAM¦GAME¦¦vertices 2 edges 4 features 3 top 2 2\n§\
+¦check¦NONE¦DOT¦¦vertices 1 edges 1 features 2 top 1 2\n§\
+¦project¦NONE¦DOT¦r a¦vpgdesk: NotAProduct\n§\
+¦project¦DIAGRAM¦GAME¦r g¦parity 1;\n0 1 0 0;\n1 2 1 0,1;\n§\
+¦project¦DIAGRAM¦GAME¦g r g f¦parity 1;\n0 1 0 1,0;\n1 2 1 0,1;\n§\
+";
+
+/// Pictures of families.
+const PICTURES: &str = "\
+¦draw¦DIAGRAM¦GAME¦¦digraph game {
+  graph [label=\"decisions\", labelloc=t, rankdir=LR];
+  node [style=filled];
+  0 [shape=diamond, label=\"0 : 1\", fillcolor=white, color=gray40];
+  1 [shape=box, label=\"1 : 2\", fillcolor=white, color=gray40];
+  0 -> 1 [label=\"f\", style=dashed, color=steelblue, fontcolor=steelblue];
+  0 -> 0 [style=solid];
+  1 -> 0 [label=\"g\", style=dashed, color=steelblue, fontcolor=steelblue];
+  1 -> 1 [style=solid];
+}
+§\
+¦draw¦root r\nmandatory r f\noptional f g\nexcludes f g\n¦start 7; 7 0 1 7[f],7[g] \"here\";¦¦digraph game {
+  graph [label=\"decisions\", labelloc=t, rankdir=LR];
+  node [style=filled];
+  7 [shape=box, label=\"7 : 0\\nhere\", fillcolor=white, color=gray40];
+  7 -> 7 [label=\"f | g\", style=solid];
+}
+§\
+¦draw-features¦DIAGRAM¦GAME¦¦digraph features {
+  graph [label=\"decisions\", labelloc=t];
+  node [shape=box, style=filled, height=0.3];
+  \"r\" [fillcolor=honeydew, color=darkgreen];
+  \"f\" [fillcolor=white, style=\"filled,dashed\"];
+  \"g\" [fillcolor=white, style=\"filled,dashed\"];
+  \"r\" -> \"f\" [arrowhead=odot];
+  \"r\" -> \"g\" [arrowhead=odot];
+}
+§\
+¦draw-features¦NONE¦DOT¦¦vpgdesk: Conflict r\n§\
+";
+
+/// Pictures of pages that scripts left, from what the scripts wrote.
+const PAGES: &str = "\
+The last picture counts.¦redraw¦DIAGRAM¦HERE¦done 1
+digraph game {
+  graph [label=\"decisions +g\", labelloc=t, rankdir=LR];
+}
+digraph game {
+  graph [label=\"decisions +g -f\", labelloc=t, rankdir=LR];
+  node [style=filled];
+  0 [shape=diamond, label=\"0 : 1\", fillcolor=mistyrose, color=firebrick];
+  1 [shape=box, label=\"1 : 2\", fillcolor=honeydew, color=darkgreen];
+  0 -> 1 [label=\"f\", style=dotted, color=gray70, fontcolor=gray50];
+  0 -> 0 [style=solid];
+  1 -> 0 [label=\"g\", style=solid];
+  1 -> 1 [style=solid];
+}
+¦digraph game {
+  graph [label=\"decisions +g -f\", labelloc=t, rankdir=LR];
+  node [style=filled];
+  0 [shape=diamond, label=\"0 : 1\\nhe\\\\re\", fillcolor=mistyrose, color=firebrick];
+  1 [shape=box, label=\"1 : 2\", fillcolor=honeydew, color=darkgreen];
+  0 -> 1 [label=\"f\", style=dotted, color=gray70, fontcolor=gray50];
+  0 -> 0 [style=solid];
+  1 -> 0 [label=\"g\", style=solid];
+  1 -> 1 [style=solid];
+}
+§\
+¦redraw-features¦DIAGRAM¦HERE¦digraph game {
+  graph [label=\"decisions -g\", labelloc=t, rankdir=LR];
+  node [style=filled];
+  0 [shape=diamond, label=\"0 : 1\", fillcolor=gainsboro, color=gray50];
+  1 [shape=box, label=\"1 : 2\", fillcolor=white, color=gray40];
+  0 -> 1 [label=\"f\", style=dashed, color=steelblue, fontcolor=steelblue];
+  0 -> 0 [style=solid];
+  1 -> 0 [label=\"g\", style=dotted, color=gray70, fontcolor=gray50];
+  1 -> 1 [style=solid];
+}
+¦digraph features {
+  graph [label=\"decisions -g\", labelloc=t];
+  node [shape=box, style=filled, height=0.3];
+  \"r\" [fillcolor=honeydew, color=darkgreen];
+  \"f\" [fillcolor=white, style=\"filled,dashed\"];
+  \"g\" [fillcolor=gray92, fontcolor=gray60];
+  \"r\" -> \"f\" [arrowhead=odot];
+  \"r\" -> \"g\" [arrowhead=odot];
+}
+§\
+A decision that the guards of the picture do not show.¦redraw¦DIAGRAM¦HERE¦digraph game {
+  graph [label=\"decisions\", labelloc=t, rankdir=LR];
+  node [style=filled];
+  0 [shape=diamond, label=\"0 : 1\", fillcolor=white, color=gray40];
+  1 [shape=box, label=\"1 : 2\", fillcolor=white, color=gray40];
+  0 -> 1 [label=\"f\", style=dashed, color=steelblue, fontcolor=steelblue];
+  0 -> 0 [style=solid];
+  1 -> 0 [label=\"g\", style=solid];
+  1 -> 1 [style=solid];
+}
+¦vpgdesk: script LogFull\n§\
+¦redraw¦DIAGRAM¦HERE¦done 1\nrefused LogFull\n¦vpgdesk: script LogFull\n§\
+¦redraw-features¦DIAGRAM¦HERE¦¦vpgdesk: script LogFull\n§\
+The decisions contradict each other.¦redraw¦DIAGRAM¦HERE¦digraph game {
+  graph [label=\"decisions +f -f\", labelloc=t, rankdir=LR];
+
+
+
+¦vpgdesk: script LogFull
+§\
+";
+
+/// Answers that are passed on, with the names of vertices in pictures.
+const PASSED: &str = "\
+¦pass-on¦DIAGRAM¦HERE¦0 2 0 hopeless unsure\n¦0 2 0 hopeless unsure\n§\
+¦pass-on¦DIAGRAM¦HERE¦digraph game {
+  graph [label=\"decisions -g\", labelloc=t, rankdir=LR];
+  node [style=filled];
+  0 [shape=diamond, label=\"0 : 1\", fillcolor=gainsboro, color=gray50];
+  1 [shape=box, label=\"1 : 2\", fillcolor=white, color=gray40];
+  0 -> 1 [label=\"f\", style=dashed, color=steelblue, fontcolor=steelblue];
+  0 -> 0 [style=solid];
+  1 -> 0 [label=\"g\", style=dotted, color=gray70, fontcolor=gray50];
+  1 -> 1 [style=solid];
+}
+¦digraph game {
+  graph [label=\"decisions -g\", labelloc=t, rankdir=LR];
+  node [style=filled];
+  0 [shape=diamond, label=\"0 : 1\\nhe\\\\re\", fillcolor=gainsboro, color=gray50];
+  1 [shape=box, label=\"1 : 2\", fillcolor=white, color=gray40];
+  0 -> 1 [label=\"f\", style=dashed, color=steelblue, fontcolor=steelblue];
+  0 -> 0 [style=solid];
+  1 -> 0 [label=\"g\", style=dotted, color=gray70, fontcolor=gray50];
+  1 -> 1 [style=solid];
+}
+§\
+¦pass-on¦DIAGRAM¦HERE¦digraph game {\n}\n¦vpgdesk: Write\n§\
+Odd's moves are listed.¦pass-on¦DIAGRAM¦HERE¦digraph part {
+  graph [label=\"decisions -g\", labelloc=t, rankdir=LR];
+  node [style=filled];
+  0 [shape=diamond, label=\"0 : 1\", penwidth=3, fillcolor=mistyrose, color=firebrick];
+  1 [shape=box, label=\"1 : 2\", fillcolor=white, color=gray40];
+  0 -> 1 [label=\"f\", style=dashed, color=steelblue, fontcolor=steelblue];
+  0 -> 0 [style=solid];
+  1 -> 1 [style=solid, color=\"#b03a1e\", penwidth=2.6];
+}
+¦digraph part {
+  graph [label=\"decisions -g\", labelloc=t, rankdir=LR];
+  node [style=filled];
+  0 [shape=diamond, label=\"0 : 1\\nhe\\\\re\", penwidth=3, fillcolor=mistyrose, color=firebrick];
+  1 [shape=box, label=\"1 : 2\", fillcolor=white, color=gray40];
+  0 -> 1 [label=\"f\", style=dashed, color=steelblue, fontcolor=steelblue];
+  0 -> 0 [style=solid];
+  1 -> 1 [style=solid, color=\"#b03a1e\", penwidth=2.6];
+}
+§\
+Even's moves, and the vertex with no name is told from the others.¦pass-on¦DIAGRAM¦HERE¦digraph part {
+  graph [label=\"decisions +f +g\", labelloc=t, rankdir=LR];
+  node [style=filled];
+  0 [shape=diamond, label=\"0 : 1\", fillcolor=honeydew, color=darkgreen];
+  1 [shape=box, label=\"1 : 2\", penwidth=3, fillcolor=gainsboro, color=gray50];
+  0 -> 1 [label=\"f\", style=solid, color=\"#3f7d2c\", penwidth=2.6];
+  1 -> 0 [label=\"g\", style=solid];
+  1 -> 1 [style=solid];
+}
+¦digraph part {
+  graph [label=\"decisions +f +g\", labelloc=t, rankdir=LR];
+  node [style=filled];
+  0 [shape=diamond, label=\"0 : 1\\nhe\\\\re\", fillcolor=honeydew, color=darkgreen];
+  1 [shape=box, label=\"1 : 2\", penwidth=3, fillcolor=gainsboro, color=gray50];
+  0 -> 1 [label=\"f\", style=solid, color=\"#3f7d2c\", penwidth=2.6];
+  1 -> 0 [label=\"g\", style=solid];
+  1 -> 1 [style=solid];
+}
+§\
+No move is listed, and one vertex alone is drawn.¦pass-on¦DIAGRAM¦HERE¦digraph part {
+  graph [label=\"decisions -f\", labelloc=t, rankdir=LR];
+  node [style=filled];
+  0 [shape=diamond, label=\"0 : 1\", penwidth=3, fillcolor=white, color=gray40];
+  0 -> 0 [style=solid];
+}
+¦digraph part {
+  graph [label=\"decisions -f\", labelloc=t, rankdir=LR];
+  node [style=filled];
+  0 [shape=diamond, label=\"0 : 1\\nhe\\\\re\", penwidth=3, fillcolor=white, color=gray40];
+  0 -> 0 [style=solid];
+}
+§\
+Another width: no part that is drawn so.¦pass-on¦DIAGRAM¦HERE¦digraph part {
+  graph [label=\"decisions -f\", labelloc=t, rankdir=LR];
+  node [style=filled];
+  0 [shape=diamond, label=\"0 : 1\", penwidth=4, fillcolor=white, color=gray40];
+  0 -> 0 [style=solid];
+}
+¦digraph part {
+  graph [label=\"decisions -f\", labelloc=t, rankdir=LR];
+  node [style=filled];
+  0 [shape=diamond, label=\"0 : 1\", penwidth=4, fillcolor=white, color=gray40];
+  0 -> 0 [style=solid];
+}
+§\
+The edge is kept under these decisions.¦pass-on¦DIAGRAM¦HERE¦digraph part {
+  graph [label=\"decisions +f\", labelloc=t, rankdir=LR];
+  node [style=filled];
+  0 [shape=diamond, label=\"0 : 1\", penwidth=3, fillcolor=white, color=gray40];
+  0 -> 0 [style=solid];
+}
+¦digraph part {
+  graph [label=\"decisions +f\", labelloc=t, rankdir=LR];
+  node [style=filled];
+  0 [shape=diamond, label=\"0 : 1\", penwidth=3, fillcolor=white, color=gray40];
+  0 -> 0 [style=solid];
+}
+§\
+The decisions contradict each other.¦pass-on¦DIAGRAM¦HERE¦digraph part {
+  graph [label=\"decisions +f -f\", labelloc=t, rankdir=LR];
+  0 [
+}
+¦digraph part {
+  graph [label=\"decisions +f -f\", labelloc=t, rankdir=LR];
+  0 [
+}
+§\
+¦pass-on¦DIAGRAM¦HERE¦digraph part {\n}\n¦digraph part {\n}\n§\
+¦pass-on¦DIAGRAM¦HERE¦unsettled\n¦unsettled\n§\
+";
+
+/// Answers with the names of vertices beside their lines.
+const NAMED: &str = "\
+¦name¦DIAGRAM¦DOOR¦decisions -f
+full no
+settled yes
+0 2 0 hopeless unsure
+1 0 1 possible unsure
+¦decisions -f
+full no
+settled yes
+0 2 0 hopeless unsure \"door?open\"
+1 0 1 possible unsure
+§\
+¦name¦DIAGRAM¦DOOR¦12 possible unsure hopeless unsure
+changed 12
+¦12 possible unsure hopeless unsure \"+f or fewer\"
+changed 12
+§\
+¦name¦DIAGRAM¦DOOR¦exclude f 12
+hopeful 0 0 2 -f
+dual 12 0 1
+hopeful 1 0 2
+entries 0
+¦exclude f 12
+hopeful 0 0 2 -f \"door?open\"
+dual 12 0 1 \"+f or fewer\"
+hopeful 1 0 2
+entries 0
+§\
+These are numbers of vertices.¦name¦DIAGRAM¦DOOR¦hopeless 0
+possible 12
+sure 0
+unsure 12
+settled yes
+full no
+¦hopeless 0
+possible 12
+sure 0
+unsure 12
+settled yes
+full no
+§\
+¦name¦DIAGRAM¦DOOR¦hopeless 0 -f or fewer\nunsure 0\n¦hopeless 0 -f or fewer \"door?open\"\nunsure 0 \"door?open\"\n§\
+¦name¦DIAGRAM¦DOOR¦possible 12\nsure 12 +f +g\n¦possible 12 \"+f or fewer\"\nsure 12 +f +g \"+f or fewer\"\n§\
+¦name¦DIAGRAM¦DOOR¦lost 12 -f
+won 0
+lost 1 -f
+unsure 0
+¦lost 12 -f \"+f or fewer\"
+won 0 \"door?open\"
+lost 1 -f
+unsure 0 \"door?open\"
+§\
+¦name¦DIAGRAM¦DOOR¦spoil 12 0
+spoil 1 0
+spoil 1 1
+spoils 12
+plan 0 1
+plans depend
+plans 0
+¦spoil 12 0 \"+f or fewer\" \"door?open\"
+spoil 1 0 \"\" \"door?open\"
+spoil 1 1
+spoils 12
+plan 0 1 \"door?open\" \"\"
+plans depend
+plans 0
+§\
+These are about no vertex.¦name¦DIAGRAM¦DOOR¦product r f
+needs +f
+needs 12 or more
+repair -f +g
+repairs 0
+offer +f possible sure
+offers 12
+settled 12
+refused NotNewest 12
+13 0 0 possible sure
+4294967308 1 1 possible sure
+¦product r f
+needs +f
+needs 12 or more
+repair -f +g
+repairs 0
+offer +f possible sure
+offers 12
+settled 12
+refused NotNewest 12
+13 0 0 possible sure
+4294967308 1 1 possible sure
+§\
+";
+
+/// What looks wrong in families.
+const WARNED: &str = "\
+¦lint¦DIAGRAM¦GAME¦¦warnings 0\n§\
+¦lint¦DIAGRAM¦0 1 0 0[f];¦¦explained_diagram:3:12: warning: `g` is named by no guard\nwarnings 1\n§\
+¦lint¦root r
+mandatory r a
+excludes r a
+¦0 0 0 0[a];¦¦explained_diagram:1:6: warning: the diagram has no product: its lines contradict each other
+warnings 1
+§\
+¦lint¦root r
+or r: a b
+or r: c d
+excludes a c
+excludes a d
+excludes b c
+excludes b d
+¦0 0 0 0[a & b & c & d];¦¦explained_diagram:1:6: warning: the diagram may have no product: propagation alone finds none
+explained_diagram:2:7: warning: `a` is in no product
+explained_diagram:2:9: warning: `b` is in no product
+explained_diagram:3:7: warning: `c` is in no product
+explained_diagram:3:9: warning: `d` is in no product
+warnings 5
+§\
+¦lint¦root r
+optional r f
+optional r g
+excludes f f
+¦GAME¦¦explained_diagram:2:12: warning: `f` is in no product
+warnings 1
+§\
+¦lint¦DIAGRAM¦start 7; 0 1 0 ;
+1 2 1 0[f],1[g];¦¦explained_game:1:10: warning: vertex 0 has no moves: Even, who owns it, loses there
+explained_game:1:7: warning: no entry has the identifier of this start
+warnings 2
+§\
+¦lint¦DIAGRAM¦start 0; 0 1 0 0[f];
+1 2 1 0[g] \"lost\";¦¦explained_game:2:1: warning: vertex 1 \"lost\" cannot be reached from the start
+warnings 1
+§\
+¦lint¦DIAGRAM¦0 0 1 0[f & g];1 0 1;2 0 1;3 0 1;4 0 1;5 0 1;6 0 1;7 0 1;8 0 1;9 0 1;10 0 1;11 0 1;12 0 1;¦¦\
+explained_game:1:16: warning: vertex 1 has no moves: Odd, who owns it, loses there
+explained_game:1:22: warning: vertex 2 has no moves: Odd, who owns it, loses there
+explained_game:1:28: warning: vertex 3 has no moves: Odd, who owns it, loses there
+explained_game:1:34: warning: vertex 4 has no moves: Odd, who owns it, loses there
+explained_game:1:40: warning: vertex 5 has no moves: Odd, who owns it, loses there
+explained_game:1:46: warning: vertex 6 has no moves: Odd, who owns it, loses there
+explained_game:1:52: warning: vertex 7 has no moves: Odd, who owns it, loses there
+explained_game:1:58: warning: vertex 8 has no moves: Odd, who owns it, loses there
+explained_game:1:64: warning: vertex 9 has no moves: Odd, who owns it, loses there
+explained_game:1:70: warning: vertex 10 has no moves: Odd, who owns it, loses there
+explained_game: warning: vertices without moves: 2 more
+warnings 12
+§\
+";

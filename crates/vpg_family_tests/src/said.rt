@@ -1,0 +1,79 @@
+//! A text that is written. What finds no memory is noted.
+use std::alloc::{AllocError, Global};
+use std::fmt::Write;
+use vpg_family::{Fault, line_of};
+
+/// What was written so far.
+pub(crate) struct Said {
+    pub(crate) alloc: Global,
+    text: String,
+    /// Whether something found no memory.
+    lacks: bool,
+}
+
+// Not derived, so that letting one go is one call.
+impl Drop for Said {
+    fn drop(self) {
+        let Said {
+            alloc: _,
+            text: _,
+            lacks: _,
+        } = self;
+    }
+}
+
+impl Said {
+    /// Nothing yet.
+    pub(crate) fn new(alloc: Global) -> Said {
+        Said {
+            alloc,
+            text: String::new(alloc),
+            lacks: false,
+        }
+    }
+
+    /// Notes whether something was done that takes memory.
+    pub(crate) fn note(&mut self, done: bool) {
+        self.lacks |= !done;
+    }
+
+    /// Writes words.
+    pub(crate) fn put(&mut self, words: &str) {
+        self.lacks |= self.text.push_str(words).is_err();
+    }
+
+    /// Writes a number.
+    pub(crate) fn put_number(&mut self, number: u32) {
+        self.lacks |= write!(self.text, "{number}").is_err();
+    }
+
+    /// Writes bytes that are text.
+    pub(crate) fn put_text(&mut self, text: &[u8]) {
+        self.put(str::from_utf8(text).unwrap_or("not UTF-8"));
+    }
+
+    /// Writes a text that was made.
+    pub(crate) fn put_made(&mut self, made: Result<Vec<u8>, AllocError>) {
+        match made {
+            Ok(text) => self.put_text(&text),
+            Err(_) => self.lacks = true,
+        }
+    }
+
+    /// Writes what a task on a family gives, or the line that tells of its fault.
+    pub(crate) fn put_answer(&mut self, answer: Result<Vec<u8>, Fault>) {
+        match answer {
+            Ok(text) => self.put_text(&text),
+            Err(fault) => self.put_made(line_of(self.alloc, &fault)),
+        }
+    }
+
+    /// What was written, where nothing found no memory.
+    pub(crate) fn text(&self) -> &str {
+        if self.lacks {
+            "no memory"
+        } else {
+            self.text.as_str()
+        }
+    }
+}
