@@ -261,7 +261,8 @@ fn closes_then<R: Wait>(rt: &R, desk: Desk, token: Undo) -> bool {
     let mut desk = desk;
     let told = token.serial() == 4 && desk.tokens() == 1;
     keep(rt, &mut desk, Some(token));
-    desk.close().is_ok() && told
+    let none_out = desk.tokens() == 0;
+    desk.close().is_ok() && told && none_out
 }
 
 /// Closes a desk with no memory.

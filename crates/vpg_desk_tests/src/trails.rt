@@ -133,6 +133,8 @@ enum Deed {
     Decide(Decision),
     /// One vertex is raised by a lift from its present value, under these decisions.
     Raise(Which, u32, u64, &'static [Literal]),
+    /// The same by a lift that shares what the last entry assumed, which is a lift too.
+    RaiseAlso(Which, u32, u64),
     /// The decision on a feature is retracted.
     Retract(u16),
     /// The same, and taken back.
@@ -161,6 +163,17 @@ fn raise(trail: &mut Trail, table: Which, vertex: u32, new: u64, under: Arc<Assu
         trail.append(entry).is_ok()
     } else {
         false
+    }
+}
+
+/// Raises one vertex by a lift that shares what the last entry assumed, which is a lift too.
+fn raise_also(trail: &mut Trail, table: Which, vertex: u32, new: u64) -> bool {
+    let Some(Entry::Lift { under, .. }) = trail.entries().last() else {
+        return false;
+    };
+    match under.clone() {
+        Ok(under) => raise(trail, table, vertex, new, under),
+        Err(_) => false,
     }
 }
 
@@ -195,6 +208,7 @@ fn does(rt: &impl Abort, alloc: Global, trail: &mut Trail, deed: &Deed) -> bool 
         Deed::Raise(table, vertex, new, under) => {
             raise(trail, table, vertex, new, assumed(rt, alloc, under))
         }
+        Deed::RaiseAlso(table, vertex, new) => raise_also(trail, table, vertex, new),
         Deed::Retract(feature) => retract(alloc, trail, feature, false).is_ok(),
         Deed::RetractAndBack(feature) => retract(alloc, trail, feature, true).is_ok(),
         Deed::PutAgain => put_again(rt, alloc, trail),
@@ -214,20 +228,21 @@ fn made(rt: &impl Abort, alloc: Global, deeds: &[Deed]) -> Trail {
     trail
 }
 
-/// Two decisions; a lift that assumed both, and two lifts that assumed the first alone, one of them of the same vertex.
+/// Two decisions; a lift that assumed both, and two lifts that share one list, of the first alone. One is of the same
+/// vertex.
 const TWO_DECISIONS: &[Deed] = &[
     Deed::Decide(OUT),
     Deed::Decide(IN),
     Deed::Raise(Which::Hopeful, 0, 1, &[FIRST, SECOND]),
     Deed::Raise(Which::Hopeful, 0, 2, &[FIRST]),
-    Deed::Raise(Which::Dual, 1, 1, &[FIRST]),
+    Deed::RaiseAlso(Which::Dual, 1, 1),
 ];
 
 /// A decision, and two lifts that assumed nothing.
 const ONE_DECISION: &[Deed] = &[
     Deed::Decide(OUT),
     Deed::Raise(Which::Hopeful, 0, 1, &[]),
-    Deed::Raise(Which::Dual, 1, 1, &[]),
+    Deed::RaiseAlso(Which::Dual, 1, 1),
 ];
 
 /// The entries of the trail of two decisions.

@@ -7,7 +7,7 @@ use crate::given::{OPTIONS, given, let_go, row_of};
 use std::process::Abort;
 use std::sync::Wait;
 use std::test::*;
-use std::thread::{Threads, join_mut};
+use std::thread::{Threads, join};
 use vpg_board::{Board, Seat};
 use vpg_measure::{Harvest, Order};
 use vpg_verdict::Which;
@@ -19,8 +19,6 @@ pub(crate) enum Sitting {
     Lifts([bool; 4]),
     /// It splits as often as it may.
     Splits,
-    /// With three that it splits off it claims each vertex of 62, each seat in a thread of its own.
-    Four,
 }
 
 /// The board of an order, and its opening seat.
@@ -160,60 +158,71 @@ fn claims_of(board: &Board, seat: &mut Seat) -> Noted
     noted
 }
 
-/// What two seats claim, each in a thread of its own.
+/// The same of a seat that comes back.
+fn claims_by(board: &Board, seat: Seat) -> (Seat, Noted)
+    requires { seat.board ≡ board.now }
+    ensures { result.0.board ≡ board.now }
+{
+    let mut seat = seat;
+    let noted = claims_of(board, &mut seat);
+    (seat, noted)
+}
+
+/// What two seats claim, each in a thread of its own, and the first with the second taken in.
 fn claims_of_two<R: Threads + Wait + Sync>(
     rt: &R,
     board: &Board,
-    one: &mut Seat,
-    other: &mut Seat,
-) -> Noted
+    one: Seat,
+    other: Seat,
+) -> (Seat, Noted)
     requires sync { IsSync R.row }
-    requires one { one.old.board ≡ board.now }
-    requires other { other.old.board ≡ board.now }
-    ensures one { one.new.board ≡ board.now }
-    ensures other { other.new.board ≡ board.now }
+    requires one { one.board ≡ board.now }
+    requires other { other.board ≡ board.now }
+    ensures { result.0.board ≡ board.now }
 {
-    let (first, second) = join_mut(
+    let ((one, first), (other, second)) = join(
         rt,
-        &mut || -> Noted
-            requires { one.now.board ≡ board.now }
-            ensures { one.exit.now.board ≡ board.entry.now }
-        { claims_of(board, one) },
-        &mut || -> Noted
-            requires { other.now.board ≡ board.now }
-            ensures { other.exit.now.board ≡ board.entry.now }
-        { claims_of(board, other) },
+        move || -> (Seat, Noted)
+            requires { one.board ≡ board.now }
+            ensures { result.0.board ≡ board.entry.now }
+        { claims_by(board, one) },
+        move || -> (Seat, Noted)
+            requires { other.board ≡ board.now }
+            ensures { result.0.board ≡ board.entry.now }
+        { claims_by(board, other) },
     );
-    both(first, second)
+    let mut one = one;
+    board.join(&mut one, other);
+    (one, both(first, second))
 }
 
-/// Whether a board's opening seat and three that it splits off, each in a thread of its own, claim each place of 62
-/// vertices once. The first takes in the others.
-fn claim_each_once<R: Threads + Wait + Abort + Sync>(rt: &R, board: &Board, seat: &mut Seat) -> bool
-    requires sync { IsSync R.row }
-    requires board { seat.old.board ≡ board.now }
-    ensures { seat.new.board ≡ board.now }
+/// What a board's opening seat and three that it splits off claim, each in a thread of its own.
+fn claims_of_four<R: Threads + Wait + Sync>(rt: &R, board: &Board, seat: Seat) -> (Seat, Noted)
+    requires { seat.board ≡ board.now }
+    ensures { result.0.board ≡ board.now }
 {
-    let mut second = split_off(rt, board, seat);
-    let mut third = split_off(rt, board, seat);
-    let mut fourth = split_off(rt, board, seat);
-    let (first, last) = join_mut(
+    let mut seat = seat;
+    let (Ok(second), Ok(third), Ok(fourth)) = (
+        board.split(&mut seat),
+        board.split(&mut seat),
+        board.split(&mut seat),
+    ) else {
+        return (seat, NOTHING);
+    };
+    let ((seat, first), (third, last)) = join(
         rt,
-        &mut || -> Noted
-            requires { IsSync R.row × (seat.now.board ≡ board.now) × (second.board ≡ board.now) }
-            ensures { (seat.exit.now.board ≡ board.entry.now) × (second.exit.board ≡ board.entry.now) }
-        { claims_of_two(rt, board, seat, &mut second) },
-        &mut || -> Noted
+        move || -> (Seat, Noted)
+            requires { IsSync R.row × (seat.board ≡ board.now) × (second.board ≡ board.now) }
+            ensures { result.0.board ≡ board.entry.now }
+        { claims_of_two(rt, board, seat, second) },
+        move || -> (Seat, Noted)
             requires { IsSync R.row × (third.board ≡ board.now) × (fourth.board ≡ board.now) }
-            ensures { (third.exit.board ≡ board.entry.now) × (fourth.exit.board ≡ board.entry.now) }
-        { claims_of_two(rt, board, &mut third, &mut fourth) },
+            ensures { result.0.board ≡ board.entry.now }
+        { claims_of_two(rt, board, third, fourth) },
     );
-    board.join(seat, second);
-    board.join(seat, third);
-    board.join(seat, fourth);
-    let noted = both(first, last);
-    let all = (1u64 << 62) - 1;
-    noted.hopeful == all && noted.dual == all && noted.claims == 124
+    let mut seat = seat;
+    board.join(&mut seat, third);
+    (seat, both(first, last))
 }
 
 /// Whether a seat does so.
@@ -230,7 +239,6 @@ fn sits<R: Threads + Wait + Abort + Sync>(
     match sitting {
         Sitting::Lifts(answers) => lifts_answer(board, seat, answers),
         Sitting::Splits => splits_stop(board, seat),
-        Sitting::Four => claim_each_once(rt, board, seat),
     }
 }
 
@@ -249,6 +257,9 @@ pub(crate) fn seated<R: Threads + Wait + Abort + AllocGlobal + Sync>(
 
 #[test]
 fn four_seats_in_four_threads_claim_each_place_once(rt: HostRuntime) {
-    let harvest = seated(&rt, row_of(&rt, OPTIONS, 62, false), Sitting::Four);
-    let_go(harvest.again());
+    let (board, seat) = board_of(&rt, row_of(&rt, OPTIONS, 62, false));
+    let (seat, noted) = claims_of_four(&rt, &board, seat);
+    let all = (1u64 << 62) - 1;
+    assert!(rt; noted.hopeful == all && noted.dual == all && noted.claims == 124);
+    let_go(given(&rt, board.close(rt.alloc(), seat)).again());
 }

@@ -67,7 +67,7 @@ fn refuse_of<R: Wait>(
     diagram: &Arc<Diagram>,
     game: &Arc<GuardedGame>,
     parts: &mut Parts,
-) {
+) -> Option<()> {
     let mut calling = Calling {
         call: Call::NewNames,
         diagram,
@@ -77,9 +77,9 @@ fn refuse_of<R: Wait>(
     try_each(rt, heap, report, &mut calling, TEXTS);
     ask_guard(heap, report, diagram.names());
     try_each(rt, heap, report, &mut calling, DECIDED);
-    orders::ask(heap, report, game, diagram);
+    orders::ask(heap, report, game, diagram)?;
     try_each(rt, heap, report, &mut calling, TRAILS);
-    texts::refuse(heap, report, diagram, game);
+    texts::refuse(heap, report, diagram, game)
 }
 
 /// Makes each call with little memory.
@@ -87,8 +87,7 @@ fn refuse<R: Wait>(rt: &R, heap: &mut Heap, report: &mut Report) -> Option<()> {
     let diagram = diagram_of(heap.alloc())?;
     let game = game_of(heap.alloc(), &diagram)?;
     let mut parts = parts_of(heap.alloc(), &diagram, &game)?;
-    refuse_of(rt, heap, report, &diagram, &game, &mut parts);
-    Some(())
+    refuse_of(rt, heap, report, &diagram, &game, &mut parts)
 }
 
 /// Makes each call with little memory, and writes what came of each.

@@ -232,9 +232,9 @@ pub(crate) fn ask(
     report: &mut Report,
     game: &Arc<GuardedGame>,
     diagram: &Arc<Diagram>,
-) {
+) -> Option<()> {
     let mut is_back = true;
-    if let Ok(order) = made(heap.alloc(), game, diagram, &mut is_back) {
-        ask_order(heap, report, order);
-    }
+    let order = made(heap.alloc(), game, diagram, &mut is_back).ok()?;
+    ask_order(heap, report, order);
+    Some(())
 }

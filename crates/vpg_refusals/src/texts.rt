@@ -221,9 +221,10 @@ fn put_page(
     are_consistent(heap.alloc(), diagram, page).ok()?;
     let shape = Shape::of(heap.alloc(), game).ok()?;
     let dual = Shape::of_dual(heap.alloc(), game).ok()?;
-    if is_within(game, &shape, &page.hopeful) && is_within(game, &dual, &page.dual) {
-        put_each(heap, report, page, game, diagram);
+    if !is_within(game, &shape, &page.hopeful) || !is_within(game, &dual, &page.dual) {
+        return None;
     }
+    put_each(heap, report, page, game, diagram);
     Some(())
 }
 
@@ -256,8 +257,12 @@ fn page_of(alloc: Global) -> Result<Page, AllocError> {
 }
 
 /// Writes each text of a page of a game with little memory.
-pub(crate) fn refuse(heap: &mut Heap, report: &mut Report, diagram: &Diagram, game: &GuardedGame) {
-    if let Ok(page) = page_of(heap.alloc()) {
-        put_page(heap, report, &page, game, diagram);
-    }
+pub(crate) fn refuse(
+    heap: &mut Heap,
+    report: &mut Report,
+    diagram: &Diagram,
+    game: &GuardedGame,
+) -> Option<()> {
+    let page = page_of(heap.alloc()).ok()?;
+    put_page(heap, report, &page, game, diagram)
 }
