@@ -54,19 +54,22 @@ pub(crate) fn behind_line(
     let (behind, line) = match (without_label(words), start) {
         ([word, feature], _) if word.bytes == b"select".as_slice() => (
             Heard::Conflict,
-            why_line(alloc, b'+', feature.bytes)?,
+            why_line(alloc, b'+', feature.bytes),
         ),
         ([word, feature], _) if word.bytes == b"exclude".as_slice() => (
             Heard::Conflict,
-            why_line(alloc, b'-', feature.bytes)?,
+            why_line(alloc, b'-', feature.bytes),
         ),
         ([word, ..], Some(id)) if word.bytes == b"settle".as_slice() => (
             Heard::Swept,
-            vertex_line(alloc, b"show", id)?,
+            vertex_line(alloc, b"show", id),
         ),
         _ => return Ok(None),
     };
-    Ok(Some(Following { behind, line }))
+    match line {
+        Ok(line) => Ok(Some(Following { behind, line })),
+        Err(fault) => Err(fault),
+    }
 }
 
 /// The line that follows one of the session's own. It asks why the start is hopeless.

@@ -14,7 +14,12 @@ fn begins(line: &[u8]) -> bool {
 fn names(alloc: Global, line: &[u8], command: &[u8]) -> Result<bool, AllocError> {
     let written = line.get(..WRITTEN).unwrap_or(line);
     let words = words_of(alloc, written, false)?;
-    Ok(words.iter().any(|word| word.bytes == command))
+    for word in &words {
+        if word.bytes == command {
+            return Ok(true);
+        }
+    }
+    Ok(false)
 }
 
 /// Appends the lines of a list of commands that tell of one, and whether there are any.

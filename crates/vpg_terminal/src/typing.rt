@@ -72,13 +72,29 @@ fn as_typed(
 ) -> Result<Handed, AllocError>
     ensures { IfOk result (λ handed. handed.line.items ≡ line.now ++ 10 ∷ []) }
 {
-    let following = behind_line(alloc, words, start)?;
     let mut copy = Vec::from_slice(alloc, line)?;
     copy.push(b'\n')?;
-    Ok(Handed {
-        line: copy,
-        following,
-    })
+    match behind_line(alloc, words, start) {
+        Ok(following) => Ok(Handed {
+            line: copy,
+            following,
+        }),
+        Err(fault) => Err(fault),
+    }
+}
+
+/// Appends how commands are written.
+fn put_help(
+    alloc: Global,
+    commands: &str,
+    command: &[u8],
+    text: &mut Vec<u8>,
+) -> Result<(), AllocError> {
+    match put_command(alloc, commands, command, text) {
+        Ok(true) => Ok(()),
+        Ok(false) => text.extend_from_slice(UNKNOWN),
+        Err(fault) => Err(fault),
+    }
 }
 
 /// Says how commands are written.
@@ -89,12 +105,51 @@ fn tell_help<W: Sink>(
     talk: &mut W,
 ) -> Result<(), AllocError> {
     let mut text = Vec::new(alloc);
-    if !put_command(alloc, commands, command, &mut text)? {
-        text.extend_from_slice(UNKNOWN)?;
+    let put = put_help(alloc, commands, command, &mut text);
+    if put.is_ok() {
+        // Where this fails the answers are still to come.
+        let _ = talk.put(&text);
     }
-    // Where this fails the answers are still to come.
-    let _ = talk.put(&text);
-    Ok(())
+    put
+}
+
+/// What is handed on of a line that asks something of the session, which meets it.
+fn met<W: Sink>(
+    alloc: Global,
+    setting: Setting<'_>,
+    line: &[u8],
+    words: &[Word<'_>],
+    talk: &mut W,
+) -> Result<Handed, AllocError> {
+    match asked_of(words) {
+        Asked::Help => {
+            let _ = talk.put(setting.commands.as_bytes());
+            let _ = talk.put(b"\n");
+            nothing(alloc)
+        }
+        Asked::HelpOf(command) => match tell_help(alloc, setting.commands, command, talk) {
+            Ok(()) => nothing(alloc),
+            Err(fault) => Err(fault),
+        },
+        _ => as_typed(alloc, line, words, setting.start),
+    }
+}
+
+/// Meets words that were typed: what is handed on of their line, or `None` where the session ends.
+fn meet_words<W: Sink>(
+    alloc: Global,
+    setting: Setting<'_>,
+    line: &[u8],
+    words: &[Word<'_>],
+    talk: &mut W,
+) -> Result<Option<Handed>, AllocError> {
+    if let Asked::Quit = asked_of(words) {
+        return Ok(None);
+    }
+    match met(alloc, setting, line, words, talk) {
+        Ok(handed) => Ok(Some(handed)),
+        Err(fault) => Err(fault),
+    }
 }
 
 /// Meets a line that was typed: what is handed on of it, or `None` where the session ends.
@@ -104,32 +159,21 @@ fn meet<W: Sink>(
     line: &[u8],
     talk: &mut W,
 ) -> Result<Option<Handed>, AllocError> {
-    let words = words_of(alloc, line, false)?;
-    match asked_of(&words) {
-        Asked::Quit => return Ok(None),
-        Asked::Help => {
-            let _ = talk.put(setting.commands.as_bytes());
-            let _ = talk.put(b"\n");
-        }
-        Asked::HelpOf(command) => tell_help(alloc, setting.commands, command, talk)?,
-        Asked::Nothing => return Ok(Some(as_typed(alloc, line, &words, setting.start)?)),
+    match words_of(alloc, line, false) {
+        Ok(words) => meet_words(alloc, setting, line, &words, talk),
+        Err(fault) => Err(fault),
     }
-    Ok(Some(nothing(alloc)?))
 }
 
-/// Says why a line is no command.
-fn tell_fault<W: Sink>(
-    alloc: Global,
-    number: usize,
-    line: &[u8],
-    talk: &mut W,
-) -> Result<(), AllocError> {
+/// Says why a line is no command. Where this fails the answers are still to come.
+fn tell_fault<W: Sink>(alloc: Global, number: usize, line: &[u8], talk: &mut W) {
     let line = line.strip_suffix(b"\n").unwrap_or(line);
-    let message = explain_line(alloc, number, line)?;
-    let mut text = Vec::new(alloc);
-    put_message("line", &message, &mut text)?;
-    let _ = talk.put(&text);
-    Ok(())
+    if let Ok(message) = explain_line(alloc, number, line) {
+        let mut text = Vec::new(alloc);
+        if put_message("line", &message, &mut text).is_ok() {
+            let _ = talk.put(&text);
+        }
+    }
 }
 
 /// The name that a word says, which may have the sign of a decision before it, and where it stands.
@@ -143,29 +187,42 @@ fn name_in<'l>(word: Word<'l>) -> Word<'l> {
     }
 }
 
-/// Says of a line which feature was perhaps meant by its last word.
+/// Says which feature was perhaps meant by the last word of a line.
+fn tell_last<W: Sink>(
+    alloc: Global,
+    line: Line<'_>,
+    words: &[Word<'_>],
+    features: &Names,
+    talk: &mut W,
+) {
+    if let Some(last) = words.last() {
+        let name = name_in(*last);
+        let mut text = Vec::new(alloc);
+        if put_place("line", line.place(name.at), &mut text).is_ok()
+            && put_unknown(alloc, features, name.bytes, &mut text).is_ok()
+        {
+            let _ = talk.put(&text);
+        }
+    }
+}
+
+/// Says of a line which feature was perhaps meant by its last word. Where this fails the answers are still to come.
 fn tell_unknown<W: Sink>(
     alloc: Global,
     number: usize,
     line: &[u8],
     features: &Names,
     talk: &mut W,
-) -> Result<(), AllocError> {
+) {
     let bytes = line.strip_suffix(b"\n").unwrap_or(line);
-    let words = words_of(alloc, bytes, false)?;
-    if let Some(last) = words.last() {
-        let name = name_in(*last);
+    if let Ok(words) = words_of(alloc, bytes, false) {
         let line = Line {
             number,
             from: 0,
             bytes,
         };
-        let mut text = Vec::new(alloc);
-        put_place("line", line.place(name.at), &mut text)?;
-        put_unknown(alloc, features, name.bytes, &mut text)?;
-        let _ = talk.put(&text);
+        tell_last(alloc, line, &words, features, talk);
     }
-    Ok(())
 }
 
 /// What was typed so far, and what is handed on of it.
@@ -287,8 +344,7 @@ impl<'c, R: Source, W: Sink> Session<'c, R, W> {
 
     /// Says what is wrong with the line that was answered, where something is.
     fn explain(&mut self, heard: Heard) {
-        // Where this fails the answers are still to come.
-        let _ = match heard {
+        match heard {
             Heard::Fault => tell_fault(self.alloc, self.typed, &self.line, &mut self.talk),
             Heard::Unknown => tell_unknown(
                 self.alloc,
@@ -297,8 +353,8 @@ impl<'c, R: Source, W: Sink> Session<'c, R, W> {
                 self.setting.features,
                 &mut self.talk,
             ),
-            _ => Ok(()),
-        };
+            _ => {}
+        }
     }
 
     /// The next line, of the session itself or typed.
