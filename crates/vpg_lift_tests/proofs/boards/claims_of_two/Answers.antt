@@ -6,8 +6,8 @@ use Rattle.vpg_board.proofs.seat.Seat.TheSendSync as seat
 use Rattle.vpg_lift_tests.proofs.boards.claims_of_two.Goals as goal
 
 -- what each captured value may do stands beside the goal, since a search through all of it takes too many steps
-pub join_mut-requires-send-F : goal.join_mut-requires-send-F
-join_mut-requires-send-F g c κs within =
+pub join-one-requires-send-F : goal.join-one-requires-send-F
+join-one-requires-send-F g c κs within =
     let r : IsSync g.row.R = search rules parts 8 in
     let b = board_sync in
     let s = seat.the_send in
