@@ -10,6 +10,7 @@ use std::process::Abort;
 use std::sync::Wait;
 use std::test::*;
 use vpg_office::{Front, Office, Terms, TokensOut};
+use vpg_watch::Watch;
 
 /// Which of the two sessions makes a call.
 #[derive(Clone, Copy)]
@@ -177,6 +178,16 @@ fn end<L: Terms, R: Wait + Abort + AllocGlobal>(
     }
 }
 
+/// Whether a front has all calls, and a watch reads nothing.
+fn is_over<L: Terms>(
+    rt: &impl Abort,
+    front: &Front<L>,
+    watch: &mut Option<Watch<Front<L>>>,
+    calls: usize,
+) -> bool {
+    front.len() == calls && (watch.is_none() || told(rt, watch) == Answer::NoSheet)
+}
+
 /// Two sessions make a day's calls on an office, which is ended then: the front has all calls, and a watch reads
 /// nothing.
 pub fn spend<L: Terms, R: Wait + Abort + AllocGlobal>(rt: &R, office: Office<L>, day: Day)
@@ -190,11 +201,7 @@ pub fn spend<L: Terms, R: Wait + Abort + AllocGlobal>(rt: &R, office: Office<L>,
         second: Held::Nothing,
         third: Held::Nothing,
     };
-    assert!(rt;
-        (one.session.number(), two.session.number()) == (1, 2),
-        "{}",
-        day.name
-    );
+    assert!(rt; one.session.number() == 1 && two.session.number() == 2);
     carry_out(
         rt,
         &office,
@@ -221,6 +228,9 @@ pub fn spend<L: Terms, R: Wait + Abort + AllocGlobal>(rt: &R, office: Office<L>,
         day.steps,
     );
     end(rt, office, &mut one.front, tokens, day.closes);
-    assert!(rt; one.front.len() == day.calls, "{}", day.name);
-    assert!(rt; kept.watch.is_none() || told(rt, &mut kept.watch) == Answer::NoSheet);
+    assert!(rt;
+        is_over(rt, &one.front, &mut kept.watch, day.calls),
+        "{}",
+        day.name
+    );
 }

@@ -43,7 +43,6 @@ enum Task {
 }
 
 /// What sessions do at once on an office, each in a thread of its own.
-#[derive(Clone, Copy)]
 struct Rush {
     tasks: &'static [Task],
     /// What comes of them, or in the other order.
@@ -60,7 +59,7 @@ struct Rush {
 /// What is done on an office.
 #[derive(Clone, Copy)]
 enum Run {
-    AtOnce(Rush),
+    AtOnce(&'static Rush),
     /// A harvest comes after another session decided.
     Late,
 }
@@ -295,33 +294,55 @@ fn page_is<L: Terms, R: Wait + Abort + AllocGlobal>(
         && seat.front.len() == calls.saturating_add(1)
 }
 
-/// Sessions work at once: each call stands at a place of its own, behind those that its session made before.
-fn run_at_once<L: Terms + Send + Sync, R: Threads + Wait + Abort + AllocGlobal + Sync>(
+/// Sessions work at once: each call in rounds stands at a place of its own, behind those that its session made before.
+fn make_rush<L: Terms + Send + Sync, R: Threads + Wait + Abort + AllocGlobal + Sync>(
     rt: &R,
-    office: Office<L>,
-    rush: Rush,
-)
-    requires { length L.game.vertices ≡ 2 }
-{
-    may_be_shared(&office);
+    office: &Office<L>,
+    rush: &Rush,
+) {
+    may_be_shared(office);
     let shared = Shared {
         ended: AtomicU64::new(0),
         places: AtomicU64::new(0),
     };
-    let jobs = jobs_of(rt, &office, rush.tasks);
-    let answers = at_once(rt, &office, jobs, &shared);
-    assert!(rt; answers.as_slice() == rush.gives || answers.as_slice() == rush.or);
+    let jobs = jobs_of(rt, office, rush.tasks);
+    let answers = at_once(rt, office, jobs, &shared);
+    let found = answers.as_slice();
+    assert!(rt; found == rush.gives || found == rush.or);
     assert!(rt; shared.places.load(Ordering::SeqCst) == rush.sum);
+}
+
+/// Whether the log is as it has to be behind a rush.
+fn is_left<L: Terms, R: Wait + Abort + AllocGlobal>(
+    rt: &R,
+    office: &Office<L>,
+    seat: &mut Seat<L>,
+    rush: &Rush,
+) -> bool
+    requires { length L.game.vertices ≡ 2 }
+{
+    let mut kept = none_kept(seat);
+    seat.front.len() == rush.calls
+        && (!rush.is_empty || page_is(rt, office, seat, &mut kept, EMPTY))
+}
+
+/// Sessions work at once, and the office is closed then.
+fn run_at_once<L: Terms + Send + Sync, R: Threads + Wait + Abort + AllocGlobal + Sync>(
+    rt: &R,
+    office: Office<L>,
+    rush: &Rush,
+)
+    requires { length L.game.vertices ≡ 2 }
+{
+    make_rush(rt, &office, rush);
     let mut last = joined(rt, &office);
-    let mut kept = none_kept(&last);
-    assert!(rt; last.front.len() == rush.calls);
-    assert!(rt; !rush.is_empty || page_is(rt, &office, &mut last, &mut kept, EMPTY));
+    assert!(rt; is_left(rt, &office, &mut last, rush));
     close(rt, office, &mut last.front);
 }
 
 const EMPTY: &str = "0 decided / 0 0 / 0 0 / ";
 
-const TWO: Rush = Rush {
+const TWO: &Rush = &Rush {
     tasks: &[Task::Rounds(1, 100), Task::Rounds(2, 100)],
     gives: &[Answer::Done; 2],
     or: &[],
@@ -336,7 +357,7 @@ fn two_threads_decide_and_retract(rt: HostRuntime) -> Result<(), Fail> {
     Ok(())
 }
 
-const EIGHT: Rush = Rush {
+const EIGHT: &Rush = &Rush {
     tasks: &[
         Task::Rounds(1, 250),
         Task::Rounds(2, 250),
@@ -363,7 +384,7 @@ fn eight_threads_keep_order(rt: HostRuntime) -> Result<(), Fail> {
 const SECOND: Answer = Answer::NotDecided(DecideFault::AlreadyDecided { serial: 1 });
 
 /// Two sessions decide one feature, each its own way: one is the first, and the other is told so.
-const RACE: Rush = Rush {
+const RACE: &Rush = &Rush {
     tasks: &[Task::Decide(true), Task::Decide(false)],
     gives: &[Answer::Token(1), SECOND],
     or: &[SECOND, Answer::Token(1)],
@@ -383,7 +404,7 @@ fn two_threads_decide_one_feature(rt: HostRuntime) -> Result<(), Fail> {
 const LAST_SHEET: Answer = Answer::Sheet(1999, false);
 
 /// Eight watches read 1,000 changes and end with the last.
-const WATCHED: Rush = Rush {
+const WATCHED: &Rush = &Rush {
     tasks: &[
         Task::Read,
         Task::Read,
