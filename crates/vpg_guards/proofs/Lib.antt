@@ -1,4 +1,6 @@
 pub mod Views
+pub mod Same
+pub mod Turns
 pub mod Kleene
 pub mod Named
 pub mod Full

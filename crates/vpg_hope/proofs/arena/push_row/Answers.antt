@@ -1,3 +1,4 @@
+use Rattle.std.proofs.lemmas.Grind.{common_steps}
 use Rattle.std.proofs.Common.{List, All, length, length-append, sym, ap, subst, arith}
 use Rattle.vpg_guards.specs.Formula.{Formula, IsBelow}
 use Rattle.vpg_game.specs.Guarded.{GuardedEdge}
@@ -26,3 +27,15 @@ overflow_cast-result c =
       ap length c.edges.ensures.graph,
       c.requires.room,
     )
+
+pub returns-clause-row : goal.returns-clause-row
+returns-clause-row c = grind (arith, common_steps)
+
+pub returns-clause-own : goal.returns-clause-own
+returns-clause-own c = grind (arith, common_steps)
+
+pub priority-requires : goal.priority-requires
+priority-requires c = grind (arith, common_steps)
+
+pub edges-requires : goal.edges-requires
+edges-requires c = grind (arith, common_steps)

@@ -1,3 +1,4 @@
+use Rattle.std.proofs.lemmas.Grind.{common_steps}
 use Rattle.std.proofs.Common.{◌≡◌, ◌+◌, ◌<◌, ◌≤◌, false, length, refl, sym, ap, subst, ◌∙◌, arith}
 use Rattle.std.specs.Arc.{arc_slice_items}
 use Rattle.vpg_guards.proofs.Noted.{any_default}
@@ -85,3 +86,33 @@ returns-clause-second c =
     let past : length (graph_of c.args.game.now) ≤ c.loop-v.v = omega (arith, c.loop-v-test.false, c.vertices-v-end.ensures.graph) in
     draft_done c.args.second c.args.game.now two.rows.items (arc_slice_items two.shared) two.own.items (arc_slice_items c.loop-v.two.shared) c.loop-v.v c.loop-v.two.rows.items c.loop-v.two.own.items
     c.requires.second_held c.loop-v.invariant.second_shared past c.loop-v.invariant.two
+
+pub overflow_cast-v-then-marks-v-2 : goal.overflow_cast-v-then-marks-v-2
+overflow_cast-v-then-marks-v-2 c = grind (arith, common_steps)
+
+pub push_row-requires-then-marks-v-clause-vertex : goal.push_row-requires-then-marks-v-clause-vertex
+push_row-requires-then-marks-v-clause-vertex c = grind (arith, common_steps)
+
+pub push_row-requires-then-marks-v-clause-features : goal.push_row-requires-then-marks-v-clause-features
+push_row-requires-then-marks-v-clause-features c = grind (arith, common_steps)
+
+pub push_row-requires-then-marks-v-clause-game : goal.push_row-requires-then-marks-v-clause-game
+push_row-requires-then-marks-v-clause-game c = grind (arith, common_steps)
+
+pub index_mut-requires : goal.index_mut-requires
+index_mut-requires c = grind (arith, common_steps)
+
+pub overflow_cast-v-then-marks-v : goal.overflow_cast-v-then-marks-v
+overflow_cast-v-then-marks-v c = grind (arith, common_steps)
+
+pub push_row-requires-clause-vertex : goal.push_row-requires-clause-vertex
+push_row-requires-clause-vertex c = grind (arith, common_steps)
+
+pub push_row-requires-clause-features : goal.push_row-requires-clause-features
+push_row-requires-clause-features c = grind (arith, common_steps)
+
+pub push_row-requires-clause-game : goal.push_row-requires-clause-game
+push_row-requires-clause-game c = grind (arith, common_steps)
+
+pub bounds-marks-v : goal.bounds-marks-v
+bounds-marks-v c = grind (arith, common_steps)

@@ -1,3 +1,4 @@
+use Rattle.std.proofs.lemmas.Grind.{common_steps}
 use Rattle.std.proofs.Common.{arith, ◌∙◌}
 use Rattle.vpg_guards.specs.declared.tri.Tri.TheVariants.{Unknown}
 use Rattle.vpg_guards.proofs.Noted.{any_default}
@@ -16,3 +17,6 @@ loop-f-preserved c =
 
 pub returns-clause-still : goal.returns-clause-still
 returns-clause-still c = unmarked_still c.args.before.now c.args.now.now (graph_of c.args.game.now) c.loop-f.f c.loop-f.marks c.loop-f-test.false c.requires.same c.loop-f.invariant
+
+pub mark_changed-requires : goal.mark_changed-requires
+mark_changed-requires c = grind (arith, common_steps)

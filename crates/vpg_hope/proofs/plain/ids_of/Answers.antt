@@ -1,3 +1,4 @@
+use Rattle.std.proofs.lemmas.Grind.{common_steps}
 use Rattle.std.proofs.Common.{◌≤◌, length, ◌∙◌, arith}
 use Rattle.std.proofs.lemmas.List.{length-map, take_all}
 use Rattle.vpg_game.specs.Game.{NamedVertex, vertex_ids}
@@ -13,3 +14,6 @@ returns c =
     let vertices = c.args.game.now.vertices in
     let past : length (vertex_ids vertices) ≤ c.loop-v.v = omega (arith, c.loop-v-test.false, c.vertices-vertices.ensures.count, length-map vertices (λ (x : NamedVertex). x.id)) in
     c.loop-v.invariant ∙ take_all c.loop-v.v (vertex_ids vertices) past
+
+pub id-requires : goal.id-requires
+id-requires c = grind (arith, common_steps)

@@ -1,4 +1,5 @@
-use Rattle.std.proofs.Common.{rules}
+use Rattle.std.proofs.lemmas.Grind.{common_steps}
+use Rattle.std.proofs.Common.{rules, arith}
 use Rattle.std.proofs.lemmas.Result.{on_ok_weaker}
 use Rattle.vpg_partial.specs.Known.{IsClosed, literal_of}
 use Rattle.vpg_partial.specs.KnownTable.{literals_in}
@@ -39,3 +40,18 @@ returns-clause-contradiction c =
     λ e. contradicts_before all c.args.known.now c.add.new.known
     (grows_by all c.args.known.now c.add.new.known (literal_of c.args.decision) c.in_ok-add.ensures.ok (λ set h within. h.1))
     (contradicts_under closed all c.add.new.known (λ set h. h.0) (c.propagate.ensures.contradiction e))
+
+pub returns-then-is_err-clause-contradiction : goal.returns-then-is_err-clause-contradiction
+returns-then-is_err-clause-contradiction c = grind (arith, common_steps)
+
+pub propagate-requires-clause-counts : goal.propagate-requires-clause-counts
+propagate-requires-clause-counts c = grind (arith, common_steps)
+
+pub propagate-requires-clause-clauses : goal.propagate-requires-clause-clauses
+propagate-requires-clause-clauses c = grind (arith, common_steps)
+
+pub returns-clause-none_waits : goal.returns-clause-none_waits
+returns-clause-none_waits c = grind (arith, common_steps)
+
+pub propagate-requires-clause-index : goal.propagate-requires-clause-index
+propagate-requires-clause-index c = grind (arith, common_steps)

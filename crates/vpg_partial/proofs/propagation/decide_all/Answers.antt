@@ -1,3 +1,4 @@
+use Rattle.std.proofs.lemmas.Grind.{common_steps}
 use Rattle.std.proofs.Common.{◌≡◌, ℕ, ◌+◌, ◌<◌, List, map, take, length, Result, Err, Some, slice_get, slice_index_or, option_map, sym, ap, ◌∙◌, subst, arith}
 use Rattle.std.proofs.lemmas.List.{take_all, length-map}
 use Rattle.std.proofs.lemmas.Option.{slice_get-get_or, slice_get-map}
@@ -47,3 +48,18 @@ pub returns-clause-table : goal.returns-clause-table
 returns-clause-table c =
     subst (λ (ds : List Literal). IsClosedTable c.args.clauses.now c.args.counts.now ds (length c.args.known.now) c.loop-decision.known)
     (take_all c.loop-decision.decision-index (map literal_of c.args.decisions.now) (omega (arith, length-map c.args.decisions.now literal_of, c.loop-decision-test.false))) c.loop-decision.invariant
+
+pub decide-requires-clause-decision : goal.decide-requires-clause-decision
+decide-requires-clause-decision c = grind (arith, common_steps)
+
+pub decide-requires-clause-counts : goal.decide-requires-clause-counts
+decide-requires-clause-counts c = grind (arith, common_steps)
+
+pub decide-requires-clause-clauses : goal.decide-requires-clause-clauses
+decide-requires-clause-clauses c = grind (arith, common_steps)
+
+pub decide-requires-clause-closed : goal.decide-requires-clause-closed
+decide-requires-clause-closed c = grind (arith, common_steps)
+
+pub offset_bounds-decisions-decision-index : goal.offset_bounds-decisions-decision-index
+offset_bounds-decisions-decision-index c = grind (arith, common_steps)

@@ -1,4 +1,5 @@
-use Rattle.std.proofs.Common.{rules}
+use Rattle.std.proofs.lemmas.Grind.{common_steps}
+use Rattle.std.proofs.Common.{rules, arith}
 use Rattle.std.proofs.lemmas.Result.{err_from_is_err_and}
 use Rattle.vpg_partial.specs.Known.{IsClosed}
 use Rattle.vpg_partial.specs.declared.propagation.Stop.TheVariants.{Contradiction}
@@ -25,3 +26,15 @@ returns-in_err-visit_each-clause-contradiction c =
 pub returns-clause-closed : goal.returns-clause-closed
 returns-clause-closed c =
     closed_when_none_waits c.args.clauses.now c.args.counts.now c.loop-feature.known c.loop-feature.waiting.items (search rules) c.loop-feature.invariant.done
+
+pub visit_each-requires-clause-counts : goal.visit_each-requires-clause-counts
+visit_each-requires-clause-counts c = grind (arith, common_steps)
+
+pub visit_each-requires-clause-clauses : goal.visit_each-requires-clause-clauses
+visit_each-requires-clause-clauses c = grind (arith, common_steps)
+
+pub returns-clause-contradiction : goal.returns-clause-contradiction
+returns-clause-contradiction c = grind (arith, common_steps)
+
+pub loop-feature-smaller : goal.loop-feature-smaller
+loop-feature-smaller c = grind (arith, common_steps)

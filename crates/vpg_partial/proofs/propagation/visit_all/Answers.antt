@@ -1,3 +1,5 @@
+use Rattle.std.proofs.Common.{arith}
+use Rattle.std.proofs.lemmas.Grind.{common_steps}
 use Rattle.std.proofs.lemmas.Result.{err_from_is_err_and}
 use Rattle.vpg_partial.specs.Known.{IsClosed}
 use Rattle.vpg_partial.specs.declared.propagation.Stop.TheVariants.{Contradiction}
@@ -25,3 +27,15 @@ loop-number-preserved c =
 pub returns-clause-done : goal.returns-clause-done
 returns-clause-done c =
     all_done c.args.clauses.now c.args.counts.now c.loop-number.known c.loop-number.waiting.items c.loop-number.number c.loop-number-test.false c.loop-number.invariant.done
+
+pub loop-number-init : goal.loop-number-init
+loop-number-init c = grind (arith, common_steps)
+
+pub visit-requires-clause-counts : goal.visit-requires-clause-counts
+visit-requires-clause-counts c = grind (arith, common_steps)
+
+pub visit-requires-clause-clauses : goal.visit-requires-clause-clauses
+visit-requires-clause-clauses c = grind (arith, common_steps)
+
+pub returns-clause-contradiction : goal.returns-clause-contradiction
+returns-clause-contradiction c = grind (arith, common_steps)

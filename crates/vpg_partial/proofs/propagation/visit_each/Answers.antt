@@ -1,4 +1,5 @@
-use Rattle.std.proofs.Common.{ℕ, List, Contains, sym, subst}
+use Rattle.std.proofs.lemmas.Grind.{common_steps}
+use Rattle.std.proofs.Common.{ℕ, List, Contains, sym, subst, arith}
 use Rattle.std.proofs.lemmas.List.{take_all}
 use Rattle.std.proofs.lemmas.Result.{err_from_is_err_and}
 use Rattle.vpg_partial.specs.Known.{IsClosed}
@@ -27,3 +28,15 @@ loop-number-preserved c =
 pub returns-clause-done : goal.returns-clause-done
 returns-clause-done c =
     λ number h. c.loop-number.invariant.done number (subst (λ (xs : List ℕ). Contains xs number) (sym (take_all c.loop-number.number-index c.args.numbers.now c.loop-number-test.false)) h)
+
+pub loop-number-init : goal.loop-number-init
+loop-number-init c = grind (arith, common_steps)
+
+pub visit-requires-clause-counts : goal.visit-requires-clause-counts
+visit-requires-clause-counts c = grind (arith, common_steps)
+
+pub visit-requires-clause-clauses : goal.visit-requires-clause-clauses
+visit-requires-clause-clauses c = grind (arith, common_steps)
+
+pub returns-clause-contradiction : goal.returns-clause-contradiction
+returns-clause-contradiction c = grind (arith, common_steps)

@@ -1,4 +1,5 @@
-use Rattle.std.proofs.Common.{length, ◌-◌, refl}
+use Rattle.std.proofs.lemmas.Grind.{common_steps}
+use Rattle.std.proofs.Common.{length, ◌-◌, refl, arith}
 use Rattle.std.proofs.lemmas.Option.{slice_get_read}
 use Rattle.vpg_partial.proofs.RuleSteps.{missing_by_clause, mentioned_by_clause, closed_by_clause, missing_by_count, mentioned_by_count, closed_by_count, no_rule}
 use Rattle.vpg_partial.proofs.rules.missing_at.Goals as goal
@@ -42,3 +43,9 @@ returns-in-Some-get-clause-closed c =
 pub returns-in-None-get-clause-closed : goal.returns-in-None-get-clause-closed
 returns-in-None-get-clause-closed c =
     λ rule h. absurd (no_rule c.args.clauses.now c.args.counts.now c.args.number c.in-None.ensures.lookup.3 c.in-None-get.ensures.lookup.3 rule h)
+
+pub missing_at_count-requires : goal.missing_at_count-requires
+missing_at_count-requires c = grind (arith, common_steps)
+
+pub missing_at_clause-requires : goal.missing_at_clause-requires
+missing_at_clause-requires c = grind (arith, common_steps)

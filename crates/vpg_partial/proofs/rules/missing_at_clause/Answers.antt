@@ -1,4 +1,5 @@
-use Rattle.std.proofs.Common.{◌≢◌, false, List, IsTrue, All, get_or, slice_index_or, sym, ap, ◌∙◌, subst}
+use Rattle.std.proofs.lemmas.Grind.{common_steps}
+use Rattle.std.proofs.Common.{◌≢◌, false, List, IsTrue, All, get_or, slice_index_or, sym, ap, ◌∙◌, subst, arith}
 use Rattle.vpg_partial.specs.Known.{negation}
 use Rattle.vpg_partial.specs.KnownTable.{literals_in}
 use Rattle.vpg_diagram.specs.declared.clause.Literal.{Literal}
@@ -31,3 +32,6 @@ returns-else-others_false-clause-closed c =
     (sym (rw c.literals-literals.ensures at c.first_open.ensures) ∙ c.in-Some.is)
     (λ all. let t = c.others_false.ensures.1 (subst (λ (xs : List Literal). All (λ l. l ≢ c.in-Some.one → IsTrue (literals_in c.args.known.now (negation l))) xs) (sym c.literals-literals.ensures) all) in
     Rattle.std.proofs.lemmas.Bool.both_ways c.others_false.result c.if-others_false.false t)
+
+pub bounds-literals-0 : goal.bounds-literals-0
+bounds-literals-0 c = grind (arith, common_steps)

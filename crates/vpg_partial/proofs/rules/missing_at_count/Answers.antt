@@ -1,3 +1,4 @@
+use Rattle.std.proofs.lemmas.Grind.{common_steps}
 use Rattle.std.proofs.Common.{ℕ, ◌-◌, length, sym, ap, ◌∙◌, subst, arith}
 use Rattle.vpg_diagram.specs.Clauses.{feature_out}
 use Rattle.vpg_partial.specs.Propagation.{IsMissingAtCount}
@@ -42,3 +43,6 @@ returns-in-None-clause-closed c =
     (omega (arith, rw c.members-members.ensures at c.known_members-ins.ensures))
     (omega (arith, rw c.members-members.ensures at c.known_members-outs.ensures, ap length c.members-members.ensures))
     (sym (rw c.members-members.ensures at c.first_unknown.ensures) ∙ c.in-None.is)
+
+pub overflow_sub-most_out : goal.overflow_sub-most_out
+overflow_sub-most_out c = grind (arith, common_steps)

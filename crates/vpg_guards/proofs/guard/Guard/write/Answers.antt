@@ -1,4 +1,5 @@
-use Rattle.std.proofs.Common.{ℕ, List, ◌++◌, length, drop, sym, ap, subst, ◌∙◌}
+use Rattle.std.proofs.lemmas.Grind.{common_steps}
+use Rattle.std.proofs.Common.{ℕ, List, ◌++◌, length, drop, sym, ap, subst, ◌∙◌, arith}
 use Rattle.std.proofs.Math.Seq.{drop-append_seam}
 use Rattle.vpg_guards.specs.Grammar.{Spells}
 use Rattle.vpg_guards.specs.View.{formula_of}
@@ -13,3 +14,6 @@ returns-clause-again c readable =
     let old = c.args.out.now.items in
     let behind = ap (drop (length old)) (c.in_ok-extend_from_slice.ensures.items ∙ ap (λ (t : List ℕ). old ++ t) (c.deref.ensures.value ∙ c.in_ok-put.ensures ∙ ap (λ (t : List ℕ). t ++ guard_text names g) c.new-text.ensures.items)) ∙ drop-append_seam old _ in
     subst (λ (t : List ℕ). Spells names t g) (sym behind) (writings_spell_the_guard names g readable)
+
+pub returns-clause-ok : goal.returns-clause-ok
+returns-clause-ok c = grind (arith, common_steps)

@@ -1,4 +1,5 @@
-use Rattle.std.proofs.Common.{length, ap, ◌∙◌}
+use Rattle.std.proofs.lemmas.Grind.{common_steps}
+use Rattle.std.proofs.Common.{length, ap, ◌∙◌, arith}
 use Rattle.std.proofs.lemmas.Result.{IfOk-weaker}
 use Rattle.vpg_game.specs.Game.{graph_of}
 use Rattle.vpg_hope.proofs.Selected.{hopeful_is, hopeful_of_dual_is}
@@ -29,3 +30,15 @@ returns-clause-hopeful c = IfOk-weaker c.reselected.result _ _ (λ both is. is �
 
 pub returns-clause-dual : goal.returns-clause-dual
 returns-clause-dual c = IfOk-weaker c.reselected.result _ _ (λ both is. is ∙ hopeful_of_dual_is c.values-4.result c.args.known.now (graph_of c.args.game.now) c.values-4.ensures) c.reselected.ensures.second
+
+pub reselected-requires-clause-features : goal.reselected-requires-clause-features
+reselected-requires-clause-features c = grind (arith, common_steps)
+
+pub reselected-requires-clause-second_features : goal.reselected-requires-clause-second_features
+reselected-requires-clause-second_features c = grind (arith, common_steps)
+
+pub concerned-requires-clause-before : goal.concerned-requires-clause-before
+concerned-requires-clause-before c = grind (arith, common_steps)
+
+pub concerned-requires-clause-now : goal.concerned-requires-clause-now
+concerned-requires-clause-now c = grind (arith, common_steps)

@@ -1,3 +1,4 @@
+use Rattle.std.proofs.lemmas.Grind.{common_steps}
 use Rattle.std.proofs.Common.{◌≡◌, ℕ, [], ◌+◌, ◌<◌, ◌≤◌, false, List, ◌++◌, length, length-append, map, refl, ap, ◌∙◌, arith}
 use Rattle.std.proofs.lemmas.List.{length_push, take_all}
 use Rattle.std.proofs.lemmas.Result.{IfOk-weaker}
@@ -69,3 +70,39 @@ returns c =
     let past : length graph ≤ c.loop-v.v = omega (arith, c.loop-v-test.false, c.vertices-count.ensures.graph) in
     let made = c.loop-v.invariant.made ∙ ap (λ (xs : GuardedGame Formula). map (vertex_under c.args.selection) xs) (take_all c.loop-v.v graph past) in
     IfOk-weaker c.over.result _ _ (λ arena is. is ∙ made) c.over.ensures
+
+pub over-requires : goal.over-requires
+over-requires c = grind (arith, common_steps)
+
+pub push_held-requires-clause-count : goal.push_held-requires-clause-count
+push_held-requires-clause-count c = grind (arith, common_steps)
+
+pub priority-requires : goal.priority-requires
+priority-requires c = grind (arith, common_steps)
+
+pub owner-requires : goal.owner-requires
+owner-requires c = grind (arith, common_steps)
+
+pub push_held-requires-clause-vertex : goal.push_held-requires-clause-vertex
+push_held-requires-clause-vertex c = grind (arith, common_steps)
+
+pub push_held-requires-clause-features : goal.push_held-requires-clause-features
+push_held-requires-clause-features c = grind (arith, common_steps)
+
+pub bounds-marks-v : goal.bounds-marks-v
+bounds-marks-v c = grind (arith, common_steps)
+
+pub loop-v-init : goal.loop-v-init
+loop-v-init c = grind (arith, common_steps)
+
+pub returns-in_err-push : goal.returns-in_err-push
+returns-in_err-push c = grind (arith, common_steps)
+
+pub overflow_cast-v : goal.overflow_cast-v
+overflow_cast-v c = grind (arith, common_steps)
+
+pub overflow_cast-start : goal.overflow_cast-start
+overflow_cast-start c = grind (arith, common_steps)
+
+pub overflow_cast-v-end : goal.overflow_cast-v-end
+overflow_cast-v-end c = grind (arith, common_steps)

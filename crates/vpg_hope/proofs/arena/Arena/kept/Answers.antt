@@ -1,4 +1,5 @@
-use Rattle.std.proofs.Common.{◌≡◌, ℕ, ◌-◌, ◌<◌, length, drop, All, sym, ap, subst, ◌∙◌}
+use Rattle.std.proofs.lemmas.Grind.{common_steps}
+use Rattle.std.proofs.Common.{◌≡◌, ℕ, ◌-◌, ◌<◌, length, drop, All, sym, ap, subst, ◌∙◌, arith}
 use Rattle.std.proofs.lemmas.List.{length-map}
 use Rattle.std.proofs.lemmas.List.Elements.{All-take, All-drop}
 use Rattle.std.specs.Arc.{arc_slice_items}
@@ -17,3 +18,18 @@ returns-clause-closed c =
       | else-row w ↦ subst (All inside) (sym (ap (λ l. l.now) w.list-is ∙ w.deref-list-else-row.ensures.value)) (subst (λ (n : ℕ). All (λ w. w < n) (arc_slice_items a.shared)) same c.self.invariant.closed)
     ] in
     All-take inside (row.end - row.start) (drop row.start c.if-row.list.now) (All-drop inside row.start c.if-row.list.now closed)
+
+pub slice_bounds-result-end : goal.slice_bounds-result-end
+slice_bounds-result-end c = grind (arith, common_steps)
+
+pub slice_bounds-result-count : goal.slice_bounds-result-count
+slice_bounds-result-count c = grind (arith, common_steps)
+
+pub slice_bounds-result-start : goal.slice_bounds-result-start
+slice_bounds-result-start c = grind (arith, common_steps)
+
+pub returns-clause-kept : goal.returns-clause-kept
+returns-clause-kept c = grind (arith, common_steps)
+
+pub index-row-requires : goal.index-row-requires
+index-row-requires c = grind (arith, common_steps)

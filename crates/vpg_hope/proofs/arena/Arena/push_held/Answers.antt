@@ -1,3 +1,4 @@
+use Rattle.std.proofs.lemmas.Grind.{common_steps}
 use Rattle.std.proofs.Common.{List, All, sym, subst, arith}
 use Rattle.vpg_guards.specs.Formula.{Formula, IsBelow}
 use Rattle.vpg_game.specs.Guarded.{GuardedEdge}
@@ -13,3 +14,9 @@ push_kept-requires c =
 
 pub kept-requires : goal.kept-requires
 kept-requires c = omega (arith, c.requires.vertex, c.requires.count, same_count c.args.game.now)
+
+pub returns-then-is_marked : goal.returns-then-is_marked
+returns-then-is_marked c = grind (arith, common_steps)
+
+pub returns : goal.returns
+returns c = grind (arith, common_steps)

@@ -1,3 +1,4 @@
+use Rattle.std.proofs.lemmas.Grind.{common_steps}
 use Rattle.std.proofs.Common.{◌≤◌, length, ◌∙◌, arith}
 use Rattle.std.specs.Arc.{arc_slice_items}
 use Rattle.vpg_game.specs.Game.{graph_of}
@@ -42,3 +43,27 @@ replace_marked-requires-clause-second_features c = c.requires.second_features
 
 pub replace_marked-requires-clause-marks : goal.replace_marked-requires-clause-marks
 replace_marked-requires-clause-marks c = c.requires.marks
+
+pub gathered-requires-then-len-clause-marks : goal.gathered-requires-then-len-clause-marks
+gathered-requires-then-len-clause-marks c = grind (arith, common_steps)
+
+pub gathered-requires-then-len-clause-count : goal.gathered-requires-then-len-clause-count
+gathered-requires-then-len-clause-count c = grind (arith, common_steps)
+
+pub gathered-requires-clause-count : goal.gathered-requires-clause-count
+gathered-requires-clause-count c = grind (arith, common_steps)
+
+pub gathered-requires-clause-marks : goal.gathered-requires-clause-marks
+gathered-requires-clause-marks c = grind (arith, common_steps)
+
+pub gathered-requires-then-len-clause-held : goal.gathered-requires-then-len-clause-held
+gathered-requires-then-len-clause-held c = grind (arith, common_steps)
+
+pub gathered-requires-then-len-clause-features : goal.gathered-requires-then-len-clause-features
+gathered-requires-then-len-clause-features c = grind (arith, common_steps)
+
+pub returns-then-len-clause-second : goal.returns-then-len-clause-second
+returns-then-len-clause-second c = grind (arith, common_steps)
+
+pub gathered-requires-clause-held : goal.gathered-requires-clause-held
+gathered-requires-clause-held c = grind (arith, common_steps)

@@ -1,3 +1,4 @@
+use Rattle.std.proofs.lemmas.Grind.{common_steps}
 use Rattle.std.proofs.Common.{◌≡◌, ℕ, [], ◌+◌, ◌<◌, ◌≤◌, List, ◌++◌, length, length-append, map, refl, sym, ap, ap₂, ◌∙◌, subst, All, arith}
 use Rattle.std.proofs.lemmas.List.{length_push, take_all}
 use Rattle.std.proofs.lemmas.Result.{IfOk-weaker}
@@ -65,3 +66,21 @@ returns c =
     let past : length graph ≤ c.loop-v.v = omega (arith, c.loop-v-test.false, c.vertices-vertices.ensures.graph) in
     let made = c.loop-v.invariant.made ∙ ap (λ (xs : GuardedGame Formula). map (vertex_under c.args.selection) xs) (take_all c.loop-v.v graph past) in
     IfOk-weaker c.over.result _ _ (λ arena is. is ∙ made) c.over.ensures
+
+pub priority-requires : goal.priority-requires
+priority-requires c = grind (arith, common_steps)
+
+pub edges-requires : goal.edges-requires
+edges-requires c = grind (arith, common_steps)
+
+pub owner-owner-requires : goal.owner-owner-requires
+owner-owner-requires c = grind (arith, common_steps)
+
+pub loop-v-init : goal.loop-v-init
+loop-v-init c = grind (arith, common_steps)
+
+pub overflow_cast-start : goal.overflow_cast-start
+overflow_cast-start c = grind (arith, common_steps)
+
+pub overflow_cast-v-end : goal.overflow_cast-v-end
+overflow_cast-v-end c = grind (arith, common_steps)

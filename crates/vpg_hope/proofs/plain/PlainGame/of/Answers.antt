@@ -1,3 +1,4 @@
+use Rattle.std.proofs.lemmas.Grind.{common_steps}
 use Rattle.std.proofs.Common.{length, ap, arith}
 use Rattle.std.proofs.lemmas.List.{length-map}
 use Rattle.vpg_game.specs.Game.{NamedVertex, graph_of}
@@ -17,3 +18,6 @@ invariant_of-result c =
       length-map (graph_of game) (vertex_under (Product c.args.set)),
       ap length c.in_ok-arena.ensures,
     )
+
+pub returns : goal.returns
+returns c = grind (arith, common_steps)

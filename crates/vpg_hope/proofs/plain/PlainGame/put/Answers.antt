@@ -1,3 +1,4 @@
+use Rattle.std.proofs.lemmas.Grind.{common_steps}
 use Rattle.std.proofs.Common.{◌≡◌, ◌<◌, ◌≤◌, length, decimal, sym, ap, ◌∙◌, arith}
 use Rattle.vpg_game.specs.Game.{vertex_ids}
 use Rattle.vpg_game.specs.Writing.{greatest}
@@ -28,3 +29,6 @@ returns c =
 
 pub put_vertex-requires : goal.put_vertex-requires
 put_vertex-requires c = omega (arith, c.loop-v-test.true, c.vertices-v-end.ensures, ap (λ (p : IdentifiedGame). length p.game) c.self.view_is)
+
+pub loop-v-init : goal.loop-v-init
+loop-v-init c = grind (arith, common_steps)

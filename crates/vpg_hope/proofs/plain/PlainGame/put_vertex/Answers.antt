@@ -1,3 +1,4 @@
+use Rattle.std.proofs.lemmas.Grind.{common_steps}
 use Rattle.std.proofs.Common.{◌≡◌, ℕ, ◌<◌, List, length, get_or, decimal, sym, ap, ap₂, ◌∙◌, arith}
 use Rattle.std.proofs.lemmas.List.{get_or_read}
 use Rattle.vpg_game.specs.Writing.{owner_digit}
@@ -37,3 +38,6 @@ owner-requires c = omega (arith, c.requires, ap (λ (p : IdentifiedGame). length
 
 pub priority-requires : goal.priority-requires
 priority-requires c = omega (arith, c.requires, ap (λ (p : IdentifiedGame). length p.game) c.self.view_is)
+
+pub index-requires : goal.index-requires
+index-requires c = grind (arith, common_steps)

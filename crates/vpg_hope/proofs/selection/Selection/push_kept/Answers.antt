@@ -1,4 +1,5 @@
-use Rattle.std.proofs.Common.{ℕ, List, ◌++◌, sym, ap, subst, ◌∙◌}
+use Rattle.std.proofs.lemmas.Grind.{common_steps}
+use Rattle.std.proofs.Common.{ℕ, List, ◌++◌, sym, ap, subst, ◌∙◌, arith}
 use Rattle.std.proofs.lemmas.List.{take_all}
 use Rattle.vpg_guards.specs.Formula.{Formula, IsBelow}
 use Rattle.vpg_game.specs.Guarded.{GuardedEdge}
@@ -14,3 +15,6 @@ pub keeps-requires : goal.keeps-requires
 keeps-requires c =
     subst (λ (guard : Formula). IsBelow (features_under c.args.self) guard) (sym (c.guard.ensures ∙ ap (λ (edge : GuardedEdge Formula). edge.guard) c.edge-item.is))
     (c.requires c.loop-edge.edge-index c.edge-item.result c.loop-edge-test.true)
+
+pub loop-edge-preserved : goal.loop-edge-preserved
+loop-edge-preserved c = grind (arith, common_steps)

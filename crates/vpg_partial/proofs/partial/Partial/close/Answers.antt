@@ -1,3 +1,4 @@
+use Rattle.std.proofs.lemmas.Grind.{common_steps}
 use Rattle.std.proofs.Common.{◌≡◌, length, map, arith}
 use Rattle.std.proofs.lemmas.List.{with_items_is}
 use Rattle.std.proofs.lemmas.Result.{err_from_is_err_and}
@@ -42,3 +43,12 @@ returns-clause-known c =
 pub returns-clause-agrees : goal.returns-clause-agrees
 returns-clause-agrees c =
     λ features remaining. remaining_products_complete c.args.diagram.now.lines (map literal_of c.args.decisions.now) _ features c.features-features.ensures.diagram.diagram (returns-clause-known c) remaining
+
+pub decide_all-requires-clause-clauses : goal.decide_all-requires-clause-clauses
+decide_all-requires-clause-clauses c = grind (arith, common_steps)
+
+pub decide_all-requires-clause-counts : goal.decide_all-requires-clause-counts
+decide_all-requires-clause-counts c = grind (arith, common_steps)
+
+pub decide_all-requires-clause-nothing : goal.decide_all-requires-clause-nothing
+decide_all-requires-clause-nothing c = grind (arith, common_steps)
