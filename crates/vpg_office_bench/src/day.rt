@@ -91,8 +91,8 @@ fn settles_and_undoes<L: Terms, R: Wait>(
     if !is_read(seen, seat.front.len()) {
         return (held, Some(Stopped::Unseen));
     }
-    let (held, is_undone) = made(rt, alloc, office, seat, FEATURE, held, Call::Undo);
-    let stopped = if !is_undone {
+    let (held, _) = made(rt, alloc, office, seat, FEATURE, held, Call::Undo);
+    let stopped = if !is_undone(&held) {
         Some(Stopped::Refused)
     } else if !is_read(seen, seat.front.len()) {
         Some(Stopped::Unseen)
@@ -100,6 +100,11 @@ fn settles_and_undoes<L: Terms, R: Wait>(
         None
     };
     (held, stopped)
+}
+
+/// Whether a decision was taken back.
+fn is_undone<L: Terms>(held: &Held<L>) -> bool {
+    matches!(held, Held::Redo(_))
 }
 
 /// What came of the work of two.
@@ -130,7 +135,7 @@ fn work_of<L: Terms + Send + Sync, R: Threads + Wait + Sync>(
     } else {
         (held, Some(Stopped::Refused))
     };
-    (done_by_two(stopped, added, stopped.is_none()), held)
+    (done_by_two(stopped, added, is_undone(&held)), held)
 }
 
 /// Two sessions join and work, once the watcher has read what is said at the opening.

@@ -46,11 +46,20 @@ pub fn read_on<L: Terms, R: Wait>(
     unreachable!()
 }
 
-/// Puts the sheet that a watch reads behind the mutex, if there is a watch.
-pub fn show<L: Terms, R: Wait>(rt: &R, watch: &mut Option<Watch<Front<L>>>, shown: &Shown<L>) {
-    if let Some(watch) = watch {
-        if let Ok(sheet) = read(watch) {
-            *shown.lock(rt) = Some(sheet);
-        }
+/// Puts the sheet that a watch reads behind the mutex, if there is a watch. Whether no sheet was lacking.
+pub fn show<L: Terms, R: Wait>(
+    rt: &R,
+    watch: &mut Option<Watch<Front<L>>>,
+    shown: &Shown<L>,
+) -> bool {
+    match watch {
+        Some(watch) => match read(watch) {
+            Ok(sheet) => {
+                *shown.lock(rt) = Some(sheet);
+                true
+            }
+            Err(_) => false,
+        },
+        None => true,
     }
 }

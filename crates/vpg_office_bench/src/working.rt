@@ -156,10 +156,9 @@ pub enum Part {
     Idle,
 }
 
-/// A session at work.
+/// A job. Whoever makes calls joins in its thread.
 #[derive(Drop)]
 pub struct Job<L: Terms> {
-    seat: Seat<L>,
     watch: Option<Watch<Front<L>>>,
     part: Part,
     places: Places,
@@ -174,6 +173,7 @@ fn round<L: Terms, R: Wait>(
     rt: &R,
     alloc: Global,
     office: &Office<L>,
+    seat: &mut Seat<L>,
     job: &mut Job<L>,
     calls: &[Call],
     feature: u16,
@@ -181,7 +181,6 @@ fn round<L: Terms, R: Wait>(
 ) {
     let mut held = Held::Nothing;
     for call in calls {
-        let seat = &mut job.seat;
         held = match call {
             Call::Show => {
                 show(rt, &mut job.watch, shown);
@@ -200,30 +199,30 @@ fn round<L: Terms, R: Wait>(
             }
         };
     }
-    spend(rt, office, &mut job.seat, held);
+    spend(rt, office, seat, held);
 }
 
-/// So many rounds, unless a call is refused. Then it is told that they have ended. The sheet that a watch reads before
-/// them is put behind the mutex.
+/// So many rounds, unless a call is refused, on this feature or that of the session's number.
 fn rounds<L: Terms, R: Wait>(
     rt: &R,
     alloc: Global,
     office: &Office<L>,
+    seat: &mut Seat<L>,
     job: &mut Job<L>,
     calls: &[Call],
-    feature: u16,
+    feature: Option<u16>,
     count: u32,
     shown: &Shown<L>,
 ) {
-    show(rt, &mut job.watch, shown);
+    let feature = feature.unwrap_or(seat.session.number() as u16);
     for _ in 0..count {
         if job.is_done {
-            round(rt, alloc, office, job, calls, feature, shown);
+            round(rt, alloc, office, seat, job, calls, feature, shown);
         }
     }
 }
 
-/// Does a job.
+/// Does a job. Whoever makes calls joins here, beside the others, and tells that the calls have ended.
 fn work<L: Terms, R: Wait>(
     rt: &R,
     alloc: Global,
@@ -238,8 +237,14 @@ fn work<L: Terms, R: Wait>(
             feature,
             rounds: count,
         } => {
-            let feature = feature.unwrap_or(job.seat.session.number() as u16);
-            rounds(rt, alloc, office, job, calls, feature, count, shown);
+            match joined(rt, office) {
+                Some(mut seat) => {
+                    rounds(
+                        rt, alloc, office, &mut seat, job, calls, feature, count, shown,
+                    )
+                }
+                None => job.is_done = false,
+            }
             ended.store(1, Ordering::SeqCst);
         }
         Part::Read | Part::Look => job.reads = read_on(rt, &mut job.watch, shown, ended),
@@ -267,7 +272,8 @@ fn at_once<L: Terms + Send + Sync, R: Threads + Wait + Sync>(
     );
 }
 
-/// Adds a session with a job, and with a watch where it needs one. Whether all was had.
+/// Adds a job, with a watch where it needs one. The sheet that the watch of whoever makes calls reads now is put behind
+/// the mutex. Whether all was had.
 fn add_job<L: Terms, R: Wait>(
     rt: &R,
     alloc: Global,
@@ -275,31 +281,27 @@ fn add_job<L: Terms, R: Wait>(
     jobs: &mut Vec<Job<L>>,
     part: Part,
     needs_watch: bool,
+    shown: &Shown<L>,
 ) -> bool {
-    let watch = if needs_watch {
+    let mut watch = if needs_watch {
         office.watch(rt, alloc).ok()
     } else {
         None
     };
     let is_watching = watch.is_some();
-    match joined(rt, office) {
-        Some(seat) => {
-            let job = Job {
-                seat,
-                watch,
-                part,
-                places: Places {
-                    last: 0,
-                    sum: 0,
-                    in_order: true,
-                },
-                reads: 0,
-                is_done: true,
-            };
-            jobs.push(job).is_ok() && is_watching == needs_watch
-        }
-        None => false,
-    }
+    let is_shown = !matches!(part, Part::Call { .. }) || show(rt, &mut watch, shown);
+    let job = Job {
+        watch,
+        part,
+        places: Places {
+            last: 0,
+            sum: 0,
+            in_order: true,
+        },
+        reads: 0,
+        is_done: true,
+    };
+    jobs.push(job).is_ok() && is_watching == needs_watch && is_shown
 }
 
 /// A round of four calls, and a change with its undo: three calls.
@@ -376,13 +378,14 @@ fn plan_of(task: Task) -> Plan {
     }
 }
 
-/// Adds a session for each of a plan, unless something is lacking. Whether nothing is.
+/// Adds a job for each of a plan, unless something is lacking. Whether nothing is.
 fn add_jobs<L: Terms, R: Wait>(
     rt: &R,
     alloc: Global,
     office: &Office<L>,
     plan: Plan,
     jobs: &mut Vec<Job<L>>,
+    shown: &Shown<L>,
 ) -> bool {
     for k in 0..plan.readers.saturating_add(plan.callers) {
         let (part, needs_watch) = if k < plan.readers {
@@ -390,7 +393,7 @@ fn add_jobs<L: Terms, R: Wait>(
         } else {
             (plan.caller, plan.shows)
         };
-        if !add_job(rt, alloc, office, jobs, part, needs_watch) {
+        if !add_job(rt, alloc, office, jobs, part, needs_watch, shown) {
             return false;
         }
     }
@@ -430,9 +433,10 @@ pub fn work_at_once<L: Terms + Send + Sync, R: Threads + Wait + Sync>(
     task: Task,
 ) -> Option<Done> {
     let mut jobs = Vec::new(alloc);
-    let is_ready = add_jobs(rt, alloc, office, plan_of(task), &mut jobs);
+    let shown = Mutex::new(None);
+    let is_ready = add_jobs(rt, alloc, office, plan_of(task), &mut jobs, &shown);
     if is_ready {
-        at_once(rt, alloc, office, jobs.as_mut_slice(), &Mutex::new(None));
+        at_once(rt, alloc, office, jobs.as_mut_slice(), &shown);
     }
     match joined(rt, office) {
         Some(last) if is_ready => done_by(jobs.as_slice(), task, last.front.len()),

@@ -100,7 +100,7 @@ pub enum Call {
     EarlyCalls,
     /// How many calls the front of a further session has.
     Join,
-    /// How many calls the front has once it met that of a further session.
+    /// How many calls the front has once it met that of the other session.
     Meet,
     /// Whether all further sessions are numbered from 3, and the 1,025th alone is refused.
     JoinAll,
@@ -326,6 +326,18 @@ fn join_all<L: Terms, R: Wait + Abort>(rt: &R, office: &Office<L>) -> bool {
     office.join(rt).is_err()
 }
 
+/// How many calls a front has once it met another.
+pub fn met<L: Terms, R: Wait>(
+    rt: &R,
+    office: &Office<L>,
+    front: &mut Front<L>,
+    other: &Front<L>,
+) -> Answer {
+    office.meet(rt, front, other);
+    front.headline();
+    Answer::Has(front.len())
+}
+
 /// Makes a call that is not logged.
 fn looked<L: Terms, R: Wait + Abort + AllocGlobal>(
     rt: &R,
@@ -344,11 +356,6 @@ fn looked<L: Terms, R: Wait + Abort + AllocGlobal>(
         Call::Calls => Answer::Has(seat.front.len()),
         Call::EarlyCalls => Answer::Has(kept.early.len()),
         Call::Join => Answer::Has(joined(rt, office).front.len()),
-        Call::Meet => {
-            office.meet(rt, &mut seat.front, &joined(rt, office).front);
-            seat.front.headline();
-            Answer::Has(seat.front.len())
-        }
         Call::JoinAll => Answer::Is(join_all(rt, office)),
         Call::WatchAll => Answer::Is(are_all(rt, office)),
         _ => panic!(rt; "no such call"),

@@ -2,7 +2,7 @@
 ghost use Rattle.std.specs.Prelude.{◌≡◌, length};
 
 use crate::calls::{
-    Answer, At, Call, Held, Kept, Seat, asked, is_nothing, joined, made, none_kept, serial_of,
+    Answer, At, Call, Held, Kept, Seat, asked, is_nothing, joined, made, met, none_kept, serial_of,
 };
 use crate::watchers::told;
 use std::mem;
@@ -65,11 +65,12 @@ fn place_of(call: Call) -> Option<At> {
     }
 }
 
-/// Makes a call: what it gave. A token that is held before it and after it has one serial.
+/// Makes a call: what it gave. Behind an undo or a redo a token of the same serial is held, also where it is refused.
 fn answered<L: Terms, R: Wait + Abort + AllocGlobal>(
     rt: &R,
     office: &Office<L>,
     seat: &mut Seat<L>,
+    other: &Front<L>,
     kept: &mut Kept<L>,
     tokens: &mut Tokens<L>,
     call: Call,
@@ -77,14 +78,17 @@ fn answered<L: Terms, R: Wait + Abort + AllocGlobal>(
     requires { length L.game.vertices ≡ 2 }
 {
     let Some(at) = place_of(call) else {
-        return asked(rt, office, seat, kept, call);
+        return match call {
+            Call::Meet => met(rt, office, &mut seat.front, other),
+            _ => asked(rt, office, seat, kept, call),
+        };
     };
     let held = tokens.at(at);
     let token = mem::replace(held, Held::Nothing);
     let before = serial_of(&token);
     let (token, answer) = made(rt, office, seat, token, call);
     let now = serial_of(&token);
-    assert!(rt; before == 0 || now == 0 || now == before);
+    assert!(rt; now == before || !matches!(call, Call::Undo(_) | Call::Redo(_)));
     is_nothing(rt, mem::replace(held, token));
     answer
 }
@@ -105,15 +109,15 @@ fn carry_out<L: Terms, R: Wait + Abort + AllocGlobal>(
     for k in 0..steps.len() {
         let (by, call, gives) = steps[k];
         let answer = match by {
-            By::One => answered(rt, office, one, kept, tokens, call),
-            By::Two => answered(rt, office, two, kept, tokens, call),
+            By::One => answered(rt, office, one, &two.front, kept, tokens, call),
+            By::Two => answered(rt, office, two, &one.front, kept, tokens, call),
         };
         assert!(rt; answer == gives, "{name}, step {k}");
     }
 }
 
 /// The office, which can't be closed since one token is out.
-fn still_open<L: Terms, R: Wait + Abort>(
+fn refused<L: Terms, R: Wait + Abort>(
     rt: &R,
     office: Office<L>,
     front: &mut Front<L>,
@@ -125,6 +129,16 @@ fn still_open<L: Terms, R: Wait + Abort>(
             office
         }
     }
+}
+
+/// The office, which can't be closed, whether a front of no calls is lent or one of all.
+fn still_open<L: Terms, R: Wait + Abort>(
+    rt: &R,
+    office: Office<L>,
+    early: &mut Front<L>,
+    front: &mut Front<L>,
+) -> Office<L> {
+    refused(rt, refused(rt, office, early), front)
 }
 
 /// Ends an office with no token out.
@@ -155,11 +169,13 @@ fn end_with<L: Terms, R: Wait + Abort + AllocGlobal>(
     assert!(rt; further == 0);
 }
 
-/// Ends a day: no token is held but the first, and that alone where the office isn't closed.
+/// Ends a day: no token is held but the first, and that alone where the office isn't closed. Then the front of the
+/// second session is lent, else that of the first.
 fn end<L: Terms, R: Wait + Abort + AllocGlobal>(
     rt: &R,
     office: Office<L>,
-    front: &mut Front<L>,
+    one: &mut Front<L>,
+    two: &mut Front<L>,
     tokens: Tokens<L>,
     closes: bool,
 ) {
@@ -172,20 +188,22 @@ fn end<L: Terms, R: Wait + Abort + AllocGlobal>(
     is_nothing(rt, third);
     if closes {
         is_nothing(rt, first);
-        close(rt, office, front);
+        close(rt, office, one);
     } else {
-        end_with(rt, office, front, first);
+        end_with(rt, office, two, first);
     }
 }
 
-/// Whether a front has all calls, and a watch reads nothing.
+/// Whether the front that was lent as a day ended has all calls, and a watch reads nothing.
 fn is_over<L: Terms>(
     rt: &impl Abort,
-    front: &Front<L>,
+    one: &Front<L>,
+    two: &Front<L>,
     watch: &mut Option<Watch<Front<L>>>,
-    calls: usize,
+    day: Day,
 ) -> bool {
-    front.len() == calls && (watch.is_none() || told(rt, watch) == Answer::NoSheet)
+    let front = if day.closes { one } else { two };
+    front.len() == day.calls && (watch.is_none() || told(rt, watch) == Answer::NoSheet)
 }
 
 /// Two sessions make a day's calls on an office, which is ended then: the front has all calls, and a watch reads
@@ -215,7 +233,7 @@ pub fn spend<L: Terms, R: Wait + Abort + AllocGlobal>(rt: &R, office: Office<L>,
     let office = if day.before.is_empty() {
         office
     } else {
-        still_open(rt, office, &mut kept.early)
+        still_open(rt, office, &mut kept.early, &mut one.front)
     };
     carry_out(
         rt,
@@ -227,9 +245,16 @@ pub fn spend<L: Terms, R: Wait + Abort + AllocGlobal>(rt: &R, office: Office<L>,
         day.name,
         day.steps,
     );
-    end(rt, office, &mut one.front, tokens, day.closes);
+    end(
+        rt,
+        office,
+        &mut one.front,
+        &mut two.front,
+        tokens,
+        day.closes,
+    );
     assert!(rt;
-        is_over(rt, &one.front, &mut kept.watch, day.calls),
+        is_over(rt, &one.front, &two.front, &mut kept.watch, day),
         "{}",
         day.name
     );

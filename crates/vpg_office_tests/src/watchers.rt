@@ -189,7 +189,7 @@ fn a_watch_sees_changes_alone(rt: HostRuntime) -> Result<(), Fail> {
     Ok(())
 }
 
-/// Once an office is closed or has ended there is no sheet.
+/// Once an office is closed or has ended there is no sheet. There are 64 watches and no more, until they are let go.
 const ENDS: &[Day] = &[
     Day {
         name: "a watch ends as the office is closed",
