@@ -534,7 +534,6 @@ pub(crate) fn part_certificate(
     shape: &Shape,
     dual_shape: &Shape,
     arena: &Arena,
-    ground: &GuessGround,
     moving: &[u32],
     table: &Table,
     budget: &mut Budget,
@@ -545,7 +544,7 @@ pub(crate) fn part_certificate(
     ensures ranks { IfOk result
         (λ found. IfSome found (λ certificate. IsTableOf dual_shape.now arena.now certificate.ranks)) }
 {
-    let part = Part::of(alloc, ground, table.values(), moving)?;
+    let part = Part::of(alloc, shape, dual_shape, arena, table.values(), moving)?;
     certificate_of_part(alloc, shape, dual_shape, arena, &part, table, budget)
 }
 

@@ -4,10 +4,33 @@ use std::alloc::{AllocError, Global};
 use vpg_game::Player;
 use vpg_hope::Arena;
 use vpg_measure::Shape;
-use vpg_regions::{Graph, PerVertex};
+use vpg_regions::{Graph, PerVertex, Predecessors};
 
 /// A part with less than one in so many of the vertices is small.
 const SMALL_PART: usize = 4;
+
+/// What lifts go by: who moves to each vertex, and how measures grow for Even.
+#[derive(Clone, Copy)]
+pub(crate) struct LiftGround<'a> {
+    pub(crate) predecessors: &'a Predecessors,
+    pub(crate) even: &'a Scale,
+}
+
+impl LiftGround<'_> {
+    pub(crate) fn vertices(self) -> u32 {
+        self.predecessors.vertices()
+    }
+
+    /// So many looks at each edge and vertex.
+    pub(crate) fn looks(self, each: u64) -> u64 {
+        self.predecessors.size().saturating_mul(each)
+    }
+
+    /// Whether so many vertices are a small part of all.
+    pub(crate) fn is_small_part(self, count: usize) -> bool {
+        count < self.vertices() as usize / SMALL_PART
+    }
+}
 
 /// A graph, and how measures grow along its edges for either player.
 pub(crate) struct GuessGround {
@@ -35,19 +58,29 @@ impl GuessGround {
         arena: &Arena,
     ) -> Result<GuessGround, AllocError> {
         let even = Scale::of(alloc, arena, shape, Player::Even)?;
-        GuessGround::over(alloc, dual_shape, arena, even)
+        let predecessors = Predecessors::of(alloc, arena)?;
+        GuessGround::over(alloc, dual_shape, arena, even, predecessors)
     }
 
-    /// The same, with this scale for Even.
+    /// The same, with this scale for Even and these predecessors.
     pub(crate) fn over(
         alloc: Global,
         dual_shape: &Shape,
         arena: &Arena,
         even: Scale,
+        predecessors: Predecessors,
     ) -> Result<GuessGround, AllocError> {
         let odd = Scale::of(alloc, arena, dual_shape, Player::Odd)?;
-        let graph = Graph::of(alloc, arena)?;
+        let graph = Graph::over(alloc, arena, predecessors)?;
         Ok(GuessGround { graph, even, odd })
+    }
+
+    /// What lifts go by.
+    pub(crate) fn lifts(&self) -> LiftGround<'_> {
+        LiftGround {
+            predecessors: self.graph.moves_back(),
+            even: &self.even,
+        }
     }
 
     /// The vertices that stand at the top.
@@ -59,16 +92,6 @@ impl GuessGround {
             }
         }
         Ok(lost)
-    }
-
-    /// So many looks at each edge and vertex.
-    pub(crate) fn looks(&self, each: u64) -> u64 {
-        self.graph.size().saturating_mul(each)
-    }
-
-    /// Whether so many vertices are a small part of all.
-    pub(crate) fn is_small_part(&self, count: usize) -> bool {
-        count < self.graph.vertices() as usize / SMALL_PART
     }
 
     /// Whether a table has these values, or greater ones.
@@ -108,5 +131,32 @@ pub(crate) fn value_in(table: &[u64], v: u32) -> u64 {
     match table.get(v as usize) {
         Some(value) => *value,
         None => 0,
+    }
+}
+
+/// A vertex's priority in an arena.
+pub(crate) fn priority_in(arena: &Arena, v: u32) -> u32 {
+    if v < arena.vertices() {
+        arena.priority(v)
+    } else {
+        0
+    }
+}
+
+/// A vertex's owner in an arena.
+pub(crate) fn owner_in(arena: &Arena, v: u32) -> Player {
+    if v < arena.vertices() {
+        arena.owner(v)
+    } else {
+        Player::Even
+    }
+}
+
+/// Where a vertex's moves lead in an arena.
+pub(crate) fn kept_in(arena: &Arena, v: u32) -> &[u32] {
+    if v < arena.vertices() {
+        arena.kept(v)
+    } else {
+        &[]
     }
 }

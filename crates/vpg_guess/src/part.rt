@@ -1,7 +1,11 @@
 //! The part of a game that moves, under numbers of its own: all else is taken to keep its value.
-use crate::ground::{GuessGround, value_in};
+use crate::ground::{GuessGround, kept_in, owner_in, priority_in, value_in};
 use crate::improve::{Guess, guess_table};
+use crate::scale::Scale;
 use std::alloc::{AllocError, Global};
+use vpg_game::Player;
+use vpg_hope::Arena;
+use vpg_measure::Shape;
 use vpg_regions::{Budget, Choices, Draft, Graph, solve_part};
 
 /// Vertices that move, and behind them the others that they move to, which have no moves here.
@@ -95,11 +99,11 @@ impl Numbered {
 }
 
 // The moving vertices first, and then those that they move to.
-fn number(alloc: Global, ground: &GuessGround, moving: &[u32]) -> Result<Numbered, AllocError> {
-    let mut numbered = Numbered::new(alloc, ground.graph.vertices())?;
+fn number(alloc: Global, arena: &Arena, moving: &[u32]) -> Result<Numbered, AllocError> {
+    let mut numbered = Numbered::new(alloc, arena.vertices())?;
     numbered.add(moving)?;
     for v in moving {
-        numbered.add(ground.graph.successors(*v))?;
+        numbered.add(kept_in(arena, *v))?;
     }
     Ok(numbered)
 }
@@ -107,17 +111,17 @@ fn number(alloc: Global, ground: &GuessGround, moving: &[u32]) -> Result<Numbere
 // The game of a part: the vertices behind those that move have no edges.
 fn graph_of(
     alloc: Global,
-    ground: &GuessGround,
+    arena: &Arena,
     numbered: &Numbered,
     moving: usize,
 ) -> Result<Graph, AllocError> {
     let mut draft = Draft::new(alloc);
-    write_down(ground, numbered, moving, &mut draft)?;
-    draft.as_written(alloc)
+    write_down(arena, numbered, moving, &mut draft)?;
+    draft.finish(alloc)
 }
 
 fn write_down(
-    ground: &GuessGround,
+    arena: &Arena,
     numbered: &Numbered,
     moving: usize,
     draft: &mut Draft,
@@ -125,21 +129,21 @@ fn write_down(
     for at in 0..numbered.vertices.len() {
         if let Some(v) = numbered.vertices.get(at) {
             if at < moving {
-                add_edges(ground, numbered, draft, *v)?;
+                add_edges(arena, numbered, draft, *v)?;
             }
-            draft.vertex(ground.graph.owner(*v), ground.graph.priority(*v))?;
+            draft.vertex(owner_in(arena, *v), priority_in(arena, *v))?;
         }
     }
     Ok(())
 }
 
 fn add_edges(
-    ground: &GuessGround,
+    arena: &Arena,
     numbered: &Numbered,
     draft: &mut Draft,
     v: u32,
 ) -> Result<(), AllocError> {
-    for w in ground.graph.successors(v) {
+    for w in kept_in(arena, v) {
         draft.edge(numbered.places.get(*w).unwrap_or(0))?;
     }
     Ok(())
@@ -148,13 +152,15 @@ fn add_edges(
 // The ground of a part.
 fn ground_of(
     alloc: Global,
-    ground: &GuessGround,
+    shape: &Shape,
+    dual_shape: &Shape,
+    arena: &Arena,
     numbered: &Numbered,
     moving: usize,
 ) -> Result<GuessGround, AllocError> {
-    let even = ground.even.at(alloc, &numbered.vertices)?;
-    let odd = ground.odd.at(alloc, &numbered.vertices)?;
-    let graph = graph_of(alloc, ground, numbered, moving)?;
+    let even = Scale::of_part(alloc, arena, shape, Player::Even, &numbered.vertices)?;
+    let odd = Scale::of_part(alloc, arena, dual_shape, Player::Odd, &numbered.vertices)?;
+    let graph = graph_of(alloc, arena, numbered, moving)?;
     Ok(GuessGround { graph, even, odd })
 }
 
@@ -162,14 +168,16 @@ impl Part {
     /// The part of these vertices, each of which stands there once.
     pub(crate) fn of(
         alloc: Global,
-        ground: &GuessGround,
+        shape: &Shape,
+        dual_shape: &Shape,
+        arena: &Arena,
         table: &[u64],
         moving: &[u32],
     ) -> Result<Part, AllocError> {
-        let numbered = number(alloc, ground, moving)?;
+        let numbered = number(alloc, arena, moving)?;
         let values = numbered.values(alloc, table)?;
         let own = numbered.places_of(alloc, moving)?;
-        let ground = ground_of(alloc, ground, &numbered, moving.len())?;
+        let ground = ground_of(alloc, shape, dual_shape, arena, &numbered, moving.len())?;
         Ok(Part {
             ground,
             table: values,

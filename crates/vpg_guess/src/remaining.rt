@@ -1,20 +1,15 @@
-//! Lifts of what remains: each vertex of which a successor rose, in the order of the vertices where they are many, and
-//! else first come, first served.
+//! Lifts of what remains: each vertex of which a successor rose, round after round in the order of the vertices.
 ghost use Rattle.std.specs.Prelude.{◌≡◌, IsTrue};
 ghost use Rattle.vpg_guess.specs.Kept.{IsRaisedFrom};
 ghost use Rattle.vpg_measure.specs.Lifts.{IsTableOf, IsProgressTable, after_rounds};
 
-use crate::ground::{GuessGround, value_in};
+use crate::ground::{LiftGround, kept_in, value_in};
 use crate::scale::Scale;
 use std::alloc::{AllocError, Global};
-use std::collections::VecDeque;
 use vpg_hope::Arena;
 use vpg_measure::lifts::{Outcome, raise, settle_alone};
 use vpg_measure::{Shape, Table};
-use vpg_regions::{Budget, PerVertex};
-
-/// Where more than one in so many of the vertices wait, they are looked at in the order of the vertices.
-const DENSE: usize = 32;
+use vpg_regions::{Budget, PerVertex, VertexSet};
 
 /// Rounds go on while the number of waiting vertices falls by one in so many.
 const FALL: usize = 16;
@@ -65,15 +60,11 @@ impl Patience {
 /// The vertices that are to be looked at: those whose lift may exceed their value. And how often each rose in this
 /// turn, and in which turn each was found to move last.
 pub(crate) struct Waiting {
-    waits: PerVertex<bool>,
-    count: usize,
+    waits: VertexSet,
     // so many rounds of lifts may come before the next turn; none where not all wait that are below the top
     rounds: u32,
     // whether most still rose behind these
     is_climbing: bool,
-    // those that wait, and others; only some of those that wait where it is not complete
-    queue: VecDeque<u32>,
-    is_complete: bool,
     raises: PerVertex<u8>,
     // the last turn at whose end it moved; zero for none
     moved: PerVertex<u8>,
@@ -92,11 +83,8 @@ impl Drop for Waiting {
     fn drop(self) {
         let Waiting {
             waits: _,
-            count: _,
             rounds: _,
             is_climbing: _,
-            queue: _,
-            is_complete: _,
             raises: _,
             moved: _,
             turn: _,
@@ -112,10 +100,10 @@ impl Waiting {
     /// All wait that are below the top.
     pub(crate) fn all(
         alloc: Global,
-        ground: &GuessGround,
+        ground: LiftGround<'_>,
         table: &[u64],
     ) -> Result<Waiting, AllocError> {
-        let mut waiting = Waiting::none(alloc, ground.graph.vertices())?;
+        let mut waiting = Waiting::none(alloc, ground.vertices())?;
         waiting.add_all(ground, table);
         Ok(waiting)
     }
@@ -124,11 +112,11 @@ impl Waiting {
     /// has seen it rise.
     pub(crate) fn behind_round(
         alloc: Global,
-        ground: &GuessGround,
+        ground: LiftGround<'_>,
         table: &[u64],
         risen: &[u32],
     ) -> Result<Waiting, AllocError> {
-        let mut waiting = Waiting::none(alloc, ground.graph.vertices())?;
+        let mut waiting = Waiting::none(alloc, ground.vertices())?;
         for v in risen {
             waiting.wake_before(ground, table, *v);
         }
@@ -136,15 +124,11 @@ impl Waiting {
     }
 
     // Those that move to v and don't come behind it are to be looked at where that may raise them.
-    fn wake_before(&mut self, ground: &GuessGround, table: &[u64], v: u32) {
+    fn wake_before(&mut self, ground: LiftGround<'_>, table: &[u64], v: u32) {
         let value = value_in(table, v);
-        for u in ground.graph.predecessors(v) {
-            if *u <= v
-                && !self.waits.get(*u)
-                && ground.even.limit(*u, value_in(table, *u)) <= value
-            {
-                self.waits.set(*u, true);
-                self.count = self.count.saturating_add(1);
+        for u in ground.predecessors.before(v) {
+            if *u <= v && ground.even.limit(*u, value_in(table, *u)) <= value {
+                self.waits.add(*u);
             }
         }
     }
@@ -152,12 +136,9 @@ impl Waiting {
     // None waits.
     fn none(alloc: Global, vertices: u32) -> Result<Waiting, AllocError> {
         Ok(Waiting {
-            waits: PerVertex::of(alloc, vertices, false)?,
-            count: 0,
+            waits: VertexSet::none(alloc, vertices)?,
             rounds: 0,
             is_climbing: false,
-            queue: VecDeque::new(alloc),
-            is_complete: false,
             raises: PerVertex::of(alloc, vertices, 0)?,
             moved: PerVertex::of(alloc, vertices, 0)?,
             turn: 0,
@@ -169,17 +150,14 @@ impl Waiting {
     }
 
     // All wait that are below the top.
-    fn add_all(&mut self, ground: &GuessGround, table: &[u64]) {
-        let mut count = 0usize;
-        for v in 0..ground.graph.vertices() {
-            let waits = value_in(table, v) < ground.even.top;
-            self.waits.set(v, waits);
-            if waits {
-                count = count.saturating_add(1);
+    fn add_all(&mut self, ground: LiftGround<'_>, table: &[u64]) {
+        for v in 0..ground.vertices() {
+            if value_in(table, v) < ground.even.top {
+                self.waits.add(v);
+            } else {
+                self.waits.remove(v);
             }
         }
-        self.count = count;
-        self.empty_queue();
     }
 
     /// Rounds of lifts may come first: all wait that are below the top.
@@ -187,84 +165,31 @@ impl Waiting {
         self.rounds = ROUNDS;
     }
 
-    // The queue has all that wait.
-    fn complete(&mut self) -> Result<(), AllocError> {
-        if self.is_complete {
-            return Ok(());
-        }
-        self.is_complete = true;
-        for v in 0..self.waits.count() {
-            if self.waits.get(v) {
-                self.queue.push_back(v)?;
-            }
-        }
-        Ok(())
-    }
-
-    // The queue has none.
-    fn empty_queue(&mut self) {
-        self.is_complete = false;
-        self.queue.clear();
-    }
-
-    // Whether v waited; it waits no more.
-    fn takes(&mut self, v: u32) -> bool {
-        let waited = self.waits.get(v);
-        if waited {
-            self.waits.set(v, false);
-            self.count = self.count.saturating_sub(1);
-        }
-        waited
-    }
-
-    // Whether so many wait that they are looked at faster in the order of the vertices.
-    fn is_dense(&self) -> bool {
-        self.waits.count() as usize / DENSE < self.count
-    }
-
-    fn put_back(&mut self, v: u32) -> Result<(), AllocError> {
-        if self.is_complete {
-            self.queue.push_back(v)?;
-        }
-        Ok(())
-    }
-
     // Those that move to v, which rose, are to be looked at again. To ask first whether that may raise them takes
     // longer.
-    fn wake(&mut self, ground: &GuessGround, v: u32) -> Result<(), AllocError> {
+    fn wake(&mut self, ground: LiftGround<'_>, v: u32) {
         self.raises.set(v, self.raises.get(v).saturating_add(1));
         self.rose.set(v, self.falls);
-        for u in ground.graph.predecessors(v) {
-            if !self.waits.get(*u) {
-                self.waits.set(*u, true);
-                self.count = self.count.saturating_add(1);
-                self.put_back(*u)?;
-            }
+        for u in ground.predecessors.before(v) {
+            self.waits.add(*u);
         }
-        Ok(())
     }
 
     /// Those that move to what rose are to be looked at again.
-    pub(crate) fn wake_risen(
-        &mut self,
-        ground: &GuessGround,
-        table: &[u64],
-        risen: &[u32],
-    ) -> Result<(), AllocError> {
-        if ground.graph.vertices() as usize / MANY < risen.len() {
+    pub(crate) fn wake_risen(&mut self, ground: LiftGround<'_>, table: &[u64], risen: &[u32]) {
+        if ground.vertices() as usize / MANY < risen.len() {
             self.add_all(ground, table);
             self.begin_rounds();
-            return Ok(());
+            return;
         }
         for v in risen {
-            self.wake(ground, *v)?;
+            self.wake(ground, *v);
         }
-        Ok(())
     }
 
     // Whether a round of lifts comes next: where nothing seems to rise, since it may show that, and the first time most
     // do. Where most do again, they climb.
-    fn asks_for_round(&mut self, arena: &Arena, ground: &GuessGround, table: &[u64]) -> bool {
+    fn asks_for_round(&mut self, arena: &Arena, ground: LiftGround<'_>, table: &[u64]) -> bool {
         if self.rounds == 0 {
             return false;
         }
@@ -291,20 +216,20 @@ impl Waiting {
     pub(crate) fn moving(
         &mut self,
         alloc: Global,
-        ground: &GuessGround,
+        ground: LiftGround<'_>,
     ) -> Result<Vec<u32>, AllocError> {
         self.is_climbing = false;
         let mut moving = Vec::new(alloc);
-        if self.count == 0 {
+        if self.waits.size() == 0 {
             return Ok(moving);
         }
-        for v in 0..self.waits.count() {
-            if self.waits.get(v) || self.climbs <= self.raises.get(v) {
+        for v in 0..ground.vertices() {
+            if self.waits.has(v) || self.climbs <= self.raises.get(v) {
                 self.moved.set(v, self.turn);
                 moving.push(v)?;
             }
         }
-        for at in 0..self.waits.count() as usize {
+        for at in 0..ground.vertices() as usize {
             let v = match moving.get(at) {
                 Some(v) => *v,
                 None => break,
@@ -319,7 +244,7 @@ impl Waiting {
     pub(crate) fn part(
         &mut self,
         alloc: Global,
-        ground: &GuessGround,
+        ground: LiftGround<'_>,
     ) -> Result<Vec<u32>, AllocError> {
         let moving = self.moving(alloc, ground)?;
         let round = self.round_of(alloc, &moving)?;
@@ -338,7 +263,7 @@ impl Waiting {
     fn round_of(&self, alloc: Global, moving: &[u32]) -> Result<Vec<u32>, AllocError> {
         let mut round = Vec::new(alloc);
         for v in moving {
-            if self.waits.get(*v) || self.rose.get(*v) == self.falls {
+            if self.waits.has(*v) || self.rose.get(*v) == self.falls {
                 round.push(*v)?;
             }
         }
@@ -348,11 +273,11 @@ impl Waiting {
     // Those that move to v and moved when an earlier turn ended.
     fn add_leading(
         &mut self,
-        ground: &GuessGround,
+        ground: LiftGround<'_>,
         v: u32,
         moving: &mut Vec<u32>,
     ) -> Result<(), AllocError> {
-        for u in ground.graph.predecessors(v) {
+        for u in ground.predecessors.before(v) {
             let moved = self.moved.get(*u);
             if moved != 0 && moved != self.turn {
                 self.moved.set(*u, self.turn);
@@ -372,13 +297,13 @@ enum Rising {
 }
 
 // Asks vertices here and there that are below the top.
-fn ask(arena: &Arena, ground: &GuessGround, table: &[u64]) -> Rising {
-    let stride = (ground.graph.vertices() / ASKED).saturating_add(1);
+fn ask(arena: &Arena, ground: LiftGround<'_>, table: &[u64]) -> Rising {
+    let stride = (ground.vertices() / ASKED).saturating_add(1);
     let mut asked = 0u32;
     let mut rising = 0u32;
     for at in 0..ASKED {
         let v = at.saturating_mul(stride);
-        if v < ground.graph.vertices() && value_in(table, v) < ground.even.top {
+        if v < ground.vertices() && value_in(table, v) < ground.even.top {
             asked = asked.saturating_add(1);
             if ground.even.would_rise(arena, table, v) {
                 rising = rising.saturating_add(1);
@@ -406,15 +331,6 @@ fn lift_vertex(shape: &Shape, arena: &Arena, table: &mut Table, v: u32) -> bool
     }
 }
 
-// How many edges a vertex keeps.
-fn kept_count(arena: &Arena, v: u32) -> usize {
-    if v < arena.vertices() {
-        arena.kept(v).len()
-    } else {
-        0
-    }
-}
-
 /// Lifts each vertex that would rise once, in the order of the vertices, and gives those that rose.
 #[tactic(auto, using(crate::proofs::Kept::kept_then))]
 pub(crate) fn lift_each(
@@ -436,45 +352,23 @@ pub(crate) fn lift_each(
     Ok(risen)
 }
 
-// Lifts a vertex once.
-#[inline(never)]
-fn look_at(
-    shape: &Shape,
-    arena: &Arena,
-    ground: &GuessGround,
-    waiting: &mut Waiting,
-    table: &mut Table,
-    v: u32,
-    budget: &mut Budget,
-) -> Result<(), AllocError>
-    requires { IsTableOf shape.now arena.now table.old }
-    ensures { IsRaisedFrom shape.now arena.now table.old table.new }
-{
-    budget.spend(kept_count(arena, v).saturating_add(1));
-    if ground.even.would_rise(arena, table.values(), v) && lift_vertex(shape, arena, table, v) {
-        waiting.wake(ground, v)?;
-    }
-    Ok(())
-}
-
-// The same, if it waits: most don't, so only this is compiled into the loops over all vertices.
-#[inline(always)]
+// Lifts a vertex that waits, which waits no more.
 fn look(
     shape: &Shape,
     arena: &Arena,
-    ground: &GuessGround,
+    ground: LiftGround<'_>,
     waiting: &mut Waiting,
     table: &mut Table,
     v: u32,
     budget: &mut Budget,
-) -> Result<(), AllocError>
+)
     requires { IsTableOf shape.now arena.now table.old }
     ensures { IsRaisedFrom shape.now arena.now table.old table.new }
 {
-    if waiting.takes(v) {
-        look_at(shape, arena, ground, waiting, table, v, budget)
-    } else {
-        Ok(())
+    waiting.waits.remove(v);
+    budget.spend(kept_in(arena, v).len().saturating_add(1));
+    if ground.even.would_rise(arena, table.values(), v) && lift_vertex(shape, arena, table, v) {
+        waiting.wake(ground, v);
     }
 }
 
@@ -483,60 +377,21 @@ fn look(
 fn look_round(
     shape: &Shape,
     arena: &Arena,
-    ground: &GuessGround,
+    ground: LiftGround<'_>,
     waiting: &mut Waiting,
     table: &mut Table,
     budget: &mut Budget,
-) -> Result<(), AllocError>
+)
     requires { IsTableOf shape.now arena.now table.old }
     ensures { IsRaisedFrom shape.now arena.now table.old table.new }
 {
-    waiting.empty_queue();
-    for v in 0..arena.vertices() {
-        look(shape, arena, ground, waiting, table, v, budget)?;
-    }
-    Ok(())
-}
-
-// Lifts what waits, first come, first served, but not what these lifts wake.
-#[tactic(auto, using(crate::proofs::Kept::kept_then))]
-fn look_queue(
-    shape: &Shape,
-    arena: &Arena,
-    ground: &GuessGround,
-    waiting: &mut Waiting,
-    table: &mut Table,
-    budget: &mut Budget,
-) -> Result<(), AllocError>
-    requires { IsTableOf shape.now arena.now table.old }
-    ensures { IsRaisedFrom shape.now arena.now table.old table.new }
-{
-    waiting.complete()?;
-    for _ in 0..waiting.queue.len() {
-        let Some(v) = waiting.queue.pop_front() else {
+    let mut from = 0u32;
+    for _ in 0..arena.vertices() {
+        let Some(v) = waiting.waits.first_from(from) else {
             break;
         };
-        look(shape, arena, ground, waiting, table, v, budget)?;
-    }
-    Ok(())
-}
-
-// Lifts each vertex that waits.
-fn look_once(
-    shape: &Shape,
-    arena: &Arena,
-    ground: &GuessGround,
-    waiting: &mut Waiting,
-    table: &mut Table,
-    budget: &mut Budget,
-) -> Result<(), AllocError>
-    requires { IsTableOf shape.now arena.now table.old }
-    ensures { IsRaisedFrom shape.now arena.now table.old table.new }
-{
-    if waiting.is_dense() {
-        look_round(shape, arena, ground, waiting, table, budget)
-    } else {
-        look_queue(shape, arena, ground, waiting, table, budget)
+        look(shape, arena, ground, waiting, table, v, budget);
+        from = v.saturating_add(1);
     }
 }
 
@@ -545,31 +400,34 @@ fn look_once(
 fn lift_waiting(
     shape: &Shape,
     arena: &Arena,
-    ground: &GuessGround,
+    ground: LiftGround<'_>,
     waiting: &mut Waiting,
     table: &mut Table,
     patience: Patience,
     budget: &mut Budget,
-) -> Result<(), AllocError>
+)
     requires { IsTableOf shape.now arena.now table.old }
     ensures { IsRaisedFrom shape.now arena.now table.old table.new }
 {
     let mut least = usize::MAX;
     let mut left = budget.left();
     for _ in 0..u64::MAX {
-        if waiting.count == 0 || waiting.is_climbing || budget.is_spent() {
+        if waiting.waits.size() == 0 || waiting.is_climbing || budget.is_spent() {
             break;
         }
-        look_once(shape, arena, ground, waiting, table, budget)?;
-        if waiting.count < least.saturating_sub(least / FALL) {
-            least = waiting.count;
+        look_round(shape, arena, ground, waiting, table, budget);
+        if waiting.waits.size() < least.saturating_sub(least / FALL) {
+            least = waiting.waits.size();
             left = budget.left();
             waiting.falls = waiting.falls.saturating_add(1);
-        } else if budget.left().saturating_add(patience.at(waiting.count)) < left {
+        } else if budget
+            .left()
+            .saturating_add(patience.at(waiting.waits.size()))
+            < left
+        {
             break;
         }
     }
-    Ok(())
 }
 
 /// One round of lifts, which takes no memory. Says whether it raised nothing.
@@ -590,7 +448,7 @@ pub(crate) fn lift_round(shape: &Shape, arena: &Arena, table: &mut Table) -> boo
 pub(crate) fn lift_all(
     shape: &Shape,
     arena: &Arena,
-    ground: &GuessGround,
+    ground: LiftGround<'_>,
     waiting: &mut Waiting,
     table: &mut Table,
     budget: &mut Budget,
@@ -603,7 +461,7 @@ pub(crate) fn lift_all(
         if !waiting.asks_for_round(arena, ground, table.values()) {
             break;
         }
-        budget.spend(ground.graph.size() as usize);
+        budget.spend(ground.looks(1) as usize);
         if lift_round(shape, arena, table) {
             return true;
         }
@@ -616,19 +474,18 @@ pub(crate) fn lift_all(
 pub(crate) fn lift_remaining(
     shape: &Shape,
     arena: &Arena,
-    ground: &GuessGround,
+    ground: LiftGround<'_>,
     waiting: &mut Waiting,
     table: &mut Table,
     looks: u64,
     patience: Patience,
     budget: &mut Budget,
-) -> Result<(), AllocError>
+)
     requires { IsTableOf shape.now arena.now table.old }
     ensures { IsRaisedFrom shape.now arena.now table.old table.new }
 {
     waiting.begin_turn();
     let mut turn = budget.take(looks);
-    lift_waiting(shape, arena, ground, waiting, table, patience, &mut turn)?;
+    lift_waiting(shape, arena, ground, waiting, table, patience, &mut turn);
     budget.give_back(turn);
-    Ok(())
 }

@@ -1,10 +1,10 @@
 //! How numbers of measures grow along the edges of a graph.
-use crate::ground::value_in;
+use crate::ground::{kept_in, owner_in, priority_in, value_in};
 use std::alloc::{AllocError, Global};
 use vpg_game::Player;
 use vpg_hope::Arena;
 use vpg_measure::Shape;
-use vpg_regions::{Graph, PerVertex};
+use vpg_regions::PerVertex;
 
 /// The measures by which one player wins: those of the game for Even, those of its dual for Odd.
 pub(crate) struct Scale {
@@ -34,20 +34,12 @@ impl Drop for Scale {
     }
 }
 
-// One of each vertex's priorities, each raised by this; and the greatest.
-fn priorities_of(
-    alloc: Global,
-    arena: &Arena,
-    raise: u32,
-) -> Result<(PerVertex<u32>, u32), AllocError> {
-    let mut priorities = PerVertex::of(alloc, arena.vertices(), 0)?;
-    let mut greatest = 0u32;
-    for v in 0..arena.vertices() {
-        let priority = arena.priority(v).saturating_add(raise);
-        priorities.set(v, priority);
-        greatest = greatest.max(priority);
+// By how much priorities are raised: those of the dual are one greater.
+fn raise_for(player: Player) -> u32 {
+    match player {
+        Player::Even => 0,
+        Player::Odd => 1,
     }
-    Ok((priorities, greatest))
 }
 
 impl Scale {
@@ -58,11 +50,47 @@ impl Scale {
         shape: &Shape,
         player: Player,
     ) -> Result<Scale, AllocError> {
-        let raise = match player {
-            Player::Even => 0,
-            Player::Odd => 1,
-        };
-        let (priorities, greatest) = priorities_of(alloc, arena, raise)?;
+        let raise = raise_for(player);
+        let mut priorities = PerVertex::of(alloc, arena.vertices(), 0)?;
+        let mut greatest = 0u32;
+        for v in 0..arena.vertices() {
+            let priority = arena.priority(v).saturating_add(raise);
+            priorities.set(v, priority);
+            greatest = greatest.max(priority);
+        }
+        Scale::with(alloc, shape, player, priorities, greatest)
+    }
+
+    /// The same for the game that has these vertices of the arena, in this order.
+    pub(crate) fn of_part(
+        alloc: Global,
+        arena: &Arena,
+        shape: &Shape,
+        player: Player,
+        vertices: &[u32],
+    ) -> Result<Scale, AllocError> {
+        let raise = raise_for(player);
+        let count = u32::try_from(vertices.len()).unwrap_or(u32::MAX);
+        let mut priorities = PerVertex::of(alloc, count, 0)?;
+        let mut greatest = 0u32;
+        let mut place = 0u32;
+        for v in vertices {
+            let priority = priority_in(arena, *v).saturating_add(raise);
+            priorities.set(place, priority);
+            greatest = greatest.max(priority);
+            place = place.saturating_add(1);
+        }
+        Scale::with(alloc, shape, player, priorities, greatest)
+    }
+
+    // That of these priorities, of which this is the greatest.
+    fn with(
+        alloc: Global,
+        shape: &Shape,
+        player: Player,
+        priorities: PerVertex<u32>,
+        greatest: u32,
+    ) -> Result<Scale, AllocError> {
         let mut weights = PerVertex::of(alloc, greatest.saturating_add(1), 1)?;
         let mut steps = PerVertex::of(alloc, greatest.saturating_add(1), 0)?;
         let mut gaps = PerVertex::of(alloc, greatest.saturating_add(1), 0)?;
@@ -82,25 +110,6 @@ impl Scale {
             weights,
             steps,
             gaps,
-        })
-    }
-
-    /// The scale of a game that has these vertices, in this order.
-    pub(crate) fn at(&self, alloc: Global, vertices: &[u32]) -> Result<Scale, AllocError> {
-        let count = u32::try_from(vertices.len()).unwrap_or(u32::MAX);
-        let mut priorities = PerVertex::of(alloc, count, 0)?;
-        let mut place = 0u32;
-        for v in vertices {
-            priorities.set(place, self.priorities.get(*v));
-            place = place.saturating_add(1);
-        }
-        Ok(Scale {
-            player: self.player,
-            top: self.top,
-            priorities,
-            weights: self.weights.copy(alloc)?,
-            steps: self.steps.copy(alloc)?,
-            gaps: self.gaps.copy(alloc)?,
         })
     }
 
@@ -155,12 +164,8 @@ impl Scale {
     /// Whether a lift raises a vertex, whose value is a number over some edge. The scale is the arena's for Even. It
     /// takes no division, so it is faster than a lift.
     pub(crate) fn would_rise(&self, arena: &Arena, table: &[u64], v: u32) -> bool {
-        if v < arena.vertices() {
-            let best = self.best(table, arena.owner(v), arena.kept(v));
-            self.limit(v, value_in(table, v)) <= best
-        } else {
-            false
-        }
+        let best = self.best(table, owner_in(arena, v), kept_in(arena, v));
+        self.limit(v, value_in(table, v)) <= best
     }
 
     /// The value without what stands below a weight; the top stays.

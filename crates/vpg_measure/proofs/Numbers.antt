@@ -232,6 +232,18 @@ prog-even ls p r h o =
     cond-false (r == top_of ls) r _ (ne_eqb r (top_of ls) (λ e. omega arith))
     ∙ cond-false (is_odd p) ((r / weight_of p ls + 1) * weight_of p ls) (r / weight_of p ls * weight_of p ls) o
 
+-- both at once: an odd priority counts one more
+pub prog-sum : (ls : List Level) (p r : ℕ) → r < top_of ls → prog_of ls p r ≡ (r / weight_of p ls + p % 2) * weight_of p ls
+prog-sum ls p r h = elim (cases_Bool (is_odd p)) [
+  | inl odd ↦ prog-odd ls p r h odd ∙ ap (λ k. (r / weight_of p ls + k) * weight_of p ls) (sym (eqb-true (p % 2) 1 odd))
+  | inr even ↦ prog-even ls p r h even ∙ ap (λ k. k * weight_of p ls) (quotient_same even)
+]
+  where
+    quotient_same : is_odd p ≡ false → r / weight_of p ls ≡ r / weight_of p ls + p % 2
+    quotient_same even =
+        let less : p % 2 < 2 = mod-lt p (omega arith) in
+        omega (arith, less, eqb-false (p % 2) 1 even)
+
 pub next_at_most : (ls : List Level) (p r : ℕ) → r < top_of ls → (r / weight_of p ls + 1) * weight_of p ls ≤ top_of ls
 next_at_most ls p r h =
     let q = quotient_below p ls r h in
@@ -247,6 +259,9 @@ prog_at_most ls p r h = elim (cases_lt r (top_of ls)) [
     | inr even ↦ rw (prog-even ls p r less even) (omega (arith, div-mul-le_self r (weight_of p ls)))
   ]
 ]
+
+pub prog_sum_at_most : (ls : List Level) (p r : ℕ) → r < top_of ls → (r / weight_of p ls + p % 2) * weight_of p ls ≤ top_of ls
+prog_sum_at_most ls p r h = rw (sym (prog-sum ls p r h)) (prog_at_most ls p r (omega arith))
 
 -- at an edge to a value below top
 fits_below : (ls : List Level) (p : ℕ) (xs ys : List ℕ) → AreWithin ls xs → AreWithin ls ys → (b : Bool) → is_odd p ≡ b →

@@ -154,11 +154,7 @@ impl Shape {
         }
         let weight = self.weight(priority);
         let quotient = value / weight;
-        if priority % 2 == 1 {
-            (quotient + 1) * weight
-        } else {
-            quotient * weight
-        }
+        (quotient + priority % 2) * weight
     }
 }
 

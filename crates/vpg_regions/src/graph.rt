@@ -45,47 +45,100 @@ impl Lists {
             .push(u32::try_from(self.items.len()).unwrap_or(u32::MAX))?;
         Ok(())
     }
+}
 
-    // For each vertex, in how many lists lesser ones stand.
-    fn places(&self, alloc: Global, vertices: u32) -> Result<Vec<u32>, AllocError> {
-        let mut places = vec![in alloc; 0u32; vertices as usize]?;
-        for w in &self.items {
-            let at = *w as usize;
-            if at < places.len() {
-                places[at] = places[at].saturating_add(1);
+// For each vertex, how many places of lists lesser ones take, where each takes so many.
+fn places_before(counts: &mut Vec<u32>) {
+    let mut before = 0u32;
+    for v in 0..counts.len() {
+        let count = counts[v];
+        counts[v] = before;
+        before = before.saturating_add(count);
+    }
+}
+
+// Counts each of these vertices once more.
+fn count_each(vertices: &[u32], counts: &mut Vec<u32>) {
+    for w in vertices {
+        let at = *w as usize;
+        if at < counts.len() {
+            counts[at] = counts[at].saturating_add(1);
+        }
+    }
+}
+
+// Writes v to the next place of each of these vertices.
+fn put_back(v: u32, vertices: &[u32], places: &mut Vec<u32>, items: &mut Vec<u32>) {
+    for w in vertices {
+        let at = *w as usize;
+        if at < places.len() {
+            let place = places[at] as usize;
+            places[at] = places[at].saturating_add(1);
+            if place < items.len() {
+                items[place] = v;
             }
         }
-        let mut before = 0u32;
-        for v in 0..places.len() {
-            let count = places[v];
-            places[v] = before;
-            before = before.saturating_add(count);
+    }
+}
+
+/// For each vertex those that move to it.
+pub struct Predecessors {
+    count: u32,
+    lists: Lists,
+}
+
+// Not derived, so that letting one go is one call: a derived way would be proved anew at each exit that owns one.
+impl Drop for Predecessors {
+    fn drop(self) {
+        let Predecessors { count: _, lists: _ } = self;
+    }
+}
+
+impl Predecessors {
+    /// Those of an arena's vertices.
+    pub fn of(alloc: Global, arena: &Arena) -> Result<Predecessors, AllocError> {
+        let count = arena.vertices();
+        let mut ends = vec![in alloc; 0u32; count as usize]?;
+        let mut edges = 0usize;
+        for v in 0..count {
+            let kept = arena.kept(v);
+            count_each(kept, &mut ends);
+            edges = edges.saturating_add(kept.len());
         }
-        Ok(places)
+        places_before(&mut ends);
+        let mut items = vec![in alloc; 0u32; edges]?;
+        for v in 0..count {
+            put_back(v, arena.kept(v), &mut ends, &mut items);
+        }
+        let lists = Lists { ends, items };
+        Ok(Predecessors { count, lists })
     }
 
-    // For each vertex those in whose lists it stands.
-    fn reversed(&self, alloc: Global, vertices: u32) -> Result<Lists, AllocError> {
-        let mut ends = self.places(alloc, vertices)?;
-        let mut items = vec![in alloc; 0u32; self.items.len()]?;
-        for v in 0..vertices {
-            self.put_back(v, &mut ends, &mut items);
+    // Those where vertices move along these lists.
+    fn of_lists(alloc: Global, successors: &Lists, count: u32) -> Result<Predecessors, AllocError> {
+        let mut ends = vec![in alloc; 0u32; count as usize]?;
+        count_each(&successors.items, &mut ends);
+        places_before(&mut ends);
+        let mut items = vec![in alloc; 0u32; successors.items.len()]?;
+        for v in 0..count {
+            put_back(v, successors.of(v), &mut ends, &mut items);
         }
-        Ok(Lists { ends, items })
+        let lists = Lists { ends, items };
+        Ok(Predecessors { count, lists })
     }
 
-    // Writes v to the next place of each of its list.
-    fn put_back(&self, v: u32, places: &mut Vec<u32>, items: &mut Vec<u32>) {
-        for w in self.of(v) {
-            let at = *w as usize;
-            if at < places.len() {
-                let place = places[at] as usize;
-                places[at] = places[at].saturating_add(1);
-                if place < items.len() {
-                    items[place] = v;
-                }
-            }
-        }
+    pub fn vertices(&self) -> u32 {
+        self.count
+    }
+
+    /// How many edges and vertices there are.
+    pub fn size(&self) -> u64 {
+        u64::from(self.count).saturating_add(self.lists.items.len() as u64)
+    }
+
+    /// Those that move to a vertex.
+    pub fn before(&self, v: u32) -> &[u32] {
+        self.lists.of(v)
     }
 }
 
@@ -161,9 +214,15 @@ impl Draft {
 
     /// The game, with as few priorities as have the same winners.
     pub fn finish(self, alloc: Global) -> Result<Graph, AllocError> {
+        let predecessors = Predecessors::of_lists(alloc, &self.successors, self.count)?;
+        self.finish_with(alloc, predecessors)
+    }
+
+    // The same, where it is known who moves to each vertex.
+    fn finish_with(self, alloc: Global, predecessors: Predecessors) -> Result<Graph, AllocError> {
         let mut draft = self;
         draft.merge(alloc)?;
-        draft.as_written(alloc)
+        Ok(draft.with(predecessors))
     }
 
     fn merge(&mut self, alloc: Global) -> Result<(), AllocError> {
@@ -175,22 +234,21 @@ impl Draft {
         Ok(())
     }
 
-    /// The game with its priorities as they are.
-    pub fn as_written(self, alloc: Global) -> Result<Graph, AllocError> {
-        let predecessors = self.successors.reversed(alloc, self.count)?;
+    // The game as it is written, where it is known who moves to each vertex.
+    fn with(self, predecessors: Predecessors) -> Graph {
         let Draft {
             count,
             owners,
             priorities,
             successors,
         } = self;
-        Ok(Graph {
+        Graph {
             count,
             owners,
             priorities,
             successors,
             predecessors,
-        })
+        }
     }
 }
 
@@ -200,7 +258,7 @@ pub struct Graph {
     owners: Vec<Player>,
     priorities: Vec<u32>,
     successors: Lists,
-    predecessors: Lists,
+    predecessors: Predecessors,
 }
 
 // Not derived, so that letting one go is one call: a derived way would be proved anew at each exit that owns one.
@@ -243,21 +301,17 @@ fn merged(alloc: Global, occurs: &PerVertex<bool>) -> Result<PerVertex<u32>, All
     Ok(merged)
 }
 
-// How many edges an arena has.
-fn edges_of(arena: &Arena) -> usize {
-    let mut count = 0usize;
-    for v in 0..arena.vertices() {
-        count = count.saturating_add(arena.kept(v).len());
-    }
-    count
-}
-
 impl Graph {
-    /// The game of an arena.
-    pub fn of(alloc: Global, arena: &Arena) -> Result<Graph, AllocError> {
-        let mut draft = Draft::with_room(alloc, arena.vertices() as usize, edges_of(arena))?;
+    /// The game of an arena, with those that move to each vertex of it.
+    pub fn over(
+        alloc: Global,
+        arena: &Arena,
+        predecessors: Predecessors,
+    ) -> Result<Graph, AllocError> {
+        let edges = predecessors.lists.items.len();
+        let mut draft = Draft::with_room(alloc, arena.vertices() as usize, edges)?;
         draft.write(arena)?;
-        draft.finish(alloc)
+        draft.finish_with(alloc, predecessors)
     }
 
     pub fn vertices(&self) -> u32 {
@@ -288,7 +342,12 @@ impl Graph {
     }
 
     pub fn predecessors(&self, v: u32) -> &[u32] {
-        self.predecessors.of(v)
+        self.predecessors.before(v)
+    }
+
+    /// Who moves to each vertex.
+    pub fn moves_back(&self) -> &Predecessors {
+        &self.predecessors
     }
 
     /// The greatest priority of some vertices.

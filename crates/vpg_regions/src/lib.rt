@@ -5,8 +5,8 @@
 //! that they are safe and end: what they say is taken over only as far as certificates show it.
 //!
 //! The layer above, `vpg_guess`, uses `solve_regions` for a whole game and `solve_part` for some of its vertices,
-//! `Graph` for the edges of a game both ways, `Components` for what a strategy leaves, `PerVertex` for one value of
-//! each vertex, and `Budget`.
+//! `Graph` for the edges of a game both ways, `Predecessors` for those that lead to a vertex, `Components` for what a
+//! strategy leaves, `VertexSet` for some of the vertices, `PerVertex` for one value of each vertex, and `Budget`.
 #![tactic(auto)]
 
 mod budget;
@@ -21,6 +21,6 @@ mod weights;
 
 pub use budget::Budget;
 pub use components::{Components, Moves};
-pub use graph::{Draft, Graph};
-pub use per_vertex::{Choices, PerVertex};
+pub use graph::{Draft, Graph, Predecessors};
+pub use per_vertex::{Choices, PerVertex, VertexSet};
 pub use regions::{Regions, solve_part, solve_regions};

@@ -102,3 +102,81 @@ impl Choices {
         self.chosen.set(v, chosen.unwrap_or(NONE));
     }
 }
+
+/// So many vertices stand in a word of a set.
+const WORD: u32 = 64;
+
+/// Some of the vertices, a bit for each, so that few words are read where few stand there. Past the last vertex none
+/// does, and one that is added there is lost.
+pub struct VertexSet {
+    words: Vec<u64>,
+    // how many there are
+    size: usize,
+}
+
+// Not derived, so that letting one go is one call: a derived way would be proved anew at each exit that owns one.
+impl Drop for VertexSet {
+    fn drop(self) {
+        let VertexSet { words: _, size: _ } = self;
+    }
+}
+
+// Its bit in its word.
+fn bit_of(v: u32) -> u64 {
+    1u64 << (v % WORD)
+}
+
+impl VertexSet {
+    /// None of so many vertices.
+    pub fn none(alloc: Global, vertices: u32) -> Result<VertexSet, AllocError> {
+        let words = vec![in alloc; 0u64; vertices.div_ceil(WORD) as usize]?;
+        Ok(VertexSet { words, size: 0 })
+    }
+
+    /// How many there are.
+    pub fn size(&self) -> usize {
+        self.size
+    }
+
+    pub fn has(&self, v: u32) -> bool {
+        match self.words.get((v / WORD) as usize) {
+            Some(word) => *word & bit_of(v) != 0,
+            None => false,
+        }
+    }
+
+    /// Adds a vertex, where it isn't there.
+    pub fn add(&mut self, v: u32) {
+        let at = (v / WORD) as usize;
+        if at < self.words.len() && self.words[at] & bit_of(v) == 0 {
+            self.words[at] |= bit_of(v);
+            self.size = self.size.saturating_add(1);
+        }
+    }
+
+    /// Takes a vertex away, where it is there.
+    pub fn remove(&mut self, v: u32) {
+        let at = (v / WORD) as usize;
+        if at < self.words.len() && self.words[at] & bit_of(v) != 0 {
+            self.words[at] ^= bit_of(v);
+            self.size = self.size.saturating_sub(1);
+        }
+    }
+
+    /// The first one from this vertex on.
+    pub fn first_from(&self, v: u32) -> Option<u32> {
+        let mut at = v / WORD;
+        let mut word = self.words.get(at as usize)? & (u64::MAX << (v % WORD));
+        for _ in 0..self.words.len() {
+            if word != 0 {
+                break;
+            }
+            at = at.saturating_add(1);
+            word = *self.words.get(at as usize)?;
+        }
+        Some(
+            at.saturating_mul(WORD)
+                .saturating_add(word.trailing_zeros()),
+        )
+    }
+}

@@ -19,10 +19,6 @@ returns-then-lift_all-clause-raised c = kept_then c.args.shape.now c.args.arena.
 pub returns-then-lift_all-clause-settled : goal.returns-then-lift_all-clause-settled
 returns-then-lift_all-clause-settled c = λ _. c.lift_all.ensures.settled c.if-lift_all.true
 
-pub returns-in_err-lift_remaining-clause-raised : goal.returns-in_err-lift_remaining-clause-raised
-returns-in_err-lift_remaining-clause-raised c = kept_then c.args.shape.now c.args.arena.now c.args.table.now c.lift_all.new.table c.lift_remaining.new.table
-    (kept_then c.args.shape.now c.args.arena.now c.args.table.now c.loop.table c.lift_all.new.table c.loop.invariant c.lift_all.ensures.raised) c.lift_remaining.ensures
-
 pub returns-in_err-moving-clause-raised : goal.returns-in_err-moving-clause-raised
 returns-in_err-moving-clause-raised c = kept_then c.args.shape.now c.args.arena.now c.args.table.now c.lift_all.new.table c.lift_remaining.new.table
     (kept_then c.args.shape.now c.args.arena.now c.args.table.now c.loop.table c.lift_all.new.table c.loop.invariant c.lift_all.ensures.raised) c.lift_remaining.ensures

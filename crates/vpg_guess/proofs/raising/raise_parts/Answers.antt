@@ -10,9 +10,6 @@ lift_remaining-requires c = c.loop.invariant.table
 pub raise_part-requires : goal.raise_part-requires
 raise_part-requires c = c.lift_remaining.ensures.table
 
-pub returns-in_err-lift_remaining : goal.returns-in_err-lift_remaining
-returns-in_err-lift_remaining c = kept_then c.args.shape.now c.args.arena.now c.args.table.now c.loop.table c.lift_remaining.new.table c.loop.invariant c.lift_remaining.ensures
-
 pub returns-in_err-moving : goal.returns-in_err-moving
 returns-in_err-moving c = kept_then c.args.shape.now c.args.arena.now c.args.table.now c.loop.table c.lift_remaining.new.table c.loop.invariant c.lift_remaining.ensures
 

@@ -1,5 +1,5 @@
 use Rattle.vpg_guess.specs.Kept.{IsRaisedFrom}
 use Rattle.vpg_guess.proofs.remaining.look_round.Given as goal
 
-abbrev pub invariant-loop-v : goal.invariant-loop-v
-invariant-loop-v l = IsRaisedFrom l.shape l.arena l.fn.table l.table
+abbrev pub invariant-loop : goal.invariant-loop
+invariant-loop l = IsRaisedFrom l.shape l.arena l.fn.table l.table
