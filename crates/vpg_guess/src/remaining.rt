@@ -167,6 +167,7 @@ impl Waiting {
 
     // Those that move to v, which rose, are to be looked at again. To ask first whether that may raise them takes
     // longer.
+    #[inline(always)]
     fn wake(&mut self, ground: LiftGround<'_>, v: u32) {
         self.raises.set(v, self.raises.get(v).saturating_add(1));
         self.rose.set(v, self.falls);

@@ -146,14 +146,20 @@ impl Scale {
     /// The least value over an edge to which the number at this vertex exceeds its own, itself such a number; past all
     /// values at the top.
     pub(crate) fn limit(&self, v: u32, own: u64) -> u64 {
+        self.limit_at(self.priorities.get(v), own)
+    }
+
+    // The same at a vertex of this priority.
+    fn limit_at(&self, priority: u32, own: u64) -> u64 {
         if own < self.top {
-            own.saturating_add(self.gaps.get(self.priorities.get(v)))
+            own.saturating_add(self.gaps.get(priority))
         } else {
             u64::MAX
         }
     }
 
     // The value that a vertex's owner moves to, where it has these successors.
+    #[inline(always)]
     fn best(&self, table: &[u64], owner: Player, successors: &[u32]) -> u64 {
         match owner {
             Player::Even => least_in(table, successors, self.top),
@@ -161,11 +167,12 @@ impl Scale {
         }
     }
 
-    /// Whether a lift raises a vertex, whose value is a number over some edge. The scale is the arena's for Even. It
-    /// takes no division, so it is faster than a lift.
+    /// Whether a lift raises a vertex, whose value is a number over some edge. The scale is the arena's for Even, so
+    /// its priorities are read there, beside the owner. It takes no division, so it is faster than a lift.
+    #[inline(always)]
     pub(crate) fn would_rise(&self, arena: &Arena, table: &[u64], v: u32) -> bool {
         let best = self.best(table, owner_in(arena, v), kept_in(arena, v));
-        self.limit(v, value_in(table, v)) <= best
+        self.limit_at(priority_in(arena, v), value_in(table, v)) <= best
     }
 
     /// The value without what stands below a weight; the top stays.

@@ -116,6 +116,9 @@ pub fn raise(shape: &Shape, arena: &Arena, table: &mut Table, v: u32) -> bool
     ensures raised { table.new ≡ raised shape.now arena.now table.old v }
     ensures rose { MatchBool result (sum table.old < sum table.new) (table.new ≡ table.old) }
 {
+    if shape.top() <= table.get(v) {
+        return false;
+    }
     let lifted = lift(shape, arena, table, v);
     if table.get(v) < lifted {
         table.set(v, lifted);
