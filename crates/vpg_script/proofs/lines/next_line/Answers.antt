@@ -3,8 +3,7 @@ use Rattle.vpg_script.specs.declared.lines.NextFault.TheVariants as faults
 use Rattle.std.proofs.Common.{Bool, Err, ◌≡◌, ap, ◌∙◌, arith, sym, subst}
 use Rattle.std.specs.List.{prefix_len}
 use Rattle.std.specs.Io.KnownBytes.{prepend_known}
-use Rattle.vpg_script.specs.Lines.{is_within_line, IsUnended}
-use Rattle.vpg_script.specs.Results.{UnlessUnread}
+use Rattle.vpg_script.specs.Lines.{is_within_line, IsUnended, UnlessUnread}
 use Rattle.vpg_script.proofs.LineLemmas.{line_comes, too_long_comes, all_unended}
 use Rattle.vpg_script.proofs.lines.next_line.Goals as goal
 

@@ -1,7 +1,7 @@
-use Rattle.std.proofs.Common.{◌≡◌, ◌++◌, Bool, Err, ◌≤◌, ◌<◌, length, ap, ◌∙◌, arith, subst}
+use Rattle.std.proofs.Common.{◌≡◌, ◌++◌, Err, ap, ◌∙◌, arith}
 use Rattle.std.specs.List.{prefix_len}
 use Rattle.std.specs.Io.KnownBytes.{prepend_known}
-use Rattle.vpg_script.specs.Lines.{is_within_line, IsUnended}
+use Rattle.vpg_script.specs.Lines.{is_within_line}
 use Rattle.vpg_script.specs.declared.lines.NextFault.TheVariants as faults
 use Rattle.vpg_script.proofs.LineLemmas.{all_unended, passed_more, passed_held, passed_unread, passed_ended, passed_last}
 use Rattle.vpg_script.proofs.lines.pass_line.Goals as goal

@@ -1,6 +1,6 @@
 use Rattle.std.proofs.Common.{false, Ok, Err, refl}
-use Rattle.vpg_script.proofs.MannerLemmas.{plain_outcome}
-use Rattle.vpg_script.proofs.serving.answer_script.Goals as goal
+use Rattle.vpg_serving.proofs.MannerLemmas.{plain_outcome}
+use Rattle.vpg_serving.proofs.serving.answer_script.Goals as goal
 
 pub returns-in-Ok-clause-output : goal.returns-in-Ok-clause-output
 returns-in-Ok-clause-output g c =

@@ -3,19 +3,18 @@ ghost use Rattle.std.specs.Prelude.{◌≡◌, ℕ, ◌≤◌, ◌<◌, ◌⊎�
 ghost use Rattle.std.specs.Io.KnownBytes.{Appends, prepend_known};
 ghost use Rattle.vpg_script.specs.Devices.{AppendsSome};
 ghost use Rattle.vpg_script.specs.Script.{said};
-ghost use Rattle.vpg_script.specs.Lines.{PassedKnown, HeldKnown};
-ghost use Rattle.vpg_script.specs.Output.{lines_left};
-ghost use Rattle.vpg_script.specs.Manners.{fault_line, tone_of};
-ghost use Rattle.vpg_script.specs.Results.{UnlessUnheard, UnlessUnwritten, FaultOutcome, LineOutcome, TooLongOutcome, NextOutcome};
+ghost use Rattle.vpg_script.specs.Lines.{PassedKnown, HeldKnown, lines_left};
+ghost use Rattle.vpg_serving.specs.Manners.{fault_line, tone_of};
+ghost use Rattle.vpg_serving.specs.Results.{UnlessUnheard, UnlessUnwritten, FaultOutcome, LineOutcome, TooLongOutcome, NextOutcome};
 ghost use Rattle.vpg_script.specs.declared.command.LineFault.{LineFault as Fault};
 
-use crate::command::{LineFault, ReadFault, read_line};
-use crate::device::{Sink, Source};
-use crate::lines::{Next, NextFault, next_line, pass_line};
 use crate::serving::{ServeFault, Server};
 use std::alloc::Global;
 use std::sync::Wait;
 use std::thread::Threads;
+use vpg_script::{
+    LineFault, Next, NextFault, ReadFault, Sink, Source, next_line, pass_line, read_line,
+};
 
 /// What an answer begins with.
 #[derive(Clone, Copy)]

@@ -2,17 +2,16 @@
 ghost use Rattle.std.specs.Prelude.{◌≡◌, ℕ, ◌≤◌, List, ◌++◌, OnOk, IsErrOf, ◌⊎◌, ◌&&◌, ◌||◌, true};
 ghost use Rattle.std.specs.Thread.{IsSync};
 ghost use Rattle.vpg_script.specs.View.{request_shown};
-ghost use Rattle.vpg_script.specs.Results.{UnlessReaderFails, UnlessWriterFails, ended};
-ghost use Rattle.vpg_script.specs.Output.{Machine, ScriptOutcome};
-ghost use Rattle.vpg_script.specs.Manners.{MannerOutcome};
+ghost use Rattle.vpg_serving.specs.Results.{UnlessReaderFails, UnlessWriterFails, ended};
+ghost use Rattle.vpg_serving.specs.Output.{Machine, ScriptOutcome};
+ghost use Rattle.vpg_serving.specs.Manners.{MannerOutcome};
 
 use crate::answering::{LineStop, Tone, answer_next};
-use crate::command::{LineFault, Request};
-use crate::device::{Sink, Source};
 use std::alloc::{AllocError, Global};
 use std::sync::Wait;
 use std::thread::Threads;
 use thiserror::Error;
+use vpg_script::{LineFault, Request, Sink, Source};
 
 /// Why a server doesn't carry a request out.
 #[derive(Clone, Copy, Debug, Error)]
@@ -25,7 +24,7 @@ pub enum ServeFault {
 }
 
 impl From<AllocError> for ServeFault {
-    ghost use Rattle.vpg_script.specs.declared.serving.ServeFault.TheVariants.{Memory};
+    ghost use Rattle.vpg_serving.specs.declared.serving.ServeFault.TheVariants.{Memory};
 
     ghost from_gives = { λ _ fault. fault ≡ Memory };
 

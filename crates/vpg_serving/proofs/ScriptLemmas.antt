@@ -6,8 +6,8 @@ use Rattle.vpg_script.specs.Script.{said}
 use Rattle.vpg_script.specs.declared.lines.Next.TheVariants as next
 use Rattle.vpg_script.specs.declared.command.LineFault.{LineFault}
 use Rattle.vpg_script.specs.declared.command.LineFault.TheVariants as faults
-use Rattle.vpg_script.specs.Lines.{ComesKnown}
-use Rattle.vpg_script.specs.Output.{Machine, Speaks, Answered, NextLine, ReadLines, ReadKnown, Wrote, NextKnown, IsEmptyKnown, FaultyKnown}
+use Rattle.vpg_script.specs.Lines.{ComesKnown, NextLine, ReadLines}
+use Rattle.vpg_serving.specs.Output.{Machine, Speaks, Answered, ReadKnown, Wrote, NextKnown, IsEmptyKnown, FaultyKnown}
 
 pub appends_none : (a : Option (List ℕ)) → Appends a a []
 appends_none None = tt
@@ -23,19 +23,6 @@ pub read_more : (text : List ℕ) (lines : List (List ℕ)) (rest line more : Li
 read_more text [] rest line more read comes = (more, rw read comes, refl)
 read_more text (first ∷ lines) rest line more read comes = (read.0, read.1, read_more read.0 lines rest line more read.2 comes)
 
-answered_more : {S : Type 0} (serves : Machine S) (s : S) (lines : List (List ℕ)) (text : List ℕ) (mid : S) (line one : List ℕ) (new : S)
-    → Answered serves s lines text mid → Speaks serves mid (said line) one new → Answered serves s (lines ++ line ∷ []) (text ++ one) new
-answered_more {S = S} serves s [] text mid line one new before speaks =
-    (new, one, [], subst (λ (m : S). Speaks serves m (said line) one new) before.1 speaks, ap (λ (t : List ℕ). t ++ one) before.0 ∙ sym (append-nil one), (refl, refl))
-answered_more {S = S} serves s (first ∷ lines) text mid line one new before speaks = (
-  before.0,
-  before.1,
-  before.2 ++ one,
-  before.3,
-  ap (λ (t : List ℕ). t ++ one) before.4 ∙ append_assoc before.1 before.2 one,
-  answered_more {S = S} serves before.0 lines before.2 mid line one new before.5 speaks,
-)
-
 pub wrote_nothing : {S : Type 0} (serves : Machine S) (s : S) (a w : Option (List ℕ)) → Wrote serves s s a (prepend_known [] a) w w []
 wrote_nothing serves s a w = record { text = []; read = start a; answered = (refl, refl); written = appends_none w }
   where
@@ -43,32 +30,10 @@ wrote_nothing serves s a w = record { text = []; read = start a; answered = (ref
     start None = tt
     start (Some text) = refl
 
-known_more : (input a b : Option (List ℕ)) (lines : List (List ℕ)) (line : Vec ℕ) → ReadKnown input lines a → ComesKnown (next.Line line) a b → ReadKnown input (lines ++ line.items ∷ []) b
-known_more None a b lines line read comes = tt
-known_more (Some text) None b lines line read comes = absurd read
-known_more (Some text) (Some rest) None lines line read comes = absurd comes
-known_more (Some text) (Some rest) (Some more) lines line read comes = read_more text lines rest line.items more read comes
-
-pub wrote_more : {S : Type 0} (serves : Machine S) (old mid new : S) (input a b before w after : Option (List ℕ)) (lines : List (List ℕ)) (line : Vec ℕ) (one : List ℕ)
-    → Wrote serves old mid input a before w lines → ComesKnown (next.Line line) a b → Speaks serves mid (said line.items) one new → Appends w after one
-    → Wrote serves old new input b before after (lines ++ line.items ∷ [])
-wrote_more serves old mid new input a b before w after lines line one so comes speaks appends =
-    record {
-      text = so.text ++ one;
-      read = known_more input a b lines line so.read comes;
-      answered = answered_more serves old lines so.text mid line.items one new so.answered speaks;
-      written = appends_twice before w after so.text one so.written appends;
-    }
-
 pub next_known : (a b : Option (List ℕ)) (line : Vec ℕ) → ComesKnown (next.Line line) a b → NextKnown a line.items
 next_known None b line comes = tt
 next_known (Some text) None line comes = absurd comes
 next_known (Some text) (Some rest) line comes = (rest, comes)
-
-pub ends_empty : (a b : Option (List ℕ)) → ComesKnown next.End a b → IsEmptyKnown a
-ends_empty None b comes = tt
-ends_empty (Some text) None comes = absurd comes
-ends_empty (Some text) (Some rest) comes = comes
 
 pub too_long_faulty : (a b : Option (List ℕ)) → ComesKnown next.TooLong a b → FaultyKnown faults.TooLong a
 too_long_faulty None b comes = tt
@@ -85,8 +50,3 @@ read_kept None a b lines read kept = tt
 read_kept (Some text) None b lines read kept = absurd read
 read_kept (Some text) (Some rest) None lines read kept = absurd kept
 read_kept (Some text) (Some rest) (Some more) lines read kept = subst (λ (r : List ℕ). ReadLines text lines r) (sym kept) read
-
-pub wrote_kept : {S : Type 0} (serves : Machine S) (old new : S) (input a b before after : Option (List ℕ)) (lines : List (List ℕ))
-    → Wrote serves old new input a before after lines → Keeps a b → Wrote serves old new input b before after lines
-wrote_kept serves old new input a b before after lines so kept =
-    record { text = so.text; read = read_kept input a b lines so.read kept; answered = so.answered; written = so.written }

@@ -1,15 +1,12 @@
 -- What is written for what is read.
-use Rattle.std.specs.Prelude.{◌≡◌, ℕ, ◌+◌, ◌-◌, ◌*◌, ◌⊎◌, List, [], ◌∷◌, ◌++◌, length, Option, Some, None, Result, Ok, Err, ⊤}
+use Rattle.std.specs.Prelude.{◌≡◌, ℕ, ◌+◌, ◌⊎◌, List, [], ◌∷◌, ◌++◌, length, Option, Some, None, Result, Ok, Err, ⊤}
 use Rattle.std.specs.Io.KnownBytes.{Appends, prepend_known}
-use Rattle.std.specs.Str.Lines.{lines}
 use Rattle.vpg_script.specs.Devices.{AppendsSome}
 use Rattle.vpg_script.specs.Script.{Request, Said, said}
-use Rattle.vpg_script.specs.Lines.{IsUnended, IsEnded, IsLast, BeginsTooLong}
-use Rattle.vpg_script.specs.declared.lines.Next.{Next}
-use Rattle.vpg_script.specs.declared.lines.Next.TheVariants as next
+use Rattle.vpg_script.specs.Lines.{IsUnended, BeginsTooLong, NextLine, ReadLines}
 use Rattle.vpg_script.specs.declared.command.LineFault.{LineFault}
-use Rattle.vpg_script.specs.declared.serving.ScriptFault.{ScriptFault}
-use Rattle.vpg_script.specs.declared.serving.ScriptFault.TheVariants as stops
+use Rattle.vpg_serving.specs.declared.serving.ScriptFault.{ScriptFault}
+use Rattle.vpg_serving.specs.declared.serving.ScriptFault.TheVariants as stops
 use Rattle.vpg_script.specs.declared.command.LineFault.TheVariants as faults
 
 -- what a machine does with requests: from a state, with this answer, to a state
@@ -29,15 +26,7 @@ Answered {S} serves s (line ∷ lines) text new =
     (mid : S) × (one : List ℕ) × (more : List ℕ) × (Speaks serves s (said line) one mid) × (text ≡ one ++ more) ×
     (Answered serves mid lines more new)
 
-abbrev pub NextLine : List ℕ → List ℕ → List ℕ → Type 0
-NextLine text line rest = IsEnded text line rest ⊎ IsLast text line rest
-
--- the text is these lines, and then the rest
-abbrev pub ReadLines : List ℕ → List (List ℕ) → List ℕ → Type 0
-ReadLines text [] rest = text ≡ rest
-ReadLines text (line ∷ lines) rest = (more : List ℕ) × NextLine text line more × ReadLines more lines rest
-
--- the same, where the bytes are known
+-- the text is these lines, and then the rest, where the bytes are known
 abbrev pub ReadKnown : Option (List ℕ) → List (List ℕ) → Option (List ℕ) → Type 0
 ReadKnown None lines rest = ⊤
 ReadKnown (Some text) lines None = ⊥
@@ -70,16 +59,6 @@ abbrev pub FaultyKnown : LineFault → Option (List ℕ) → Type 0
 FaultyKnown fault None = ⊤
 FaultyKnown fault (Some rest) = BeginsFaulty fault rest
 
--- how many more lines there can be: by the reads that are left, and what is held
-abbrev pub lines_left : ℕ → ℕ → ℕ
-lines_left reads held = (16777216 - reads) * 8193 + held
-
--- a line was read
-abbrev pub IsLine : Next → Type 0
-IsLine (next.Line line) = ⊤
-IsLine next.End = ⊥
-IsLine next.TooLong = ⊥
-
 -- what a script's result says of what was read and written
 abbrev pub ScriptOutcome : {S : Type 0} → Machine S → S → Option (List ℕ) → Option (List ℕ) → Option (List ℕ) →
     Option (List ℕ) → Result (Unit {0}) ScriptFault → Type 0
@@ -104,9 +83,3 @@ ScriptOutcome {S} serves old input left before after (Err stops.Write) =
     (lines : List (List ℕ)) × (new : S) × (rest : Option (List ℕ)) × (mid : Option (List ℕ)) × (text : List ℕ)
     × (Wrote serves old new input rest before mid lines × (last : S) × (line : List ℕ) ×
     (NextKnown rest line × Speaks serves new (said line) text last × AppendsSome mid after text))
-
--- Lines that were read one by one, and the lines of the rest, are the lines of the text.
-abbrev pub ReadIsWhole : Type 0
-ReadIsWhole =
-    (text : List ℕ) (before : List (List ℕ)) (rest : List ℕ) → ReadLines text before rest →
-    lines text ≡ before ++ lines rest

@@ -1,13 +1,13 @@
-use Rattle.std.proofs.Common.{◌≡◌, ℕ, Bool, List, [], ◌∷◌, ◌++◌, Result, Ok, Err, length-append, arith, ap, ap₂, sym, refl, ◌∙◌, subst}
+use Rattle.std.proofs.Common.{ℕ, Bool, List, [], ◌∷◌, ◌++◌, Result, Ok, Err, length-append, arith, ap, ap₂, sym, refl, ◌∙◌, subst}
 use Rattle.std.specs.Prelude.{◌||◌, ◌&&◌}
 use Rattle.std.specs.Io.KnownBytes.{prepend_known}
-use Rattle.vpg_script.specs.Manners.{MannerOutcome, Went}
-use Rattle.vpg_script.specs.Results.{NextOutcome}
-use Rattle.vpg_script.specs.declared.answering.Tone.{Tone}
-use Rattle.vpg_script.specs.declared.serving.Ending.{Ending}
-use Rattle.vpg_script.specs.declared.serving.ScriptFault.{ScriptFault}
-use Rattle.vpg_script.proofs.MannerLemmas.{went_nothing, went_more, failed_more, refused_there, stopped}
-use Rattle.vpg_script.proofs.serving.answer_script_as.Goals as goal
+use Rattle.vpg_serving.specs.Manners.{MannerOutcome, Went}
+use Rattle.vpg_serving.specs.Results.{NextOutcome}
+use Rattle.vpg_serving.specs.declared.answering.Tone.{Tone}
+use Rattle.vpg_serving.specs.declared.serving.Ending.{Ending}
+use Rattle.vpg_serving.specs.declared.serving.ScriptFault.{ScriptFault}
+use Rattle.vpg_serving.proofs.MannerLemmas.{went_nothing, went_more, failed_more, refused_there, stopped}
+use Rattle.vpg_serving.proofs.serving.answer_script_as.Goals as goal
 
 pub lines-init : goal.lines-init
 lines-init g c =

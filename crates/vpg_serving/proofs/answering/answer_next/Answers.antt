@@ -2,8 +2,8 @@ use Rattle.std.proofs.Common.{subst}
 use Rattle.std.specs.Io.KnownBytes.{prepend_known}
 use Rattle.vpg_script.specs.Lines.{ComesKnown}
 use Rattle.vpg_script.specs.declared.lines.Next.{Next}
-use Rattle.vpg_script.proofs.MannerLemmas.{too_long_is_met}
-use Rattle.vpg_script.proofs.answering.answer_next.Goals as goal
+use Rattle.vpg_serving.proofs.MannerLemmas.{too_long_is_met}
+use Rattle.vpg_serving.proofs.answering.answer_next.Goals as goal
 
 pub returns-in-Ok-TooLong-clause-outcome : goal.returns-in-Ok-TooLong-clause-outcome
 returns-in-Ok-TooLong-clause-outcome g c =

@@ -1,9 +1,9 @@
 use Rattle.std.proofs.Common.{◌≡◌, ◌≤◌, ◌+◌, ◌*◌, length, vec_len, List, ℕ}
 use Rattle.std.specs.Io.KnownBytes.{prepend_known}
 use Rattle.std.specs.List.{list_any}
-use Rattle.vpg_script.specs.Output.{lines_left}
-use Rattle.vpg_script.specs.Manners.{Went, is_failure}
-use Rattle.vpg_script.proofs.serving.answer_script_as.Given as goal
+use Rattle.vpg_script.specs.Lines.{lines_left}
+use Rattle.vpg_serving.specs.Manners.{Went, is_failure}
+use Rattle.vpg_serving.proofs.serving.answer_script_as.Given as goal
 
 abbrev pub invariant-lines : goal.invariant-lines
 invariant-lines g l = record {

@@ -1,22 +1,20 @@
--- What the result of a script, of one line, or of one piece more says.
+-- What the result of a script, or of one line, says.
 use Rattle.std.specs.Prelude.{◌≡◌, ℕ, Bool, true, false, if◌then◌else◌, List, Option, Some, None, Result, Ok, Err, ⊤}
 use Rattle.std.specs.Io.KnownBytes.{Appends}
 use Rattle.vpg_script.specs.Devices.{AppendsSome}
-use Rattle.vpg_script.specs.Lines.{PassedKnown, HeldKnown}
+use Rattle.vpg_script.specs.Lines.{PassedKnown, HeldKnown, NextLine}
 use Rattle.vpg_script.specs.Script.{Said, said}
-use Rattle.vpg_script.specs.Output.{Machine, NextLine, NextKnown, IsEmptyKnown, FaultyKnown}
-use Rattle.vpg_script.specs.Manners.{Answers, fault_line, tone_of}
+use Rattle.vpg_serving.specs.Output.{Machine, NextKnown, IsEmptyKnown, FaultyKnown}
+use Rattle.vpg_serving.specs.Manners.{Answers, fault_line, tone_of}
 use Rattle.vpg_script.specs.declared.command.LineFault.{LineFault}
 use Rattle.vpg_script.specs.declared.command.LineFault.TheVariants as faults
-use Rattle.vpg_script.specs.declared.lines.NextFault.{NextFault}
-use Rattle.vpg_script.specs.declared.lines.NextFault.TheVariants as nexts
-use Rattle.vpg_script.specs.declared.answering.Tone.{Tone}
-use Rattle.vpg_script.specs.declared.answering.LineStop.{LineStop}
-use Rattle.vpg_script.specs.declared.answering.LineStop.TheVariants as ends
-use Rattle.vpg_script.specs.declared.serving.Ending.{Ending}
-use Rattle.vpg_script.specs.declared.serving.Ending.TheVariants as endings
-use Rattle.vpg_script.specs.declared.serving.ScriptFault.{ScriptFault}
-use Rattle.vpg_script.specs.declared.serving.ScriptFault.TheVariants as stops
+use Rattle.vpg_serving.specs.declared.answering.Tone.{Tone}
+use Rattle.vpg_serving.specs.declared.answering.LineStop.{LineStop}
+use Rattle.vpg_serving.specs.declared.answering.LineStop.TheVariants as ends
+use Rattle.vpg_serving.specs.declared.serving.Ending.{Ending}
+use Rattle.vpg_serving.specs.declared.serving.Ending.TheVariants as endings
+use Rattle.vpg_serving.specs.declared.serving.ScriptFault.{ScriptFault}
+use Rattle.vpg_serving.specs.declared.serving.ScriptFault.TheVariants as stops
 
 -- This holds of each script but one that ends in Read.
 abbrev pub UnlessReaderFails : {A : Type 0} → Result A ScriptFault → Type 0 → Type 0
@@ -28,11 +26,7 @@ abbrev pub UnlessWriterFails : {A : Type 0} → Result A ScriptFault → Type 0 
 UnlessWriterFails (Err stops.Write) P = ⊤
 UnlessWriterFails result P = P
 
--- The same of one more piece of a script, and of one line.
-abbrev pub UnlessUnread : {A : Type 0} → Result A NextFault → Type 0 → Type 0
-UnlessUnread (Err nexts.Read) P = ⊤
-UnlessUnread result P = P
-
+-- The same of one line.
 abbrev pub UnlessUnheard : Result Tone LineStop → Type 0 → Type 0
 UnlessUnheard (Err ends.Read) P = ⊤
 UnlessUnheard result P = P

@@ -1,5 +1,5 @@
 -- A script in a manner, one line more; and where no manner is asked for, what it was.
-use Rattle.std.proofs.Common.{◌≡◌, ℕ, ◌+◌, Bool, true, false, List, [], ◌∷◌, ◌++◌, length, Option, Some, None, Result, Ok, Err, refl, sym, ap, ap₂, ◌∙◌, inl, inr, append_assoc, append-nil, subst, arith, length-append, replicate, ◌<◌}
+use Rattle.std.proofs.Common.{◌≡◌, ℕ, ◌+◌, Bool, true, false, List, [], ◌∷◌, ◌++◌, length, Option, Some, None, Result, Ok, Err, refl, sym, ap, ap₂, ◌∙◌, inl, inr, append-nil, subst, arith, length-append, replicate, ◌<◌}
 use Rattle.std.proofs.lemmas.List.{length-replicate}
 use Rattle.std.specs.Prelude.{◌||◌, ◌&&◌}
 use Rattle.std.specs.List.{concat, list_any}
@@ -7,25 +7,24 @@ use Rattle.std.proofs.lemmas.List.Folds.{concat-append, list_any-append}
 use Rattle.std.specs.Io.KnownBytes.{prepend_known, Appends, Keeps}
 use Rattle.std.specs.Str.Lines.{strip_carriage_return}
 use Rattle.std.specs.Global.{Vec}
-use Rattle.vpg_script.specs.Devices.{AppendsSome}
-use Rattle.vpg_script.specs.Lines.{IsUnended, BeginsTooLong, IsPassed, PassedKnown, HeldKnown, ComesKnown}
+use Rattle.vpg_script.specs.Lines.{BeginsTooLong, IsPassed, PassedKnown, HeldKnown, ComesKnown, NextLine}
 use Rattle.vpg_script.specs.Script.{Said, said}
-use Rattle.vpg_script.specs.Output.{Machine, Speaks, Answered, NextLine, ReadLines, ReadKnown, Wrote, NextKnown, IsEmptyKnown, FaultyKnown, ScriptOutcome}
-use Rattle.vpg_script.specs.Manners.{is_refusal, is_failure, tone_of, fault_line, Answers, AnsweredEach, WroteEach, Went, MannerOutcome}
-use Rattle.vpg_script.specs.Results.{ended, FaultOutcome, LineOutcome, TooLongOutcome, TakenKnown, NextOutcome}
+use Rattle.vpg_serving.specs.Output.{Machine, Speaks, Answered, ReadKnown, Wrote, NextKnown, IsEmptyKnown, FaultyKnown, ScriptOutcome}
+use Rattle.vpg_serving.specs.Manners.{is_refusal, is_failure, fault_line, Answers, AnsweredEach, WroteEach, Went, MannerOutcome}
+use Rattle.vpg_serving.specs.Results.{ended, FaultOutcome, LineOutcome, TooLongOutcome, TakenKnown, NextOutcome}
 use Rattle.vpg_script.specs.declared.command.LineFault.{LineFault}
 use Rattle.vpg_script.specs.declared.command.LineFault.TheVariants as faults
 use Rattle.vpg_script.specs.declared.lines.Next.TheVariants as next
-use Rattle.vpg_script.specs.declared.answering.Tone.{Tone}
-use Rattle.vpg_script.specs.declared.answering.LineStop.{LineStop}
-use Rattle.vpg_script.specs.declared.answering.LineStop.TheVariants as ends
-use Rattle.vpg_script.specs.declared.serving.Manner.{Manner}
-use Rattle.vpg_script.specs.declared.serving.Ending.{Ending}
-use Rattle.vpg_script.specs.declared.serving.Ending.TheVariants as endings
-use Rattle.vpg_script.specs.declared.serving.ScriptFault.{ScriptFault}
-use Rattle.vpg_script.specs.declared.serving.ScriptFault.TheVariants as stops
+use Rattle.vpg_serving.specs.declared.answering.Tone.{Tone}
+use Rattle.vpg_serving.specs.declared.answering.LineStop.{LineStop}
+use Rattle.vpg_serving.specs.declared.answering.LineStop.TheVariants as ends
+use Rattle.vpg_serving.specs.declared.serving.Manner.{Manner}
+use Rattle.vpg_serving.specs.declared.serving.Ending.{Ending}
+use Rattle.vpg_serving.specs.declared.serving.Ending.TheVariants as endings
+use Rattle.vpg_serving.specs.declared.serving.ScriptFault.{ScriptFault}
+use Rattle.vpg_serving.specs.declared.serving.ScriptFault.TheVariants as stops
 use Rattle.vpg_script.proofs.FirstLine.{long_said, too_long_said}
-use Rattle.vpg_script.proofs.ScriptLemmas.{appends_none, appends_twice, read_more, read_kept, wrote_nothing, next_known, line_faulty, too_long_faulty}
+use Rattle.vpg_serving.proofs.ScriptLemmas.{appends_none, appends_twice, read_more, read_kept, wrote_nothing, next_known, line_faulty, too_long_faulty}
 
 -- ---- one line
 

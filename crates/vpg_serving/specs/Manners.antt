@@ -1,20 +1,20 @@
 -- Scripts that are answered in a manner: strict ones end at the first refusal, and those that go on answer a line with
 -- a fault. This project's own.
-use Rattle.std.specs.Prelude.{◌≡◌, ℕ, ◌+◌, Bool, true, false, nat_eq, if◌then◌else◌, List, [], ◌∷◌, ◌++◌, length, Option, Some, None, Result, Ok, Err, codes}
+use Rattle.std.specs.Prelude.{◌≡◌, ℕ, ◌+◌, Bool, true, false, nat_eq, List, [], ◌∷◌, ◌++◌, length, Option, Some, None, Result, Ok, Err, codes}
 use Rattle.std.specs.List.{concat, list_any, starts_with}
 use Rattle.std.specs.Io.KnownBytes.{Appends, prepend_known}
 use Rattle.vpg_script.specs.Devices.{AppendsSome}
 use Rattle.vpg_script.specs.Lines.{IsUnended}
 use Rattle.vpg_script.specs.Script.{Said, said}
-use Rattle.vpg_script.specs.Output.{Machine, ReadKnown, NextKnown, IsEmptyKnown, FaultyKnown}
+use Rattle.vpg_serving.specs.Output.{Machine, ReadKnown, NextKnown, IsEmptyKnown, FaultyKnown}
 use Rattle.vpg_script.specs.declared.command.LineFault.{LineFault}
 use Rattle.vpg_script.specs.declared.command.LineFault.TheVariants as faults
-use Rattle.vpg_script.specs.declared.answering.Tone.{Tone}
-use Rattle.vpg_script.specs.declared.serving.Manner.{Manner}
-use Rattle.vpg_script.specs.declared.serving.Ending.{Ending}
-use Rattle.vpg_script.specs.declared.serving.Ending.TheVariants as endings
-use Rattle.vpg_script.specs.declared.serving.ScriptFault.{ScriptFault}
-use Rattle.vpg_script.specs.declared.serving.ScriptFault.TheVariants as stops
+use Rattle.vpg_serving.specs.declared.answering.Tone.{Tone}
+use Rattle.vpg_serving.specs.declared.serving.Manner.{Manner}
+use Rattle.vpg_serving.specs.declared.serving.Ending.{Ending}
+use Rattle.vpg_serving.specs.declared.serving.Ending.TheVariants as endings
+use Rattle.vpg_serving.specs.declared.serving.ScriptFault.{ScriptFault}
+use Rattle.vpg_serving.specs.declared.serving.ScriptFault.TheVariants as stops
 
 -- ---- answers
 
