@@ -3,11 +3,10 @@ use Rattle.std.proofs.lemmas.List.{get_or_read}
 use Rattle.vpg_guards.specs.Formula.{Formula}
 use Rattle.vpg_guards.specs.Grammar.{either}
 use Rattle.vpg_guards.specs.View.{formula_of}
-use Rattle.vpg_game.specs.Guarded.{GuardedEdge}
-use Rattle.vpg_game.specs.Building.{no_edge, ArePlaces}
-use Rattle.vpg_game.proofs.Build.{join_there, join_behind, places_behind, set_twice, edge_same}
-use Rattle.vpg_game.proofs.making.join.Goals as goal
-use Rattle.vpg_game.proofs.making.join.Goals.{else-at-len-via-then-at-len+else-index-to_vertex, else-at-len-via-else-at-len}
+use Rattle.vpg_edges.specs.Edges.{GuardedEdge, no_edge, ArePlaces}
+use Rattle.vpg_edges.proofs.Joining.{join_there, join_behind, places_behind, set_twice, edge_same}
+use Rattle.vpg_edges.proofs.edges.join_edge.Goals as goal
+use Rattle.vpg_edges.proofs.edges.join_edge.Goals.{else-at-len-via-then-at-len+else-index-to_vertex, else-at-len-via-else-at-len}
 
 pub returns-then-index-to_vertex-clause-edges : goal.returns-then-index-to_vertex-clause-edges
 returns-then-index-to_vertex-clause-edges c =
