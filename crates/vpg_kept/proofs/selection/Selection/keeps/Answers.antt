@@ -1,6 +1,6 @@
 use Rattle.std.proofs.Common.{arith}
 use Rattle.std.proofs.lemmas.Grind.{common_steps}
-use Rattle.vpg_hope.proofs.selection.Selection.keeps.Goals as goal
+use Rattle.vpg_kept.proofs.selection.Selection.keeps.Goals as goal
 
 pub value-requires : goal.value-requires
 value-requires c = grind (arith, common_steps)

@@ -3,8 +3,8 @@ use Rattle.std.proofs.Common.{ℕ, List, ◌++◌, sym, ap, subst, ◌∙◌, ar
 use Rattle.std.proofs.lemmas.List.{take_all}
 use Rattle.vpg_guards.specs.Formula.{Formula, IsBelow}
 use Rattle.vpg_game.specs.Guarded.{GuardedEdge}
-use Rattle.vpg_hope.specs.Selection.{features_under, kept_under}
-use Rattle.vpg_hope.proofs.selection.Selection.push_kept.Goals as goal
+use Rattle.vpg_kept.specs.Selection.{features_under, kept_under}
+use Rattle.vpg_kept.proofs.selection.Selection.push_kept.Goals as goal
 
 pub returns : goal.returns
 returns c =

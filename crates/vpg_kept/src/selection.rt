@@ -1,18 +1,17 @@
-//! What an arena takes over from a guarded game.
+//! What a plain game takes over from a guarded one.
 ghost use Rattle.std.specs.Prelude.{◌≡◌, ◌+◌, ◌<◌, ◌^◌, ◌++◌, length, All, OnOk};
 ghost use Rattle.vpg_guards.specs.Formula.{IsBelow};
 ghost use Rattle.vpg_guards.specs.Known.{kleene};
 ghost use Rattle.vpg_guards.specs.View.{formula_of};
-ghost use Rattle.vpg_hope.specs.Hope.{keeps_in_hope};
-ghost use Rattle.vpg_hope.specs.Selection.{features_under, owner_under, priority_under, is_kept, kept_under};
+ghost use Rattle.vpg_kept.specs.Selection.{keeps_in_hope, features_under, owner_under, priority_under, is_kept, kept_under};
 
 use std::alloc::AllocError;
 use vpg_game::{Edge, Player};
 use vpg_guards::{Guard, Tri};
 
-/// What an arena takes over from a guarded game, with the values of the features that decide its guards.
+/// What a plain game takes over from a guarded one, with the values of the features that decide its guards.
 #[derive(Clone, Copy)]
-pub(crate) enum Selection<'a> {
+pub enum Selection<'a> {
     /// The hopeful game, by what is known.
     Hopeful(&'a [Tri]),
     /// The hopeful game of the dual, by what is known.
@@ -48,8 +47,8 @@ fn value(guard: &Guard, known: &[Tri]) -> Tri
 }
 
 impl Selection<'_> {
-    /// Who moves in the arena where this player moves in the game.
-    pub(crate) fn owner(self, owner: Player) -> Player
+    /// Who moves in the plain game where this player moves in the guarded one.
+    pub fn owner(self, owner: Player) -> Player
         ensures { result ≡ owner_under self.entry owner }
     {
         match self {
@@ -58,8 +57,8 @@ impl Selection<'_> {
         }
     }
 
-    /// The priority in the arena.
-    pub(crate) fn priority(self, priority: u32) -> u32
+    /// The priority in the plain game.
+    pub fn priority(self, priority: u32) -> u32
         requires { priority + 1 < 2 ^ 32 }
         ensures { result ≡ priority_under self.entry priority }
     {
@@ -86,7 +85,7 @@ impl Selection<'_> {
     }
 
     /// Adds the targets of the edges that stay.
-    pub(crate) fn push_kept(
+    pub fn push_kept(
         self,
         successors: &mut Vec<u32>,
         owner: Player,
