@@ -1,4 +1,5 @@
 use Rattle.std.proofs.Common.{◌≡◌, ℕ, List, ◌<◌, ◌++◌, ◌∷◌, [], length, get_or, set, sym, ap, subst, ◌∙◌, arith}
+use Rattle.std.proofs.lemmas.Grind.{common_steps}
 use Rattle.std.proofs.lemmas.List.{get_or_read}
 use Rattle.vpg_guards.specs.Formula.{Formula}
 use Rattle.vpg_guards.specs.Grammar.{either}
@@ -43,3 +44,6 @@ returns-clause-places c =
     let more : List (GuardedEdge Formula) = c.args.edges.now.items ++ record { to = c.args.to; guard = formula_of c.args.guard } ∷ [] in
     let made = places_behind c.args.places.now c.args.edges.now.items (record { to = c.args.to; guard = formula_of c.args.guard }) c.requires.places c.requires.within (none c) in
     subst (λ (es : List (GuardedEdge Formula)). ArePlaces (set c.args.places.now c.args.to c.len-2.result) es) (sym c.in_ok-push.ensures.items) (subst (λ (n : ℕ). ArePlaces (set c.args.places.now c.args.to n) more) (sym len) made)
+
+pub returns-then-index-to_vertex-clause-places : goal.returns-then-index-to_vertex-clause-places
+returns-then-index-to_vertex-clause-places c = grind (arith, common_steps)
