@@ -1,4 +1,5 @@
 use Rattle.std.proofs.Common.{◌≡◌, ◌++◌, Err, ap, ◌∙◌, arith}
+use Rattle.std.proofs.lemmas.Grind.{common_steps}
 use Rattle.std.specs.List.{prefix_len}
 use Rattle.std.specs.Io.KnownBytes.{prepend_known}
 use Rattle.vpg_script.specs.Lines.{is_within_line}
@@ -56,3 +57,15 @@ pass-preserved g c =
       calls = omega (arith, c.more.ensures.counted, c.pass.invariant.calls);
       left = omega (arith, c.pass.invariant.left, c.in-Ok.ensures.few, c.clear.ensures.len, c.if-reads-ge-MOST_READS.false);
     }
+
+pub returns-in-Err-clause-readable : goal.returns-in-Err-clause-readable
+returns-in-Err-clause-readable g c = grind (arith, common_steps)
+
+pub returns-in-Err-clause-cause : goal.returns-in-Err-clause-cause
+returns-in-Err-clause-cause g c = grind (arith, common_steps)
+
+pub returns-then-not-came-clause-read : goal.returns-then-not-came-clause-read
+returns-then-not-came-clause-read g c = grind (arith, common_steps)
+
+pub returns-then-not-came-clause-cause : goal.returns-then-not-came-clause-cause
+returns-then-not-came-clause-cause g c = grind (arith, common_steps)
