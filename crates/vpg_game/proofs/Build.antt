@@ -1,17 +1,17 @@
 -- Numbering entries, and joining the edges of one vertex.
-use Rattle.std.proofs.Common.{◌≡◌, ℕ, zero, suc, ◌+◌, ◌<◌, Bool, true, false, cond, ltb, List, [], ◌∷◌, ◌++◌, length, map, take, set, get_or, Some, None, slice_get, position, refl, sym, ap, ap₂, subst, ◌∙◌, inl, inr, arith}
-use Rattle.std.specs.Prelude.{not, ◌||◌, ◌==◌, slice_index, slice_index_or}
+use Rattle.std.proofs.Common.{◌≡◌, ℕ, zero, suc, ◌+◌, ◌<◌, Bool, true, false, cond, ltb, List, [], ◌∷◌, ◌++◌, length, map, take, get_or, Some, None, slice_get, position, refl, sym, ap, ap₂, subst, ◌∙◌, arith}
+use Rattle.std.specs.Prelude.{not, ◌||◌, ◌==◌}
 use Rattle.std.specs.List.{list_any, position_or_len}
-use Rattle.std.proofs.lemmas.Bool.{eqb-true, eq-eqb, ltb-true, lt-ltb, cases_lt}
-use Rattle.std.proofs.lemmas.List.{get_or_append_left, get_or_push, get_or-set_other, get_or-set_same, length-append, length-map, get_or-map, take_at, take_more, map-append}
+use Rattle.std.proofs.lemmas.Bool.{eqb-true, eq-eqb, ltb-true, lt-ltb}
+use Rattle.std.proofs.lemmas.List.{length-map, get_or-map, take_at, take_more, map-append}
 use Rattle.vpg_guards.specs.Formula.{Formula}
-use Rattle.vpg_guards.specs.Grammar.{either}
 use Rattle.vpg_game.specs.Spelled.{SpelledSuccessor, SpelledEntry}
 use Rattle.vpg_game.proofs.Parts.{some_is}
 use Rattle.std.proofs.lemmas.Option.{slice_get-get_or, slice_get_within}
-use Rattle.vpg_game.specs.Guarded.{GuardedEdge}
-use Rattle.vpg_game.specs.Game.{entry_ids, IsFirstNotHeld, IsFirstMissing, AllFound, NamedVertex, vertex_of, Lacks, Holds, AreDistinct, place_of, join_edge, joined_edges, AllHeld}
-use Rattle.vpg_game.specs.Building.{no_edge, ArePlaces, IsJoiningFault, IsResolvingFault}
+use Rattle.vpg_edges.specs.Edges.{GuardedEdge, join_edge}
+use Rattle.vpg_edges.proofs.Joining.{edge_same}
+use Rattle.vpg_game.specs.Game.{entry_ids, IsFirstNotHeld, IsFirstMissing, AllFound, NamedVertex, vertex_of, Lacks, Holds, AreDistinct, place_of, joined_edges, AllHeld}
+use Rattle.vpg_game.specs.Building.{IsJoiningFault, IsResolvingFault}
 use Rattle.vpg_game.specs.declared.fault.GameFault.{GameFault}
 use Rattle.vpg_game.specs.declared.fault.GameFault.TheVariants as faults
 
@@ -52,28 +52,6 @@ distinct_more (n ∷ ks) id distinct lacks = (
 
 -- ---- edges
 
-pub edge_at : List (GuardedEdge Formula) → ℕ → GuardedEdge Formula
-edge_at es k = slice_index_or es k no_edge
-
-pub join_new : (es : List (GuardedEdge Formula)) (e : GuardedEdge Formula) → ((k : ℕ) → k < length es → (slice_index_or es k no_edge).to ≡ e.to → ⊥) → join_edge es e ≡ es ++ e ∷ []
-join_new [] e none = refl
-join_new (f ∷ fs) e none = go (f.to == e.to) refl (join_new fs e (λ k lt. none (suc k) (omega arith)))
-  where
-    go : (b : Bool) → (f.to == e.to) ≡ b → join_edge fs e ≡ fs ++ e ∷ [] → cond b (record { to = f.to; guard = either f.guard e.guard } ∷ fs) (f ∷ join_edge fs e) ≡ f ∷ (fs ++ e ∷ [])
-    go true is rest = absurd (none 0 (omega arith) (eqb-true f.to e.to is))
-    go false is rest = ap (λ (es : List (GuardedEdge Formula)). f ∷ es) rest
-
-pub join_first : (es : List (GuardedEdge Formula)) (e : GuardedEdge Formula) (at : ℕ) → at < length es → (slice_index_or es at no_edge).to ≡ e.to → ((k : ℕ) → k < at → (slice_index_or es k no_edge).to ≡ e.to → ⊥)
-    → join_edge es e ≡ set es at (record { to = (slice_index_or es at no_edge).to; guard = either (slice_index_or es at no_edge).guard e.guard })
-join_first [] e at lt same none = absurd (omega arith)
-join_first (f ∷ fs) e zero lt same none = ap (λ b. cond b (record { to = f.to; guard = either f.guard e.guard } ∷ fs) (f ∷ join_edge fs e)) (eq-eqb f.to e.to same)
-join_first (f ∷ fs) e (suc at) lt same none = go (f.to == e.to) refl (join_first fs e at (omega arith) same (λ k less. none (suc k) (omega arith)))
-  where
-    go : (b : Bool) → (f.to == e.to) ≡ b → join_edge fs e ≡ set fs at (record { to = (slice_index_or fs at no_edge).to; guard = either (slice_index_or fs at no_edge).guard e.guard })
-        → cond b (record { to = f.to; guard = either f.guard e.guard } ∷ fs) (f ∷ join_edge fs e) ≡ f ∷ set fs at (record { to = (slice_index_or fs at no_edge).to; guard = either (slice_index_or fs at no_edge).guard e.guard })
-    go true is rest = absurd (none 0 (omega arith) (eqb-true f.to e.to is))
-    go false is rest = ap (λ (es : List (GuardedEdge Formula)). f ∷ es) rest
-
 pub joined_snoc : (ids : List ℕ) (es : List (GuardedEdge Formula)) (ss : List SpelledSuccessor) (s : SpelledSuccessor) → joined_edges ids es (ss ++ s ∷ []) ≡ join_edge (joined_edges ids es ss) (record { to = place_of ids s.id; guard = s.guard })
 joined_snoc ids es [] s = refl
 joined_snoc ids es (t ∷ ss) s = joined_snoc ids (join_edge es (record { to = place_of ids t.id; guard = t.guard })) ss s
@@ -81,41 +59,6 @@ joined_snoc ids es (t ∷ ss) s = joined_snoc ids (join_edge es (record { to = p
 pub held_snoc : (ids : List ℕ) (ss : List SpelledSuccessor) (s : SpelledSuccessor) → AllHeld ids ss → Holds ids s.id → AllHeld ids (ss ++ s ∷ [])
 held_snoc ids [] s all h = (h, tt)
 held_snoc ids (t ∷ ss) s all h = (all.0, held_snoc ids ss s all.1 h)
-
--- ---- places of edges
-
--- an edge of a target stands at the target's place
-same_place : (places : List ℕ) (es : List (GuardedEdge Formula)) (to k : ℕ) → ArePlaces places es → k < length es → (slice_index_or es k no_edge).to ≡ to → slice_index places to ≡ k
-same_place places es to k are lt e = ap (slice_index places) (sym e) ∙ are k lt
-
-pub set_twice : (es : List (GuardedEdge Formula)) (i : ℕ) (a b : GuardedEdge Formula) → set (set es i a) i b ≡ set es i b
-set_twice [] i a b = refl
-set_twice (e ∷ es) zero a b = refl
-set_twice (e ∷ es) (suc i) a b = ap (λ (fs : List (GuardedEdge Formula)). e ∷ fs) (set_twice es i a b)
-
-pub join_there : (places : List ℕ) (es : List (GuardedEdge Formula)) (e : GuardedEdge Formula) → ArePlaces places es → slice_index places e.to < length es → (slice_index_or es (slice_index places e.to) no_edge).to ≡ e.to
-    → join_edge es e ≡ set es (slice_index places e.to) (record { to = e.to; guard = either (slice_index_or es (slice_index places e.to) no_edge).guard e.guard })
-join_there places es e are lt same =
-    join_first es e (slice_index places e.to) lt same (λ k less h. let p = same_place places es e.to k are (omega arith) h in omega arith)
-    ∙ ap (λ (t : ℕ). set es (slice_index places e.to) (record { to = t; guard = either (slice_index_or es (slice_index places e.to) no_edge).guard e.guard })) same
-
-pub join_behind : (places : List ℕ) (es : List (GuardedEdge Formula)) (e : GuardedEdge Formula) → ArePlaces places es → (slice_index places e.to < length es → (slice_index_or es (slice_index places e.to) no_edge).to ≡ e.to → ⊥)
-    → join_edge es e ≡ es ++ e ∷ []
-join_behind places es e are none =
-    join_new es e (λ k lt h. let p = same_place places es e.to k are lt h in none (omega arith) (ap (λ (i : ℕ). (slice_index_or es i no_edge).to) p ∙ h))
-
-pub places_behind : (places : List ℕ) (es : List (GuardedEdge Formula)) (e : GuardedEdge Formula) → ArePlaces places es → e.to < length places → (slice_index places e.to < length es → (slice_index_or es (slice_index places e.to) no_edge).to ≡ e.to → ⊥)
-    → ArePlaces (set places e.to (length es)) (es ++ e ∷ [])
-places_behind places es e are within none k lt = elim (cases_lt k (length es)) [
-  | inl less ↦ (
-      let old : slice_index_or (es ++ e ∷ []) k no_edge ≡ slice_index_or es k no_edge = get_or_append_left es (e ∷ []) no_edge k less in
-      let other : (slice_index_or es k no_edge).to ≡ e.to → ⊥ = λ h. let p = same_place places es e.to k are less h in none (omega arith) (ap (λ (i : ℕ). (slice_index_or es i no_edge).to) p ∙ h) in
-      ap (λ (f : GuardedEdge Formula). slice_index (set places e.to (length es)) f.to) old ∙ get_or-set_other places e.to (slice_index_or es k no_edge).to (length es) 0 other ∙ are k less)
-  | inr most ↦ (
-      let here : k ≡ length es = omega (arith, length-append es (e ∷ [])) in
-      let new : slice_index_or (es ++ e ∷ []) k no_edge ≡ e = ap (λ (i : ℕ). slice_index_or (es ++ e ∷ []) i no_edge) here ∙ get_or_push es e no_edge (length es) refl in
-      ap (λ (f : GuardedEdge Formula). slice_index (set places e.to (length es)) f.to) new ∙ get_or-set_same places e.to (length es) 0 within ∙ sym here)
-]
 
 -- ---- steps of the code
 
@@ -166,9 +109,6 @@ first_not_held ids all seen rest s id parts same held none = (
   subst (AllHeld ids) (sym (ap (take (length seen)) (sym parts) ∙ take_at seen (s ∷ rest) (length seen) refl)) held,
   none_lacks id ids none,
 )
-
-pub edge_same : {a b : ℕ} {f h : Formula} → a ≡ b → f ≡ h → ◌≡◌ {A = GuardedEdge Formula} (record { to = a; guard = f }) (record { to = b; guard = h })
-edge_same p q = cc
 
 pub one_more_edge : (ids : List ℕ) (seen : List SpelledSuccessor) (s : SpelledSuccessor) (edges new : List (GuardedEdge Formula)) (id to : ℕ) (guard : Formula) → edges ≡ joined_edges ids [] seen → id ≡ s.id → guard ≡ s.guard → Some to ≡ position (λ k. id == k) ids
     → new ≡ join_edge edges (record { to = to; guard = guard }) → new ≡ joined_edges ids [] (seen ++ s ∷ [])

@@ -5,9 +5,9 @@ use Rattle.std.proofs.lemmas.Bool.{eqb-true, cases_Bool}
 use Rattle.vpg_guards.specs.Formula.{Formula, truth}
 use Rattle.vpg_guards.specs.Grammar.{either}
 use Rattle.vpg_guards.proofs.LawProofs.{joined_guards_mean_both}
-use Rattle.vpg_game.specs.Guarded.{GuardedEdge}
+use Rattle.vpg_edges.specs.Edges.{GuardedEdge, join_edge}
 use Rattle.vpg_game.specs.Spelled.{SpelledSuccessor, SpelledEntry}
-use Rattle.vpg_game.specs.Game.{place_of, join_edge, joined_edges, vertex_of}
+use Rattle.vpg_game.specs.Game.{place_of, joined_edges, vertex_of}
 use Rattle.vpg_game.specs.Laws.{SomeEdgeHolds, SomeNamedHolds}
 
 module _ (set : List Bool) (to : ℕ) where

@@ -1,11 +1,9 @@
 -- What the parts of the code that make a game keep.
-use Rattle.std.specs.Prelude.{◌≡◌, ℕ, ◌<◌, ◌≤◌, ◌^◌, List, [], ◌∷◌, length, slice_index, slice_index_or}
+use Rattle.std.specs.Prelude.{ℕ, ◌<◌, ◌≤◌, ◌^◌, List, [], ◌∷◌, length}
 use Rattle.vpg_game.specs.declared.fault.GameFault.{GameFault}
 use Rattle.vpg_game.specs.declared.fault.GameFault.TheVariants as faults
-use Rattle.vpg_guards.specs.Formula.{Formula, always}
 use Rattle.vpg_game.specs.Spelled.{SpelledSuccessor, SpelledEntry, named_in}
 use Rattle.vpg_guards.specs.Writing.{IsReadable}
-use Rattle.vpg_game.specs.Guarded.{GuardedEdge}
 use Rattle.vpg_game.specs.Game.{IsFirstDouble, IsFirstNotHeld, IsFirstMissing, IsMissing, AreTooWide, entry_ids}
 
 abbrev pub IsNumberingFault : List ℕ → GameFault → Type 0
@@ -17,13 +15,6 @@ abbrev pub IsJoiningFault : List ℕ → List SpelledSuccessor → GameFault →
 IsJoiningFault ids ss (faults.MissingVertex id) = IsFirstNotHeld ids ss id
 IsJoiningFault ids ss faults.Memory = Unit {0}
 IsJoiningFault ids ss _ = ⊥
-
-abbrev pub no_edge : GuardedEdge Formula
-no_edge = record { to = 0; guard = always }
-
--- the place of each edge stands at its target
-abbrev pub ArePlaces : List ℕ → List (GuardedEdge Formula) → Type 0
-ArePlaces places edges = (k : ℕ) → k < length edges → slice_index places (slice_index_or edges k no_edge).to ≡ k
 
 abbrev pub IsResolvingFault : List ℕ → List SpelledEntry → GameFault → Type 0
 IsResolvingFault ids es (faults.MissingVertex id) = IsFirstMissing ids es id

@@ -7,7 +7,8 @@ use Rattle.vpg_game.specs.declared.player.Player.{Player}
 use Rattle.vpg_game.specs.declared.player.Player.TheVariants.{Even, Odd}
 use Rattle.vpg_game.specs.Spelled.{SpelledSuccessor, SpelledEntry}
 use Rattle.vpg_game.specs.Grammar.{player_of}
-use Rattle.vpg_game.specs.Guarded.{GuardedEdge}
+use Rattle.vpg_edges.specs.Edges.{GuardedEdge}
+use Rattle.vpg_edges.specs.Coding.{edge_code}
 use Rattle.vpg_game.specs.Game.{NamedVertex, NamedGame}
 
 abbrev pub player_number : Player → ℕ
@@ -32,10 +33,6 @@ entry_code =
     (coded× (coded× coded_ℕ coded_ℕ) (coded× player_code (coded_list successor_code)))
     (λ e. ((e.id, e.priority), (e.owner, e.successors)))
     (λ p. record { id = p.0.0; priority = p.0.1; owner = p.1.0; successors = p.1.1 }) (λ _. refl)
-
-abbrev pub edge_code : Coded (GuardedEdge Formula)
-edge_code = code_by (ℕ × Formula) (coded× coded_ℕ formula_code) (λ s. (s.to, s.guard))
-    (λ p. record { to = p.0; guard = p.1 }) (λ _. refl)
 
 abbrev pub vertex_code : Coded NamedVertex
 vertex_code =

@@ -1,15 +1,15 @@
 -- Guarded games, and the game that entries spell. Texts: PGSolver's format; all else is this project's own.
-use Rattle.std.specs.Prelude.{◌≡◌, ℕ, ◌+◌, ◌<◌, ◌≤◌, ◌^◌, List, [], ◌∷◌, length, map, take, ◌==◌, if◌then◌else◌, Some, slice_get, slice_index_or, Contains}
+use Rattle.std.specs.Prelude.{◌≡◌, ℕ, ◌+◌, ◌<◌, ◌≤◌, ◌^◌, List, [], ◌∷◌, length, map, take, ◌==◌, Some, slice_get, slice_index_or, Contains}
 use Rattle.std.specs.List.{position_or_len}
 use Rattle.vpg_game.specs.declared.player.Player.{Player}
 use Rattle.vpg_game.specs.declared.player.Player.TheVariants.{Even}
 use Rattle.vpg_guards.specs.Formula.{Formula}
-use Rattle.vpg_guards.specs.Grammar.{either}
 use Rattle.vpg_guards.specs.Writing.{IsReadable}
 use Rattle.vpg_game.specs.Spelled.{SpelledSuccessor, SpelledEntry}
 use Rattle.vpg_game.specs.Grammar.{SpellsEntries}
 use Rattle.vpg_game.specs.Players.{opponent}
-use Rattle.vpg_game.specs.Guarded.{GuardedEdge, GuardedVertex, GuardedGame}
+use Rattle.vpg_edges.specs.Edges.{GuardedEdge, join_edge}
+use Rattle.vpg_game.specs.Guarded.{GuardedVertex, GuardedGame}
 use Rattle.vpg_game.specs.Levels.{levels_of, top_of}
 
 pub record NamedVertex : Type 0 where
@@ -85,14 +85,6 @@ abbrev pub place_of : List ℕ → ℕ → ℕ
 place_of ids id = position_or_len (λ i. id == i) ids
 
 -- ---- the game that entries spell
-
--- One more edge: where its target is named before, its guard is joined to the guard there by `or`.
-abbrev pub join_edge : List (GuardedEdge Formula) → GuardedEdge Formula → List (GuardedEdge Formula)
-join_edge [] e = e ∷ []
-join_edge (f ∷ fs) e =
-    if f.to == e.to
-    then record { to = f.to; guard = either f.guard e.guard } ∷ fs
-    else f ∷ join_edge fs e
 
 -- the edges behind some that are there
 abbrev pub joined_edges : List ℕ → List (GuardedEdge Formula) → List SpelledSuccessor → List (GuardedEdge Formula)

@@ -3,11 +3,7 @@
 use Rattle.std.specs.Prelude.{ℕ, suc, ◌<◌, List, length, map, All}
 use Rattle.vpg_game.specs.declared.player.Player.{Player}
 use Rattle.vpg_game.specs.Players.{opponent}
-
--- an edge under a guard of any kind
-pub record GuardedEdge (Guard : Type 0) : Type 0 where
-  pub to : ℕ
-  pub guard : Guard
+pub use Rattle.vpg_edges.specs.Edges.{GuardedEdge}
 
 pub record GuardedVertex (Guard : Type 0) : Type 0 where
   pub owner : Player

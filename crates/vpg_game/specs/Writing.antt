@@ -4,7 +4,7 @@ use Rattle.vpg_game.specs.declared.player.Player.{Player}
 use Rattle.vpg_game.specs.declared.player.Player.TheVariants.{Even, Odd}
 use Rattle.vpg_guards.specs.Formula.{Formula, always}
 use Rattle.vpg_guards.specs.Writing.{guard_text}
-use Rattle.vpg_game.specs.Guarded.{GuardedEdge}
+use Rattle.vpg_edges.specs.Edges.{GuardedEdge}
 use Rattle.vpg_game.specs.Game.{NamedVertex, NamedGame, vertex_ids, no_vertex}
 
 -- brackets round a guard other than `true`

@@ -8,10 +8,11 @@ use crate::fault::GameFault;
 use crate::making::make;
 use crate::player::Player;
 use crate::reading::read_entries;
-use crate::vertex::{Edge, Vertex};
+use crate::vertex::Vertex;
 use indexmap::IndexSet;
 use std::alloc::Global;
 use std::marker::Model;
+use vpg_edges::Edge;
 use vpg_guards::{Index, Names};
 
 /// The highest priority that a game has. One that is read has lower ones; its dual may have it.

@@ -29,4 +29,4 @@ pub use fault::{DualFault, GameFault};
 pub use game::{GuardedGame, HIGHEST_PRIORITY};
 pub use levels::{Level, TOP_LIMIT, bound, odd_counts, top_within_limit};
 pub use player::Player;
-pub use vertex::Edge;
+pub use vpg_edges::Edge;

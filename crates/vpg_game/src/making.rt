@@ -1,22 +1,21 @@
 //! The game that entries spell.
 ghost use Rattle.std.specs.Prelude.{◌≡◌, ◌+◌, ◌<◌, ◌≤◌, ◌^◌, ℕ, [], length, map, IfOk, IfErr, SomeIff, slice_index_or};
-ghost use Rattle.vpg_guards.specs.View.{formula_of};
 ghost use Rattle.vpg_game.specs.Spelled.{SpelledEntry};
-ghost use Rattle.vpg_game.specs.Game.{entry_ids, entry_priorities, AreDistinct, joined_edges, join_edge, AllHeld, AllFound, vertex_of, game_of, top_in, dual_top_in, IsNarrow, AreSound};
+ghost use Rattle.vpg_game.specs.Game.{entry_ids, entry_priorities, AreDistinct, joined_edges, AllHeld, AllFound, vertex_of, game_of, top_in, dual_top_in, IsNarrow, AreSound};
 ghost use Rattle.vpg_game.specs.Levels.{top_of, levels_of};
 ghost use Rattle.vpg_game.specs.Naming.{IsNaming};
-ghost use Rattle.vpg_game.specs.Building.{IsNumberingFault, IsJoiningFault, IsResolvingFault, IsMakingFault, IsLimited, ArePlaces};
+ghost use Rattle.vpg_game.specs.Building.{IsNumberingFault, IsJoiningFault, IsResolvingFault, IsMakingFault, IsLimited};
 
 use crate::entry::{Entry, Successor};
 use crate::fault::GameFault;
 use crate::game::GuardedGame;
 use crate::levels::top_within_limit;
 use crate::naming::naming_of;
-use crate::vertex::{Edge, Vertex};
+use crate::vertex::Vertex;
 use indexmap::IndexSet;
 use std::alloc::{AllocError, Global};
-use std::mem;
-use vpg_guards::{Guard, Index};
+use vpg_edges::{Edge, join_edge};
+use vpg_guards::Index;
 
 /// The identifiers of entries, in order.
 fn numbered(alloc: Global, entries: &[Entry]) -> Result<IndexSet<u32>, GameFault>
@@ -55,47 +54,11 @@ fn joined(
         let Some(to) = ids.get_index_of(&id) else {
             return Err(GameFault::MissingVertex { id });
         };
-        let Ok(_) = join(alloc, &mut edges, places, to, guard) else {
+        let Ok(_) = join_edge(alloc, &mut edges, places, to, guard) else {
             return Err(GameFault::Memory);
         };
     }
     Ok(edges)
-}
-
-/// Adds an edge, or joins its guard to the edge that has its target. `places` has the place of each edge, by target.
-fn join(
-    alloc: Global,
-    edges: &mut Vec<Edge>,
-    places: &mut [usize],
-    to: usize,
-    guard: Guard,
-) -> Result<(), AllocError>
-    requires within { to < length places.old }
-    requires places { ArePlaces places.old edges.old.items }
-    requires small { length places.old ≤ 2 ^ 32 }
-    ensures edges { IfOk result
-        (λ _. edges.new.items ≡ join_edge edges.old.items (record { to = to; guard = formula_of guard })) }
-    ensures places { IfOk result (λ _. ArePlaces places.new edges.new.items) }
-{
-    let at = places[to];
-    let to_vertex = to as u32;
-    if at < edges.len() && edges[at].to == to_vertex {
-        let edge = mem::replace(
-            &mut edges[at],
-            Edge {
-                to: to_vertex,
-                guard: Guard::Never,
-            },
-        );
-        edges[at] = edge.joined(alloc, guard)?;
-        return Ok(());
-    }
-    places[to] = edges.len();
-    edges.push(Edge {
-        to: to_vertex,
-        guard,
-    })?;
-    Ok(())
 }
 
 /// The vertices that entries spell, their targets looked up.

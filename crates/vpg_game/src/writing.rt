@@ -6,9 +6,10 @@ ghost use Rattle.vpg_game.specs.Writing.{game_text, vertex_text, vertices_text, 
 
 use crate::game::GuardedGame;
 use crate::player::Player;
-use crate::vertex::{Edge, Vertex};
+use crate::vertex::Vertex;
 use itoa::Buffer;
 use std::alloc::{AllocError, Global};
+use vpg_edges::Edge;
 use vpg_guards::{Guard, Names};
 
 impl GuardedGame {
@@ -80,7 +81,7 @@ fn put_edges(
     let mut sign = b' ';
     for edge in edges {
         out.push(sign)?;
-        edge.put(alloc, vertices, names, out)?;
+        put_edge(alloc, edge, vertices, names, out)?;
         sign = b',';
     }
     Ok(())
@@ -116,26 +117,24 @@ impl Vertex {
     }
 }
 
-impl Edge {
-    fn put(
-        &self,
-        alloc: Global,
-        vertices: &[Vertex],
-        names: &Names,
-        out: &mut Vec<u8>,
-    ) -> Result<(), AllocError>
-        requires to { self.now.to < length vertices.now }
-        requires guard { IsBelow (length names.now) self.now.guard }
-        ensures { OnOk result (out.new.items ≡ out.old.items ++ edge_text names.now vertices.now self.now) }
-    {
-        let target = &vertices[self.to as usize];
-        put_number(target.id, out)?;
-        if matches!(self.guard, Guard::Always) {
-            return Ok(());
-        }
-        out.push(b'[')?;
-        self.guard.write(alloc, names, out)?;
-        out.push(b']')?;
-        Ok(())
+fn put_edge(
+    alloc: Global,
+    edge: &Edge,
+    vertices: &[Vertex],
+    names: &Names,
+    out: &mut Vec<u8>,
+) -> Result<(), AllocError>
+    requires to { edge.now.to < length vertices.now }
+    requires guard { IsBelow (length names.now) edge.now.guard }
+    ensures { OnOk result (out.new.items ≡ out.old.items ++ edge_text names.now vertices.now edge.now) }
+{
+    let target = &vertices[edge.to() as usize];
+    put_number(target.id, out)?;
+    if matches!(edge.guard(), Guard::Always) {
+        return Ok(());
     }
+    out.push(b'[')?;
+    edge.guard().write(alloc, names, out)?;
+    out.push(b']')?;
+    Ok(())
 }

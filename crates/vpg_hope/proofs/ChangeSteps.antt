@@ -17,7 +17,7 @@ use Rattle.vpg_game.specs.Naming.{features_named}
 use Rattle.vpg_hope.specs.Games.{Game, isolated}
 use Rattle.vpg_hope.specs.Hope.{keeps_in_hope, hopeful_game}
 use Rattle.vpg_hope.specs.Selection.{AreStill, IsHeldUnmarked}
-use Rattle.vpg_hope.specs.declared.selection.Selection.TheVariants.{Hopeful, HopefulOfDual}
+use Rattle.vpg_kept.specs.declared.selection.Selection.TheVariants.{Hopeful, HopefulOfDual}
 
 -- ---- marks
 

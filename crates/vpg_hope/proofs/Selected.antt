@@ -12,12 +12,13 @@ use Rattle.vpg_game.proofs.Graphs.{games_have_graphs, same_count, graph_at}
 use Rattle.vpg_game.specs.declared.player.Player.{Player}
 use Rattle.vpg_hope.specs.Games.{Vertex, isolated}
 use Rattle.vpg_hope.specs.Arena.{row_vertices, InLists}
-use Rattle.vpg_hope.specs.Selection.{owner_under, priority_under, is_kept, kept_under, vertex_under}
+use Rattle.vpg_kept.specs.Selection.{owner_under, priority_under, is_kept, kept_under}
+use Rattle.vpg_hope.specs.Selection.{vertex_under}
 use Rattle.vpg_hope.specs.declared.arena.Row.{Row}
 use Rattle.vpg_hope.proofs.Rows.{shared_row, own_row, row_added, row_replaced, next_replaced, next_kept, all_replaced}
 use Rattle.vpg_hope.specs.Hope.{hopeful_game, cautious_game, product_game}
-use Rattle.vpg_hope.specs.declared.selection.Selection.{Selection}
-use Rattle.vpg_hope.specs.declared.selection.Selection.TheVariants.{Hopeful, HopefulOfDual, Cautious, CautiousOfDual, Product}
+use Rattle.vpg_kept.specs.declared.selection.Selection.{Selection}
+use Rattle.vpg_kept.specs.declared.selection.Selection.TheVariants.{Hopeful, HopefulOfDual, Cautious, CautiousOfDual, Product}
 
 -- ---- what a game's edges and priorities keep
 

@@ -3,10 +3,10 @@
 use Rattle.vpg_game.specs.Guarded.{GuardedGame, AllGuards}
 use Rattle.std.specs.Prelude.{◌≡◌, Bool, true, false, map, filter, if◌then◌else◌}
 use Rattle.vpg_game.specs.declared.player.Player.{Player}
-use Rattle.vpg_game.specs.declared.player.Player.TheVariants.{Even, Odd}
 use Rattle.vpg_guards.specs.declared.tri.Tri.{Tri}
-use Rattle.vpg_guards.specs.declared.tri.Tri.TheVariants.{No, Unknown, Yes}
+use Rattle.vpg_guards.specs.declared.tri.Tri.TheVariants.{No, Yes}
 use Rattle.vpg_game.specs.Players.{opponent}
+pub use Rattle.vpg_kept.specs.Selection.{keeps_in_hope}
 use Rattle.vpg_hope.specs.Games.{Game}
 
 -- the plain game with the edges whose guard a test keeps; the test may depend on who moves
@@ -20,15 +20,6 @@ restrict keeps game = map (λ vertex. record {
 -- the game of a product: the edges whose guard is true in it
 abbrev pub product_game : {Guard : Type 0} → (Guard → Bool) → GuardedGame Guard → Game
 product_game truth game = restrict (λ mover guard. truth guard) game
-
--- Even keeps the edges that may be there, Odd those that must
-abbrev pub keeps_in_hope : Player → Tri → Bool
-keeps_in_hope Even No = false
-keeps_in_hope Even Unknown = true
-keeps_in_hope Even Yes = true
-keeps_in_hope Odd No = false
-keeps_in_hope Odd Unknown = false
-keeps_in_hope Odd Yes = true
 
 -- Even's vertices keep the edges whose value is not `No`, Odd's those whose value is `Yes`
 abbrev pub hopeful_game : {Guard : Type 0} → (Guard → Tri) → GuardedGame Guard → Game

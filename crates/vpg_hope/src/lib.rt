@@ -22,7 +22,6 @@ mod changes;
 pub mod laws;
 mod plain;
 mod projection;
-mod selection;
 mod unmarked;
 
 pub use arena::Arena;

@@ -6,11 +6,11 @@ ghost use Rattle.vpg_hope.specs.Plain.{projection, plain_text};
 ghost use Rattle.vpg_hope.specs.PlainParts.{marked_text, line_text};
 
 use crate::arena::Arena;
-use crate::selection::Selection;
 use itoa::Buffer;
 use std::alloc::{AllocError, Global};
 use std::marker::Model;
 use vpg_game::{GuardedGame, Player};
+use vpg_kept::Selection;
 
 /// A plain game with the identifiers of its vertices: what is left of a guarded game in a product.
 ///

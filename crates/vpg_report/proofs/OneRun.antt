@@ -5,8 +5,8 @@ use Rattle.std.specs.List.{list_all, AllByRecursion}
 use Rattle.std.specs.Str.Lines.{strip_carriage_return}
 use Rattle.std.proofs.lemmas.Bool.{lt-ltb}
 use Rattle.std.proofs.lemmas.List.{length-take}
-use Rattle.vpg_script.specs.Lines.{is_within_line, IsUnended, BeginsTooLong}
-use Rattle.vpg_script.specs.Output.{Machine, Speaks, Answered, NextLine, ReadLines, Wrote, IsEmptyKnown, BeginsFaulty, FaultyKnown}
+use Rattle.vpg_script.specs.Lines.{is_within_line, IsUnended, BeginsTooLong, NextLine, ReadLines}
+use Rattle.vpg_serving.specs.Output.{Machine, Speaks, Answered, Wrote, IsEmptyKnown, BeginsFaulty, FaultyKnown}
 use Rattle.vpg_report.specs.Output.{Outcome}
 use Rattle.vpg_report.specs.Results.{IsThrough}
 use Rattle.vpg_report.specs.Run.{Between, begun}

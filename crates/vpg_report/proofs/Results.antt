@@ -2,14 +2,14 @@
 use Rattle.std.proofs.Common.{◌≡◌, ℕ, false, List, Option, Result, Ok, Err}
 use Rattle.std.specs.Prelude.{IsErrOf}
 use Rattle.vpg_desk.specs.declared.fault.OpenFault.{OpenFault}
-use Rattle.vpg_script.specs.Output.{Machine, ScriptOutcome}
-use Rattle.vpg_script.specs.Manners.{MannerOutcome}
-use Rattle.vpg_script.specs.declared.serving.Manner.{Manner}
-use Rattle.vpg_script.specs.declared.serving.Ending.{Ending}
-use Rattle.vpg_script.proofs.MannerLemmas.{plain_outcome}
-use Rattle.vpg_script.specs.Results.{UnlessReaderFails, UnlessWriterFails}
-use Rattle.vpg_script.specs.declared.serving.ScriptFault.{ScriptFault}
-use Rattle.vpg_script.specs.declared.serving.ScriptFault.TheVariants as ends
+use Rattle.vpg_serving.specs.Output.{Machine, ScriptOutcome}
+use Rattle.vpg_serving.specs.Manners.{MannerOutcome}
+use Rattle.vpg_serving.specs.declared.serving.Manner.{Manner}
+use Rattle.vpg_serving.specs.declared.serving.Ending.{Ending}
+use Rattle.vpg_serving.proofs.MannerLemmas.{plain_outcome}
+use Rattle.vpg_serving.specs.Results.{UnlessReaderFails, UnlessWriterFails}
+use Rattle.vpg_serving.specs.declared.serving.ScriptFault.{ScriptFault}
+use Rattle.vpg_serving.specs.declared.serving.ScriptFault.TheVariants as ends
 use Rattle.vpg_report.specs.Output.{Outcome, OutcomeAs, ended}
 use Rattle.vpg_report.specs.Results.{Opens, UnlessRead, UnlessWrite}
 use Rattle.vpg_report.specs.declared.runs.RunFault.{RunFault}

@@ -1,12 +1,12 @@
 -- What is written for what is read, by a run.
 use Rattle.std.specs.Prelude.{◌≡◌, ℕ, List, Option, Result, Ok, Err}
 use Rattle.vpg_desk.specs.declared.fault.OpenFault.{OpenFault}
-use Rattle.vpg_script.specs.Output.{Machine, ScriptOutcome}
-use Rattle.vpg_script.specs.Manners.{MannerOutcome}
-use Rattle.vpg_script.specs.declared.serving.Manner.{Manner}
-use Rattle.vpg_script.specs.declared.serving.Ending.{Ending}
-use Rattle.vpg_script.specs.declared.serving.ScriptFault.{ScriptFault}
-use Rattle.vpg_script.specs.declared.serving.ScriptFault.TheVariants as ends
+use Rattle.vpg_serving.specs.Output.{Machine, ScriptOutcome}
+use Rattle.vpg_serving.specs.Manners.{MannerOutcome}
+use Rattle.vpg_serving.specs.declared.serving.Manner.{Manner}
+use Rattle.vpg_serving.specs.declared.serving.Ending.{Ending}
+use Rattle.vpg_serving.specs.declared.serving.ScriptFault.{ScriptFault}
+use Rattle.vpg_serving.specs.declared.serving.ScriptFault.TheVariants as ends
 use Rattle.vpg_report.specs.declared.runs.RunFault.{RunFault}
 use Rattle.vpg_report.specs.declared.runs.RunFault.TheVariants as stops
 

@@ -5,7 +5,7 @@ use Rattle.vpg_desk.specs.History.{Event, IsLegalFrom, book_after}
 use Rattle.vpg_desk.specs.Desk.{family_of}
 use Rattle.vpg_desk.specs.State.{IsHistoryOf}
 use Rattle.vpg_report.specs.Held.{Held, nothing_held}
-use Rattle.vpg_script.specs.Output.{Machine, Answered}
+use Rattle.vpg_serving.specs.Output.{Machine, Answered}
 use Rattle.vpg_texts.specs.Scene.{Scene}
 use Rattle.vpg_report.specs.Answers.{Serves}
 use Rattle.vpg_report.specs.Made.{AreMadeBy}

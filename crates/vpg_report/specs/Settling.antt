@@ -6,7 +6,7 @@ use Rattle.vpg_answers.specs.Answers.{HasDoubt}
 use Rattle.vpg_desk.specs.Desk.{family_of}
 use Rattle.vpg_report.specs.Answers.{Checks, settled_text}
 use Rattle.vpg_report.specs.Held.{Held}
-use Rattle.vpg_script.specs.Output.{Machine, Answered}
+use Rattle.vpg_serving.specs.Output.{Machine, Answered}
 use Rattle.vpg_report.specs.Output.{Outcome}
 use Rattle.vpg_report.specs.Results.{IsThrough}
 use Rattle.vpg_report.specs.Run.{Between, begun, calling}

@@ -10,7 +10,7 @@ use crate::asking::Missing;
 use vpg_client::ClientFault;
 use vpg_desk::{CommitFault, DecideFault, RedoFault, RetractFault, UndoFault};
 use vpg_guards::Names;
-use vpg_script::ServeFault;
+use vpg_serving::ServeFault;
 use vpg_texts::{blank_name, blank_number};
 
 /// A word and a number.

@@ -14,7 +14,7 @@ use vpg_client::{ClientFault, Token};
 use vpg_desk::CommitFault;
 use vpg_measure::Harvest;
 use vpg_office::{Redo, Terms, Undo};
-use vpg_script::ServeFault;
+use vpg_serving::ServeFault;
 
 /// The place of the undo that a command means: that of the serial, or without one that of the greatest.
 pub(crate) fn undo_place<L: Terms>(undos: &[Undo<L>], serial: Option<u64>) -> Option<usize>

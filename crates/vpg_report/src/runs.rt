@@ -19,7 +19,8 @@ use vpg_desk::OpenFault;
 use vpg_diagram::Diagram;
 use vpg_game::GuardedGame;
 use vpg_office::{Site, Terms};
-use vpg_script::{Ending, LineFault, Manner, ScriptFault, Sink, Source, answer_script_as};
+use vpg_script::{LineFault, Sink, Source};
+use vpg_serving::{Ending, Manner, ScriptFault, answer_script_as};
 
 /// Why a run ends before the script does.
 #[derive(Clone, Copy, Debug, PartialEq, Eq, Error)]

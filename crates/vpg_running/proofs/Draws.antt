@@ -2,7 +2,7 @@
 use Rattle.std.proofs.Common.{◌≡◌, ℕ, List, [], Option, Some, Ok, sym, subst}
 use Rattle.vpg_diagram.specs.DiagramText.{NamedDiagram}
 use Rattle.vpg_game.specs.Game.{NamedGame}
-use Rattle.vpg_script.specs.declared.serving.Ending.{Ending}
+use Rattle.vpg_serving.specs.declared.serving.Ending.{Ending}
 use Rattle.vpg_family.specs.Pages.{IsRedrawn}
 use Rattle.vpg_family.specs.declared.drawing.Subject.{Subject}
 use Rattle.vpg_running.specs.Runs.{IsRun}

@@ -7,8 +7,8 @@ use Rattle.vpg_diagram.specs.DiagramText.{NamedDiagram}
 use Rattle.vpg_game.specs.Game.{NamedGame}
 use Rattle.vpg_desk.specs.declared.fault.OpenFault.{OpenFault}
 use Rattle.vpg_desk.specs.declared.fault.OpenFault.TheVariants as opens
-use Rattle.vpg_script.specs.Output.{ReadKnown}
-use Rattle.vpg_script.specs.declared.serving.Manner.{Manner}
+use Rattle.vpg_serving.specs.Output.{ReadKnown}
+use Rattle.vpg_serving.specs.declared.serving.Manner.{Manner}
 use Rattle.vpg_report.specs.Run.{begun}
 use Rattle.vpg_report.specs.declared.runs.RunFault.TheVariants as stops
 use Rattle.vpg_running.specs.Runs.{TellsOpening, Ends, IsRun}

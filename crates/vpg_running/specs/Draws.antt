@@ -2,8 +2,8 @@
 use Rattle.std.specs.Prelude.{ℕ, false, List, [], ◌++◌, Option, Some, Ok, codes}
 use Rattle.vpg_diagram.specs.DiagramText.{NamedDiagram}
 use Rattle.vpg_game.specs.Game.{NamedGame}
-use Rattle.vpg_script.specs.declared.serving.Manner.{Manner}
-use Rattle.vpg_script.specs.declared.serving.Ending.{Ending}
+use Rattle.vpg_serving.specs.declared.serving.Manner.{Manner}
+use Rattle.vpg_serving.specs.declared.serving.Ending.{Ending}
 use Rattle.vpg_family.specs.Pages.{IsRedrawn}
 use Rattle.vpg_family.specs.declared.drawing.Subject.{Subject}
 use Rattle.vpg_running.specs.Runs.{IsRun}

@@ -4,8 +4,8 @@ use Rattle.std.specs.Fmt.{decimal}
 use Rattle.vpg_running.specs.declared.ending.End.{End}
 use Rattle.vpg_running.specs.declared.ending.End.TheVariants as ends
 use Rattle.vpg_family.specs.declared.fault.Fault.{Fault}
-use Rattle.vpg_script.specs.declared.serving.Ending.{Ending}
-use Rattle.vpg_script.specs.declared.serving.Ending.TheVariants as endings
+use Rattle.vpg_serving.specs.declared.serving.Ending.{Ending}
+use Rattle.vpg_serving.specs.declared.serving.Ending.TheVariants as endings
 
 -- how the program ends behind a script that ended so
 abbrev pub ended : Ending → End

@@ -9,7 +9,8 @@ use std::alloc::{AllocError, Global};
 use std::sync::Wait;
 use std::thread::Threads;
 use vpg_family::{Family, Fault, Subject, Texts, redrawn};
-use vpg_script::{Device, Ending, Manner};
+use vpg_script::Device;
+use vpg_serving::{Ending, Manner};
 
 /// The text of a script with a line `draw` behind it.
 fn with_draw(alloc: Global, script: &[u8]) -> Result<Vec<u8>, AllocError>

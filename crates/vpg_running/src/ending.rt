@@ -6,7 +6,7 @@ ghost use Rattle.vpg_running.specs.Ends.{ended, status_of, refused_text};
 use std::alloc::{AllocError, Global};
 use std::process::ExitCode;
 use vpg_family::Fault;
-use vpg_script::Ending;
+use vpg_serving::Ending;
 
 /// How the program ends where it doesn't fail.
 #[derive(Clone, Copy)]

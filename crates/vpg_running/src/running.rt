@@ -11,7 +11,8 @@ use vpg_desk::OpenFault;
 use vpg_diagram::Diagram;
 use vpg_family::{Family, Fault, conflict};
 use vpg_report::{RunFault, run_as};
-use vpg_script::{Ending, Manner, Sink, Source};
+use vpg_script::{Sink, Source};
+use vpg_serving::{Ending, Manner};
 
 /// What is told of a refused opening. A conflict names the root.
 fn not_opened(alloc: Global, diagram: &Diagram, fault: OpenFault) -> Fault

@@ -5,8 +5,7 @@ use Rattle.std.specs.List.{list_all}
 use Rattle.std.specs.Str.Lines.{strip_carriage_return}
 use Rattle.std.proofs.lemmas.Bool.{lt-ltb}
 use Rattle.std.proofs.lemmas.List.{length-take}
-use Rattle.vpg_script.specs.Lines.{is_within_line, IsUnended, BeginsTooLong}
-use Rattle.vpg_script.specs.Output.{NextLine}
+use Rattle.vpg_script.specs.Lines.{is_within_line, IsUnended, BeginsTooLong, NextLine}
 use Rattle.vpg_script.specs.Script.{said, said_by, words, longest_line}
 use Rattle.vpg_script.specs.declared.command.LineFault.TheVariants as faults
 

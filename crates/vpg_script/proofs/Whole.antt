@@ -5,8 +5,7 @@ use Rattle.std.specs.List.{list_all, slice_split, onto_first}
 use Rattle.std.specs.Str.Lines.{lines, lines_of_parts, strip_carriage_return}
 use Rattle.std.proofs.lemmas.List.Splits.{slice_split-cons_yes, slice_split-cons_no, length-slice_split}
 use Rattle.std.proofs.lemmas.Bool.{eqb-true}
-use Rattle.vpg_script.specs.Lines.{IsUnended, IsEnded, IsLast, is_within_line}
-use Rattle.vpg_script.specs.Output.{NextLine, ReadIsWhole}
+use Rattle.vpg_script.specs.Lines.{IsUnended, IsEnded, IsLast, is_within_line, NextLine, ReadIsWhole}
 
 both : (a b : Bool) → (a && b) ≡ true → (a ≡ true) × (b ≡ true)
 both true b h = (refl, h)

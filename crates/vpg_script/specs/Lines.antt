@@ -1,10 +1,12 @@
 -- A text as it is read line by line.
-use Rattle.std.specs.Prelude.{◌≡◌, ℕ, ◌<◌, ◌⊎◌, Bool, true, not, ◌==◌, List, [], ◌∷◌, ◌++◌, length, Option, Some, None, ⊤}
+use Rattle.std.specs.Prelude.{◌≡◌, ℕ, ◌+◌, ◌-◌, ◌*◌, ◌<◌, ◌⊎◌, Bool, true, not, ◌==◌, List, [], ◌∷◌, ◌++◌, length, Option, Some, None, Result, Err, ⊤}
 use Rattle.std.specs.List.{list_all}
 use Rattle.std.specs.Io.KnownBytes.{Keeps, prepend_known}
-use Rattle.std.specs.Str.Lines.{strip_carriage_return}
+use Rattle.std.specs.Str.Lines.{lines, strip_carriage_return}
 use Rattle.vpg_script.specs.declared.lines.Next.{Next}
 use Rattle.vpg_script.specs.declared.lines.Next.TheVariants as next
+use Rattle.vpg_script.specs.declared.lines.NextFault.{NextFault}
+use Rattle.vpg_script.specs.declared.lines.NextFault.TheVariants as nexts
 
 abbrev pub is_within_line : ℕ → Bool
 is_within_line b = not (b == 10)
@@ -52,6 +54,7 @@ abbrev pub IsPassed : List ℕ → List ℕ → Type 0
 IsPassed text rest =
     (front : List ℕ) × (IsUnended front × ((text ≡ front ++ 10 ∷ rest) ⊎ ((text ≡ front) × (rest ≡ []))))
 
+-- what was left of a line is taken off, with its end, and this is left, where the bytes are known
 abbrev pub PassedKnown : Option (List ℕ) → Option (List ℕ) → Type 0
 PassedKnown None rest = ⊤
 PassedKnown (Some text) None = ⊥
@@ -60,3 +63,35 @@ PassedKnown (Some text) (Some rest) = IsPassed text rest
 -- a piece of a line was read and not its end, and this is left
 abbrev pub HeldKnown : Option (List ℕ) → Option (List ℕ) → Type 0
 HeldKnown text left = (held : List ℕ) × (IsUnended held × Keeps text (prepend_known held left))
+
+-- This holds of each piece more of a script but one where a read fails.
+abbrev pub UnlessUnread : {A : Type 0} → Result A NextFault → Type 0 → Type 0
+UnlessUnread (Err nexts.Read) P = ⊤
+UnlessUnread result P = P
+
+-- how many more lines there can be: by the reads that are left, and what is held
+abbrev pub lines_left : ℕ → ℕ → ℕ
+lines_left reads held = (16777216 - reads) * 8193 + held
+
+-- a line was read
+abbrev pub IsLine : Next → Type 0
+IsLine (next.Line line) = ⊤
+IsLine next.End = ⊥
+IsLine next.TooLong = ⊥
+
+-- ---- line by line
+
+-- this line comes next, with its end or as the last
+abbrev pub NextLine : List ℕ → List ℕ → List ℕ → Type 0
+NextLine text line rest = IsEnded text line rest ⊎ IsLast text line rest
+
+-- the text is these lines, and then the rest
+abbrev pub ReadLines : List ℕ → List (List ℕ) → List ℕ → Type 0
+ReadLines text [] rest = text ≡ rest
+ReadLines text (line ∷ lines) rest = (more : List ℕ) × NextLine text line more × ReadLines more lines rest
+
+-- Lines that were read one by one, and the lines of the rest, are the lines of the text.
+abbrev pub ReadIsWhole : Type 0
+ReadIsWhole =
+    (text : List ℕ) (before : List (List ℕ)) (rest : List ℕ) → ReadLines text before rest →
+    lines text ≡ before ++ lines rest

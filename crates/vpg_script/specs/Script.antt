@@ -94,6 +94,36 @@ pub data Command : Type 0 where
   Known : (name : List ℕ) → Command
   Ask : (inquiry : Inquiry) → Command
 
+-- the command that a word names, of those that ask something of the page
+abbrev pub verb_of_question : List ℕ → Option Verb
+verb_of_question w =
+    if bytes_eq w (codes "why") then Some verbs.Why
+    else if bytes_eq w (codes "example") then Some verbs.Example
+    else if bytes_eq w (codes "counterexample") then Some verbs.Counterexample
+    else if bytes_eq w (codes "offer") then Some verbs.Offer
+    else if bytes_eq w (codes "needs") then Some verbs.Needs
+    else if bytes_eq w (codes "repair") then Some verbs.Repair
+    else if bytes_eq w (codes "lost") then Some verbs.Lost
+    else if bytes_eq w (codes "won") then Some verbs.Won
+    else if bytes_eq w (codes "forced") then Some verbs.Forced
+    else if bytes_eq w (codes "empty") then Some verbs.Empty
+    else if bytes_eq w (codes "spoil") then Some verbs.Spoil
+    else None
+
+-- of those that look at the page, or else ask
+abbrev pub verb_of_page : List ℕ → Option Verb
+verb_of_page w =
+    if bytes_eq w (codes "show") then Some verbs.Show
+    else if bytes_eq w (codes "trail") then Some verbs.Trail
+    else if bytes_eq w (codes "products") then Some verbs.Products
+    else if bytes_eq w (codes "plan") then Some verbs.Plan
+    else if bytes_eq w (codes "count") then Some verbs.Count
+    else if bytes_eq w (codes "draw") then Some verbs.Draw
+    else if bytes_eq w (codes "changed") then Some verbs.Changed
+    else if bytes_eq w (codes "known") then Some verbs.Known
+    else if bytes_eq w (codes "assert") then Some verbs.Assert
+    else verb_of_question w
+
 -- the command that a word names
 abbrev pub verb_of : List ℕ → Option Verb
 verb_of w =
@@ -108,27 +138,7 @@ verb_of w =
     else if bytes_eq w (codes "harvest") then Some verbs.Harvest
     else if bytes_eq w (codes "commit") then Some verbs.Commit
     else if bytes_eq w (codes "settle") then Some verbs.Settle
-    else if bytes_eq w (codes "show") then Some verbs.Show
-    else if bytes_eq w (codes "trail") then Some verbs.Trail
-    else if bytes_eq w (codes "products") then Some verbs.Products
-    else if bytes_eq w (codes "plan") then Some verbs.Plan
-    else if bytes_eq w (codes "count") then Some verbs.Count
-    else if bytes_eq w (codes "draw") then Some verbs.Draw
-    else if bytes_eq w (codes "changed") then Some verbs.Changed
-    else if bytes_eq w (codes "known") then Some verbs.Known
-    else if bytes_eq w (codes "assert") then Some verbs.Assert
-    else if bytes_eq w (codes "why") then Some verbs.Why
-    else if bytes_eq w (codes "example") then Some verbs.Example
-    else if bytes_eq w (codes "counterexample") then Some verbs.Counterexample
-    else if bytes_eq w (codes "offer") then Some verbs.Offer
-    else if bytes_eq w (codes "needs") then Some verbs.Needs
-    else if bytes_eq w (codes "repair") then Some verbs.Repair
-    else if bytes_eq w (codes "lost") then Some verbs.Lost
-    else if bytes_eq w (codes "won") then Some verbs.Won
-    else if bytes_eq w (codes "forced") then Some verbs.Forced
-    else if bytes_eq w (codes "empty") then Some verbs.Empty
-    else if bytes_eq w (codes "spoil") then Some verbs.Spoil
-    else None
+    else verb_of_page w
 
 -- a command without arguments
 abbrev pub bare_command : Verb → Option Command

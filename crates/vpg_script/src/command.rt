@@ -4,7 +4,7 @@ ghost use Rattle.std.specs.List.{list_all};
 ghost use Rattle.std.specs.Char.{is_ascii_digit, digit_value};
 ghost use Rattle.std.specs.Str.Parse.{digits_value};
 ghost use Rattle.std.specs.Prelude.{bytes_eq};
-ghost use Rattle.vpg_script.specs.Script.{is_blank, is_nonempty, words, is_feature_name, number_of, verb_of, bare_command, signed, why_of, of_vertex, asked, command_with, table_named, command_with_two, label_of, is_comment};
+ghost use Rattle.vpg_script.specs.Script.{is_blank, is_nonempty, words, is_feature_name, number_of, verb_of, verb_of_page, verb_of_question, bare_command, signed, why_of, of_vertex, asked, command_with, table_named, command_with_two, label_of, is_comment};
 ghost use Rattle.vpg_script.specs.Script.{command_with_few, identifiers_of, claim_named, claims_of, state_named, assertion_of, command_of};
 ghost use Rattle.vpg_script.specs.View.{assertion_shown, command_shown, inquiry_shown, texts};
 
@@ -260,6 +260,7 @@ fn number(word: &[u8], most: u64) -> Option<u64>
     }
 }
 
+/// The command that a word names: of those that decide, take back, lift and settle, or else another.
 fn verb_named(word: &[u8]) -> Option<Verb>
     ensures { result ≡ verb_of word.now }
 {
@@ -285,7 +286,16 @@ fn verb_named(word: &[u8]) -> Option<Verb>
         Some(Verb::Commit)
     } else if same(word, b"settle") {
         Some(Verb::Settle)
-    } else if same(word, b"show") {
+    } else {
+        verb_of_page_named(word)
+    }
+}
+
+/// The command that a word names: of those that look at the page, or else another.
+fn verb_of_page_named(word: &[u8]) -> Option<Verb>
+    ensures { result ≡ verb_of_page word.now }
+{
+    if same(word, b"show") {
         Some(Verb::Show)
     } else if same(word, b"trail") {
         Some(Verb::Trail)
@@ -303,7 +313,16 @@ fn verb_named(word: &[u8]) -> Option<Verb>
         Some(Verb::Known)
     } else if same(word, b"assert") {
         Some(Verb::Assert)
-    } else if same(word, b"why") {
+    } else {
+        verb_of_question_named(word)
+    }
+}
+
+/// The command that a word names: of those that ask something of the page.
+fn verb_of_question_named(word: &[u8]) -> Option<Verb>
+    ensures { result ≡ verb_of_question word.now }
+{
+    if same(word, b"why") {
         Some(Verb::Why)
     } else if same(word, b"example") {
         Some(Verb::Example)

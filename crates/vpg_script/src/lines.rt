@@ -3,9 +3,7 @@ ghost use Rattle.std.specs.Prelude.{◌≡◌, ℕ, ◌+◌, ◌-◌, ◌*◌, �
 ghost use Rattle.std.specs.List.{list_all, prefix_len};
 ghost use Rattle.std.specs.Str.Lines.{strip_carriage_return};
 ghost use Rattle.std.specs.Io.KnownBytes.{prepend_known, Keeps, IsAtEnd};
-ghost use Rattle.vpg_script.specs.Output.{IsLine, lines_left};
-ghost use Rattle.vpg_script.specs.Results.{UnlessUnread};
-ghost use Rattle.vpg_script.specs.Lines.{is_within_line, IsUnended, IsEnded, ComesNext, ComesKnown, PassedKnown, HeldKnown};
+ghost use Rattle.vpg_script.specs.Lines.{is_within_line, IsUnended, IsEnded, ComesNext, ComesKnown, PassedKnown, HeldKnown, IsLine, lines_left, UnlessUnread};
 
 use crate::command::LONGEST_LINE;
 use crate::device::{Failed, Source};

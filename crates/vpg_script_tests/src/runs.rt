@@ -9,7 +9,8 @@ use std::test::*;
 use std::thread::Threads;
 use vpg_family::{Family, Fault, line_of};
 use vpg_running::{DIAGRAM, End, GAME, end_of, refused_line, run_script};
-use vpg_script::{Device, Ending, Manner, Sink, Source};
+use vpg_script::{Device, Sink, Source};
+use vpg_serving::{Ending, Manner};
 
 /// Each line is answered, and a fault ends the script.
 const PLAIN: Manner = Manner {

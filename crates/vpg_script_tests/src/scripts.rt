@@ -12,9 +12,8 @@ use std::io::{Read, Write};
 use std::sync::Wait;
 use std::test::*;
 use std::thread::Threads;
-use vpg_script::{
-    Command, Device, LineFault, Request, ScriptFault, ServeFault, Server, answer_script,
-};
+use vpg_script::{Command, Device, LineFault, Request};
+use vpg_serving::{ScriptFault, ServeFault, Server, answer_script};
 
 // Refuses what asks for a token or a harvest; it has no desk for the rest.
 #[derive(Drop)]

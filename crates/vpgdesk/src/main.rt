@@ -34,7 +34,8 @@ use vpg_names::VertexNames;
 use vpg_running::{
     DIAGRAM, End, GAME, drawn_after, end_of, ended, refused_line, run_script, status,
 };
-use vpg_script::{Device, Ending, Manner, Sink, Source};
+use vpg_script::{Device, Sink, Source};
+use vpg_serving::{Ending, Manner};
 use vpg_terminal::{Ear, Heard, Named, Setting, Typed};
 use vpg_words::{Asked, Task, command_list, not_text, read};
 

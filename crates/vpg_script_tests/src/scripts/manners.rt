@@ -7,7 +7,8 @@ use std::sync::Wait;
 use std::test::*;
 use std::thread::Threads;
 use vpg_report::{RunFault, run_as};
-use vpg_script::{Device, Ending, LineFault, Manner};
+use vpg_script::{Device, LineFault};
+use vpg_serving::{Ending, Manner};
 
 /// A manner, a script, what it answers, and how it ends. Lines are separated by ` / `, and the last line of the script
 /// has no end. The line `LONG` stands for 4,097 bytes, `LONGEST` for 4,096, and `HUGE` for 30,000.

@@ -1,4 +1,5 @@
-use Rattle.std.proofs.Common.{List, ◌++◌, ◌∷◌, [], sym, ap, ◌∙◌, append_assoc}
+use Rattle.std.proofs.Common.{arith, List, ◌++◌, ◌∷◌, [], sym, ap, ◌∙◌, append_assoc}
+use Rattle.std.proofs.lemmas.Grind.{common_steps}
 use Rattle.vpg_game.specs.Spelled.{SpelledSuccessor}
 use Rattle.vpg_game.proofs.Build.{first_not_held, one_more_edge, one_more_held}
 use Rattle.vpg_game.proofs.making.joined.Goals as goal
@@ -19,3 +20,15 @@ loop-successor-preserved c =
       c.in-Ok.ensures.places,
       append_assoc l.yielded (c.in-Some.successor ∷ []) c.next.new.self.rest.items ∙ ap (λ (xs : List SpelledSuccessor). l.yielded ++ xs) (sym c.in-Some.ensures.steps.0) ∙ l.invariant.3,
     )
+
+pub returns-clause-ok : goal.returns-clause-ok
+returns-clause-ok c = grind (arith, common_steps)
+
+pub returns-clause-found : goal.returns-clause-found
+returns-clause-found c = grind (arith, common_steps)
+
+pub join_edge-requires-clause-places : goal.join_edge-requires-clause-places
+join_edge-requires-clause-places c = grind (arith, common_steps)
+
+pub loop-successor-init : goal.loop-successor-init
+loop-successor-init c = grind (arith, common_steps)

@@ -1,4 +1,5 @@
-use Rattle.std.proofs.Common.{◌≡◌, ℕ, List, map, sym, ap, subst, ◌∙◌}
+use Rattle.std.proofs.Common.{arith, ◌≡◌, ℕ, List, map, sym, ap, subst, ◌∙◌}
+use Rattle.std.proofs.lemmas.Grind.{common_steps}
 use Rattle.vpg_game.specs.Spelled.{SpelledEntry}
 use Rattle.vpg_game.specs.Game.{NamedVertex, IsGame, vertex_of, vertex_ids, entry_ids, entry_priorities, priorities_of, top_in, dual_top_in}
 use Rattle.vpg_game.proofs.Made.{is_made, same_ids, same_priorities}
@@ -17,3 +18,6 @@ invariant_of-result c =
       ap (λ (t : ℕ × ℕ). t.1) made.tops ∙ ap dual_top_in (sym ps),
       made.naming,
     )
+
+pub returns-in-Ok-clause-ok : goal.returns-in-Ok-clause-ok
+returns-in-Ok-clause-ok c = grind (arith, common_steps)

@@ -1,4 +1,5 @@
-use Rattle.std.proofs.Common.{ℕ, List, Some, sym, ap, subst, ◌∙◌}
+use Rattle.std.proofs.Common.{arith, ℕ, List, Some, sym, ap, subst, ◌∙◌}
+use Rattle.std.proofs.lemmas.Grind.{common_steps}
 use Rattle.vpg_game.specs.Spelled.{SpelledEntry}
 use Rattle.vpg_game.specs.Game.{AreDistinct, Holds}
 use Rattle.vpg_game.proofs.Build.{not_false, not_true, any_held, id_got, keys_more, keys_new}
@@ -24,3 +25,6 @@ loop-entry-preserved c =
       keys_more c.args.entries.now l.entry-index c.entry.inside.id c.entry-item.result l.ids.keys _ l.invariant.0 c.loop-entry-test.true c.entry-item.is same none c.in-Ok-true.ensures.keys,
       keys_new c.entry.inside.id l.ids.keys _ l.invariant.1 none c.in-Ok-true.ensures.keys,
     )
+
+pub returns-clause-ok : goal.returns-clause-ok
+returns-clause-ok c = grind (arith, common_steps)

@@ -1,4 +1,5 @@
-use Rattle.std.proofs.Common.{◌≡◌, ◌<◌, ℕ, List, All, length, map, get_or, sym, ap, subst, ◌∙◌}
+use Rattle.std.proofs.Common.{arith, ◌≡◌, ◌<◌, ℕ, List, All, length, map, get_or, sym, ap, subst, ◌∙◌}
+use Rattle.std.proofs.lemmas.Grind.{common_steps}
 use Rattle.vpg_game.specs.Spelled.{SpelledEntry}
 use Rattle.vpg_game.specs.Game.{NamedVertex, IsGame, vertex_of, entry_ids, AreDistinct, AllFound, AreSound}
 use Rattle.vpg_game.specs.Naming.{features_named, IsNaming}
@@ -43,3 +44,6 @@ returns-clause-tops c =
 
 pub returns-clause-naming : goal.returns-clause-naming
 returns-clause-naming c = subst (λ (vs : List NamedVertex). IsNaming c.args.features vs c.in-Ok-naming_of.naming) c.deref-2.ensures.value c.in-Ok-naming_of.ensures
+
+pub resolved-requires : goal.resolved-requires
+resolved-requires c = grind (arith, common_steps)

@@ -1,4 +1,5 @@
-use Rattle.std.proofs.Common.{◌+◌, ◌++◌, ◌∷◌, [], ℕ, List, map, take, sym, ap, ap₂, ◌∙◌}
+use Rattle.std.proofs.Common.{arith, ◌+◌, ◌++◌, ◌∷◌, [], ℕ, List, map, take, sym, ap, ap₂, ◌∙◌}
+use Rattle.std.proofs.lemmas.Grind.{common_steps}
 use Rattle.std.proofs.lemmas.List.{map-append}
 use Rattle.vpg_game.specs.Spelled.{SpelledEntry}
 use Rattle.vpg_game.specs.Game.{entry_priorities}
@@ -14,3 +15,12 @@ loop-entry-preserved c =
       c.in_ok-push.ensures.items ∙ ap₂ (λ (qs : List ℕ) (p : ℕ). qs ++ p ∷ []) l.invariant.0 same ∙ sym more,
       c.in_ok-push-2.ensures.items ∙ ap₂ (λ (qs : List ℕ) (p : ℕ). qs ++ (p + 1) ∷ []) l.invariant.1 same ∙ sym (map-append (λ q. q + 1) ps (c.entry-item.result.priority ∷ [])) ∙ sym (ap (map (λ q. q + 1)) more),
     )
+
+pub returns-clause-own : goal.returns-clause-own
+returns-clause-own c = grind (arith, common_steps)
+
+pub returns-clause-dual : goal.returns-clause-dual
+returns-clause-dual c = grind (arith, common_steps)
+
+pub overflow_add-entry-inside : goal.overflow_add-entry-inside
+overflow_add-entry-inside c = grind (arith, common_steps)

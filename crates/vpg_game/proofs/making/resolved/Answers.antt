@@ -1,4 +1,5 @@
-use Rattle.std.proofs.Common.{List, ◌++◌, ◌∷◌, [], sym, ap, subst, ◌∙◌, append_assoc}
+use Rattle.std.proofs.Common.{arith, List, ◌++◌, ◌∷◌, [], sym, ap, subst, ◌∙◌, append_assoc}
+use Rattle.std.proofs.lemmas.Grind.{common_steps}
 use Rattle.std.proofs.lemmas.Result.{err_from_is_err_and}
 use Rattle.vpg_game.specs.Spelled.{SpelledEntry}
 use Rattle.vpg_game.specs.Game.{AllHeld}
@@ -21,3 +22,12 @@ loop-entry-preserved c =
       l.invariant.2,
       append_assoc l.yielded (c.in-Some.entry ∷ []) c.next.new.self.rest.items ∙ ap (λ (xs : List SpelledEntry). l.yielded ++ xs) (sym c.in-Some.ensures.steps.0) ∙ l.invariant.3,
     )
+
+pub returns-clause-found : goal.returns-clause-found
+returns-clause-found c = grind (arith, common_steps)
+
+pub loop-entry-init : goal.loop-entry-init
+loop-entry-init c = grind (arith, common_steps)
+
+pub returns-clause-ok : goal.returns-clause-ok
+returns-clause-ok c = grind (arith, common_steps)

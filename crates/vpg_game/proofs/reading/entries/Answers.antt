@@ -1,4 +1,5 @@
 use Rattle.std.proofs.Common.{◌≡◌, ◌-◌, ◌<◌, ℕ, length, vec_len, sym, ap, ◌∙◌, arith}
+use Rattle.std.proofs.lemmas.Grind.{common_steps}
 use Rattle.std.proofs.lemmas.Result.{err_from_is_err_and}
 use Rattle.vpg_guards.specs.Reading.{after_blanks}
 use Rattle.vpg_game.specs.Spelled.{SpelledEntry}
@@ -38,3 +39,12 @@ pub returns : goal.returns
 returns c =
     let l = c.loop-rest in
     l.invariant.2 ∙ entries_end c.args.names.now _ l.left l.items.items l.rest.now (sym c.after_blanks.ensures.rest ∙ is_empty c.after_blanks.result.now (sym c.is_empty.ensures ∙ c.loop-rest-test.false))
+
+pub loop-rest-smaller : goal.loop-rest-smaller
+loop-rest-smaller c = grind (arith, common_steps)
+
+pub loop-rest-init : goal.loop-rest-init
+loop-rest-init c = grind (arith, common_steps)
+
+pub overflow_sub-left-in-loop-rest : goal.overflow_sub-left-in-loop-rest
+overflow_sub-left-in-loop-rest c = grind (arith, common_steps)

@@ -1,4 +1,5 @@
 use Rattle.std.proofs.Common.{sym, ap, ◌∙◌, arith, Some}
+use Rattle.std.proofs.lemmas.Grind.{common_steps}
 use Rattle.std.proofs.lemmas.Result.{err_from_is_err_and}
 use Rattle.vpg_guards.specs.Reading.{◌>>=◌, after_sign}
 use Rattle.vpg_game.specs.declared.player.Player.{Player}
@@ -51,3 +52,33 @@ returns-clause-gives c =
     ∙ bind_is (after_name c.in_ok-successors.behind_all.now) (λ x. after_sign 59 x >>= end) _ c.in_ok-before_end.ensures.gives
     ∙ bind_is (after_sign 59 c.in_ok-before_end.before_end.now) end _ c.in_ok-rest.ensures.gives
     ∙ ap (λ (p : Player). Some (record { id = c.in_ok-id.id; priority = c.in_ok-priority.priority; owner = p; successors = c.in_ok-successors.successors.items }, c.in_ok-rest.rest.now)) (sym c.player.ensures)
+
+pub after_end-requires : goal.after_end-requires
+after_end-requires c = grind (arith, common_steps)
+
+pub successors-requires : goal.successors-requires
+successors-requires c = grind (arith, common_steps)
+
+pub overflow_cast-result : goal.overflow_cast-result
+overflow_cast-result c = grind (arith, common_steps)
+
+pub returns-clause-shorter : goal.returns-clause-shorter
+returns-clause-shorter c = grind (arith, common_steps)
+
+pub returns-then-room-eq0-clause-gives : goal.returns-then-room-eq0-clause-gives
+returns-then-room-eq0-clause-gives c = grind (arith, common_steps)
+
+pub place-at-requires-3 : goal.place-at-requires-3
+place-at-requires-3 c = grind (arith, common_steps)
+
+pub number-requires-3-clause-within : goal.number-requires-3-clause-within
+number-requires-3-clause-within c = grind (arith, common_steps)
+
+pub number-requires-2-clause-within : goal.number-requires-2-clause-within
+number-requires-2-clause-within c = grind (arith, common_steps)
+
+pub returns-clause-few : goal.returns-clause-few
+returns-clause-few c = grind (arith, common_steps)
+
+pub overflow_cast-result-2 : goal.overflow_cast-result-2
+overflow_cast-result-2 c = grind (arith, common_steps)

@@ -1,4 +1,5 @@
 use Rattle.std.proofs.Common.{◌∙◌, ◌^◌, arith}
+use Rattle.std.proofs.lemmas.Grind.{common_steps}
 use Rattle.std.proofs.lemmas.Result.{err_from_is_err_and}
 use Rattle.vpg_guards.specs.Reading.{◌>>=◌}
 use Rattle.vpg_game.specs.Reading.{successor_at, bracket_at, number_at, with_guard}
@@ -23,3 +24,15 @@ unfolding successor_at
 returns-clause-gives c =
     let is = bind_is (number_at (2 ^ 32) c.args.text.now) (λ x. bracket_at c.args.names.now x.1 >>= with_guard x.0) _ c.in_ok-id.ensures.gives in
     within_some c.args.left _ (omega arith) ∙ is ∙ bind_is _ (with_guard c.in_ok-id.id) _ c.in_ok-guard.ensures.gives
+
+pub bracket-requires : goal.bracket-requires
+bracket-requires c = grind (arith, common_steps)
+
+pub returns-then-left-eq0-clause-gives : goal.returns-then-left-eq0-clause-gives
+returns-then-left-eq0-clause-gives c = grind (arith, common_steps)
+
+pub returns-clause-shorter : goal.returns-clause-shorter
+returns-clause-shorter c = grind (arith, common_steps)
+
+pub overflow_cast-result : goal.overflow_cast-result
+overflow_cast-result c = grind (arith, common_steps)

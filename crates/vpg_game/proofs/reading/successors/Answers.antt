@@ -1,4 +1,5 @@
 use Rattle.std.proofs.Common.{◌≡◌, ◌-◌, ◌++◌, ◌∷◌, ℕ, List, [], vec_len, sym, ap, ◌∙◌, arith, Some}
+use Rattle.std.proofs.lemmas.Grind.{common_steps}
 use Rattle.std.proofs.lemmas.Result.{err_from_is_err_and}
 use Rattle.vpg_game.specs.Spelled.{SpelledSuccessor}
 use Rattle.vpg_game.specs.Reading.{successor_at, within}
@@ -58,3 +59,6 @@ pub returns-clause-gives : goal.returns-clause-gives
 returns-clause-gives c =
     let l = c.loop-behind in
     l.invariant.2 ∙ more_ends c.args.names.now _ _ l.rest.now (sym c.in_default-after_sign.ensures.rest)
+
+pub loop-behind-smaller : goal.loop-behind-smaller
+loop-behind-smaller c = grind (arith, common_steps)

@@ -1,7 +1,7 @@
 use Rattle.std.proofs.Common.{[]}
 use Rattle.std.specs.Arc.{arc_value}
 use Rattle.std.specs.Io.KnownBytes.{prepend_known}
-use Rattle.vpg_script.proofs.MannerLemmas.{went_nothing}
+use Rattle.vpg_serving.proofs.MannerLemmas.{went_nothing}
 use Rattle.vpg_texts.specs.Scene.{scene_of}
 use Rattle.vpg_report.specs.Run.{answering, begun}
 use Rattle.vpg_report.proofs.runs.run_as.Goals as goal

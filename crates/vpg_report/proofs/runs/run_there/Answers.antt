@@ -3,9 +3,9 @@ use Rattle.std.specs.Arc.{arc_value}
 use Rattle.std.specs.Prelude.{IsErrOf}
 use Rattle.std.specs.Io.KnownBytes.{prepend_known}
 use Rattle.vpg_desk.specs.State.{IsOpened}
-use Rattle.vpg_script.specs.Manners.{MannerOutcome}
-use Rattle.vpg_script.specs.declared.serving.Ending.{Ending}
-use Rattle.vpg_script.proofs.MannerLemmas.{went_nothing}
+use Rattle.vpg_serving.specs.Manners.{MannerOutcome}
+use Rattle.vpg_serving.specs.declared.serving.Ending.{Ending}
+use Rattle.vpg_serving.proofs.MannerLemmas.{went_nothing}
 use Rattle.vpg_texts.specs.Scene.{scene_of}
 use Rattle.vpg_report.specs.Engine.{EngineState, IsOpenRefusal, between_of, scene_at}
 use Rattle.vpg_report.specs.Output.{OutcomeAs, ended}

@@ -1,10 +1,10 @@
 use Rattle.vpg_script.specs.declared.lines.Next.{Next}
 use Rattle.vpg_script.specs.declared.lines.NextFault.TheVariants as faults
 use Rattle.std.proofs.Common.{Bool, Err, ◌≡◌, ap, ◌∙◌, arith, sym, subst}
+use Rattle.std.proofs.lemmas.Grind.{common_steps}
 use Rattle.std.specs.List.{prefix_len}
 use Rattle.std.specs.Io.KnownBytes.{prepend_known}
-use Rattle.vpg_script.specs.Lines.{is_within_line, IsUnended}
-use Rattle.vpg_script.specs.Results.{UnlessUnread}
+use Rattle.vpg_script.specs.Lines.{is_within_line, IsUnended, UnlessUnread}
 use Rattle.vpg_script.proofs.LineLemmas.{line_comes, too_long_comes, all_unended}
 use Rattle.vpg_script.proofs.lines.next_line.Goals as goal
 
@@ -43,3 +43,24 @@ last-requires g c =
     subst IsUnended (sym (c.in-Ok-more.ensures.same c.if-not-came.true))
     (all_unended c.fill.held.items c.line_len-n.result (c.line_len-n.ensures.len ∙ ap (prefix_len is_within_line) c.deref.ensures.value)
     (omega (arith, c.fill.held.ok.0, c.len.ensures, c.if-n-len.false)))
+
+pub returns-in-Err-clause-read : goal.returns-in-Err-clause-read
+returns-in-Err-clause-read g c = grind (arith, common_steps)
+
+pub returns-then-not-came-clause-cause : goal.returns-then-not-came-clause-cause
+returns-then-not-came-clause-cause g c = grind (arith, common_steps)
+
+pub returns-in-Err-clause-cause : goal.returns-in-Err-clause-cause
+returns-in-Err-clause-cause g c = grind (arith, common_steps)
+
+pub returns-then-not-came-clause-read : goal.returns-then-not-came-clause-read
+returns-then-not-came-clause-read g c = grind (arith, common_steps)
+
+pub fill-preserved : goal.fill-preserved
+fill-preserved g c = grind (arith, common_steps)
+
+pub returns-then-not-came-clause-fewer : goal.returns-then-not-came-clause-fewer
+returns-then-not-came-clause-fewer g c = grind (arith, common_steps)
+
+pub returns-then-not-came-clause-next : goal.returns-then-not-came-clause-next
+returns-then-not-came-clause-next g c = grind (arith, common_steps)

@@ -1,6 +1,6 @@
 use Rattle.std.proofs.Common.{◌≡◌, ◌-◌, ◌≤◌, vec_len}
 use Rattle.std.specs.Io.KnownBytes.{prepend_known, Keeps}
-use Rattle.vpg_script.specs.Output.{lines_left}
+use Rattle.vpg_script.specs.Lines.{lines_left}
 use Rattle.vpg_script.proofs.lines.next_line.Given as goal
 
 abbrev pub invariant-fill : goal.invariant-fill

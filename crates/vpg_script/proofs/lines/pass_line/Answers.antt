@@ -1,7 +1,8 @@
-use Rattle.std.proofs.Common.{◌≡◌, ◌++◌, Bool, Err, ◌≤◌, ◌<◌, length, ap, ◌∙◌, arith, subst}
+use Rattle.std.proofs.Common.{◌≡◌, ◌++◌, Err, ap, ◌∙◌, arith}
+use Rattle.std.proofs.lemmas.Grind.{common_steps}
 use Rattle.std.specs.List.{prefix_len}
 use Rattle.std.specs.Io.KnownBytes.{prepend_known}
-use Rattle.vpg_script.specs.Lines.{is_within_line, IsUnended}
+use Rattle.vpg_script.specs.Lines.{is_within_line}
 use Rattle.vpg_script.specs.declared.lines.NextFault.TheVariants as faults
 use Rattle.vpg_script.proofs.LineLemmas.{all_unended, passed_more, passed_held, passed_unread, passed_ended, passed_last}
 use Rattle.vpg_script.proofs.lines.pass_line.Goals as goal
@@ -56,3 +57,15 @@ pass-preserved g c =
       calls = omega (arith, c.more.ensures.counted, c.pass.invariant.calls);
       left = omega (arith, c.pass.invariant.left, c.in-Ok.ensures.few, c.clear.ensures.len, c.if-reads-ge-MOST_READS.false);
     }
+
+pub returns-in-Err-clause-readable : goal.returns-in-Err-clause-readable
+returns-in-Err-clause-readable g c = grind (arith, common_steps)
+
+pub returns-in-Err-clause-cause : goal.returns-in-Err-clause-cause
+returns-in-Err-clause-cause g c = grind (arith, common_steps)
+
+pub returns-then-not-came-clause-read : goal.returns-then-not-came-clause-read
+returns-then-not-came-clause-read g c = grind (arith, common_steps)
+
+pub returns-then-not-came-clause-cause : goal.returns-then-not-came-clause-cause
+returns-then-not-came-clause-cause g c = grind (arith, common_steps)

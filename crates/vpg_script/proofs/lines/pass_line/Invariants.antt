@@ -1,7 +1,6 @@
 use Rattle.std.proofs.Common.{◌≡◌, ◌-◌, ◌≤◌, ◌++◌, List, ℕ, vec_len}
 use Rattle.std.specs.Io.KnownBytes.{prepend_known, Keeps}
-use Rattle.vpg_script.specs.Lines.{IsUnended}
-use Rattle.vpg_script.specs.Output.{lines_left}
+use Rattle.vpg_script.specs.Lines.{IsUnended, lines_left}
 use Rattle.vpg_script.proofs.lines.pass_line.Given as goal
 
 abbrev pub invariant-pass : goal.invariant-pass

@@ -1,4 +1,5 @@
-use Rattle.std.proofs.Common.{◌≡◌, List, ◌<◌, All, Contains, IsTrue, length, map, sym, ap, subst, ◌∙◌}
+use Rattle.std.proofs.Common.{arith, ◌≡◌, List, ◌<◌, All, Contains, IsTrue, length, map, sym, ap, subst, ◌∙◌}
+use Rattle.std.proofs.lemmas.Grind.{common_steps}
 use Rattle.vpg_game.specs.Game.{NamedVertex, IsGame, IsAtLimit, dual_vertex, vertex_ids, priorities_of, top_in, dual_top_in}
 use Rattle.vpg_game.specs.Naming.{features_named, IsNaming}
 use Rattle.vpg_game.proofs.NamingSteps.{vertices_below}
@@ -38,3 +39,18 @@ invariant_of-result c =
       c.self.invariant.2 ∙ sym (dual_of_dual_top vs) ∙ ap (λ (xs : List NamedVertex). dual_top_in (priorities_of xs)) (sym are),
       subst (λ (xs : List NamedVertex). IsNaming c.self.inside.features xs c.in-Ok-naming_of.naming) c.deref-3.ensures.value c.in-Ok-naming_of.ensures,
     )
+
+pub returns-in_default-clause-at_limit : goal.returns-in_default-clause-at_limit
+returns-in_default-clause-at_limit c = grind (arith, common_steps)
+
+pub returns-clause-dual : goal.returns-clause-dual
+returns-clause-dual c = grind (arith, common_steps)
+
+pub returns-in_default-identifiers-clause-at_limit : goal.returns-in_default-identifiers-clause-at_limit
+returns-in_default-identifiers-clause-at_limit c = grind (arith, common_steps)
+
+pub returns-clause-at_limit : goal.returns-clause-at_limit
+returns-clause-at_limit c = grind (arith, common_steps)
+
+pub returns-in_default-naming_of-clause-at_limit : goal.returns-in_default-naming_of-clause-at_limit
+returns-in_default-naming_of-clause-at_limit c = grind (arith, common_steps)

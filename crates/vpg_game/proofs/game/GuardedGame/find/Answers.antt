@@ -1,4 +1,5 @@
-use Rattle.std.proofs.Common.{ℕ, List, Some, slice_get, sym, ap, subst, ◌∙◌, ◌≡◌}
+use Rattle.std.proofs.Common.{arith, ℕ, List, Some, slice_get, sym, ap, subst, ◌∙◌, ◌≡◌}
+use Rattle.std.proofs.lemmas.Grind.{common_steps}
 use Rattle.vpg_game.specs.Game.{NamedGame, vertex_ids, AreDistinct}
 use Rattle.vpg_game.proofs.Build.{place_found, place_held}
 use Rattle.vpg_game.proofs.game.GuardedGame.find.Goals as goal
@@ -17,3 +18,6 @@ pub returns-in-None-clause-held : goal.returns-in-None-clause-held
 returns-in-None-clause-held c v e =
     let keys = c.self.invariant.1 ∙ ap (λ (g : NamedGame). vertex_ids g.vertices) c.self.view_is in
     c.in-None.ensures.index ∙ place_held c.args.id c.self.inside.ids.keys v (subst AreDistinct (sym c.self.invariant.1) c.self.invariant.0.distinct) (subst (λ (ks : List ℕ). slice_get ks v ≡ Some c.args.id) (sym keys) e)
+
+pub overflow_cast-result : goal.overflow_cast-result
+overflow_cast-result c = grind (arith, common_steps)

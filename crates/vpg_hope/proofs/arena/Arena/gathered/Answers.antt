@@ -9,7 +9,8 @@ use Rattle.vpg_game.specs.declared.player.Player.{Player}
 use Rattle.vpg_game.specs.Guarded.{GuardedEdge, GuardedGame}
 use Rattle.vpg_game.specs.Game.{graph_of, vertex_in}
 use Rattle.vpg_game.proofs.Graphs.{same_count, graph_at}
-use Rattle.vpg_hope.specs.Selection.{kept_under, owner_under, priority_under, vertex_under}
+use Rattle.vpg_kept.specs.Selection.{kept_under, owner_under, priority_under}
+use Rattle.vpg_hope.specs.Selection.{vertex_under}
 use Rattle.vpg_hope.specs.Arena.{Vertex, InLists}
 use Rattle.vpg_hope.proofs.Rows.{ranges_in_shared}
 use Rattle.vpg_hope.proofs.Selected.{priority_fits, few_more, kept_closed, vertex_made}

@@ -8,7 +8,8 @@ use Rattle.vpg_game.specs.declared.player.Player.{Player}
 use Rattle.vpg_game.specs.Guarded.{GuardedEdge, GuardedGame}
 use Rattle.vpg_game.specs.Game.{graph_of, vertex_in}
 use Rattle.vpg_game.proofs.Graphs.{same_count}
-use Rattle.vpg_hope.specs.Selection.{features_under, kept_under, owner_under, priority_under, vertex_under}
+use Rattle.vpg_kept.specs.Selection.{features_under, kept_under, owner_under, priority_under}
+use Rattle.vpg_hope.specs.Selection.{vertex_under}
 use Rattle.vpg_hope.specs.Arena.{InLists}
 use Rattle.vpg_hope.proofs.Rows.{ranges_in_shared}
 use Rattle.vpg_hope.proofs.Selected.{guards_named, priority_fits, few_more, kept_closed, vertex_made}

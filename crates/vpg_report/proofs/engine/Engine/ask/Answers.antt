@@ -3,7 +3,7 @@ use Rattle.vpg_desk.specs.Book.{Order}
 use Rattle.vpg_office.specs.Faults.{never_refused}
 use Rattle.vpg_script.specs.Script as script
 use Rattle.vpg_script.specs.View.{inquiry_shown}
-use Rattle.vpg_script.specs.declared.serving.ServeFault.{ServeFault}
+use Rattle.vpg_serving.specs.declared.serving.ServeFault.{ServeFault}
 use Rattle.vpg_report.specs.Answers.{order_or}
 use Rattle.vpg_report.specs.Engine.{own_of}
 use Rattle.vpg_report.specs.EngineFields.{engine_in}

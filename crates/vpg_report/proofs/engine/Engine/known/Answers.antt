@@ -2,7 +2,7 @@ use Rattle.std.proofs.Common.{◌≡◌, ◌<◌, ℕ, List, length, Option, Som
 use Rattle.std.proofs.lemmas.Option.{slice_get_within}
 use Rattle.vpg_guards.specs.Names.{index_of}
 use Rattle.vpg_diagram.specs.DiagramText.{NamedDiagram}
-use Rattle.vpg_script.specs.declared.serving.ServeFault.{ServeFault}
+use Rattle.vpg_serving.specs.declared.serving.ServeFault.{ServeFault}
 use Rattle.vpg_office.specs.Faults.{never_refused}
 use Rattle.vpg_desk.specs.Book.{Call, Page}
 use Rattle.vpg_script.specs.Script as script

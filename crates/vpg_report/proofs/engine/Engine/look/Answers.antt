@@ -1,6 +1,6 @@
 use Rattle.std.proofs.Common.{Ok, refl, ◌∙◌}
 use Rattle.vpg_script.specs.View.{lookup_shown}
-use Rattle.vpg_script.specs.declared.serving.ServeFault.{ServeFault}
+use Rattle.vpg_serving.specs.declared.serving.ServeFault.{ServeFault}
 use Rattle.vpg_trail.specs.Page.{Hopeful, Dual}
 use Rattle.vpg_office.specs.Faults.{never_refused}
 use Rattle.vpg_desk.specs.Book.{Page}

@@ -1,0 +1,2 @@
+pub mod MannerLemmas
+pub mod ScriptLemmas

@@ -1,0 +1,266 @@
+-- A script in a manner, one line more; and where no manner is asked for, what it was.
+use Rattle.std.proofs.Common.{◌≡◌, ℕ, ◌+◌, Bool, true, false, List, [], ◌∷◌, ◌++◌, length, Option, Some, None, Result, Ok, Err, refl, sym, ap, ap₂, ◌∙◌, inl, inr, append-nil, subst, arith, length-append, replicate, ◌<◌}
+use Rattle.std.proofs.lemmas.List.{length-replicate}
+use Rattle.std.specs.Prelude.{◌||◌, ◌&&◌}
+use Rattle.std.specs.List.{concat, list_any}
+use Rattle.std.proofs.lemmas.List.Folds.{concat-append, list_any-append}
+use Rattle.std.specs.Io.KnownBytes.{prepend_known, Appends, Keeps}
+use Rattle.std.specs.Str.Lines.{strip_carriage_return}
+use Rattle.std.specs.Global.{Vec}
+use Rattle.vpg_script.specs.Lines.{BeginsTooLong, IsPassed, PassedKnown, HeldKnown, ComesKnown, NextLine}
+use Rattle.vpg_script.specs.Script.{Said, said}
+use Rattle.vpg_serving.specs.Output.{Machine, Speaks, Answered, ReadKnown, Wrote, NextKnown, IsEmptyKnown, FaultyKnown, ScriptOutcome}
+use Rattle.vpg_serving.specs.Manners.{is_refusal, is_failure, fault_line, Answers, AnsweredEach, WroteEach, Went, MannerOutcome}
+use Rattle.vpg_serving.specs.Results.{ended, FaultOutcome, LineOutcome, TooLongOutcome, TakenKnown, NextOutcome}
+use Rattle.vpg_script.specs.declared.command.LineFault.{LineFault}
+use Rattle.vpg_script.specs.declared.command.LineFault.TheVariants as faults
+use Rattle.vpg_script.specs.declared.lines.Next.TheVariants as next
+use Rattle.vpg_serving.specs.declared.answering.Tone.{Tone}
+use Rattle.vpg_serving.specs.declared.answering.LineStop.{LineStop}
+use Rattle.vpg_serving.specs.declared.answering.LineStop.TheVariants as ends
+use Rattle.vpg_serving.specs.declared.serving.Manner.{Manner}
+use Rattle.vpg_serving.specs.declared.serving.Ending.{Ending}
+use Rattle.vpg_serving.specs.declared.serving.Ending.TheVariants as endings
+use Rattle.vpg_serving.specs.declared.serving.ScriptFault.{ScriptFault}
+use Rattle.vpg_serving.specs.declared.serving.ScriptFault.TheVariants as stops
+use Rattle.vpg_script.proofs.FirstLine.{long_said, too_long_said}
+use Rattle.vpg_serving.proofs.ScriptLemmas.{appends_none, appends_twice, read_more, read_kept, wrote_nothing, next_known, line_faulty, too_long_faulty}
+
+-- ---- one line
+
+-- a line with a fault
+pub fault_is_met : {S : Type 0} (goes_on : Bool) (serves : Machine S) (s : S) (fault : LineFault) (says : Said) (before after : Option (List ℕ)) (result : Result Tone LineStop)
+    → says ≡ Err fault → FaultOutcome goes_on fault before after result → LineOutcome goes_on serves s s says before after result
+fault_is_met true serves s fault says before after (Ok tone) is so = (fault_line fault, (rw is (refl, refl), so.1, so.2))
+fault_is_met false serves s fault says before after (Ok tone) is so = absurd (cc so.0)
+fault_is_met goes_on serves s fault says before after (Err (ends.Fault other)) is so = (is ∙ ap Err (sym so.0), so.1, refl, so.2)
+fault_is_met true serves s fault says before after (Err ends.Write) is so = (fault_line fault, (rw is (refl, refl), so.1))
+fault_is_met false serves s fault says before after (Err ends.Write) is so = absurd (cc so.0)
+fault_is_met goes_on serves s fault says before after (Err ends.End) is so = absurd so
+fault_is_met goes_on serves s fault says before after (Err ends.Read) is so = absurd so
+fault_is_met goes_on serves s fault says before after (Err ends.Memory) is so = absurd so
+fault_is_met goes_on serves s fault says before after (Err ends.Stray) is so = absurd so
+
+-- a line was passed over: it is the first of the text
+passed_line : (text rest : List ℕ) → BeginsTooLong text → IsPassed text rest → (line : List ℕ) × NextLine text line rest
+passed_line text rest begins (front, (unended, inl is)) =
+    (strip_carriage_return front, inl (record { front = front; text_is = is; unended = unended; line_is = refl }))
+passed_line text rest begins (front, (unended, inr is)) =
+    (front, inr (record { text_is = is.0; unended = unended; some = omega (arith, begins.long, ap (λ (l : List ℕ). length l) (sym is.0 ∙ begins.text_is), length-append begins.front begins.rest); rest_is = is.1 }))
+
+long_one : (n : ℕ) → 4096 < n → said (replicate {A = ℕ} n 0) ≡ Err faults.TooLong
+long_one n long = long_said (replicate {A = ℕ} n 0) (omega (arith, long, length-replicate {A = ℕ} n 0))
+
+passed_known : (a m b : Option (List ℕ)) → ComesKnown next.TooLong a m → PassedKnown m b →
+    (line : List ℕ) × ((said line ≡ Err faults.TooLong) × TakenKnown a line b × NextKnown a line)
+passed_known None m b comes passed = (replicate 4097 0, (long_one 4097 (omega arith), tt, tt))
+passed_known (Some text) None b comes passed = absurd comes
+passed_known (Some text) (Some held) None comes passed = absurd passed
+passed_known (Some text) (Some held) (Some rest) comes passed =
+    let first : (line : List ℕ) × NextLine text line rest = passed_line text rest comes.0 (subst (λ (t : List ℕ). IsPassed t rest) comes.1 passed) in
+    (first.0, (too_long_said text first.0 rest comes.0 first.1, first.1, (rest, first.1)))
+
+held_known : (a m left : Option (List ℕ)) → ComesKnown next.TooLong a m → HeldKnown m left → HeldKnown a left
+held_known None m left comes (held, (unended, keeps)) = (held, (unended, tt))
+held_known (Some text) None left comes held = absurd comes
+held_known (Some text) (Some same) left comes (held, (unended, keeps)) =
+    (held, (unended, subst (λ (t : List ℕ). Keeps (Some t) (prepend_known held left)) comes.1 keeps))
+
+answers_fault : {S : Type 0} (goes_on : Bool) (serves : Machine S) (s : S) (says : Said) (fault : LineFault) → goes_on ≡ true → says ≡ Err fault →
+    Answers goes_on serves s says (fault_line fault) s
+answers_fault true serves s says fault on is = rw is (refl, refl)
+answers_fault false serves s says fault on is = absurd (cc on)
+
+-- a line that is too long
+pub too_long_is_met : {S : Type 0} (goes_on : Bool) (serves : Machine S) (s : S) (a m b left before after : Option (List ℕ)) (result : Result Tone LineStop)
+    → ComesKnown next.TooLong a m → TooLongOutcome goes_on m b left before after result → NextOutcome goes_on serves s s a b left before after result
+too_long_is_met goes_on serves s a m b left before after (Ok tone) comes so =
+    let line = passed_known a m b comes so.0 in
+    (line.0, fault_line faults.TooLong, (line.1.1, answers_fault goes_on serves s (said line.0) faults.TooLong so.1 line.1.0, so.2, so.3))
+too_long_is_met goes_on serves s a m b left before after (Err (ends.Fault fault)) comes so =
+    (subst (λ (f : LineFault). FaultyKnown f a) (sym so.0) (too_long_faulty a m comes), so.1, refl, so.2)
+too_long_is_met goes_on serves s a m b left before after (Err ends.Read) comes so = (held_known a m left comes so.0, refl, so.1)
+too_long_is_met goes_on serves s a m b left before after (Err ends.Write) comes so =
+    let line = passed_known a m b comes so.0 in
+    (line.0, fault_line faults.TooLong, (line.1.2, answers_fault goes_on serves s (said line.0) faults.TooLong so.1 line.1.0, so.2))
+too_long_is_met goes_on serves s a m b left before after (Err ends.Memory) comes so = so
+too_long_is_met goes_on serves s a m b left before after (Err ends.End) comes so = absurd so
+too_long_is_met goes_on serves s a m b left before after (Err ends.Stray) comes so = absurd so
+
+line_taken : (a b : Option (List ℕ)) (line : Vec ℕ) → ComesKnown (next.Line line) a b → TakenKnown a line.items b
+line_taken None b line comes = tt
+line_taken (Some text) None line comes = absurd comes
+line_taken (Some text) (Some rest) line comes = comes
+
+-- any other line
+pub line_is_met : {S : Type 0} (goes_on : Bool) (serves : Machine S) (s new : S) (a b left before after : Option (List ℕ)) (line : Vec ℕ) (result : Result Tone LineStop)
+    → ComesKnown (next.Line line) a b → LineOutcome goes_on serves s new (said line.items) before after result → NextOutcome goes_on serves s new a b left before after result
+line_is_met goes_on serves s new a b left before after line (Ok tone) comes so = (line.items, so.0, (line_taken a b line comes, so.1.0, so.1.1, so.1.2))
+line_is_met goes_on serves s new a b left before after line (Err ends.End) comes so = absurd so
+line_is_met goes_on serves s new a b left before after line (Err (ends.Fault fault)) comes so = (line_faulty a b line fault comes so.0, so.1, so.2, so.3)
+line_is_met goes_on serves s new a b left before after line (Err ends.Read) comes so = absurd so
+line_is_met goes_on serves s new a b left before after line (Err ends.Write) comes so = (line.items, so.0, (next_known a b line comes, so.1.0, so.1.1))
+line_is_met goes_on serves s new a b left before after line (Err ends.Memory) comes so = so
+line_is_met goes_on serves s new a b left before after line (Err ends.Stray) comes so = so
+
+-- ---- a script
+
+pub went_nothing : {S : Type 0} (manner : Manner) (serves : Machine S) (s : S) (a w : Option (List ℕ)) → Went manner serves s s a (prepend_known [] a) w w [] []
+went_nothing manner serves s a w =
+    record { wrote = record { read = (wrote_nothing serves s a w).read; answered = (refl, refl); written = appends_none w }; unrefused = λ strict. refl }
+
+each_more : {S : Type 0} (goes_on : Bool) (serves : Machine S) (s : S) (lines texts : List (List ℕ)) (mid : S) (line one : List ℕ) (new : S)
+    → AnsweredEach goes_on serves s lines texts mid → Answers goes_on serves mid (said line) one new → AnsweredEach goes_on serves s (lines ++ line ∷ []) (texts ++ one ∷ []) new
+each_more {S = S} goes_on serves s [] texts mid line one new before answers =
+    (new, one, [], subst (λ (m : S). Answers goes_on serves m (said line) one new) before.1 answers, ap (λ (ts : List (List ℕ)). ts ++ one ∷ []) before.0, (refl, refl))
+each_more {S = S} goes_on serves s (first ∷ lines) texts mid line one new before answers = (
+  before.0,
+  before.1,
+  before.2 ++ one ∷ [],
+  before.3,
+  ap (λ (ts : List (List ℕ)). ts ++ one ∷ []) before.4,
+  each_more {S = S} goes_on serves before.0 lines before.2 mid line one new before.5 answers,
+)
+
+taken_more : (input a b : Option (List ℕ)) (lines : List (List ℕ)) (line : List ℕ) → ReadKnown input lines a → TakenKnown a line b → ReadKnown input (lines ++ line ∷ []) b
+taken_more None a b lines line read taken = tt
+taken_more (Some text) None b lines line read taken = absurd read
+taken_more (Some text) (Some rest) None lines line read taken = absurd taken
+taken_more (Some text) (Some rest) (Some more) lines line read taken = read_more text lines rest line more read taken
+
+concat_more : (texts : List (List ℕ)) (one : List ℕ) → concat (texts ++ one ∷ []) ≡ concat texts ++ one
+concat_more texts one = concat-append texts (one ∷ []) ∙ ap (λ (t : List ℕ). concat texts ++ t) (append-nil one)
+
+wrote_each_more : {S : Type 0} (goes_on : Bool) (serves : Machine S) (old mid new : S) (input a b before w after : Option (List ℕ)) (lines texts : List (List ℕ)) (line one : List ℕ)
+    → WroteEach goes_on serves old mid input a before w lines texts → TakenKnown a line b → Answers goes_on serves mid (said line) one new → Appends w after one
+    → WroteEach goes_on serves old new input b before after (lines ++ line ∷ []) (texts ++ one ∷ [])
+wrote_each_more goes_on serves old mid new input a b before w after lines texts line one so taken answers appends =
+    record {
+      read = taken_more input a b lines line so.read taken;
+      answered = each_more goes_on serves old lines texts mid line one new so.answered answers;
+      written = subst (λ (t : List ℕ). Appends before after t) (sym (concat_more texts one)) (appends_twice before w after (concat texts) one so.written appends);
+    }
+
+none_more : (p : List ℕ → Bool) (texts : List (List ℕ)) (one : List ℕ) → list_any p texts ≡ false → p one ≡ false → list_any p (texts ++ one ∷ []) ≡ false
+none_more p texts one h k = list_any-append p texts (one ∷ []) ∙ ap₂ (λ (a b : Bool). a || (b || false)) h k
+
+or_false : (b : Bool) → (b || false) ≡ b
+or_false true = refl
+or_false false = refl
+
+pub failed_more : (texts : List (List ℕ)) (one : List ℕ) → list_any is_failure (texts ++ one ∷ []) ≡ (list_any is_failure texts || is_failure one)
+failed_more texts one = list_any-append is_failure texts (one ∷ []) ∙ ap (λ (b : Bool). list_any is_failure texts || b) (or_false (is_failure one))
+
+not_both : (refused strict : Bool) → (refused && strict) ≡ false → strict ≡ true → refused ≡ false
+not_both true strict h s = absurd (cc (h, s))
+not_both false strict h s = refl
+
+both_true : (a b : Bool) → (a && b) ≡ true → (a ≡ true) × (b ≡ true)
+both_true true b h = (refl, h)
+both_true false b h = absurd cc
+
+pub went_more : {S : Type 0} (manner : Manner) (serves : Machine S) (old mid new : S) (input a b before w after : Option (List ℕ)) (lines texts : List (List ℕ)) (line one : List ℕ)
+    → Went manner serves old mid input a before w lines texts → TakenKnown a line b → Answers manner.goes_on serves mid (said line) one new → Appends w after one
+    → (is_refusal one && manner.is_strict) ≡ false → Went manner serves old new input b before after (lines ++ line ∷ []) (texts ++ one ∷ [])
+went_more manner serves old mid new input a b before w after lines texts line one so taken answers appends fine =
+    record {
+      wrote = wrote_each_more manner.goes_on serves old mid new input a b before w after lines texts line one so.wrote taken answers appends;
+      unrefused = λ strict. none_more is_refusal texts one (so.unrefused strict) (not_both (is_refusal one) manner.is_strict fine strict);
+    }
+
+-- the answer to the next line ends a strict script
+pub refused_there : {S : Type 0} (manner : Manner) (serves : Machine S) (old mid new : S) (input a b left before w after : Option (List ℕ)) (lines texts : List (List ℕ)) (number : ℕ) (tone : Tone)
+    → Went manner serves old mid input a before w lines texts → number ≡ length lines + 1 → NextOutcome manner.goes_on serves mid new a b left w after (Ok tone)
+    → (tone.refused && manner.is_strict) ≡ true → MannerOutcome manner serves old input left before after (Ok (endings.Refused number))
+refused_there manner serves old mid new input a b left before w after lines texts number tone so counted (line, one, (taken, answers, is, appends)) both =
+    let so_both = both_true tone.refused manner.is_strict both in (
+      lines ++ line ∷ [],
+      texts,
+      one,
+      new,
+      b,
+      (
+        wrote_each_more manner.goes_on serves old mid new input a b before w after lines texts line one so.wrote taken answers appends,
+        so_both.1,
+        so.unrefused so_both.1,
+        sym (ap (λ (t : Tone). t.refused) is) ∙ so_both.0,
+        omega (arith, counted, length-append lines (line ∷ [])),
+      ),
+    )
+
+module _ {S : Type 0} (manner : Manner) (serves : Machine S) (old mid : S) (input a before w : Option (List ℕ)) (lines texts : List (List ℕ)) (went : Went manner serves old mid input a before w lines texts) where
+  after_that : (after : Option (List ℕ)) → after ≡ w → Went manner serves old mid input a before after lines texts
+  after_that after same = subst (λ (x : Option (List ℕ)). Went manner serves old mid input a before x lines texts) (sym same) went
+
+  went_kept : (b after : Option (List ℕ)) → Keeps a b → after ≡ w → Went manner serves old mid input b before after lines texts
+  went_kept b after kept same =
+      let so = after_that after same in
+      record { wrote = record { read = read_kept input a b lines so.wrote.read kept; answered = so.wrote.answered; written = so.wrote.written }; unrefused = so.unrefused }
+
+  at_end : (left after : Option (List ℕ)) (number : ℕ) (failed : Bool) → failed ≡ list_any is_failure texts → IsEmptyKnown a → after ≡ w → MannerOutcome manner serves old input left before after (ended ends.End number failed)
+  at_end left after number true failed empty same = (lines, texts, mid, a, (after_that after same, empty, sym failed))
+  at_end left after number false failed empty same = (lines, texts, mid, a, (after_that after same, empty, sym failed))
+
+  -- the script stops
+  pub stopped : (new : S) (b left after : Option (List ℕ)) (number : ℕ) (failed : Bool) (stop : LineStop) → number ≡ length lines + 1 → failed ≡ list_any is_failure texts →
+      NextOutcome manner.goes_on serves mid new a b left w after (Err stop) → MannerOutcome manner serves old input left before after (ended stop number failed)
+  stopped new b left after number failed ends.End counted are so = at_end left after number failed are so.0 so.2
+  stopped new b left after number failed (ends.Fault fault) counted are so = (lines, texts, mid, a, (after_that after so.3, so.0, so.1, counted))
+  stopped new b left after number failed ends.Read counted are so = (lines, texts, mid, so.0.0, (went_kept (prepend_known so.0.0 left) after so.0.1.1 so.2, so.0.1.0))
+  stopped new b left after number failed ends.Write counted are so = (lines, texts, mid, a, w, so.1, (went, new, so.0, (so.2.0, so.2.1, so.2.2)))
+  stopped new b left after number failed ends.Memory counted are so = (lines, texts, mid, a, after_that after so)
+  stopped new b left after number failed ends.Stray counted are so = (lines, texts, mid, a, after_that after so)
+
+-- ---- where no manner is asked for
+
+speaks_plainly : {S : Type 0} (serves : Machine S) (s : S) (says : Said) (text : List ℕ) (new : S) → Answers false serves s says text new → Speaks serves s says text new
+speaks_plainly serves s (Ok None) text new answers = answers
+speaks_plainly serves s (Ok (Some request)) text new answers = answers
+speaks_plainly serves s (Err fault) text new answers = absurd answers
+
+answered_plainly : {S : Type 0} (serves : Machine S) (s : S) (lines texts : List (List ℕ)) (new : S) → AnsweredEach false serves s lines texts new → Answered serves s lines (concat texts) new
+answered_plainly serves s [] texts new so = (ap concat so.0, so.1)
+answered_plainly serves s (line ∷ lines) texts new so =
+    (so.0, so.1, concat so.2, speaks_plainly serves s (said line) so.1 so.0 so.3, ap concat so.4, answered_plainly serves so.0 lines so.2 new so.5)
+
+plainly : {S : Type 0} (manner : Manner) (serves : Machine S) (old new : S) (input rest before after : Option (List ℕ)) (lines texts : List (List ℕ)) → manner.goes_on ≡ false
+    → Went manner serves old new input rest before after lines texts → Wrote serves old new input rest before after lines
+plainly manner serves old new input rest before after lines texts off so =
+    record {
+      text = concat texts;
+      read = so.wrote.read;
+      answered = answered_plainly serves old lines texts new (subst (λ (b : Bool). AnsweredEach b serves old lines texts new) off so.wrote.answered);
+      written = so.wrote.written;
+    }
+
+-- the result without a manner
+abbrev pub as_before : Result Ending ScriptFault → Result (Unit {0}) ScriptFault
+as_before (Ok ending) = Ok tt
+as_before (Err fault) = Err fault
+
+pub plain_outcome : {S : Type 0} (manner : Manner) (serves : Machine S) (old : S) (input left before after : Option (List ℕ)) (result : Result Ending ScriptFault) → manner.is_strict ≡ false → manner.goes_on ≡ false
+    → MannerOutcome manner serves old input left before after result → ScriptOutcome serves old input left before after (as_before result)
+plain_outcome manner serves old input left before after (Ok endings.Whole) lax off (lines, texts, new, rest, (went, empty, fine)) =
+    (lines, new, rest, (plainly manner serves old new input rest before after lines texts off went, empty))
+plain_outcome manner serves old input left before after (Ok endings.Failed) lax off (lines, texts, new, rest, (went, empty, fails)) =
+    (lines, new, rest, (plainly manner serves old new input rest before after lines texts off went, empty))
+plain_outcome manner serves old input left before after (Ok (endings.Refused n)) lax off (lines, texts, last, new, rest, (wrote, strict, none, refused, counted)) = absurd (cc (lax, strict))
+plain_outcome manner serves old input left before after (Err (stops.Line n fault)) lax off (lines, texts, new, rest, (went, faulty, ends_there, counted)) =
+    (lines, new, rest, (plainly manner serves old new input rest before after lines texts off went, faulty, counted))
+plain_outcome manner serves old input left before after (Err stops.Read) lax off (lines, texts, new, held, (went, unended)) =
+    (lines, new, held, (plainly manner serves old new input (prepend_known held left) before after lines texts off went, unended))
+plain_outcome manner serves old input left before after (Err stops.Memory) lax off (lines, texts, new, rest, went) = (lines, new, rest, plainly manner serves old new input rest before after lines texts off went)
+plain_outcome manner serves old input left before after (Err stops.Stray) lax off (lines, texts, new, rest, went) = (lines, new, rest, plainly manner serves old new input rest before after lines texts off went)
+plain_outcome {S} manner serves old input left before after (Err stops.Write) lax off (lines, texts, new, rest, mid, text, (went, last, line, (next, answers, some))) = (
+  lines,
+  new,
+  rest,
+  mid,
+  text,
+  (
+    plainly manner serves old new input rest before mid lines texts off went,
+    last,
+    line,
+    (next, speaks_plainly serves new (said line) text last (subst (λ (b : Bool). Answers b serves new (said line) text last) off answers), some),
+  ),
+)

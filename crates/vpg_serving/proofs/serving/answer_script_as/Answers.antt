@@ -1,0 +1,100 @@
+use Rattle.std.proofs.Common.{ℕ, Bool, List, [], ◌∷◌, ◌++◌, Result, Ok, Err, length-append, arith, ap, ap₂, sym, refl, ◌∙◌, subst}
+use Rattle.std.specs.Prelude.{◌||◌, ◌&&◌}
+use Rattle.std.specs.Io.KnownBytes.{prepend_known}
+use Rattle.vpg_serving.specs.Manners.{MannerOutcome, Went}
+use Rattle.vpg_serving.specs.Results.{NextOutcome}
+use Rattle.vpg_serving.specs.declared.answering.Tone.{Tone}
+use Rattle.vpg_serving.specs.declared.serving.Ending.{Ending}
+use Rattle.vpg_serving.specs.declared.serving.ScriptFault.{ScriptFault}
+use Rattle.vpg_serving.proofs.MannerLemmas.{went_nothing, went_more, failed_more, refused_there, stopped}
+use Rattle.vpg_serving.proofs.serving.answer_script_as.Goals as goal
+
+pub lines-init : goal.lines-init
+lines-init g c =
+    let state = g.V.Server.state c.args.server.now in
+    let serves = g.V.Server.answering (g.V.Server.scene c.args.server.now) c.args.lifters in
+    let input = g.R.Source.remaining c.args.reader.now in
+    let holds = g.W.Sink.contents c.args.writer.now in
+    record {
+      same = refl;
+      few = omega arith;
+      readable = refl;
+      writable = refl;
+      calls = c.requires.unread;
+      bound = omega (arith, c.new-held.ensures.len);
+      went = (
+        [],
+        [],
+        (
+          subst (λ (held : List ℕ). Went c.args.manner serves state state input (prepend_known held input) holds holds [] []) (sym c.new-held.ensures.items)
+              (went_nothing c.args.manner serves state input holds),
+          refl,
+          refl,
+        ),
+      );
+    }
+
+pub returns-then-last-clause-output : goal.returns-then-last-clause-output
+returns-then-last-clause-output g c =
+    let so = c.lines.invariant.went in
+    let first = c.args.server.now in
+    let a = prepend_known c.lines.held.items (g.R.Source.remaining c.lines.reader) in
+    let b = prepend_known c.answer_next.new.held.items (g.R.Source.remaining c.answer_next.new.reader) in
+    let left = g.R.Source.remaining c.answer_next.new.reader in
+    let w = g.W.Sink.contents c.lines.writer in
+    let after = g.W.Sink.contents c.answer_next.new.writer in
+    let mid = g.V.Server.state c.lines.server in
+    let new = g.V.Server.state c.answer_next.new.server in
+    let outcome = subst (λ (s : g.V.Server.Scene). NextOutcome c.args.manner.goes_on (g.V.Server.answering s c.args.lifters) mid new a b left w after (Ok c.in-Ok.tone)) c.lines.invariant.same c.in-Ok.ensures.outcome in
+    refused_there c.args.manner (g.V.Server.answering (g.V.Server.scene first) c.args.lifters) (g.V.Server.state first) mid new (g.R.Source.remaining c.args.reader.now) a b left
+    (g.W.Sink.contents c.args.writer.now) w after so.0 so.1 c.lines.number c.in-Ok.tone so.2.0 so.2.1 outcome (sym c.is_last-last.ensures ∙ c.if-last.true)
+
+pub returns-in-Err-clause-output : goal.returns-in-Err-clause-output
+returns-in-Err-clause-output g c =
+    let so = c.lines.invariant.went in
+    let first = c.args.server.now in
+    let a = prepend_known c.lines.held.items (g.R.Source.remaining c.lines.reader) in
+    let b = prepend_known c.answer_next.new.held.items (g.R.Source.remaining c.answer_next.new.reader) in
+    let left = g.R.Source.remaining c.answer_next.new.reader in
+    let w = g.W.Sink.contents c.lines.writer in
+    let after = g.W.Sink.contents c.answer_next.new.writer in
+    let mid = g.V.Server.state c.lines.server in
+    let new = g.V.Server.state c.answer_next.new.server in
+    let serves = g.V.Server.answering (g.V.Server.scene first) c.args.lifters in
+    let outcome = subst (λ (s : g.V.Server.Scene). NextOutcome c.args.manner.goes_on (g.V.Server.answering s c.args.lifters) mid new a b left w after (Err c.in-Err.stop)) c.lines.invariant.same c.in-Err.ensures.outcome in
+    subst (λ (r : Result Ending ScriptFault). MannerOutcome c.args.manner serves (g.V.Server.state first) (g.R.Source.remaining c.args.reader.now) left (g.W.Sink.contents c.args.writer.now) after r) (sym c.ended.ensures)
+    (stopped c.args.manner serves (g.V.Server.state first) mid (g.R.Source.remaining c.args.reader.now) a (g.W.Sink.contents c.args.writer.now) w so.0 so.1 so.2.0 new b left after c.lines.number c.lines.failed
+    c.in-Err.stop so.2.1 so.2.2 outcome)
+
+pub lines-preserved : goal.lines-preserved
+lines-preserved g c =
+    let so = c.lines.invariant.went in
+    let first = c.args.server.now in
+    let a = prepend_known c.lines.held.items (g.R.Source.remaining c.lines.reader) in
+    let b = prepend_known c.answer_next.new.held.items (g.R.Source.remaining c.answer_next.new.reader) in
+    let left = g.R.Source.remaining c.answer_next.new.reader in
+    let w = g.W.Sink.contents c.lines.writer in
+    let after = g.W.Sink.contents c.answer_next.new.writer in
+    let mid = g.V.Server.state c.lines.server in
+    let new = g.V.Server.state c.answer_next.new.server in
+    let serves = g.V.Server.answering (g.V.Server.scene first) c.args.lifters in
+    let o = subst (λ (s : g.V.Server.Scene). NextOutcome c.args.manner.goes_on (g.V.Server.answering s c.args.lifters) mid new a b left w after (Ok c.in-Ok.tone)) c.lines.invariant.same c.in-Ok.ensures.outcome in
+    record {
+      same = c.in-Ok.ensures.scene ∙ c.lines.invariant.same;
+      few = c.answer_next.ensures.reads;
+      readable = c.in-Ok.ensures.readable ∙ c.lines.invariant.readable;
+      writable = c.in-Ok.ensures.writable ∙ c.lines.invariant.writable;
+      calls = c.answer_next.ensures.calls;
+      bound = omega (arith, c.lines.invariant.bound, c.in-Ok.ensures.fewer);
+      went = (
+        so.0 ++ o.0 ∷ [],
+        so.1 ++ o.1 ∷ [],
+        (
+          went_more c.args.manner serves (g.V.Server.state first) mid new (g.R.Source.remaining c.args.reader.now) a b (g.W.Sink.contents c.args.writer.now) w after so.0 so.1 o.0 o.1
+              so.2.0 o.2.0 o.2.1 o.2.3
+              (ap (λ (t : Tone). t.refused && c.args.manner.is_strict) (sym o.2.2) ∙ (sym c.is_last-last.ensures ∙ c.if-last.false)),
+          omega (arith, so.2.1, length-append so.0 (o.0 ∷ [])),
+          c.has_failed-fails.ensures ∙ (ap₂ (λ (x y : Bool). x || y) so.2.2 (ap (λ (t : Tone). t.fails) o.2.2) ∙ sym (failed_more so.1 o.1)),
+        ),
+      );
+    }

@@ -1,0 +1,3 @@
+pub mod Manners
+pub mod Output
+pub mod Results

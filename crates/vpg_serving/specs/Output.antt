@@ -1,0 +1,85 @@
+-- What is written for what is read.
+use Rattle.std.specs.Prelude.{◌≡◌, ℕ, ◌+◌, ◌⊎◌, List, [], ◌∷◌, ◌++◌, length, Option, Some, None, Result, Ok, Err, ⊤}
+use Rattle.std.specs.Io.KnownBytes.{Appends, prepend_known}
+use Rattle.vpg_script.specs.Devices.{AppendsSome}
+use Rattle.vpg_script.specs.Script.{Request, Said, said}
+use Rattle.vpg_script.specs.Lines.{IsUnended, BeginsTooLong, NextLine, ReadLines}
+use Rattle.vpg_script.specs.declared.command.LineFault.{LineFault}
+use Rattle.vpg_serving.specs.declared.serving.ScriptFault.{ScriptFault}
+use Rattle.vpg_serving.specs.declared.serving.ScriptFault.TheVariants as stops
+use Rattle.vpg_script.specs.declared.command.LineFault.TheVariants as faults
+
+-- what a machine does with requests: from a state, with this answer, to a state
+abbrev pub Machine : Type 0 → Type 1
+Machine S = S → Request → List ℕ → S → Type 0
+
+-- with what a line says
+abbrev pub Speaks : {S : Type 0} → Machine S → S → Said → List ℕ → S → Type 0
+Speaks serves s (Ok None) text new = (text ≡ []) × (new ≡ s)
+Speaks serves s (Ok (Some request)) text new = serves s request text new
+Speaks serves s (Err fault) text new = ⊥
+
+-- with one line after another, none of which has a fault
+abbrev pub Answered : {S : Type 0} → Machine S → S → List (List ℕ) → List ℕ → S → Type 0
+Answered serves s [] text new = (text ≡ []) × (new ≡ s)
+Answered {S} serves s (line ∷ lines) text new =
+    (mid : S) × (one : List ℕ) × (more : List ℕ) × (Speaks serves s (said line) one mid) × (text ≡ one ++ more) ×
+    (Answered serves mid lines more new)
+
+-- the text is these lines, and then the rest, where the bytes are known
+abbrev pub ReadKnown : Option (List ℕ) → List (List ℕ) → Option (List ℕ) → Type 0
+ReadKnown None lines rest = ⊤
+ReadKnown (Some text) lines None = ⊥
+ReadKnown (Some text) lines (Some rest) = ReadLines text lines rest
+
+-- lines were read, and their answers were written
+pub record Wrote {S : Type 0} (serves : Machine S) (old new : S) (input rest : Option (List ℕ))
+    (before after : Option (List ℕ)) (lines : List (List ℕ)) : Type 0 where
+  pub text : List ℕ
+  pub read : ReadKnown input lines rest
+  pub answered : Answered serves old lines text new
+  pub written : Appends before after text
+
+-- this line comes next
+abbrev pub NextKnown : Option (List ℕ) → List ℕ → Type 0
+NextKnown None line = ⊤
+NextKnown (Some rest) line = (more : List ℕ) × NextLine rest line more
+
+-- the rest has nothing, or it begins with a line with this fault
+abbrev pub IsEmptyKnown : Option (List ℕ) → Type 0
+IsEmptyKnown None = ⊤
+IsEmptyKnown (Some rest) = rest ≡ []
+
+abbrev pub BeginsFaulty : LineFault → List ℕ → Type 0
+BeginsFaulty fault rest =
+    ((line more : List ℕ) × (NextLine rest line more × (said line ≡ Err fault))) ⊎
+    ((fault ≡ faults.TooLong) × BeginsTooLong rest)
+
+abbrev pub FaultyKnown : LineFault → Option (List ℕ) → Type 0
+FaultyKnown fault None = ⊤
+FaultyKnown fault (Some rest) = BeginsFaulty fault rest
+
+-- what a script's result says of what was read and written
+abbrev pub ScriptOutcome : {S : Type 0} → Machine S → S → Option (List ℕ) → Option (List ℕ) → Option (List ℕ) →
+    Option (List ℕ) → Result (Unit {0}) ScriptFault → Type 0
+-- all lines were answered
+ScriptOutcome {S} serves old input left before after (Ok done) =
+    (lines : List (List ℕ)) × (new : S) × (rest : Option (List ℕ)) ×
+    (Wrote serves old new input rest before after lines × IsEmptyKnown rest)
+-- the lines before it were, and line n has the fault
+ScriptOutcome {S} serves old input left before after (Err (stops.Line n fault)) =
+    (lines : List (List ℕ)) × (new : S) × (rest : Option (List ℕ)) ×
+    (Wrote serves old new input rest before after lines × FaultyKnown fault rest × (n ≡ length lines + 1))
+-- all lines with their ends that were read were answered; what was read behind them is a line without its end
+ScriptOutcome {S} serves old input left before after (Err stops.Read) =
+    (lines : List (List ℕ)) × (new : S) × (held : List ℕ) ×
+    (Wrote serves old new input (prepend_known held left) before after lines × IsUnended held)
+-- some first lines were answered; where a write failed, a front of the answer to the line after them was written
+ScriptOutcome {S} serves old input left before after (Err stops.Memory) =
+    (lines : List (List ℕ)) × (new : S) × (rest : Option (List ℕ)) × Wrote serves old new input rest before after lines
+ScriptOutcome {S} serves old input left before after (Err stops.Stray) =
+    (lines : List (List ℕ)) × (new : S) × (rest : Option (List ℕ)) × Wrote serves old new input rest before after lines
+ScriptOutcome {S} serves old input left before after (Err stops.Write) =
+    (lines : List (List ℕ)) × (new : S) × (rest : Option (List ℕ)) × (mid : Option (List ℕ)) × (text : List ℕ)
+    × (Wrote serves old new input rest before mid lines × (last : S) × (line : List ℕ) ×
+    (NextKnown rest line × Speaks serves new (said line) text last × AppendsSome mid after text))

@@ -1,0 +1,20 @@
+//! Scripts are answered: each line is carried out by a server, and its answer is written before the next is read.
+//!
+//! A `Server` carries the request of a line out, and says what an answer to it is. `answer_script` reads a script from
+//! a `Source` line by line and writes each answer whole to a `Sink` before it reads on; `answer_script_as` also ends at
+//! the first refusal, or goes on behind a line with a fault, as a `Manner` says. How a script ended is an `Ending`, or
+//! a `ScriptFault` where it was not carried out to its end.
+//!
+//! This crate knows no command and no desk: what a request does is its server's, and what is proved here holds for
+//! each. The crate of runs above serves a desk.
+//!
+//! What is written for what is read is defined in `specs/Output`, that of scripts in a manner in `specs/Manners`, what
+//! a result says in `specs/Results`. All are this project's own.
+#![tactic(auto)]
+
+mod answering;
+mod serving;
+
+pub use serving::{
+    Ending, Manner, ScriptFault, ServeFault, Server, answer_script, answer_script_as,
+};

@@ -1,0 +1,233 @@
+//! A script is read and answered line by line.
+ghost use Rattle.std.specs.Prelude.{◌≡◌, ℕ, ◌≤◌, List, ◌++◌, OnOk, IsErrOf, ◌⊎◌, ◌&&◌, ◌||◌, true};
+ghost use Rattle.std.specs.Thread.{IsSync};
+ghost use Rattle.vpg_script.specs.View.{request_shown};
+ghost use Rattle.vpg_serving.specs.Results.{UnlessReaderFails, UnlessWriterFails, ended};
+ghost use Rattle.vpg_serving.specs.Output.{Machine, ScriptOutcome};
+ghost use Rattle.vpg_serving.specs.Manners.{MannerOutcome};
+
+use crate::answering::{LineStop, Tone, answer_next};
+use std::alloc::{AllocError, Global};
+use std::sync::Wait;
+use std::thread::Threads;
+use thiserror::Error;
+use vpg_script::{LineFault, Request, Sink, Source};
+
+/// Why a server doesn't carry a request out.
+#[derive(Clone, Copy, Debug, Error)]
+pub enum ServeFault {
+    #[error("Memory")]
+    Memory,
+    /// What the server serves was used by others.
+    #[error("Stray")]
+    Stray,
+}
+
+impl From<AllocError> for ServeFault {
+    ghost use Rattle.vpg_serving.specs.declared.serving.ServeFault.TheVariants.{Memory};
+
+    ghost from_gives = { λ _ fault. fault ≡ Memory };
+
+    fn from(_e: AllocError) -> ServeFault {
+        ServeFault::Memory
+    }
+}
+
+/// What carries requests out.
+pub trait Server {
+    // What no request changes.
+    ghost Scene: { Type 0 };
+
+    // What requests change.
+    ghost State: { Type 0 };
+
+    // What it does with a request, sweeping with this many lifters.
+    ghost answering: { Scene → ℕ → Machine State };
+
+    ghost scene: { Self → Scene };
+
+    ghost state: { Self → State };
+
+    /// Carries a request out, sweeping with this many lifters, and appends its answer.
+    fn serve<T: Threads + Wait + Sync>(
+        &mut self,
+        rt: &T,
+        alloc: Global,
+        lifters: u32,
+        request: &Request<'_>,
+        out: &mut Vec<u8>,
+    ) -> Result<(), ServeFault>
+        requires sync { IsSync T.row }
+        requires lifters { (1 ≤ lifters) × (lifters ≤ 64) }
+        ensures answer { OnOk result
+            ((text : List ℕ) ×
+            (answering (scene self.old) lifters (state self.old) (request_shown request.now) text (state self.new) ×
+            (out.new.items ≡ out.old.items ++ text))) }
+        ensures scene { OnOk result (scene self.new ≡ scene self.old) };
+}
+
+/// Why a script isn't carried out to its end.
+#[derive(Clone, Copy, Debug, PartialEq, Eq, Error)]
+pub enum ScriptFault {
+    /// The line of this number, from 1, has a fault.
+    #[error("Line {line} {fault}")]
+    Line { line: u64, fault: LineFault },
+    /// The reader failed, or was read 16,777,216 times.
+    #[error("Read")]
+    Read,
+    /// The writer failed.
+    #[error("Write")]
+    Write,
+    #[error("Memory")]
+    Memory,
+    /// What the server serves was used by others.
+    #[error("Stray")]
+    Stray,
+}
+
+/// How a script's refusals and its lines with a fault are met.
+#[derive(Clone, Copy, Debug, PartialEq, Eq)]
+pub struct Manner {
+    /// The first refusal ends the script.
+    pub is_strict: bool,
+    /// A line with a fault is answered `refused Word`, `refused Args` or `refused TooLong`, and the script goes on.
+    /// Else it ends there.
+    pub goes_on: bool,
+}
+
+/// How a script ends whose lines were answered.
+#[derive(Clone, Copy, Debug, PartialEq, Eq)]
+pub enum Ending {
+    /// All lines were answered, and no assertion failed.
+    Whole,
+    /// All lines were answered, and an assertion failed.
+    Failed,
+    /// The script is strict, and the line of this number, from 1, was refused. No line behind it was carried out.
+    Refused { line: u64 },
+}
+
+/// Whether an answer ends the script.
+fn is_last(tone: Tone, manner: Manner) -> bool
+    ensures { result ≡ (tone.refused && manner.is_strict) }
+{
+    tone.refused && manner.is_strict
+}
+
+/// Whether an answer fails, or one before it did.
+fn has_failed(failed: bool, tone: Tone) -> bool
+    ensures { result ≡ (failed || tone.fails) }
+{
+    failed || tone.fails
+}
+
+/// How a script ends that stops so at a line.
+fn ended(stop: LineStop, line: u64, failed: bool) -> Result<Ending, ScriptFault>
+    ensures { result ≡ ended stop line failed }
+{
+    match stop {
+        LineStop::End => Ok(if failed {
+            Ending::Failed
+        } else {
+            Ending::Whole
+        }),
+        LineStop::Fault(fault) => Err(ScriptFault::Line { line, fault }),
+        LineStop::Read => Err(ScriptFault::Read),
+        LineStop::Write => Err(ScriptFault::Write),
+        LineStop::Memory => Err(ScriptFault::Memory),
+        LineStop::Stray => Err(ScriptFault::Stray),
+    }
+}
+
+/// Reads a script, and answers its lines in order, each before the next is read.
+///
+/// A strict script ends at the first answer that begins with `refused `. Else it ends behind its last line, and
+/// `Failed` says that an answer began with `fails`, as that of an assertion that fails does. `Line` comes only where a
+/// script ends at a line with a fault, and `Read` and `Write` as the script meets them; `Memory` only where a growth
+/// was refused, and `Stray` where the server answers so.
+pub fn answer_script_as<T: Threads + Wait + Sync, V: Server, R: Source, W: Sink>(
+    rt: &T,
+    alloc: Global,
+    lifters: u32,
+    manner: Manner,
+    server: &mut V,
+    reader: &mut R,
+    writer: &mut W,
+) -> Result<Ending, ScriptFault>
+    requires unread { R.calls reader.old ≡ 0 }
+    requires lifters { (1 ≤ lifters) × (lifters ≤ 64) }
+    // What is written are the answers to the lines that were read, and the result tells how they end.
+    ensures output { MannerOutcome manner (V.answering (V.scene server.old) lifters) (V.state server.old)
+        (R.remaining reader.old) (R.remaining reader.new) (W.contents writer.old) (W.contents writer.new) result }
+    // Read and Write are answered only where the device failed, or the reads were used up.
+    ensures read { IsErrOf result ScriptFault.Read → (R.has_failed reader.new ≡ true) ⊎
+        (R.calls reader.new ≡ 16777216) }
+    ensures write { IsErrOf result ScriptFault.Write → W.has_failed writer.new ≡ true }
+    // A device that failed is told.
+    ensures readable { UnlessReaderFails result (R.has_failed reader.new ≡ R.has_failed reader.old) }
+    ensures writable { UnlessWriterFails result (W.has_failed writer.new ≡ W.has_failed writer.old) }
+{
+    let mut held = Vec::new(alloc);
+    let mut reads = 0;
+    let mut number = 1;
+    let mut failed = false;
+    'lines: loop {
+        match answer_next(
+            rt,
+            alloc,
+            lifters,
+            manner.goes_on,
+            server,
+            &mut held,
+            &mut reads,
+            reader,
+            writer,
+        ) {
+            Ok(tone) => {
+                let last = is_last(tone, manner);
+                if last {
+                    return Ok(Ending::Refused { line: number });
+                }
+                let fails = has_failed(failed, tone);
+                failed = fails;
+            }
+            Err(stop) => return ended(stop, number, failed),
+        }
+        number += 1;
+    }
+}
+
+/// Reads a script, and answers its lines in order, each before the next is read. Refusals and assertions that fail are
+/// answers as others are; a line with a fault ends the script.
+///
+/// `Line`, `Read` and `Write` come as the script meets them, `Memory` only where a growth was refused, and `Stray`
+/// where the server answers so.
+pub fn answer_script<T: Threads + Wait + Sync, V: Server, R: Source, W: Sink>(
+    rt: &T,
+    alloc: Global,
+    lifters: u32,
+    server: &mut V,
+    reader: &mut R,
+    writer: &mut W,
+) -> Result<(), ScriptFault>
+    requires unread { R.calls reader.old ≡ 0 }
+    requires lifters { (1 ≤ lifters) × (lifters ≤ 64) }
+    // What is written is the output for the lines that were read.
+    ensures output { ScriptOutcome (V.answering (V.scene server.old) lifters) (V.state server.old)
+        (R.remaining reader.old) (R.remaining reader.new) (W.contents writer.old) (W.contents writer.new) result }
+    // Read and Write are answered only where the device failed, or the reads were used up.
+    ensures read { IsErrOf result ScriptFault.Read → (R.has_failed reader.new ≡ true) ⊎
+        (R.calls reader.new ≡ 16777216) }
+    ensures write { IsErrOf result ScriptFault.Write → W.has_failed writer.new ≡ true }
+    // A device that failed is told.
+    ensures readable { UnlessReaderFails result (R.has_failed reader.new ≡ R.has_failed reader.old) }
+    ensures writable { UnlessWriterFails result (W.has_failed writer.new ≡ W.has_failed writer.old) }
+{
+    let plain = Manner {
+        is_strict: false,
+        goes_on: false,
+    };
+    match answer_script_as(rt, alloc, lifters, plain, server, reader, writer) {
+        Ok(_) => Ok(()),
+        Err(fault) => Err(fault),
+    }
+}
