@@ -9,7 +9,7 @@ use crate::lookups::{
 };
 use crate::orders::make_order;
 use crate::reading::{
-    add_name, are_ten, make_names, names_of, read_diagram, read_game, read_guard,
+    add_name, has_ten, make_names, names_of, read_diagram, read_game, read_guard,
 };
 use crate::trails::{append, is_of_first, look, open, splice};
 use crate::writing::{
@@ -29,7 +29,7 @@ use vpg_trail::Trail;
 
 /// A call.
 #[derive(Clone, Copy)]
-pub(crate) enum Call {
+enum Call {
     NewNames,
     ReadGuard,
     ReadDiagram,
@@ -61,25 +61,19 @@ pub(crate) enum Call {
     Look,
 }
 
-pub(crate) type Row = (&'static str, Call);
-
-/// Calls that read and write texts, or make a game of another.
-pub(crate) const TEXTS: &[Row] = &[
+/// The calls, those of a trail one after another. Those that ask take no memory: what they tell is compared where there
+/// is none.
+const CALLS: &[(&str, Call)] = &[
+    ("Names::add", Call::AddName),
     ("Names::new", Call::NewNames),
     ("parse_guard", Call::ReadGuard),
     ("Diagram::read", Call::ReadDiagram),
     ("GuardedGame::read", Call::ReadGame),
-    ("Names::add", Call::AddName),
     ("parse_guard and Guard::write", Call::WriteGuard),
     ("GuardedGame::write", Call::WriteGame),
     ("GuardedGame::dual", Call::Dual),
     ("project", Call::Project),
     ("PlainGame::write", Call::WritePlain),
-];
-
-/// Calls that make something of decisions. Those that ask take no memory: what they tell is compared where there is
-/// none.
-pub(crate) const DECIDED: &[Row] = &[
     ("Partial::close", Call::Known),
     ("Partial::product", Call::Product),
     ("Arena::hopeful", Call::Arena),
@@ -98,10 +92,6 @@ pub(crate) const DECIDED: &[Row] = &[
     ("Shape::top, prog, lift, is_progress", Call::AskMeasures),
     ("settle_alone, Table::get, set", Call::Settle),
     ("Order::of", Call::Order),
-];
-
-/// Calls of a trail, one after another.
-pub(crate) const TRAILS: &[Row] = &[
     ("Trail::open", Call::OpenTrail),
     ("Trail::append", Call::Append),
     ("Trail::splice", Call::Splice),
@@ -110,8 +100,8 @@ pub(crate) const TRAILS: &[Row] = &[
 
 /// What the calls are made of, beside a game and a diagram.
 #[derive(Drop)]
-pub(crate) struct Parts {
-    /// Ten names.
+struct Parts {
+    /// Ten names, and then one more.
     names: Names,
     /// The game of one product.
     plain: PlainGame,
@@ -129,17 +119,18 @@ pub(crate) struct Parts {
     is_back: bool,
 }
 
-/// The parts for a game and a diagram.
-pub(crate) fn parts_of(alloc: Global, diagram: &Diagram, game: &GuardedGame) -> Option<Parts> {
+/// The parts for a game and a diagram: first those that are let go by one call.
+fn parts_of(alloc: Global, diagram: &Diagram, game: &GuardedGame) -> Option<Parts> {
+    let trail = Trail::open(alloc, 2).ok()?;
+    let zeros = Table::zero(alloc, 2).ok()?;
+    let table = Table::of(Vec::from_slice(alloc, &SETTLED).ok()?);
+    let names = names_of(alloc)?;
+    let shape = Shape::of(alloc, game).ok()?;
+    let plain = plain_of(alloc, diagram, game)?;
     let known = close_checked(alloc, diagram, &DECISIONS).ok()?;
     let arena = arena_of(alloc, game, &known)?;
-    let shape = Shape::of(alloc, game).ok()?;
-    let table = Table::of(Vec::from_slice(alloc, &SETTLED).ok()?);
-    let zeros = Table::zero(alloc, 2).ok()?;
-    let trail = Trail::open(alloc, 2).ok()?;
-    let plain = plain_of(alloc, diagram, game)?;
     Some(Parts {
-        names: names_of(alloc)?,
+        names,
         plain,
         out: Vec::new(alloc),
         known,
@@ -154,11 +145,11 @@ pub(crate) fn parts_of(alloc: Global, diagram: &Diagram, game: &GuardedGame) -> 
 
 /// A call, and what it is made of.
 #[derive(Drop)]
-pub(crate) struct Calling<'t> {
-    pub(crate) call: Call,
-    pub(crate) diagram: &'t Arc<Diagram>,
-    pub(crate) game: &'t Arc<GuardedGame>,
-    pub(crate) parts: &'t mut Parts,
+struct Calling<'t> {
+    call: Call,
+    diagram: &'t Arc<Diagram>,
+    game: &'t Arc<GuardedGame>,
+    parts: &'t mut Parts,
 }
 
 /// Makes a call.
@@ -209,32 +200,44 @@ impl<R> Trial<R> for Calling<'_> {
 
     fn is_unchanged(&mut self, _rt: &R, _alloc: Global) -> bool {
         let parts = &*self.parts;
-        match self.call {
-            Call::NewNames | Call::ReadGuard | Call::ReadDiagram | Call::ReadGame => {
-                are_ten(&parts.names)
-            }
-            Call::AddName => are_ten(&parts.names),
-            Call::WriteGuard | Call::WriteGame | Call::WritePlain => is_before(&parts.out),
-            Call::Dual | Call::Project => is_before(&parts.out),
-            Call::Order => parts.is_back,
-            Call::OpenTrail | Call::Append => is_of_first(&parts.trail, 0),
-            Call::Splice => is_of_first(&parts.trail, 1),
-            _ => parts.known.is_full() && parts.table.values() == SETTLED.as_slice(),
-        }
+        let (names, entries) = match self.call {
+            Call::AddName => (10, 0),
+            Call::Splice => (11, 1),
+            _ => (11, 0),
+        };
+        has_ten(&parts.names, names)
+            && is_before(&parts.out)
+            && parts.is_back
+            && parts.known.is_full()
+            && parts.table.values() == SETTLED.as_slice()
+            && is_of_first(&parts.trail, entries)
     }
 }
 
-/// Makes each of these calls with little memory.
-pub(crate) fn try_each<R: Wait>(
-    rt: &R,
-    heap: &mut Heap,
-    report: &mut Report,
-    calling: &mut Calling<'_>,
-    rows: &[Row],
-) {
-    for (name, call) in rows {
+/// Makes each call with little memory.
+fn try_each<R: Wait>(rt: &R, heap: &mut Heap, report: &mut Report, calling: &mut Calling<'_>) {
+    for (name, call) in CALLS {
         calling.call = *call;
         calling.parts.out = text_before(heap.alloc());
         report.try_call(rt, heap, name, calling);
     }
+}
+
+/// Makes each call of a game and a diagram with little memory.
+pub(crate) fn refuse_each<R: Wait>(
+    rt: &R,
+    heap: &mut Heap,
+    report: &mut Report,
+    game: &Arc<GuardedGame>,
+    diagram: &Arc<Diagram>,
+) -> Option<()> {
+    let mut parts = parts_of(heap.alloc(), diagram, game)?;
+    let mut calling = Calling {
+        call: Call::NewNames,
+        diagram,
+        game,
+        parts: &mut parts,
+    };
+    try_each(rt, heap, report, &mut calling);
+    Some(())
 }

@@ -8,6 +8,7 @@ ghost use Rattle.vpg_partial.specs.Known.{literal_of};
 ghost use Rattle.vpg_partial.specs.TableLaws.{AreChoicesOf};
 
 use crate::decided::are_below;
+use crate::family::shared;
 use crate::told_of;
 use std::alloc::{AllocError, Global};
 use std::sync::Arc;
@@ -20,7 +21,7 @@ use vpg_scarce::{End, Heap, Report};
 use vpg_verdict::Which;
 
 /// Lets an order go. A function that does so itself takes the prover seconds.
-fn let_go(_order: Order) {}
+pub(crate) fn let_go(_order: Order) {}
 
 const DECISIONS: [Decision; 2] = [
     Decision {
@@ -102,14 +103,33 @@ fn made(
     alloc: Global,
     game: &Arc<GuardedGame>,
     diagram: &Arc<Diagram>,
+    decisions: &[Decision],
     is_back: &mut bool,
 ) -> Result<Order, End> {
-    let Ok(decisions) = Vec::from_slice(alloc, &DECISIONS) else {
+    let Ok(decisions) = Vec::from_slice(alloc, decisions) else {
         return Err(End::Memory);
     };
-    match (Arc::try_clone(game), Arc::try_clone(diagram)) {
-        (Ok(game), Ok(diagram)) => made_of(alloc, game, diagram, decisions, is_back),
-        _ => Err(End::Otherwise),
+    match shared(game, diagram) {
+        Some((game, diagram)) => made_of(alloc, game, diagram, decisions, is_back),
+        None => Err(End::Otherwise),
+    }
+}
+
+/// The order of the opening page.
+pub(crate) fn first_order(
+    alloc: Global,
+    game: &Arc<GuardedGame>,
+    diagram: &Arc<Diagram>,
+) -> Option<Order> {
+    let mut is_back = true;
+    made(alloc, game, diagram, &[], &mut is_back).ok()
+}
+
+/// The values of both tables of two vertices.
+pub(crate) fn both_values(order: &Order) -> [u64; 4] {
+    match (order.hopeful().values(), order.dual().values()) {
+        ([a, b], [c, d]) => [*a, *b, *c, *d],
+        _ => [u64::MAX; 4],
     }
 }
 
@@ -120,7 +140,7 @@ pub(crate) fn make_order(
     diagram: &Arc<Diagram>,
     is_back: &mut bool,
 ) -> End {
-    match made(alloc, game, diagram, is_back) {
+    match made(alloc, game, diagram, &DECISIONS, is_back) {
         Ok(order) => {
             let_go(order);
             End::Done
@@ -138,8 +158,7 @@ fn order_tells(order: &Order) -> bool {
         arena.vertices() as usize,
     ] == [2, 3, 2]
         && order.decisions() == DECISIONS.as_slice()
-        && order.hopeful().values() == [0, 0].as_slice()
-        && order.dual().values() == [0, 0].as_slice()
+        && both_values(order) == [0; 4]
         && order.shape(Which::Dual).top() == 2
 }
 
@@ -174,21 +193,13 @@ fn own_table(order: &Order, which: Which) -> &Table
     order.table(which)
 }
 
-/// A copy of one of an order's tables.
-fn values_of(alloc: Global, order: &Order, which: Which) -> Result<Vec<u64>, AllocError>
-    ensures { IfOk result (λ values. IsRaised which order.now values.items) }
-{
-    let table = own_table(order, which);
-    Ok(Vec::from_slice(alloc, table.values())?)
-}
-
 /// Copies of both tables of an order.
 fn tables_of(alloc: Global, order: &Order) -> Result<(Vec<u64>, Vec<u64>), AllocError>
     ensures hopeful { IfOk result (λ both. IsRaised Which.Hopeful order.now both.0.items) }
     ensures dual { IfOk result (λ both. IsRaised Which.Dual order.now both.1.items) }
 {
-    let hopeful = values_of(alloc, order, Which::Hopeful)?;
-    let dual = values_of(alloc, order, Which::Dual)?;
+    let hopeful = Vec::from_slice(alloc, own_table(order, Which::Hopeful).values())?;
+    let dual = Vec::from_slice(alloc, own_table(order, Which::Dual).values())?;
     Ok((hopeful, dual))
 }
 
@@ -208,7 +219,7 @@ fn handed_in(heap: &mut Heap, order: Order) -> (bool, Order) {
 }
 
 /// Asks an order, and harvests of it, with no memory.
-fn ask_order(heap: &mut Heap, report: &mut Report, order: Order) {
+fn ask(heap: &mut Heap, report: &mut Report, order: Order) {
     heap.leave(0);
     let tells = order_tells(&order);
     heap.relax();
@@ -227,14 +238,14 @@ fn ask_order(heap: &mut Heap, report: &mut Report, order: Order) {
 }
 
 /// Asks an order of a game and a diagram, and harvests of it, with no memory.
-pub(crate) fn ask(
+pub(crate) fn ask_order(
     heap: &mut Heap,
     report: &mut Report,
     game: &Arc<GuardedGame>,
     diagram: &Arc<Diagram>,
 ) -> Option<()> {
     let mut is_back = true;
-    let order = made(heap.alloc(), game, diagram, &mut is_back).ok()?;
-    ask_order(heap, report, order);
+    let order = made(heap.alloc(), game, diagram, &DECISIONS, &mut is_back).ok()?;
+    ask(heap, report, order);
     Some(())
 }

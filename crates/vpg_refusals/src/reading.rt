@@ -17,14 +17,14 @@ const GAME: &[u8] =
 /// The names of the diagram's features but the root, in another order than its own.
 const TEN: [&str; 10] = ["a", "b", "c", "d", "e", "f", "g", "h", "i", "j"];
 
-/// Whether the names are those ten, each at its place.
-pub(crate) fn are_ten(names: &Names) -> bool {
+/// Whether there are so many names, those ten each at its place.
+pub(crate) fn has_ten(names: &Names, count: usize) -> bool {
     for k in 0..TEN.len() {
         if names.get(TEN[k].as_bytes()) != Some(k as u16) {
             return false;
         }
     }
-    names.len() == TEN.len()
+    names.len() == count
 }
 
 // Each of these lets go what was read in one place: more ends take the prover seconds each.
@@ -80,8 +80,8 @@ pub(crate) fn names_of(alloc: Global) -> Option<Names> {
 
 fn add_ten(alloc: Global, names: &mut Names) -> bool {
     let mut lacks = false;
-    for name in TEN {
-        lacks |= names.add(alloc, name.as_bytes()).is_err();
+    for k in 0..TEN.len() {
+        lacks |= names.add(alloc, TEN[k].as_bytes()).is_err();
     }
     !lacks
 }

@@ -35,6 +35,14 @@ enum Text {
     Count,
 }
 
+const TEXTS: &[(&str, Text)] = &[
+    ("show", Text::Show),
+    ("trail", Text::Trail),
+    ("products", Text::Products),
+    ("plan", Text::Plan),
+    ("count", Text::Count),
+];
+
 impl Text {
     /// What is there once it is written of the page below.
     fn written(self) -> &'static [u8] {
@@ -146,15 +154,9 @@ fn put_each(
     requires entries { All (EntryIsWithin (feature_count diagram.now.lines)
         (length game.now.vertices)) page.now.entries }
 {
-    for (name, text) in [
-        ("show", Text::Show),
-        ("trail", Text::Trail),
-        ("products", Text::Products),
-        ("plan", Text::Plan),
-        ("count", Text::Count),
-    ] {
+    for (name, text) in TEXTS {
         let mut out = text_before(heap.alloc());
-        let told = put_growing(heap, text, page, game, diagram, &mut out);
+        let told = put_growing(heap, *text, page, game, diagram, &mut out);
         report.note(heap, name, told);
     }
 }

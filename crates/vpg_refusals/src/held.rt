@@ -2,7 +2,7 @@
 
 ghost use Rattle.std.specs.Prelude.{◌<◌};
 
-use crate::desks::Told;
+use crate::desks::Seen;
 use std::sync::Wait;
 use vpg_desk::{Desk, Redo, Undo};
 use vpg_measure::Harvest;
@@ -15,7 +15,7 @@ pub(crate) struct Held {
     pub(crate) redo: Option<Redo>,
     pub(crate) harvest: Option<Harvest>,
     /// What the desk told before the call.
-    pub(crate) before: Option<Told>,
+    pub(crate) before: Option<Seen>,
     /// Whether what was handed in to open a desk last came back.
     pub(crate) is_back: bool,
 }

@@ -1,15 +1,18 @@
 //! Calls of a desk, as a table in the order in which they are made.
 
-use crate::desks::{desk_of, open_on, tells, told_of};
+use crate::desks::{open_on, seen_of, tells};
 use crate::held::{Held, forget, forgets, keep, let_go, nothing, wait_for_token};
+use crate::{done_if, memory_if, told_of};
 use std::alloc::Global;
 use std::sync::{Arc, Wait};
 use vpg_desk::{
     CommitFault, CommitRefused, DecideFault, Desk, OpenFault, RedoFault, RedoRefused, RetractFault,
     TokensOut, Undo, UndoFault, UndoRefused,
 };
+use vpg_diagram::Diagram;
+use vpg_game::GuardedGame;
 use vpg_measure::Harvest;
-use vpg_scarce::{End, Heap, Report, Told, Trial};
+use vpg_scarce::{End, Heap, Report, Trial};
 
 /// The features f and g.
 const F: u16 = 1;
@@ -71,25 +74,12 @@ struct Calling<'t> {
     held: &'t mut Held,
 }
 
-/// How a call ended.
-fn end_of(is_done: bool, is_memory: bool) -> End {
-    match (is_done, is_memory) {
-        (true, _) => End::Done,
-        (false, true) => End::Memory,
-        (false, false) => End::Otherwise,
-    }
-}
-
 fn open(alloc: Global, desk: &Desk, held: &mut Held) -> End {
-    let opened = match (Arc::try_clone(desk.game()), Arc::try_clone(desk.diagram())) {
-        (Ok(game), Ok(diagram)) => open_on(alloc, game, diagram),
-        _ => return End::Otherwise,
-    };
-    match opened {
+    match open_on(alloc, desk.game(), desk.diagram()) {
         Ok(_) => End::Done,
         Err((fault, vertices, features)) => {
             held.is_back = vertices == 2 && features == 3;
-            end_of(false, fault == OpenFault::Memory)
+            memory_if(fault == OpenFault::Memory)
         }
     }
 }
@@ -109,7 +99,7 @@ fn decide<R: Wait>(
             keep(rt, desk, held.undo.replace(token));
             End::Done
         }
-        Err(fault) => end_of(false, fault == DecideFault::Memory),
+        Err(fault) => memory_if(fault == DecideFault::Memory),
     }
 }
 
@@ -119,7 +109,7 @@ fn retract<R: Wait>(rt: &R, alloc: Global, desk: &mut Desk, held: &mut Held, fea
             keep(rt, desk, held.undo.replace(token));
             End::Done
         }
-        Err(fault) => end_of(false, fault == RetractFault::Memory),
+        Err(fault) => memory_if(fault == RetractFault::Memory),
     }
 }
 
@@ -135,7 +125,7 @@ fn undo<R: Wait>(rt: &R, alloc: Global, desk: &mut Desk, held: &mut Held) -> End
         }
         Err(UndoRefused { fault, token }) => {
             keep(rt, desk, held.undo.replace(token));
-            end_of(false, fault == UndoFault::Memory)
+            memory_if(fault == UndoFault::Memory)
         }
     }
 }
@@ -152,8 +142,22 @@ fn redo<R: Wait>(rt: &R, alloc: Global, desk: &mut Desk, held: &mut Held) -> End
         }
         Err(RedoRefused { fault, token }) => {
             forget(rt, desk, held.redo.replace(token));
-            end_of(false, fault == RedoFault::Memory)
+            memory_if(fault == RedoFault::Memory)
         }
+    }
+}
+
+fn order(alloc: Global, desk: &Desk) -> End {
+    match desk.order(alloc) {
+        Ok(_) => End::Done,
+        Err(_) => End::Memory,
+    }
+}
+
+fn page(alloc: Global, desk: &Desk) -> End {
+    match desk.page(alloc) {
+        Ok(_) => End::Done,
+        Err(_) => End::Memory,
     }
 }
 
@@ -173,10 +177,10 @@ fn commit(alloc: Global, desk: &mut Desk, held: &mut Held) -> End {
         return End::Otherwise;
     };
     match desk.commit(alloc, harvest) {
-        Ok(added) => end_of(added == 2, false),
+        Ok(added) => done_if(added == 2),
         Err(CommitRefused { fault, harvest }) => {
             held.harvest = Some(harvest);
-            end_of(false, fault == CommitFault::Memory)
+            memory_if(fault == CommitFault::Memory)
         }
     }
 }
@@ -202,12 +206,12 @@ fn made<R: Wait>(rt: &R, alloc: Global, call: Call, desk: &mut Desk, held: &mut 
             keep(rt, desk, held.undo.take());
             End::Done
         }
-        Call::Forget(serial) => end_of(forgets(rt, desk, held, serial), false),
-        Call::Order => end_of(desk.order(alloc).is_ok(), true),
-        Call::Page => end_of(desk.page(alloc).is_ok(), true),
+        Call::Forget(serial) => done_if(forgets(rt, desk, held, serial)),
+        Call::Order => order(alloc, desk),
+        Call::Page => page(alloc, desk),
         Call::Settle => settle(alloc, desk, held),
         Call::Commit => commit(alloc, desk, held),
-        Call::Tell => end_of(is_told(desk), false),
+        Call::Tell => done_if(is_told(desk)),
     }
 }
 
@@ -231,7 +235,7 @@ fn try_call<R: Wait>(
 ) {
     match name {
         Some(name) => {
-            calling.held.before = told_of(heap.alloc(), calling.desk);
+            calling.held.before = seen_of(heap.alloc(), calling.desk);
             report.try_call(rt, heap, name, calling);
         }
         None => {
@@ -273,12 +277,7 @@ fn close<R: Wait>(rt: &R, heap: &mut Heap, report: &mut Report, desk: Desk, toke
         None => false,
     };
     heap.relax();
-    let told = if is_closed {
-        Told::TakesNone
-    } else {
-        Told::Otherwise
-    };
-    report.note(heap, "Undo::serial, Desk::keep, close", told);
+    report.note(heap, "Undo::serial, Desk::keep, close", told_of(is_closed));
 }
 
 /// Makes each call of a desk, which holds one token then: that one.
@@ -301,8 +300,14 @@ fn use_desk<R: Wait>(
 }
 
 /// Makes each call with little memory.
-pub(crate) fn refuse<R: Wait>(rt: &R, heap: &mut Heap, report: &mut Report) -> Option<()> {
-    let mut desk = desk_of(heap.alloc())?;
+pub(crate) fn refuse<R: Wait>(
+    rt: &R,
+    heap: &mut Heap,
+    report: &mut Report,
+    game: &Arc<GuardedGame>,
+    diagram: &Arc<Diagram>,
+) -> Option<()> {
+    let mut desk = open_on(heap.alloc(), game, diagram).ok()?;
     let token = use_desk(rt, heap, report, &mut desk);
     close(rt, heap, report, desk, token);
     Some(())

@@ -1,0 +1,76 @@
+//! Desks that are opened, and all that a desk tells.
+
+use crate::family::shared;
+use std::alloc::Global;
+use std::sync::Arc;
+use vpg_desk::{Desk, OpenFault, OpenRefused};
+use vpg_diagram::Diagram;
+use vpg_game::GuardedGame;
+use vpg_scarce::is_same_page;
+use vpg_trail::Page;
+
+/// How an opening ended that was refused, with how many vertices and features came back.
+pub(crate) type Unopened = (OpenFault, usize, usize);
+
+fn opened(alloc: Global, game: Arc<GuardedGame>, diagram: Arc<Diagram>) -> Result<Desk, Unopened> {
+    if game.features() != diagram.features() {
+        return Err((OpenFault::AtLimit, 0, 0));
+    }
+    match Desk::open(alloc, game, diagram) {
+        Ok(desk) => Ok(desk),
+        Err(
+            OpenRefused {
+                fault,
+                game,
+                diagram,
+            },
+        ) => Err((fault, game.vertices(), diagram.features())),
+    }
+}
+
+/// A desk on a game and a diagram; or how its opening ended.
+pub(crate) fn open_on(
+    alloc: Global,
+    game: &Arc<GuardedGame>,
+    diagram: &Arc<Diagram>,
+) -> Result<Desk, Unopened> {
+    match shared(game, diagram) {
+        Some((game, diagram)) => opened(alloc, game, diagram),
+        None => Err((OpenFault::AtLimit, 0, 0)),
+    }
+}
+
+/// All that a desk tells without a change.
+#[derive(Drop)]
+pub(crate) struct Seen {
+    page: Page,
+    tokens: u64,
+    is_settled: bool,
+}
+
+/// All that a desk tells now.
+pub(crate) fn seen_of(alloc: Global, desk: &Desk) -> Option<Seen> {
+    match desk.page(alloc) {
+        Ok(page) => Some(Seen {
+            page,
+            tokens: desk.tokens(),
+            is_settled: desk.settled(),
+        }),
+        Err(_) => None,
+    }
+}
+
+/// Whether two desks told the same.
+fn is_same(now: &Seen, before: &Seen) -> bool {
+    is_same_page(&now.page, &before.page)
+        && now.tokens == before.tokens
+        && now.is_settled == before.is_settled
+}
+
+/// Whether a desk tells this.
+pub(crate) fn tells(alloc: Global, desk: &Desk, before: &Option<Seen>) -> bool {
+    match (&seen_of(alloc, desk), before) {
+        (Some(now), Some(before)) => is_same(now, before),
+        _ => false,
+    }
+}
