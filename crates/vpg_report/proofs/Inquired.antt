@@ -48,10 +48,10 @@ module _ (old : EngineState) (session : ℕ) (game : NamedGame) (diagram : Named
   here : (found : Result Query Own) → query_of (scene_of game diagram) inquiry ≡ found → query_of (scene_at old) inquiry ≡ found
   here found is = coe 0 1 (k. query_of (scene_of (game_is k) (diagram_is k)) inquiry ≡ found) is
 
-  first : Result Call Own
+  abbrev first : Result Call Own
   first = first_call (scene_at old) old.held (script.Ask inquiry)
 
-  then : Reply → Rest
+  abbrev then : Reply → Rest
   then = Continues (scene_at old) old.held (old.client.calls + 1) session (script.Ask inquiry)
 
   -- what it names is missing

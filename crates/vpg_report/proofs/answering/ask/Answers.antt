@@ -22,10 +22,10 @@ pub returns-in-Err-order : goal.returns-in-Err-order
 returns-in-Err-order g c =
     on_ok c.put_unanswered.result _ _
     (full_answers c.args.engine.now c.args.session c.game.result.now c.diagram.result.now c.game.ensures c.diagram.ensures (inquiry_shown c.args.inquiry)
-    g.L.Terms.limit c.order.ensures.room c.order.new.engine c.in-Ok.query c.args.out.now.items _ c.in-Ok.ensures.query never_refused c.in-Err-order.fault c.in-Err-order.ensures.fault c.order.ensures.held)
+    g.L.Terms.limit c.order.ensures.room c.order.new.self c.in-Ok.query c.args.out.now.items _ c.in-Ok.ensures.query never_refused c.in-Err-order.fault c.in-Err-order.ensures.fault c.order.ensures.held)
     (both_on c.put_unanswered.result _ _ c.put_unanswered.ensures.full c.put_unanswered.ensures.told)
 
 pub returns : goal.returns
 returns g c =
     ask_answers c.args.engine.now c.args.session c.game.result.now c.diagram.result.now c.game.ensures c.diagram.ensures (inquiry_shown c.args.inquiry)
-    g.L.Terms.limit c.order.ensures.room c.order.new.engine c.in-Ok.query c.args.out.now.items _ c.in-Ok.ensures.query c.in-Ok-order.order c.in-Ok-order.ensures.accepted c.in-Ok-order.ensures.ours c.order.ensures.held c.in_ok-answer.ensures
+    g.L.Terms.limit c.order.ensures.room c.order.new.self c.in-Ok.query c.args.out.now.items _ c.in-Ok.ensures.query c.in-Ok-order.order c.in-Ok-order.ensures.accepted c.in-Ok-order.ensures.ours c.order.ensures.held c.in_ok-answer.ensures
