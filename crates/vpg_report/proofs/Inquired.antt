@@ -1,22 +1,28 @@
 -- What lines ask of the page, and how it is answered.
-use Rattle.std.proofs.Common.{◌≡◌, ℕ, ◌<◌, List, ◌++◌, length, Option, Some, None, Result, Ok, Err, ap, subst}
-use Rattle.std.specs.Prelude.{IfSome, slice_get}
+use Rattle.std.proofs.Common.{◌≡◌, ℕ, ◌+◌, ◌<◌, List, ◌++◌, length, Option, Some, None, Result, Ok, Err, refl, ap, subst}
+use Rattle.std.specs.Prelude.{IfSome, OnOk, slice_get}
 use Rattle.std.proofs.lemmas.List.{length-map}
 use Rattle.std.proofs.lemmas.Option.{slice_get_within}
 use Rattle.vpg_diagram.specs.DiagramText.{NamedDiagram}
 use Rattle.vpg_diagram.specs.FeatureDiagram.{feature_count}
 use Rattle.vpg_game.specs.Game.{NamedGame, NamedVertex, vertex_ids}
 use Rattle.vpg_measure.specs.Orders.{OrderView, IsOrder}
-use Rattle.vpg_desk.specs.Book.{Order, Ordered}
+use Rattle.vpg_desk.specs.Book.{Call, Order, Ordered, Refusal, Reply}
 use Rattle.vpg_desk.specs.Commit.{IsOrderOf}
 use Rattle.vpg_client.specs.Client.{IsLogged}
+use Rattle.vpg_client.specs.Faults.{Tells}
+use Rattle.vpg_client.specs.declared.fault.ClientFault.{ClientFault}
+use Rattle.vpg_client.specs.declared.fault.ClientFault.TheVariants.{LogFull}
 use Rattle.vpg_answers.specs.Answers.{IsAnswer, IsWithin, Appends}
 use Rattle.vpg_answers.specs.declared.query.Query.{Query}
 use Rattle.vpg_script.specs.Script as script
 use Rattle.vpg_texts.specs.Scene.{scene_of}
-use Rattle.vpg_report.specs.Answers.{Own, own_text, refused_line, room, query_of, answer_limits, order_or}
-use Rattle.vpg_report.specs.Engine.{EngineState, scene_at, AnswersTo}
-use Rattle.vpg_report.proofs.Asked.{unasked, ask_told}
+use Rattle.vpg_engine.specs.Answers.{Own, Rest, full_line, own_text, refused_line, room}
+use Rattle.vpg_engine.specs.Engine.{EngineState, scene_at}
+use Rattle.vpg_engine.proofs.Asked.{unasked_by, asked_by, log_full_by}
+use Rattle.vpg_engine.proofs.Enduring.{unless_stray_any}
+use Rattle.vpg_report.specs.Answers.{Continues, answer_limits, first_call, order_or, query_of}
+use Rattle.vpg_report.specs.Engine.{AnswersTo}
 
 pub vertex_within : (vertices : List NamedVertex) (id : ℕ) (found : Option ℕ) → IfSome found (λ v. slice_get (vertex_ids vertices) v ≡ Some id) → IfSome found (λ v. v < length vertices)
 vertex_within vertices id None h = tt
@@ -33,20 +39,37 @@ within_order game diagram order query is game_is diagram_is within =
     subst (λ (n : ℕ). IsWithin (length order.game.vertices) n query) is.diagram.each_named
     (coe 0 1 (k. IsWithin (length (game_is k).vertices) (length (diagram_is k).names) query) within)
 
+-- what follows where a result is Ok
+pub on_ok : {E : Type 0} (r : Result (Unit {0}) E) (P Q : Type 0) → (P → Q) → OnOk r P → OnOk r Q
+on_ok (Ok done) P Q f p = f p
+on_ok (Err e) P Q f p = tt
+
 module _ (old : EngineState) (session : ℕ) (game : NamedGame) (diagram : NamedDiagram) (game_is : game ≡ old.client.desk.game) (diagram_is : diagram ≡ old.client.desk.diagram) (inquiry : script.Inquiry) where
-  pub here : (found : Result Query Own) → query_of (scene_of game diagram) inquiry ≡ found → query_of (scene_at old) inquiry ≡ found
+  here : (found : Result Query Own) → query_of (scene_of game diagram) inquiry ≡ found → query_of (scene_at old) inquiry ≡ found
   here found is = coe 0 1 (k. query_of (scene_of (game_is k) (diagram_is k)) inquiry ≡ found) is
+
+  abbrev first : Result Call Own
+  first = first_call (scene_at old) old.held (script.Ask inquiry)
+
+  abbrev then : Reply → Rest
+  then = Continues (scene_at old) old.held (old.client.calls + 1) session (script.Ask inquiry)
 
   -- what it names is missing
   pub missing_answers : (own : Own) (before after : List ℕ) → query_of (scene_of game diagram) inquiry ≡ Err own → after ≡ before ++ refused_line (own_text own) →
       AnswersTo old (record { label = session; command = script.Ask inquiry }) before after old
-  missing_answers own before after is told = unasked old session (script.Ask inquiry) own before after (ap order_or (here (Err own) is)) told
+  missing_answers own before after is told = unasked_by old session first then own before after (ap order_or (here (Err own) is)) told
 
-  -- it is answered of an order of the desk
-  pub ask_answers : (limit : ℕ) → limit ≡ room → (new : EngineState) (query : Query) (order : OrderView) (before after : List ℕ) → query_of (scene_of game diagram) inquiry ≡ Ok query →
-      IsLogged limit old.client session Order (Ordered order.decisions order.hopeful order.dual) new.client → IsOrderOf old.client.desk order → new.held ≡ old.held →
-      Appends (IsAnswer (scene_of order.game order.diagram) answer_limits query order.decisions order.hopeful order.dual) before after →
-      AnswersTo old (record { label = session; command = script.Ask inquiry }) before after new
-  ask_answers limit limit_is new query order before after is logged ours held (text, (answered, appended)) =
-      ask_told limit limit_is session old new inquiry query order.decisions order.hopeful order.dual text before after (here (Ok query) is) logged held
-      (coe 0 1 (k. IsAnswer (scene_of (ours.0 k) (ours.1 k)) answer_limits query order.decisions order.hopeful order.dual text) answered) appended
+  module _ (limit : ℕ) (limit_is : limit ≡ room) (new : EngineState) (query : Query) (before after : List ℕ) (asks : query_of (scene_of game diagram) inquiry ≡ Ok query) where
+    -- its order finds the log full
+    pub full_answers : {F : Type 0} (refusal : F → Option Refusal) (fault : ClientFault F) → Tells limit refusal old.client session Order new.client fault → new.held ≡ old.held →
+        (fault ≡ LogFull) × (after ≡ before ++ full_line) → AnswersTo old (record { label = session; command = script.Ask inquiry }) before after new
+    full_answers refusal fault tells held told =
+        log_full_by limit limit_is session refusal old new first then Order fault before after (ap order_or (here (Ok query) asks)) tells (unless_stray_any fault _ held) told.0 told.1
+
+    -- it is answered of an order of the desk
+    pub ask_answers : (order : OrderView) → IsLogged limit old.client session Order (Ordered order.decisions order.hopeful order.dual) new.client → IsOrderOf old.client.desk order → new.held ≡ old.held →
+        Appends (IsAnswer (scene_of order.game order.diagram) answer_limits query order.decisions order.hopeful order.dual) before after →
+        AnswersTo old (record { label = session; command = script.Ask inquiry }) before after new
+    ask_answers order logged ours held (text, (answered, appended)) =
+        asked_by limit limit_is session old new first then Order (Ordered order.decisions order.hopeful order.dual) text before after (ap order_or (here (Ok query) asks)) logged
+        ((query, (here (Ok query) asks, coe 0 1 (k. IsAnswer (scene_of (ours.0 k) (ours.1 k)) answer_limits query order.decisions order.hopeful order.dual text) answered)), refl, held) appended

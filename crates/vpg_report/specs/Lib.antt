@@ -1,11 +1,6 @@
 pub mod Answers
 pub mod Engine
-pub mod EngineFields
-pub mod Held
-pub mod Made
 pub mod Output
 pub mod Results
 pub mod Run
-pub mod Serials
-pub mod Setting
 pub mod Settling

@@ -1,25 +1,15 @@
 -- What a run of a script does to the book of an office's desk, what the engine holds, and what it writes.
 use Rattle.std.specs.Prelude.{◌≡◌, ℕ, ◌+◌, List, [], ◌++◌, length}
-use Rattle.vpg_desk.specs.Book.{Book, opened}
 use Rattle.vpg_desk.specs.History.{Event, IsLegalFrom, book_after}
 use Rattle.vpg_desk.specs.Desk.{family_of}
 use Rattle.vpg_desk.specs.State.{IsHistoryOf}
-use Rattle.vpg_report.specs.Held.{Held, nothing_held}
+use Rattle.vpg_engine.specs.Held.{Held, nothing_held}
+use Rattle.vpg_engine.specs.Made.{AreMadeBy}
+pub use Rattle.vpg_engine.specs.Run.{Between, begun}
+use Rattle.vpg_engine.specs.Setting.{setting_in}
 use Rattle.vpg_serving.specs.Output.{Machine, Answered}
 use Rattle.vpg_texts.specs.Scene.{Scene}
 use Rattle.vpg_report.specs.Answers.{Serves}
-use Rattle.vpg_report.specs.Made.{AreMadeBy}
-use Rattle.vpg_report.specs.Setting.{setting_in}
-
--- between two lines: the book of the desk, how many calls were made on it, and what the engine holds
-pub record Between : Type 0 where
-  pub book : Book
-  pub calls : ℕ
-  pub held : Held
-
--- before the first line
-abbrev pub begun : Between
-begun = record { book = opened; calls = 0; held = nothing_held }
 
 -- A request makes calls, each with the reply that the book gives at that point, is answered with this text, and leaves
 -- the book after them.

@@ -10,16 +10,10 @@ ghost use Rattle.vpg_texts.specs.Scene.{scene_of};
 
 use vpg_answers::Query;
 use vpg_diagram::Diagram;
+use vpg_engine::Missing;
 use vpg_game::GuardedGame;
 use vpg_guards::Names;
 use vpg_script::Inquiry;
-
-/// What is named that the game, or the diagram, lacks.
-#[derive(Clone, Copy)]
-pub(crate) enum Missing {
-    Vertex,
-    Feature,
-}
 
 fn vertex_at(game: &GuardedGame, identifier: u32) -> Option<u32>
     ensures vertex { result ≡ position (λ n. n == identifier) (vertex_ids game.now.vertices) }

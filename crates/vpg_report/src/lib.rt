@@ -6,18 +6,16 @@
 //! same of one), `plan` (what Even does where everything is known and settled) and `count` (how many vertices have
 //! which verdict). How a script is read stands in the crate of scripts, the texts in the crate of texts, those of what
 //! is asked of the page (`why`, `example`, `counterexample`, `offer`, `needs`, `repair`) in the crate of answers, and
-//! how an order is swept in the crate of settling; this one knows what each command asks of a desk. The tokens and
-//! harvests that lines leave are held until later lines use them up, and the verdicts that a `changed` told until the
-//! next one compares with them; at the end of a run, also after a fault, all tokens are spent and the desk is closed.
+//! how an order is swept in the crate of settling; what each other command asks of a desk, and what lines leave held,
+//! in the crate of engines. This one adds what is asked of the page. At the end of a run, also after a fault, all
+//! tokens are spent and the desk is closed.
 //!
-//! What lines leave held is defined in `specs/Held`, the calls on a desk's book and their answers in `specs/Answers`
-//! and `specs/Run`, what a run's result says in `specs/Output`. All are this project's own.
+//! The calls on a desk's book and their answers are defined in `specs/Answers` and `specs/Run`, over those of an
+//! engine, what a run's result says in `specs/Output`. All are this project's own.
 #![tactic(auto)]
 
-mod answer;
+mod answering;
 mod asking;
-mod engine;
-mod held;
 pub mod laws;
 mod runs;
 

@@ -9,7 +9,7 @@ ghost use Rattle.vpg_report.specs.Results.{Opens, UnlessRead, UnlessWrite};
 ghost use Rattle.vpg_report.specs.Run.{answering, begun};
 ghost use Rattle.vpg_texts.specs.Scene.{scene_of};
 
-use crate::engine::Engine;
+use crate::answering::Answering;
 use std::alloc::Global;
 use std::marker::Brand;
 use std::sync::{Arc, Wait};
@@ -17,6 +17,7 @@ use std::thread::Threads;
 use thiserror::Error;
 use vpg_desk::OpenFault;
 use vpg_diagram::Diagram;
+use vpg_engine::Engine;
 use vpg_game::GuardedGame;
 use vpg_office::{Site, Terms};
 use vpg_script::{LineFault, Sink, Source};
@@ -176,12 +177,14 @@ fn run_there<L: Terms, T: Threads + Wait + Sync, R: Source, W: Sink>(
     ensures readable { UnlessRead result (R.has_failed reader.new ≡ R.has_failed reader.old) }
     ensures writable { UnlessWrite result (W.has_failed writer.new ≡ W.has_failed writer.old) }
 {
-    let mut engine = match Engine::<L>::open(rt, alloc, site, game, diagram) {
+    let engine = match Engine::<L>::open(rt, alloc, site, game, diagram) {
         Ok(engine) => engine,
         Err(OpenFault::Memory) => return Err(RunFault::Memory),
         Err(fault) => return Err(RunFault::Open { fault }),
     };
-    let answered = answer_script_as(rt, alloc, lifters, manner, &mut engine, reader, writer);
-    engine.end(rt);
+    let mut server = Answering { engine };
+    let answered = answer_script_as(rt, alloc, lifters, manner, &mut server, reader, writer);
+    let Answering { engine } = server;
+    let _further = engine.end(rt);
     ended(answered)
 }

@@ -1,0 +1,12 @@
+pub mod Asked
+pub mod Deciding
+pub mod Paged
+pub mod Serials
+pub mod KeptHarvests
+pub mod Places
+pub mod Exchanging
+pub mod LiftedOnce
+pub mod Committing
+pub mod Enduring
+pub mod Settling
+pub mod Within

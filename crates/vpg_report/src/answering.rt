@@ -1,0 +1,86 @@
+//! A server of scripts: an engine, and what is asked of the page beside it.
+ghost use Rattle.std.specs.Prelude.{◌≡◌, OnOk};
+ghost use Rattle.vpg_report.specs.Engine.{AnswersTo};
+ghost use Rattle.vpg_report.specs.Run.{answering};
+ghost use Rattle.vpg_engine.specs.Engine.{between_of, scene_at};
+ghost use Rattle.vpg_script.specs.Script.{Ask};
+ghost use Rattle.vpg_script.specs.View.{inquiry_shown, request_shown};
+
+use crate::asking::query_of;
+use std::alloc::Global;
+use std::sync::Wait;
+use std::thread::Threads;
+use vpg_answers::Limits;
+use vpg_engine::{Engine, put_missing, put_unanswered};
+use vpg_office::Terms;
+use vpg_script::{Command, Inquiry, Request};
+use vpg_serving::{ServeFault, Server};
+
+/// How far a question about the page is followed: 2^27 edges and vertices looked at for the bounds of a trial's table,
+/// 1,000 rounds of lifts where these do not settle it, and 10,000 trials of a search.
+const LIMITS: Limits = Limits {
+    budget: 134_217_728,
+    rounds: 1_000,
+    trials: 10_000,
+};
+
+/// Answers what is asked of the present page.
+fn ask<L: Terms, R: Wait>(
+    engine: &mut Engine<L>,
+    rt: &R,
+    alloc: Global,
+    session: u32,
+    inquiry: Inquiry<'_>,
+    out: &mut Vec<u8>,
+) -> Result<(), ServeFault>
+    ensures { OnOk result (AnswersTo engine.old
+        (record { label = session; command = Ask (inquiry_shown inquiry.entry) })
+        out.old.items out.new.items engine.new) }
+{
+    let query = match query_of(engine.game(), engine.diagram(), inquiry) {
+        Ok(query) => query,
+        Err(what) => return put_missing(what, out),
+    };
+    let order = match engine.order(rt, alloc, session) {
+        Ok(order) => order,
+        Err(fault) => return put_unanswered(fault, out),
+    };
+    vpg_answers::answer(alloc, order, query, LIMITS, out)?;
+    Ok(())
+}
+
+/// An engine that is asked about the page too. It can't be let go, as the engine.
+pub(crate) struct Answering<L: Terms> {
+    pub(crate) engine: Engine<L>,
+}
+
+impl<L: Terms> Server for Answering<L> {
+    ghost use Rattle.vpg_report.specs.Run.{Between};
+    ghost use Rattle.vpg_texts.specs.Scene.{Scene as OfScene};
+
+    ghost Scene = { OfScene };
+
+    ghost State = { Between };
+
+    ghost answering = { answering };
+
+    ghost scene = { λ a. scene_at a.engine };
+
+    ghost state = { λ a. between_of a.engine };
+
+    fn serve<T: Threads + Wait + Sync>(
+        &mut self,
+        rt: &T,
+        alloc: Global,
+        lifters: u32,
+        request: &Request<'_>,
+        out: &mut Vec<u8>,
+    ) -> Result<(), ServeFault> {
+        match &request.command {
+            Command::Ask(inquiry) => {
+                ask(&mut self.engine, rt, alloc, request.label, *inquiry, out)
+            }
+            _ => self.engine.carry_out(rt, alloc, lifters, request, out),
+        }
+    }
+}
