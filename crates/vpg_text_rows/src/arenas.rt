@@ -21,8 +21,10 @@ use vpg_partial::Partial;
 
 /// What the decisions of a row make known.
 fn known_of(diagram: &Diagram, text: &[u8], line: &mut Line) -> Option<Partial> {
-    let decisions = decisions_of(diagram.names(), text, line);
-    close_checked(diagram, &decisions, line)
+    match decisions_of(diagram.names(), text, line) {
+        Some(decisions) => close_checked(diagram, &decisions, line),
+        None => None,
+    }
 }
 
 /// Writes a sign for each value.
@@ -79,8 +81,7 @@ fn known_told(asked: &Asked, text: &[u8], line: &mut Line) {
 fn put_vertices(arena: &Arena, line: &mut Line) {
     for v in 0..arena.vertices() {
         line.debug(&arena.owner(v));
-        line.put(" ");
-        line.number(arena.priority(v) as u64);
+        line.number(" ", arena.priority(v) as u64);
         line.put(" ");
         line.debug(&arena.kept(v));
         line.put(";");
@@ -139,10 +140,9 @@ fn projection(
 /// Writes what is written of the game of a set of features, behind a text.
 fn put_projected(signs: &[u8], diagram: &Diagram, game: &GuardedGame, line: &mut Line) {
     if let Some(plain) = projection(signs, diagram, game, line) {
-        let mut out = Vec::new(line.alloc);
-        line.note(out.extend_from_slice(b"plain: ").is_ok());
-        line.note(plain.write(line.alloc, &mut out).is_ok());
-        line.put_text(&out);
+        line.put("plain: ");
+        let done = plain.write(line.alloc, &mut line.text).is_ok();
+        line.note(done);
     }
 }
 

@@ -1,6 +1,8 @@
 //! Decisions, written as `+f -g`, and what they make known.
 
-ghost use Rattle.std.specs.Prelude.{◌↔◌, ◌<◌, IsTrue, All};
+ghost use Rattle.std.specs.Prelude.{◌↔◌, ◌<◌, IsTrue, All, map};
+ghost use Rattle.vpg_partial.specs.Known.{literal_of};
+ghost use Rattle.vpg_partial.specs.TableLaws.{AreChoicesOf};
 
 use crate::line::Line;
 use crate::text::parts_of;
@@ -15,13 +17,21 @@ pub(crate) fn are_below(features: usize, decisions: &[Decision]) -> bool
     decisions.iter().all(|d| (d.feature as usize) < features)
 }
 
+/// Whether each decision is of a feature of the diagram.
+pub(crate) fn are_choices(diagram: &Diagram, decisions: &[Decision]) -> bool
+    ensures { IsTrue result → AreChoicesOf diagram.now.lines (map literal_of decisions.now) }
+{
+    let features = diagram.features();
+    are_below(features, decisions)
+}
+
 /// What the decisions make known, where each is of a feature of the diagram; or in the line why not.
 pub(crate) fn close_checked(
     diagram: &Diagram,
     decisions: &[Decision],
     line: &mut Line,
 ) -> Option<Partial> {
-    if !are_below(diagram.features(), decisions) {
+    if !are_choices(diagram, decisions) {
         line.put("features");
         return None;
     }
@@ -46,17 +56,25 @@ fn decision_of(names: &Names, word: &[u8]) -> Option<Decision> {
     })
 }
 
-/// The decisions of a row.
-pub(crate) fn decisions_of(names: &Names, text: &[u8], line: &mut Line) -> Vec<Decision> {
-    let mut decisions = Vec::new(line.alloc);
-    let words = parts_of(text, b' ', line);
-    for word in &words {
-        if !word.is_empty() {
-            match decision_of(names, word) {
-                Some(decision) => line.note(decisions.push(decision).is_ok()),
-                None => line.put("feature"),
-            }
+/// Adds the decision of each word to a list, and says whether each has one.
+fn add_all(names: &Names, words: &[&[u8]], decisions: &mut Vec<Decision>, line: &mut Line) -> bool {
+    for word in words {
+        match decision_of(names, word) {
+            Some(decision) => line.note(decisions.push(decision).is_ok()),
+            None if word.is_empty() => {}
+            None => return false,
         }
     }
-    decisions
+    true
+}
+
+/// The decisions of a text; or in the line that a word names no feature.
+pub(crate) fn decisions_of(names: &Names, text: &[u8], line: &mut Line) -> Option<Vec<Decision>> {
+    let mut decisions = Vec::new(line.alloc);
+    let words = parts_of(text, b' ', line);
+    if add_all(names, &words, &mut decisions, line) {
+        return Some(decisions);
+    }
+    line.put("feature");
+    None
 }

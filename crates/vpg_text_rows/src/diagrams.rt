@@ -19,11 +19,10 @@ use vpg_guards::Names;
 fn put_names(names: &Names, line: &mut Line) {
     for place in 0..512u16 {
         if (place as usize) < names.len() {
-            line.put(names.name(place));
-            line.put(" ");
+            line.put_each(&[names.name(place), " "]);
         }
     }
-    line.number(names.len() as u64);
+    line.show(&names.len());
 }
 
 /// The next set of features, with the root changing first. The empty set comes behind the full one.
@@ -61,23 +60,21 @@ fn put_products(diagram: &Diagram, set: &mut [bool], line: &mut Line) {
 fn put_clause(clause: &Clause, line: &mut Line) {
     line.put("|");
     for literal in clause.literals() {
-        line.put(if literal.value { "+" } else { "-" });
-        line.number(literal.feature as u64);
+        line.number(
+            if literal.value { "+" } else { "-" },
+            literal.feature as u64,
+        );
     }
 }
 
 /// Writes a count.
 fn put_count(count: &Count, line: &mut Line) {
-    line.put("|");
-    line.number(count.parent() as u64);
-    line.put(" ");
-    line.number(count.low() as u64);
-    line.put(" to ");
-    line.number(count.high() as u64);
+    line.number("|", count.parent() as u64);
+    line.number(" ", count.low() as u64);
+    line.number(" to ", count.high() as u64);
     line.put(" of");
     for member in count.members() {
-        line.put(" ");
-        line.number(*member as u64);
+        line.number(" ", *member as u64);
     }
 }
 
@@ -147,7 +144,7 @@ fn compared(text: &[u8], line: &mut Line) {
 pub(crate) fn answer(asked: &Asked, text: &[u8], line: &mut Line) {
     match asked {
         Asked::Same => compared(text, line),
-        Asked::MostRules => line.number(MOST_RULES as u64),
+        Asked::MostRules => line.show(&MOST_RULES),
         _ => told(asked, text, line),
     }
 }

@@ -1,11 +1,10 @@
 //! A family with the names of its vertices, and its pictures.
-ghost use Rattle.std.specs.Prelude.{◌≡◌, IfOk, length};
+ghost use Rattle.std.specs.Prelude.{◌≡◌, length};
 
 use crate::decisions::{are_below, close_checked, decisions_of};
+use crate::diagrams::diagram_of;
+use crate::games::game_of;
 use crate::line::Line;
-use anyhow::Result;
-use std::alloc::{AllocError, Global};
-use std::fs;
 use vpg_diagram::Diagram;
 use vpg_draw::{draw_features, draw_game};
 use vpg_game::GuardedGame;
@@ -13,124 +12,133 @@ use vpg_names::VertexNames;
 use vpg_partial::{Decision, Partial};
 use vpg_verdict::Verdict;
 
-/// A family, and the text of its diagram.
-pub(crate) struct Family {
-    text: String,
-    pub(crate) diagram: Diagram,
-    game: GuardedGame,
-    pub(crate) names: VertexNames,
-}
+/// A diagram with each form of line, of which mistakes are looked for in games.
+pub(crate) const DIAGRAM: &[u8] = b"root node\nmandatory node f\nor f: g h\ngroup node 0 1: i
+alternative i: graph strict\nexcludes g i\nrequires strict h\n";
 
-// Not derived, so that letting one go is one call.
-impl Drop for Family {
-    fn drop(self) {
-        let Family {
-            text: _,
-            diagram: _,
-            game: _,
-            names: _,
-        } = self;
-    }
-}
-
-/// The family of these texts.
-fn of_texts(alloc: Global, text: String, game: &[u8]) -> Result<Family> {
-    let names = VertexNames::read(alloc, game)?;
-    let diagram = Diagram::read(alloc, text.as_bytes())?;
-    let game = GuardedGame::read(alloc, game, diagram.names())?;
-    Ok(Family {
-        text,
-        diagram,
-        game,
-        names,
-    })
-}
-
-/// The family of the folder.
-pub(crate) fn read(rt: &HostRuntime) -> Result<Family> {
-    let game = fs::read_to_string(rt, "game")?;
-    let text = fs::read_to_string(rt, "diagram")?;
-    of_texts(rt.alloc(), text, game.as_bytes())
-}
+const GAME: &[u8] = b"parity 9; start 3;\n3 1 0 7[g|i],3[h] \"says \\ & done, or so\";\n7 2 1 3[!h];
+8 0 0 9[true], 9 [strict] \"two\nlines; [not a guard] p s\";\n9 65535 1 \"\";\n";
 
 /// A verdict for each vertex: hopeless at each second, sure at two of four.
-fn verdicts(alloc: Global, vertices: usize) -> Result<Vec<Verdict>, AllocError>
-    ensures { IfOk result (λ list. length list.items ≡ vertices) }
-{
-    let mut list = Vec::new(alloc);
+fn verdicts(vertices: usize, line: &mut Line) -> Vec<Verdict> {
+    let mut list = Vec::new(line.alloc);
     for v in 0..vertices {
-        list.push(Verdict {
+        let verdict = Verdict {
             hopeless: v % 2 == 0,
             sure: v % 4 > 0 && v % 4 < 3,
-        })?;
+        };
+        line.note(list.push(verdict).is_ok());
     }
-    Ok(list)
+    list
 }
 
-/// Appends the picture of the game, and says whether there was memory for it.
-fn game_picture(
-    alloc: Global,
-    family: &Family,
+/// Draws the game.
+fn put_game(
+    diagram: &Diagram,
+    game: &GuardedGame,
+    names: &VertexNames,
     known: &Partial,
     decisions: &[Decision],
-    out: &mut Vec<u8>,
-) -> bool {
-    let game = &family.game;
-    let features = family.diagram.names();
-    let Ok(verdicts) = verdicts(alloc, game.vertices()) else {
-        return false;
-    };
-    features.len() == game.features()
+    line: &mut Line,
+) {
+    let features = diagram.names();
+    let verdicts = verdicts(game.vertices(), line);
+    let done = features.len() == game.features()
         && known.values().len() == game.features()
+        && verdicts.len() == game.vertices()
         && are_below(game.features(), decisions)
         && draw_game(
-            alloc,
+            line.alloc,
             game,
             features,
             known,
             decisions,
-            &family.names,
+            names,
             &verdicts,
-            out,
+            &mut line.text,
         )
-        .is_ok()
+        .is_ok();
+    line.note(done);
 }
 
-/// Appends the picture of the diagram, and says whether there was memory for it.
-fn feature_picture(
-    alloc: Global,
-    family: &Family,
-    known: &Partial,
-    decisions: &[Decision],
-    out: &mut Vec<u8>,
-) -> bool {
-    let diagram = &family.diagram;
+/// Draws the diagram.
+fn put_diagram(diagram: &Diagram, known: &Partial, decisions: &[Decision], line: &mut Line) {
     let count = diagram.names().len();
-    known.values().len() == count
+    let done = known.values().len() == count
         && are_below(count, decisions)
         && draw_features(
-            alloc,
-            family.text.as_bytes(),
+            line.alloc,
+            DIAGRAM,
             diagram,
             known,
             decisions,
-            out,
+            &mut line.text,
         )
-        .is_ok()
+        .is_ok();
+    line.note(done);
 }
 
-/// Writes both pictures.
-fn put_pictures(family: &Family, known: &Partial, decisions: &[Decision], line: &mut Line) {
-    let mut out = Vec::new(line.alloc);
-    line.note(game_picture(line.alloc, family, known, decisions, &mut out));
-    line.note(feature_picture(line.alloc, family, known, decisions, &mut out));
-    line.put_text(&out);
-}
-
-/// Writes the pictures under the decisions of a row.
-pub(crate) fn answer(family: &Family, row: &[u8], line: &mut Line) {
-    let decisions = decisions_of(family.diagram.names(), row, line);
-    if let Some(known) = close_checked(&family.diagram, &decisions, line) {
-        put_pictures(family, &known, &decisions, line);
+/// Draws both under decisions.
+fn put_both(
+    diagram: &Diagram,
+    game: &GuardedGame,
+    names: &VertexNames,
+    decisions: &[Decision],
+    line: &mut Line,
+) {
+    if let Some(known) = close_checked(diagram, decisions, line) {
+        put_game(diagram, game, names, &known, decisions, line);
+        put_diagram(diagram, &known, decisions, line);
     }
+}
+
+/// Draws both under the decisions of a row.
+fn put_decided(
+    diagram: &Diagram,
+    game: &GuardedGame,
+    names: &VertexNames,
+    row: &[u8],
+    line: &mut Line,
+) {
+    if let Some(decisions) = decisions_of(diagram.names(), row, line) {
+        put_both(diagram, game, names, &decisions, line);
+    }
+}
+
+/// The names of the game's vertices.
+fn names_of(line: &mut Line) -> Option<VertexNames> {
+    let names = VertexNames::read(line.alloc, GAME);
+    line.kept(names)
+}
+
+/// Writes where the game starts.
+pub(crate) fn put_start(line: &mut Line) {
+    if let Some(names) = names_of(line) {
+        line.put("start ");
+        line.debug(&names.start());
+        line.put("\n");
+    }
+}
+
+/// Writes the pictures of a game of a diagram.
+fn put_named(diagram: &Diagram, game: &GuardedGame, row: &[u8], line: &mut Line) {
+    if let Some(names) = names_of(line) {
+        put_decided(diagram, game, &names, row, line);
+    }
+}
+
+/// Writes the pictures over a diagram.
+fn put_over(diagram: &Diagram, row: &[u8], line: &mut Line) {
+    if let Some(game) = game_of(diagram.names(), GAME, line) {
+        put_named(diagram, &game, row, line);
+    }
+}
+
+/// Writes the pictures under the decisions of a row, below it.
+pub(crate) fn put_pictures(row: &str, line: &mut Line) {
+    line.put("\n");
+    if let Some(diagram) = diagram_of(DIAGRAM, line) {
+        put_over(&diagram, row.as_bytes(), line);
+    }
+    line.put("\n");
 }

@@ -16,18 +16,17 @@
 
 use crate::asked::Asked;
 use crate::line::Line;
-use crate::text::{number_of, parts_of, two_of};
+use crate::text::{number_of, numbers_of, two_of};
 use vpg_game::{Edge, GuardedGame, odd_counts, top_within_limit};
 use vpg_guards::{Guard, Names};
 
 /// Writes what is written of a game behind a text.
 fn put_game(names: &Names, game: &GuardedGame, line: &mut Line) {
-    let mut out = Vec::new(line.alloc);
-    line.note(out.extend_from_slice(b"game: ").is_ok());
+    line.put("game: ");
     if names.len() == game.features() {
-        line.note(game.write(line.alloc, names, &mut out).is_ok());
+        let done = game.write(line.alloc, names, &mut line.text).is_ok();
+        line.note(done);
     }
-    line.put_text(&out);
 }
 
 /// A game's dual, or in the line why it has none.
@@ -65,7 +64,7 @@ fn put_guard(guard: &Guard, line: &mut Line) {
         Guard::Always => line.put("!"),
         Guard::Feature(f) => {
             line.put("?");
-            line.number(*f as u64);
+            line.show(f);
         }
         _ => line.put(".."),
     }
@@ -74,8 +73,7 @@ fn put_guard(guard: &Guard, line: &mut Line) {
 /// Writes edges.
 fn put_edges(edges: &[Edge], line: &mut Line) {
     for edge in edges {
-        line.put(" ");
-        line.number(edge.to() as u64);
+        line.number(" ", edge.to() as u64);
         put_guard(edge.guard(), line);
     }
     line.put(";");
@@ -85,9 +83,8 @@ fn put_edges(edges: &[Edge], line: &mut Line) {
 fn put_vertices(game: &GuardedGame, line: &mut Line) {
     let count = game.vertices() as u32;
     for v in 0..count {
-        line.number(game.id(v) as u64);
-        line.put(" ");
-        line.number(game.priority(v) as u64);
+        line.show(&game.id(v));
+        line.number(" ", game.priority(v) as u64);
         line.put(" ");
         line.debug(&game.owner(v));
         put_edges(game.edges(v), line);
@@ -97,19 +94,17 @@ fn put_vertices(game: &GuardedGame, line: &mut Line) {
 /// Writes how many vertices there are, and how many edges the first has.
 fn put_sizes(game: &GuardedGame, line: &mut Line) {
     let vertices = game.vertices();
-    line.number(vertices as u64);
+    line.show(&vertices);
     if vertices > 0 {
-        line.put(" ");
-        line.number(game.edges(0).len() as u64);
+        line.number(" ", game.edges(0).len() as u64);
     }
 }
 
 /// Writes the tops of both tables.
 fn put_tops(game: &GuardedGame, line: &mut Line) {
     let (hopeful, dual) = game.tops();
-    line.number(hopeful);
-    line.put(" ");
-    line.number(dual);
+    line.show(&hopeful);
+    line.number(" ", dual);
 }
 
 /// Writes what is asked of a game.
@@ -160,16 +155,6 @@ fn paired(names: &Names, asked: &Asked, text: &[u8], line: &mut Line) {
             _ => put_same(names, &game, first, line),
         }
     }
-}
-
-/// The numbers of a row.
-fn numbers_of(text: &[u8], line: &mut Line) -> Vec<u32> {
-    let mut numbers = Vec::new(line.alloc);
-    let words = parts_of(text, b' ', line);
-    for word in &words {
-        line.note(numbers.push(number_of(word)).is_ok());
-    }
-    numbers
 }
 
 /// Writes how many priorities are each number.

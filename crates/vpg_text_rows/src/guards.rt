@@ -34,9 +34,8 @@ fn guard_of(names: &Names, text: &[u8], line: &mut Line) -> Option<Guard>
 fn put_written(names: &Names, guard: &Guard, line: &mut Line)
     requires { IsBelow (length names.now) (formula_of guard.now) }
 {
-    let mut out = Vec::new(line.alloc);
-    line.note(guard.write(line.alloc, names, &mut out).is_ok());
-    line.put_text(&out);
+    let done = guard.write(line.alloc, names, &mut line.text).is_ok();
+    line.note(done);
 }
 
 /// What signs say of each feature.

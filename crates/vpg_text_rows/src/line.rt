@@ -1,13 +1,13 @@
-//! A line that is written. What finds no memory is noted, and told once the line is whole.
+//! A text that is written. What finds no memory is noted, and told once the text is whole.
 
 use std::alloc::{AllocError, Global};
-use std::fmt::{Debug, Display, Write};
+use std::fmt::{Debug, Display};
 
 /// What was written so far.
 #[derive(Drop)]
 pub(crate) struct Line {
     pub(crate) alloc: Global,
-    pub(crate) text: String,
+    pub(crate) text: Vec<u8>,
     /// Whether something found no memory.
     pub(crate) lacks: bool,
 }
@@ -17,7 +17,7 @@ impl Line {
     pub(crate) fn new(alloc: Global) -> Line {
         Line {
             alloc,
-            text: String::new(alloc),
+            text: Vec::new(alloc),
             lacks: false,
         }
     }
@@ -38,9 +38,21 @@ impl Line {
         }
     }
 
+    /// Writes bytes.
+    pub(crate) fn put_bytes(&mut self, bytes: &[u8]) {
+        self.lacks |= self.text.extend_from_slice(bytes).is_err();
+    }
+
     /// Writes words.
     pub(crate) fn put(&mut self, words: &str) {
-        self.lacks |= self.text.push_str(words).is_err();
+        self.put_bytes(words.as_bytes());
+    }
+
+    /// Writes words, one behind the other.
+    pub(crate) fn put_each(&mut self, words: &[&str]) {
+        for word in words {
+            self.put(word);
+        }
     }
 
     /// Writes `yes` where something holds, else `no`.
@@ -48,23 +60,25 @@ impl Line {
         self.put(if holds { "yes" } else { "no" });
     }
 
-    /// Writes bytes that are text.
-    pub(crate) fn put_text(&mut self, text: &[u8]) {
-        self.put(str::from_utf8(text).unwrap_or("not UTF-8"));
-    }
-
     /// Writes a value as it is shown.
     pub(crate) fn show<T: Display>(&mut self, value: &T) {
-        self.lacks |= write!(self.text, "{value}").is_err();
+        match format!(in self.alloc; "{value}") {
+            Ok(text) => self.put(text.as_str()),
+            Err(_) => self.lacks = true,
+        }
     }
 
-    /// Writes a number.
-    pub(crate) fn number(&mut self, number: u64) {
+    /// Writes a number behind words.
+    pub(crate) fn number(&mut self, words: &str, number: u64) {
+        self.put(words);
         self.show(&number);
     }
 
     /// Writes a value as Rust writes it.
     pub(crate) fn debug<T: Debug>(&mut self, value: &T) {
-        self.lacks |= write!(self.text, "{value:?}").is_err();
+        match format!(in self.alloc; "{value:?}") {
+            Ok(text) => self.put(text.as_str()),
+            Err(_) => self.lacks = true,
+        }
     }
 }

@@ -1,19 +1,24 @@
-//! Rows of facts of texts: what guards, feature diagrams, games and decisions spelled by texts are answered.
+//! Rows of facts of texts and of answers about pages.
 //!
-//! Each file of the folder that the program runs in is a table: a row is a word for what is asked, and the text that it is
-//! asked of. The program writes each row with its answer behind ` = `, and comments as they stand. `text` says how a row
-//! writes a text; the modules of the tables say what each word asks. A fault is an answer as any other.
+//!     vpg_text_rows [FILE..]
 //!
-//! Behind them comes what is shown at a terminal. `diagram` and `game` are a family, and `family` makes up verdicts of it,
-//! so that each of the four is there. The program writes where its game starts, its two pictures under each list of
-//! decisions of `pictures`, and what is said of each text of `mistakes`.
+//! Each file of the folder that the program runs in is a table: a row is a word for what is asked, and the text that it
+//! is asked of. The program writes each row with its answer behind ` = `, and comments as they stand. `text` says how a
+//! row writes a text; the modules of the tables say what each word asks. A fault is an answer as any other.
 //!
-//! Nothing has more than one way out that could be let go at its end: an answer goes into a `Line`, which also notes that
-//! something found no memory, and the program ends once a line lacks something.
+//! Behind the facts of guards, feature diagrams, games and decisions comes what is shown at a terminal. `family` has a
+//! family, and makes up verdicts of it, so that each of the four is there. The program writes where its game starts,
+//! its two pictures under each list of decisions of `pictures`, and what is said of each text of `mistakes`. At last
+//! come answers about pages (`pages`): why a verdict is so, what else could be decided, a product that is won. Where
+//! words name files, these are tables of such questions, and the program answers them alone.
+//!
+//! Nothing has more than one way out that could be let go at its end: an answer goes into a `Line`, which also notes
+//! that something found no memory, and the program ends once a line lacks something.
 #![tactic(auto)]
 
 mod arenas;
 mod asked;
+mod asking;
 mod decisions;
 mod diagrams;
 mod family;
@@ -22,17 +27,21 @@ mod guards;
 mod line;
 mod mistakes;
 mod names;
+mod pages;
+mod putting;
 mod text;
 
 use crate::asked::{Asked, asked_of};
-use crate::family::Family;
+use crate::diagrams::diagram_of;
 use crate::line::Line;
+use crate::pages::{Page, blank, take};
 use crate::text::spelled;
 use anyhow::{Context, Result, bail};
-use std::fs;
+use std::{env, fs};
 use vpg_diagram::Diagram;
 
 /// A table.
+#[derive(Clone, Copy)]
 enum Table {
     Names,
     Guards,
@@ -41,10 +50,11 @@ enum Table {
     Arenas,
     Pictures,
     Mistakes,
+    Pages,
 }
 
 /// The tables with their files, in the order in which they are answered.
-static TABLES: [(&str, Table); 7] = [
+static TABLES: [(&str, Table); 10] = [
     ("names", Table::Names),
     ("guards", Table::Guards),
     ("diagrams", Table::Diagrams),
@@ -52,6 +62,9 @@ static TABLES: [(&str, Table); 7] = [
     ("arenas", Table::Arenas),
     ("pictures", Table::Pictures),
     ("mistakes", Table::Mistakes),
+    ("small", Table::Pages),
+    ("limits", Table::Pages),
+    ("families", Table::Pages),
 ];
 
 /// A diagram of the features `a` and `b`, of which guards are.
@@ -60,93 +73,106 @@ const PAIR: &[u8] = b"root a\noptional a b\n";
 /// A diagram of the features `r`, `f` and `g`, of which games are.
 const FREE: &[u8] = b"root r\noptional r f\noptional r g\n";
 
-/// What rows are answered over.
-#[derive(Drop)]
-struct Over<'a> {
-    pair: &'a Diagram,
-    free: &'a Diagram,
-    family: &'a Family,
+/// Writes the answer to what is asked of a text over a diagram.
+fn answer_over(diagram: &Diagram, table: Table, asked: &Asked, text: &[u8], line: &mut Line) {
+    match table {
+        Table::Guards => guards::answer(diagram.names(), asked, text, line),
+        Table::Games => games::answer(diagram.names(), asked, text, line),
+        Table::Arenas => arenas::answer(diagram, asked, text, line),
+        _ => mistakes::answer(diagram.names(), asked, text, line),
+    }
+}
+
+/// The diagram over which texts of a table are.
+fn diagram_below(table: Table) -> &'static [u8] {
+    match table {
+        Table::Guards => PAIR,
+        Table::Mistakes => family::DIAGRAM,
+        _ => FREE,
+    }
 }
 
 /// Writes the answer to what is asked of a text.
-fn answer(over: &Over<'_>, table: &Table, asked: &Asked, text: &[u8], line: &mut Line) {
+fn answer(table: Table, asked: &Asked, text: &[u8], line: &mut Line) {
     match table {
         Table::Names => names::answer(asked, text, line),
-        Table::Guards => guards::answer(over.pair.names(), asked, text, line),
         Table::Diagrams => diagrams::answer(asked, text, line),
-        Table::Games => games::answer(over.free.names(), asked, text, line),
-        Table::Arenas => arenas::answer(over.free, asked, text, line),
-        _ => mistakes::answer(over.family.diagram.names(), asked, text, line),
+        _ => {
+            if let Some(diagram) = diagram_of(diagram_below(table), line) {
+                answer_over(&diagram, table, asked, text, line);
+            }
+        }
     }
 }
 
 /// Writes the answer to a row.
-fn answer_row(over: &Over<'_>, table: &Table, row: &str, line: &mut Line) {
-    let (word, writing) = row.split_once(' ').unwrap_or((row, ""));
-    let text = spelled(writing, line);
-    answer(over, table, asked_of(word), &text, line);
+fn answer_row(table: Table, word: &str, writing: &str, line: &mut Line) {
+    let text = spelled(line.alloc, writing);
+    line.note(!text.lacks);
+    answer(table, asked_of(word), &text.text, line);
 }
 
-/// Writes a row with its answer behind ` = `, a line feed as `/`.
-fn put_answered(over: &Over<'_>, table: &Table, row: &str, line: &mut Line) {
-    let mut told = Line::new(line.alloc);
-    answer_row(over, table, row, &mut told);
-    line.note(!told.lacks);
-    line.put(row);
-    line.put(" = ");
-    let text = told.text.replace(line.alloc, '\n', "/");
-    if let Some(text) = line.kept(text) {
-        line.put(text.as_str());
+/// Makes each line feed from a place on a `/`.
+fn flatten(text: &mut [u8], from: usize) {
+    for place in from..text.len() {
+        if text[place] == b'\n' {
+            text[place] = b'/';
+        }
     }
-    line.put("\n");
 }
 
-/// Writes a row that is a comment, and others with their answers.
-fn put_row(over: &Over<'_>, table: &Table, row: &str, line: &mut Line) {
-    if row.is_empty() || row.starts_with('#') {
-        line.put(row);
+/// Writes an answer behind its row, a line feed as `/`.
+fn put_answer(table: Table, word: &str, writing: &str, line: &mut Line) {
+    line.put(" = ");
+    let from = line.text.len();
+    answer_row(table, word, writing, line);
+    flatten(&mut line.text, from);
+}
+
+/// Writes what is behind a row of a table.
+fn put_behind<'r>(page: &mut Page<'r>, table: Table, row: &'r str, line: &mut Line) {
+    let (word, writing) = row.split_once(' ').unwrap_or((row, ""));
+    match table {
+        Table::Mistakes => {
+            line.put("\n");
+            answer_row(table, word, writing, line);
+        }
+        Table::Pages => {
+            if !take(page, word, writing, line) {
+                pages::put_answer(page, word, writing, line);
+            }
+            line.put("\n");
+        }
+        _ => {
+            put_answer(table, word, writing, line);
+            line.put("\n");
+        }
+    }
+}
+
+/// Writes a row and what is behind it; of a comment nothing is.
+fn put_row<'r>(page: &mut Page<'r>, table: Table, row: &'r str, line: &mut Line) {
+    if let Table::Pictures | Table::Mistakes = table {
+        line.put("# ");
+    }
+    line.put(row);
+    if let Table::Pictures = table {
+        family::put_pictures(row, line);
+    } else if row.is_empty() || row.starts_with('#') {
         line.put("\n");
     } else {
-        put_answered(over, table, row, line);
-    }
-}
-
-/// Writes a row, and what is said of its mistake.
-fn put_mistake(over: &Over<'_>, table: &Table, row: &str, line: &mut Line) {
-    if !row.is_empty() && !row.starts_with('#') {
-        answer_row(over, table, row, line);
-    }
-}
-
-/// Writes what a row of a table gives.
-fn put_of_table(over: &Over<'_>, table: &Table, row: &str, line: &mut Line) {
-    match table {
-        Table::Pictures => {
-            line.put("# ");
-            line.put(row);
-            line.put("\n");
-            family::answer(over.family, row.as_bytes(), line);
-            line.put("\n");
-        }
-        Table::Mistakes => {
-            line.put("# ");
-            line.put(row);
-            line.put("\n");
-            put_mistake(over, table, row, line);
-        }
-        _ => put_row(over, table, row, line),
+        put_behind(page, table, row, line);
     }
 }
 
 /// Writes what the rows of a table give.
-fn put_rows(over: &Over<'_>, table: &Table, rows: &str, line: &mut Line) {
+fn put_rows(table: Table, rows: &str, line: &mut Line) {
+    let mut page = blank();
     if let Table::Pictures = table {
-        line.put("start ");
-        line.debug(&over.family.names.start());
-        line.put("\n");
+        family::put_start(line);
     }
     for row in rows.lines() {
-        put_of_table(over, table, row, line);
+        put_row(&mut page, table, row, line);
     }
 }
 
@@ -155,44 +181,44 @@ fn print_line(rt: &HostRuntime, line: &Line) -> Result<()> {
     if line.lacks {
         bail!("no memory");
     }
-    print!(rt; "{}", line.text.as_str())?;
+    print!(rt; "{}", str::from_utf8(&line.text).unwrap_or("not UTF-8\n"))?;
     Ok(())
 }
 
 /// Carries out a table.
-fn carry_out(rt: &HostRuntime, over: &Over<'_>, table: &Table, rows: &str) -> Result<()> {
+fn carry_out(rt: &HostRuntime, table: Table, rows: &str) -> Result<()> {
     let mut line = Line::new(rt.alloc());
-    put_rows(over, table, rows, &mut line);
+    put_rows(table, rows, &mut line);
     print_line(rt, &line)
 }
 
 /// Carries out the table of a file.
-fn carry_out_file(rt: &HostRuntime, over: &Over<'_>, file: &str, table: &Table) -> Result<()> {
-    let rows = fs::read_to_string(rt, file)?;
-    carry_out(rt, over, table, rows.as_str())
+fn carry_out_file(rt: &HostRuntime, file: &str, table: Table) -> Result<()> {
+    let rows = fs::read_to_string(rt, file).context(file)?;
+    carry_out(rt, table, rows.as_str())
 }
 
-/// Carries out all tables.
-fn carry_out_all(rt: &HostRuntime, over: &Over<'_>) -> Result<()> {
-    for (file, table) in &TABLES {
-        carry_out_file(rt, over, file, table).context(*file)?;
+/// Carries out the tables of questions that words name.
+fn carry_out_words(rt: &HostRuntime, words: &[String]) -> Result<()> {
+    for word in words {
+        carry_out_file(rt, word.as_str(), Table::Pages)?;
     }
     Ok(())
 }
 
-/// Carries out all tables, over these diagrams and the family of the folder.
-fn over_family(rt: &HostRuntime, pair: &Diagram, free: &Diagram) -> Result<()> {
-    let family = family::read(rt).context("family")?;
-    let over = Over {
-        pair,
-        free,
-        family: &family,
-    };
-    carry_out_all(rt, &over)
+/// Carries out the tables of the folder.
+fn carry_out_all(rt: &HostRuntime) -> Result<()> {
+    for (file, table) in &TABLES {
+        carry_out_file(rt, file, *table)?;
+    }
+    Ok(())
 }
 
 fn main(rt: HostRuntime) -> Result<()> {
-    let pair = Diagram::read(rt.alloc(), PAIR)?;
-    let free = Diagram::read(rt.alloc(), FREE)?;
-    over_family(&rt, &pair, &free)
+    let words: Vec<String> = env::args(&rt)?.collect(rt.alloc())?;
+    if words.len() > 1 {
+        carry_out_words(&rt, &words[1..])
+    } else {
+        carry_out_all(&rt)
+    }
 }

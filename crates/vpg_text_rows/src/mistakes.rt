@@ -18,9 +18,8 @@ const NOTHING: &str = "nothing is wrong\n";
 /// Writes a message about what has this name.
 fn put(name: &str, message: Result<Message, AllocError>, line: &mut Line) {
     if let Some(message) = line.kept(message) {
-        let mut out = Vec::new(line.alloc);
-        line.note(put_message(name, &message, &mut out).is_ok());
-        line.put_text(&out);
+        let done = put_message(name, &message, &mut line.text).is_ok();
+        line.note(done);
     }
 }
 

@@ -9,27 +9,43 @@
 use crate::asked::Asked;
 use crate::line::Line;
 use crate::text::{number_of, parts_of, two_of};
-use vpg_guards::{Names, is_feature_name};
+use vpg_guards::{NameFault, Names, is_feature_name};
 
-/// Adds names, and writes the answer to each, or to the last alone.
-fn add_all(names: &mut Names, text: &[u8], all: bool, line: &mut Line) {
-    let parts = parts_of(text, b'~', line);
-    for name in &parts {
-        if !all {
-            line.text.clear();
-        }
-        match names.add(line.alloc, name) {
-            Ok(place) => line.number(place as u64),
-            Err(fault) => line.show(&fault),
-        }
-        line.put(", ");
+/// Writes the answer to a name that was added.
+fn put_answer(added: Result<u16, NameFault>, line: &mut Line) {
+    match added {
+        Ok(place) => line.show(&place),
+        Err(fault) => line.show(&fault),
+    }
+    line.put(", ");
+}
+
+/// Whether the answer to a name is written, behind which there are so many.
+fn is_written(asked: &Asked, behind: usize) -> bool {
+    match asked {
+        Asked::Add => true,
+        Asked::Last => behind == 0,
+        _ => false,
     }
 }
 
-/// Adds names, and writes the answer to each, or to the last alone, and how many there are.
-fn put_added(names: &mut Names, text: &[u8], all: bool, line: &mut Line) {
-    add_all(names, text, all, line);
-    line.number(names.len() as u64);
+/// Adds names, and writes the answers that are asked for.
+fn add_all(names: &mut Names, asked: &Asked, text: &[u8], line: &mut Line) {
+    let parts = parts_of(text, b'~', line);
+    let mut behind = parts.len();
+    for name in &parts {
+        behind = behind.saturating_sub(1);
+        let added = names.add(line.alloc, name);
+        if is_written(asked, behind) {
+            put_answer(added, line);
+        }
+    }
+}
+
+/// Adds names, and writes the answers that are asked for, and how many there are.
+fn put_added(names: &mut Names, asked: &Asked, text: &[u8], line: &mut Line) {
+    add_all(names, asked, text, line);
+    line.show(&names.len());
     line.put(if names.is_empty() {
         " names, empty"
     } else {
@@ -49,8 +65,7 @@ fn put_name(names: &Names, place: u32, line: &mut Line) {
 /// Adds all names but the first, and looks that up.
 fn put_found(names: &mut Names, asked: &Asked, text: &[u8], line: &mut Line) {
     let (word, others) = two_of(text);
-    add_all(names, others, true, line);
-    line.text.clear();
+    add_all(names, asked, others, line);
     match asked {
         Asked::Get => line.debug(&names.get(word)),
         _ => put_name(names, number_of(word), line),
@@ -60,10 +75,9 @@ fn put_found(names: &mut Names, asked: &Asked, text: &[u8], line: &mut Line) {
 /// Answers a row, beginning with no names.
 fn put(names: &mut Names, asked: &Asked, text: &[u8], line: &mut Line) {
     match asked {
-        Asked::Add => put_added(names, text, true, line),
-        Asked::Last => put_added(names, text, false, line),
         Asked::Is => line.put_yes_or_no(is_feature_name(text)),
-        _ => put_found(names, asked, text, line),
+        Asked::Get | Asked::At => put_found(names, asked, text, line),
+        _ => put_added(names, asked, text, line),
     }
 }
 

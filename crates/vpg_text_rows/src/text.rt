@@ -5,47 +5,35 @@
 //! other; in it `#` is the number of the repetition, from 0, `%` twice that, and `@` one more than twice that.
 
 use crate::line::Line;
+use std::alloc::Global;
 
-/// What a sign stands for.
-fn meant(sign: char) -> char {
+/// What a sign stands for that is not written as it stands.
+fn meant(sign: char) -> Option<&'static [u8]> {
     match sign {
-        '/' => '\n',
-        '␉' => '\t',
-        '␋' => '\u{b}',
-        '␍' => '\r',
-        '␠' => ' ',
-        _ => sign,
+        '/' => Some(b"\n"),
+        '␉' => Some(b"\t"),
+        '␋' => Some(b"\x0b"),
+        '␍' => Some(b"\r"),
+        '␠' => Some(b" "),
+        '�' => Some(b"\xff"),
+        _ => None,
     }
 }
 
-/// Appends what a sign stands for.
-fn push_sign(text: &mut Vec<u8>, sign: char, line: &mut Line) {
-    let done = if sign == '�' {
-        text.push(255).is_ok()
-    } else {
-        let mut room = [0; 4];
-        text.extend_from_slice(meant(sign).encode_utf8(&mut room).as_bytes())
-            .is_ok()
-    };
-    line.note(done);
-}
-
-/// Appends what stands outside of a repetition.
-fn push_plain(text: &mut Vec<u8>, writing: &str, line: &mut Line) {
-    for sign in writing.chars() {
-        push_sign(text, sign, line);
+/// Writes what a sign stands for.
+fn put_sign(text: &mut Line, sign: char) {
+    match meant(sign) {
+        Some(bytes) => text.put_bytes(bytes),
+        None => {
+            let mut room = [0; 4];
+            text.put(sign.encode_utf8(&mut room));
+        }
     }
-}
-
-/// Appends the digits of a number.
-fn push_number(text: &mut Vec<u8>, number: u64, line: &mut Line) {
-    let mut digits = Line::new(line.alloc);
-    digits.number(number);
-    line.note(!digits.lacks && text.extend_from_slice(digits.text.as_bytes()).is_ok());
 }
 
 /// The number that a sign stands for in a repetition.
-fn number_at(sign: char, number: u64) -> Option<u64> {
+fn number_at(sign: char, repetition: Option<u64>) -> Option<u64> {
+    let number = repetition?;
     match sign {
         '#' => Some(number),
         '%' => Some(number.saturating_mul(2)),
@@ -54,51 +42,47 @@ fn number_at(sign: char, number: u64) -> Option<u64> {
     }
 }
 
-/// Appends the part for one repetition.
-fn push_part(text: &mut Vec<u8>, part: &str, number: u64, line: &mut Line) {
-    for sign in part.chars() {
-        match number_at(sign, number) {
-            Some(number) => push_number(text, number, line),
-            None => push_sign(text, sign, line),
+/// Writes what signs stand for, in a repetition or outside of one.
+fn put_signs(text: &mut Line, signs: &str, repetition: Option<u64>) {
+    for sign in signs.chars() {
+        match number_at(sign, repetition) {
+            Some(number) => text.show(&number),
+            None => put_sign(text, sign),
         }
     }
 }
 
-/// Appends a part so often.
-fn push_parts(text: &mut Vec<u8>, part: &str, count: u64, line: &mut Line) {
+/// Writes a part so often.
+fn put_parts(text: &mut Line, part: &str, count: u64) {
     for number in 0..count {
-        push_part(text, part, number, line);
+        put_signs(text, part, Some(number));
     }
 }
 
-/// Appends a repetition from behind its `<`, and what stands behind it.
-fn push_repeated(text: &mut Vec<u8>, writing: &str, line: &mut Line) {
-    let (count, rest) = writing.split_once('|').unwrap_or((writing, ""));
-    let (part, plain) = rest.split_once('>').unwrap_or((rest, ""));
-    match count.parse::<u64>() {
-        Ok(count) => push_parts(text, part, count, line),
-        Err(_) => line.put("no number: "),
-    }
-    push_plain(text, plain, line);
+/// Takes the writing of a repetition behind its `<` apart: how often, which part, and what stands behind it.
+fn repetition_of(writing: &str) -> Option<(u64, &str, &str)> {
+    let (repeated, behind) = writing.split_once('>')?;
+    let (count, part) = repeated.split_once('|')?;
+    Some((count.parse::<u64>().ok()?, part, behind))
 }
 
-/// Appends the text that a row writes so.
-fn push_text(text: &mut Vec<u8>, writing: &str, line: &mut Line) {
-    let mut is_first = true;
-    for piece in writing.split('<') {
-        if is_first {
-            push_plain(text, piece, line);
-        } else {
-            push_repeated(text, piece, line);
+/// Writes a piece, which begins behind a `<` where it is a repetition.
+fn put_piece(text: &mut Line, piece: &str) {
+    match repetition_of(piece) {
+        Some((count, part, behind)) => {
+            put_parts(text, part, count);
+            put_signs(text, behind, None);
         }
-        is_first = false;
+        None => put_signs(text, piece, None),
     }
 }
 
 /// The text that a row writes so.
-pub(crate) fn spelled(writing: &str, line: &mut Line) -> Vec<u8> {
-    let mut text = Vec::new(line.alloc);
-    push_text(&mut text, writing, line);
+pub(crate) fn spelled(alloc: Global, writing: &str) -> Line {
+    let mut text = Line::new(alloc);
+    for piece in writing.split('<') {
+        put_piece(&mut text, piece);
+    }
     text
 }
 
@@ -147,4 +131,14 @@ pub(crate) fn number_of(text: &[u8]) -> u32 {
         }
     }
     number
+}
+
+/// The numbers of a text, which stand beside blanks.
+pub(crate) fn numbers_of(text: &[u8], line: &mut Line) -> Vec<u32> {
+    let mut numbers = Vec::new(line.alloc);
+    let words = parts_of(text, b' ', line);
+    for word in &words {
+        line.note(numbers.push(number_of(word)).is_ok());
+    }
+    numbers
 }

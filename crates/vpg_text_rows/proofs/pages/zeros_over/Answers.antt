@@ -1,7 +1,7 @@
 use Rattle.std.proofs.Common.{◌≡◌, length}
 use Rattle.std.specs.Arc.{arc_value}
 use Rattle.vpg_verdict.specs.declared.which.Which.TheVariants.{Hopeful, Dual}
-use Rattle.vpg_why_rows.proofs.page.zeros_over.Goals as goal
+use Rattle.vpg_text_rows.proofs.pages.zeros_over.Goals as goal
 
 count : (c : goal.In_ok-dual) → c.vertices-vertices.result ≡ length (arc_value c.args.game).vertices
 count c = rw c.deref.ensures at c.vertices-vertices.ensures.count

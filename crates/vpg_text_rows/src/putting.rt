@@ -1,7 +1,9 @@
 //! How answers are written.
 
 use crate::line::Line;
+use std::alloc::AllocError;
 use vpg_diagram::{Diagram, Literal};
+use vpg_measure::Order;
 use vpg_partial::Decision;
 use vpg_verdict::Which;
 use vpg_why::{
@@ -12,8 +14,8 @@ use vpg_why::{
 fn put_one(diagram: &Diagram, feature: u16, value: bool, line: &mut Line) {
     let names = diagram.names();
     if (feature as usize) < names.len() {
-        line.put(if value { " +" } else { " -" });
-        line.put(names.name(feature));
+        let sign = if value { " +" } else { " -" };
+        line.put_each(&[sign, names.name(feature)]);
     }
 }
 
@@ -30,10 +32,15 @@ fn put_explanation(diagram: &Diagram, found: &Explanation, line: &mut Line) {
 }
 
 /// Writes an explanation: `by` and its decisions, `no` where there is none.
-pub(crate) fn put_why(diagram: &Diagram, found: Option<&Explanation>, line: &mut Line) {
-    match found {
-        Some(found) => put_explanation(diagram, found, line),
-        None => line.put("no"),
+pub(crate) fn put_why(
+    order: &Order,
+    found: Result<Option<Explanation>, AllocError>,
+    line: &mut Line,
+) {
+    match line.kept(found) {
+        Some(Some(found)) => put_explanation(order.diagram(), &found, line),
+        Some(None) => line.put("no"),
+        None => {}
     }
 }
 
@@ -60,20 +67,22 @@ fn put_example(diagram: &Diagram, found: &Example, line: &mut Line) {
 }
 
 /// Writes what a search found.
-pub(crate) fn put_found(diagram: &Diagram, found: &Found, line: &mut Line) {
-    match found {
-        Found::Product(example) => put_example(diagram, example, line),
-        Found::Nothing => line.put("none"),
-        Found::Unsettled => line.put("unsettled"),
+pub(crate) fn put_found(order: &Order, found: Result<Found, AllocError>, line: &mut Line) {
+    match line.kept(found) {
+        Some(Found::Product(example)) => put_example(order.diagram(), &example, line),
+        Some(Found::Nothing) => line.put("none"),
+        Some(Found::Unsettled) => line.put("unsettled"),
+        None => {}
     }
 }
 
 /// Writes why no product meets an aim.
-pub(crate) fn put_why_lost(diagram: &Diagram, found: &WhyLost, line: &mut Line) {
-    match found {
-        WhyLost::Because(explanation) => put_explanation(diagram, explanation, line),
-        WhyLost::Unless(example) => put_example(diagram, example, line),
-        WhyLost::Unsettled => line.put("unsettled"),
+pub(crate) fn put_why_lost(order: &Order, found: Result<WhyLost, AllocError>, line: &mut Line) {
+    match line.kept(found) {
+        Some(WhyLost::Because(found)) => put_explanation(order.diagram(), &found, line),
+        Some(WhyLost::Unless(example)) => put_example(order.diagram(), &example, line),
+        Some(WhyLost::Unsettled) => line.put("unsettled"),
+        None => {}
     }
 }
 
@@ -90,11 +99,12 @@ fn put_forced(diagram: &Diagram, found: &Forced, line: &mut Line) {
 }
 
 /// Writes what is needed.
-pub(crate) fn put_demand(diagram: &Diagram, found: &Demand, line: &mut Line) {
-    match found {
-        Demand::These(forced) => put_forced(diagram, forced, line),
-        Demand::Nothing => line.put("none"),
-        Demand::Unsettled => line.put("unsettled"),
+pub(crate) fn put_demand(order: &Order, found: Result<Demand, AllocError>, line: &mut Line) {
+    match line.kept(found) {
+        Some(Demand::These(forced)) => put_forced(order.diagram(), &forced, line),
+        Some(Demand::Nothing) => line.put("none"),
+        Some(Demand::Unsettled) => line.put("unsettled"),
+        None => {}
     }
 }
 
@@ -110,19 +120,22 @@ fn verdict_word(which: Which, shown: Shown) -> &'static str {
 }
 
 /// Writes the verdict of a table that there would be.
-pub(crate) fn put_verdict(which: Which, shown: Shown, line: &mut Line) {
-    line.put(verdict_word(which, shown));
+pub(crate) fn put_shown(which: Which, shown: Result<Shown, AllocError>, line: &mut Line) {
+    if let Some(shown) = line.kept(shown) {
+        line.put(verdict_word(which, shown));
+    }
 }
 
 /// Writes the verdicts that there would be.
-pub(crate) fn put_offer(found: Offer, line: &mut Line) {
-    match found {
-        Offer::Conflict => line.put("conflict"),
-        Offer::Verdict { hopeless, sure } => {
-            put_verdict(Which::Hopeful, hopeless, line);
-            line.put(" ");
-            put_verdict(Which::Dual, sure, line);
-        }
+pub(crate) fn put_offer(found: Result<Offer, AllocError>, line: &mut Line) {
+    match line.kept(found) {
+        Some(Offer::Conflict) => line.put("conflict"),
+        Some(Offer::Verdict { hopeless, sure }) => line.put_each(&[
+            verdict_word(Which::Hopeful, hopeless),
+            " ",
+            verdict_word(Which::Dual, sure),
+        ]),
+        None => {}
     }
 }
 
@@ -135,10 +148,11 @@ fn put_retraction(diagram: &Diagram, found: &Retraction, line: &mut Line) {
 }
 
 /// Writes what to retract.
-pub(crate) fn put_remedy(diagram: &Diagram, found: &Remedy, line: &mut Line) {
-    match found {
-        Remedy::Retract(retraction) => put_retraction(diagram, retraction, line),
-        Remedy::Nothing => line.put("nothing"),
-        Remedy::Unsettled => line.put("unsettled"),
+pub(crate) fn put_remedy(order: &Order, found: Result<Remedy, AllocError>, line: &mut Line) {
+    match line.kept(found) {
+        Some(Remedy::Retract(found)) => put_retraction(order.diagram(), &found, line),
+        Some(Remedy::Nothing) => line.put("nothing"),
+        Some(Remedy::Unsettled) => line.put("unsettled"),
+        None => {}
     }
 }

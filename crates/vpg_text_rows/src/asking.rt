@@ -1,0 +1,285 @@
+//! What the words of rows ask of a page.
+//!
+//! Vertices stand as the game's file numbers them, features by name.
+//!
+//! | Row | Asks |
+//! |---|---|
+//! | `hopeless V`, `sure V` | which decisions make the vertex so |
+//! | `known +F` | which decisions make the feature known so |
+//! | `against +F` | which decisions contradict this one more |
+//! | `lost V`, `won V`, `barren` | which decisions leave no product that Even (Odd) wins; no product at all |
+//! | `example V`, `counterexample V`, `product` | a product that is left and that Even (Odd) wins; any |
+//! | `needs V`, `fails V`, `forced` | what each product has that is left and that Even (Odd) wins; that is left |
+//! | `offer +F V`, `without N V` | the verdicts of the vertex with one more decision; without the Nth |
+//! | `still N V`, `certain N V` | whether the vertex would be hopeless, or sure, without the Nth |
+//! | `repair V`, `expose V` | what to retract so that it is not hopeless any more; not sure any more |
+ghost use Rattle.std.specs.Prelude.{◌<◌, IfSome, length};
+ghost use Rattle.vpg_diagram.specs.FeatureDiagram.{feature_count};
+ghost use Rattle.vpg_why.specs.Suffices.{IsAim};
+
+use crate::line::Line;
+use crate::putting::{
+    put_demand, put_found, put_offer, put_remedy, put_shown, put_why, put_why_lost,
+};
+use vpg_measure::Order;
+use vpg_verdict::Which;
+use vpg_why::{
+    Aim, Limits, find, look_ahead, look_back, needs, repair, stays_without, why, why_conflict,
+    why_known, why_lost,
+};
+
+/// What a word asks.
+#[derive(Clone, Copy)]
+enum Asked {
+    Why,
+    Known,
+    Against,
+    Lost,
+    Example,
+    Needs,
+    Offer,
+    Without,
+    Stays,
+    Repair,
+    /// No word.
+    Nothing,
+}
+
+const HOPEFUL: Option<Which> = Some(Which::Hopeful);
+
+const DUAL: Option<Which> = Some(Which::Dual);
+
+/// What each word asks, and of which table; of none where it asks of all products.
+static WORDS: [(&str, Asked, Option<Which>); 19] = [
+    ("hopeless", Asked::Why, HOPEFUL),
+    ("sure", Asked::Why, DUAL),
+    ("known", Asked::Known, None),
+    ("against", Asked::Against, None),
+    ("lost", Asked::Lost, HOPEFUL),
+    ("won", Asked::Lost, DUAL),
+    ("barren", Asked::Lost, None),
+    ("example", Asked::Example, HOPEFUL),
+    ("counterexample", Asked::Example, DUAL),
+    ("product", Asked::Example, None),
+    ("needs", Asked::Needs, HOPEFUL),
+    ("fails", Asked::Needs, DUAL),
+    ("forced", Asked::Needs, None),
+    ("offer", Asked::Offer, None),
+    ("without", Asked::Without, None),
+    ("still", Asked::Stays, HOPEFUL),
+    ("certain", Asked::Stays, DUAL),
+    ("repair", Asked::Repair, HOPEFUL),
+    ("expose", Asked::Repair, DUAL),
+];
+
+/// What a word asks, and of which table.
+fn asked_of(word: &str) -> (Asked, Option<Which>) {
+    for (name, asked, which) in &WORDS {
+        if *name == word {
+            return (*asked, *which);
+        }
+    }
+    (Asked::Nothing, HOPEFUL)
+}
+
+/// The number of a word; or in the line why it has none.
+fn number_of(word: &str, line: &mut Line) -> Option<u32> {
+    match word.parse::<u32>() {
+        Ok(number) => Some(number),
+        Err(fault) => {
+            line.show(&fault);
+            None
+        }
+    }
+}
+
+/// The vertex of an identifier.
+fn vertex_of(order: &Order, word: &str, line: &mut Line) -> Option<u32>
+    ensures { IfSome result (λ v. v < length order.now.game.vertices) }
+{
+    let id = number_of(word, line)?;
+    match order.game().find(id) {
+        Some(vertex) if (vertex as usize) < order.game().vertices() => Some(vertex),
+        _ => {
+            line.put("vertex");
+            None
+        }
+    }
+}
+
+/// A feature and its value.
+#[derive(Clone, Copy)]
+struct Choice {
+    feature: u16,
+    value: bool,
+}
+
+/// The choice that a word spells: `+F` or `-F`.
+fn choice_spelled(order: &Order, word: &str) -> Option<Choice> {
+    let (sign, name) = word.as_bytes().split_first()?;
+    let feature = order.diagram().names().get(name)?;
+    let value = *sign == b'+';
+    Some(Choice { feature, value })
+}
+
+/// The choice of a word.
+fn choice_of(order: &Order, word: &str, line: &mut Line) -> Option<Choice>
+    ensures { IfSome result (λ choice. choice.feature < feature_count order.now.diagram.lines) }
+{
+    match choice_spelled(order, word) {
+        Some(choice) if (choice.feature as usize) < order.diagram().features() => Some(choice),
+        _ => {
+            line.put("feature");
+            None
+        }
+    }
+}
+
+/// The place of the decision that a word numbers, from 1 on.
+fn place_of(order: &Order, word: &str, line: &mut Line) -> Option<usize>
+    ensures { IfSome result (λ place. place < length order.now.decisions) }
+{
+    let number = number_of(word, line)? as usize;
+    if number == 0 || number > order.decisions().len() {
+        line.put("decision");
+        return None;
+    }
+    Some(number - 1)
+}
+
+/// What products are asked for: those that win at the vertex of a word, for Even or for Odd, or any.
+fn aim_of(order: &Order, which: Option<Which>, word: &str, line: &mut Line) -> Option<Aim>
+    ensures { IfSome result (λ aim. IsAim order.now.game aim) }
+{
+    let Some(which) = which else {
+        return Some(Aim::Any);
+    };
+    let vertex = vertex_of(order, word, line)?;
+    Some(Aim::Won { which, vertex })
+}
+
+fn ask_why(order: &Order, which: Which, word: &str, limits: Limits, line: &mut Line) {
+    if let Some(vertex) = vertex_of(order, word, line) {
+        put_why(order, why(line.alloc, order, which, vertex, limits), line);
+    }
+}
+
+/// Asks what makes a choice known, or what contradicts it.
+fn ask_choice(order: &Order, asked: Asked, word: &str, line: &mut Line) {
+    let Some(Choice { feature, value }) = choice_of(order, word, line) else {
+        return;
+    };
+    let found = match asked {
+        Asked::Known => why_known(line.alloc, order, feature, value),
+        _ => why_conflict(line.alloc, order, feature, value),
+    };
+    put_why(order, found, line);
+}
+
+/// Asks of products that meet an aim.
+fn ask_products(order: &Order, asked: Asked, aim: Aim, limits: Limits, line: &mut Line)
+    requires { IsAim order.now.game aim }
+{
+    match asked {
+        Asked::Lost => put_why_lost(order, why_lost(line.alloc, order, aim, limits), line),
+        Asked::Example => put_found(order, find(line.alloc, order, aim, limits), line),
+        Asked::Needs => put_demand(order, needs(line.alloc, order, aim, limits), line),
+        _ => line.put("word"),
+    }
+}
+
+fn ask_offer(
+    order: &Order,
+    choice: &str,
+    word: &str,
+    limits: Limits,
+    line: &mut Line,
+) -> Option<()> {
+    let Choice { feature, value } = choice_of(order, choice, line)?;
+    let vertex = vertex_of(order, word, line)?;
+    put_offer(
+        look_ahead(line.alloc, order, feature, value, vertex, limits),
+        line,
+    );
+    Some(())
+}
+
+/// Asks what would be without a decision: of both tables, or of one.
+fn ask_fewer(
+    order: &Order,
+    which: Option<Which>,
+    number: &str,
+    word: &str,
+    limits: Limits,
+    line: &mut Line,
+) -> Option<()> {
+    let place = place_of(order, number, line)?;
+    let vertex = vertex_of(order, word, line)?;
+    match which {
+        Some(which) => put_shown(
+            which,
+            stays_without(line.alloc, order, which, place, vertex, limits),
+            line,
+        ),
+        None => put_offer(look_back(line.alloc, order, place, vertex, limits), line),
+    }
+    Some(())
+}
+
+/// Asks what two words say: a choice or the number of a decision, and a vertex.
+fn ask_of_two(
+    order: &Order,
+    asked: Asked,
+    which: Option<Which>,
+    words: &str,
+    limits: Limits,
+    line: &mut Line,
+) {
+    let Some((first, word)) = words.split_once(' ') else {
+        line.put("vertex");
+        return;
+    };
+    let _told = match asked {
+        Asked::Offer => ask_offer(order, first, word, limits, line),
+        _ => ask_fewer(order, which, first, word, limits, line),
+    };
+}
+
+fn ask_repair(order: &Order, which: Which, word: &str, limits: Limits, line: &mut Line) {
+    if let Some(vertex) = vertex_of(order, word, line) {
+        put_remedy(
+            order,
+            repair(line.alloc, order, which, vertex, limits),
+            line,
+        );
+    }
+}
+
+/// Asks of products.
+fn ask_of_products(
+    order: &Order,
+    asked: Asked,
+    which: Option<Which>,
+    word: &str,
+    limits: Limits,
+    line: &mut Line,
+) {
+    if let Some(aim) = aim_of(order, which, word, line) {
+        ask_products(order, asked, aim, limits, line);
+    }
+}
+
+/// Asks of a page.
+pub(crate) fn ask(order: &Order, word: &str, words: &str, limits: Limits, line: &mut Line) {
+    let (asked, which) = asked_of(word);
+    let table = which.unwrap_or(Which::Hopeful);
+    match asked {
+        Asked::Why => ask_why(order, table, words, limits, line),
+        Asked::Known | Asked::Against => ask_choice(order, asked, words, line),
+        Asked::Offer | Asked::Without | Asked::Stays => {
+            ask_of_two(order, asked, which, words, limits, line)
+        }
+        Asked::Repair => ask_repair(order, table, words, limits, line),
+        _ => ask_of_products(order, asked, which, words, limits, line),
+    }
+}
