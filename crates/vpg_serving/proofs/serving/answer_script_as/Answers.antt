@@ -1,4 +1,5 @@
 use Rattle.std.proofs.Common.{ℕ, Bool, List, [], ◌∷◌, ◌++◌, Result, Ok, Err, length-append, arith, ap, ap₂, sym, refl, ◌∙◌, subst}
+use Rattle.std.proofs.lemmas.Grind.{common_steps}
 use Rattle.std.specs.Prelude.{◌||◌, ◌&&◌}
 use Rattle.std.specs.Io.KnownBytes.{prepend_known}
 use Rattle.vpg_serving.specs.Manners.{MannerOutcome, Went}
@@ -98,3 +99,24 @@ lines-preserved g c =
         ),
       );
     }
+
+pub returns-then-last-clause-writable : goal.returns-then-last-clause-writable
+returns-then-last-clause-writable g c = grind (arith, common_steps)
+
+pub returns-then-last-clause-read : goal.returns-then-last-clause-read
+returns-then-last-clause-read g c = grind (arith, common_steps)
+
+pub returns-in-Err-clause-read : goal.returns-in-Err-clause-read
+returns-in-Err-clause-read g c = grind (arith, common_steps)
+
+pub lines-smaller : goal.lines-smaller
+lines-smaller g c = grind (arith, common_steps)
+
+pub returns-in-Err-clause-readable : goal.returns-in-Err-clause-readable
+returns-in-Err-clause-readable g c = grind (arith, common_steps)
+
+pub returns-in-Err-clause-writable : goal.returns-in-Err-clause-writable
+returns-in-Err-clause-writable g c = grind (arith, common_steps)
+
+pub returns-then-last-clause-readable : goal.returns-then-last-clause-readable
+returns-then-last-clause-readable g c = grind (arith, common_steps)
