@@ -30,6 +30,7 @@ pub mod Shapes
 pub mod SideGames
 pub mod Signature
 pub mod Staying
+pub mod Steps
 pub mod Supported
 pub mod TwoGames
 pub mod Verdicts

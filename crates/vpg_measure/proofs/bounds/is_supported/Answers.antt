@@ -1,4 +1,5 @@
 use Rattle.std.proofs.Common.{◌≡◌, ℕ, ◌<◌, Bool, List, ◌∙◌, sym, subst, arith}
+use Rattle.std.proofs.lemmas.Grind.{common_steps}
 use Rattle.std.specs.Prelude.{◌↔◌, IsTrue, slice_index}
 use Rattle.std.proofs.lemmas.Bool.{false≢true}
 use Rattle.vpg_game.specs.declared.levels.Level.{Level}
@@ -73,3 +74,15 @@ returns-in-Odd-clause-supported c =
 
 pub returns-in-Odd-clause-closed : goal.returns-in-Odd-clause-closed
 returns-in-Odd-clause-closed c = rw c.kept-kept.ensures.kept at c.kept-kept.ensures.closed
+
+pub some_supports-requires-clause-bounds : goal.some_supports-requires-clause-bounds
+some_supports-requires-clause-bounds c = grind (arith, common_steps)
+
+pub all_support-requires-clause-bounds : goal.all_support-requires-clause-bounds
+all_support-requires-clause-bounds c = grind (arith, common_steps)
+
+pub some_supports-requires-clause-ranks : goal.some_supports-requires-clause-ranks
+some_supports-requires-clause-ranks c = grind (arith, common_steps)
+
+pub all_support-requires-clause-ranks : goal.all_support-requires-clause-ranks
+all_support-requires-clause-ranks c = grind (arith, common_steps)

@@ -1,4 +1,5 @@
-use Rattle.std.proofs.Common.{length}
+use Rattle.std.proofs.Common.{length, arith}
+use Rattle.std.proofs.lemmas.Grind.{common_steps}
 use Rattle.vpg_game.specs.Levels.{top_of}
 use Rattle.vpg_measure.proofs.RaisedTables.{greater_within, greater_above, greater_reaches, greater_below}
 use Rattle.vpg_measure.proofs.Supported.{supported_below}
@@ -22,3 +23,6 @@ returns-clause-below c = λ other o p h. greater_below (length c.args.arena.now)
     other h
     (supported_below c.args.shape.now c.args.dual_shape.now c.args.arena.now c.args.table.now c.args.certificate.now.bounds c.args.certificate.now.ranks other
     (c.are_supported.ensures.closed c.if-not-are_supported.false) c.requires.table c.requires.bounds c.requires.ranks (c.are_supported.ensures.supported.0 c.if-not-are_supported.false) o p h)
+
+pub returns-clause-raised : goal.returns-clause-raised
+returns-clause-raised c = grind (arith, common_steps)

@@ -1,4 +1,5 @@
 use Rattle.std.proofs.Common.{ℕ, ◌∙◌, sym, ap, map, length, arith}
+use Rattle.std.proofs.lemmas.Grind.{common_steps}
 use Rattle.std.specs.Prelude.{slice_index}
 use Rattle.std.proofs.lemmas.Bool.{eqb-false}
 use Rattle.vpg_game.specs.Levels.{top_of, prog_of}
@@ -28,3 +29,6 @@ returns-else-is_empty-clause-lift c table is_table is =
     ∙ ap (λ p. prog_of ls p c.args.best) c.priority-else-is_empty.ensures
     ∙ ap (prog_of ls x.priority) (is ∙ ap (λ o. best_for o (top_of ls) (map at x.successors)) odd)
     ∙ sym (lift-odd ls table x is_table.within odd (omega (arith, eqb-false (length c.kept.result.now) 0 (sym c.if-is_empty.ensures), ap length c.kept.ensures.kept)))
+
+pub returns-then-is_empty-clause-lift : goal.returns-then-is_empty-clause-lift
+returns-then-is_empty-clause-lift c = grind (arith, common_steps)

@@ -1,4 +1,5 @@
 use Rattle.std.proofs.Common.{ℕ, ◌∙◌, sym, ap, map, length, arith}
+use Rattle.std.proofs.lemmas.Grind.{common_steps}
 use Rattle.std.specs.Prelude.{slice_index}
 use Rattle.std.proofs.lemmas.Bool.{eqb-false}
 use Rattle.vpg_game.specs.Levels.{top_of, prog_of}
@@ -40,3 +41,6 @@ returns-else-is_empty-clause-lift c =
     (c.greatest_value.ensures ∙ ap (λ ws. greatest_of (map at ws)) c.kept-kept.ensures.kept)
     ∙ sym (lift-odd ls c.args.table.now x c.requires.table.within (sym c.owner.ensures ∙ c.in-Odd.is)
     (omega (arith, eqb-false (length c.kept-kept.result.now) 0 (sym c.if-is_empty.ensures), ap length c.kept-kept.ensures.kept)))
+
+pub returns-then-is_empty-clause-lift : goal.returns-then-is_empty-clause-lift
+returns-then-is_empty-clause-lift c = grind (arith, common_steps)

@@ -1,4 +1,5 @@
-use Rattle.std.proofs.Common.{◌↔◌, IsTrue, length, sym, ap, ◌∙◌, subst}
+use Rattle.std.proofs.Common.{◌↔◌, IsTrue, length, sym, ap, ◌∙◌, subst, arith}
+use Rattle.std.proofs.lemmas.Grind.{common_steps}
 use Rattle.vpg_game.specs.Game.{graph_of}
 use Rattle.vpg_guards.specs.Known.{kleene}
 use Rattle.vpg_hope.specs.Unmarked.{AreSameUnmarked}
@@ -47,3 +48,6 @@ returns c =
       | else-stays w ↦ both_by_first c.args.game.now c.args.self.now c.requires.now c.args.hopeful.now c.args.dual.now first second c.if-stays.result (w.result-is ∙ w.if-stays.false)
           (subst (λ b. IsTrue b ↔ IsProgressTable (games_levels Hopeful c.args.self.now) (games_arena Hopeful c.args.self.now) c.args.hopeful.now) (sym w.result-is) c.stays.ensures)
     ]
+
+pub concerned_vertices-requires-clause-before : goal.concerned_vertices-requires-clause-before
+concerned_vertices-requires-clause-before c = grind (arith, common_steps)

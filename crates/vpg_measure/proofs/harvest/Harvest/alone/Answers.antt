@@ -1,4 +1,5 @@
-use Rattle.std.proofs.Common.{◌≡◌, ap, sym, subst, ◌∙◌}
+use Rattle.std.proofs.Common.{◌≡◌, ap, sym, subst, ◌∙◌, arith}
+use Rattle.std.proofs.lemmas.Grind.{common_steps}
 use Rattle.std.proofs.lemmas.Bool.{false≢true}
 use Rattle.vpg_verdict.specs.declared.which.Which.TheVariants.{Hopeful, Dual}
 use Rattle.vpg_measure.specs.Lifts.{IsTableOf, after_rounds}
@@ -34,3 +35,6 @@ invariant_of-result c =
 pub returns-clause-settled : goal.returns-clause-settled
 returns-clause-settled c which =
     ap (λ (o : OrderView). harvest_table which (harvest_of o)) (whole c) ∙ alone_at c.args.rounds c.args.order which
+
+pub returns-clause-order : goal.returns-clause-order
+returns-clause-order c = grind (arith, common_steps)

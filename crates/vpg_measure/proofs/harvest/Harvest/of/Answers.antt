@@ -1,4 +1,5 @@
-use Rattle.std.proofs.Common.{length, ap, sym, subst, ◌∙◌}
+use Rattle.std.proofs.Common.{length, ap, sym, subst, ◌∙◌, arith}
+use Rattle.std.proofs.lemmas.Grind.{common_steps}
 use Rattle.std.proofs.lemmas.Bool.{false≢true}
 use Rattle.vpg_verdict.specs.declared.which.Which.TheVariants.{Hopeful, Dual}
 use Rattle.vpg_measure.specs.Orders.{OrderView, harvest_of, IsHarvest}
@@ -22,3 +23,6 @@ invariant_of-result c =
           (handed_lawful order is Dual c.of-2.result (rw c.of-2.ensures c.requires.dual)));
       noted = λ t. absurd (false≢true t);
     }
+
+pub returns-clause-order : goal.returns-clause-order
+returns-clause-order c = grind (arith, common_steps)

@@ -1,4 +1,5 @@
-use Rattle.std.proofs.Common.{◌≡◌, ℕ, List, ap, sym, subst, ◌∙◌}
+use Rattle.std.proofs.Common.{◌≡◌, ℕ, List, ap, sym, subst, ◌∙◌, arith}
+use Rattle.std.proofs.lemmas.Grind.{common_steps}
 use Rattle.std.proofs.lemmas.Bool.{false≢true}
 use Rattle.vpg_measure.specs.Lifts.{IsTableOf, raised}
 use Rattle.vpg_measure.specs.Orders.{OrderView, harvest_of, harvest_table, order_levels, order_arena, order_room, order_table, with_room, IsHarvest}
@@ -29,3 +30,12 @@ invariant_of-result c = record {
 pub returns-clause-raised : goal.returns-clause-raised
 returns-clause-raised c =
     ap (λ (o : OrderView). harvest_table c.args.which (harvest_of o)) (lifted c) ∙ with_room_at (filled c.args.order) c.args.which _
+
+pub returns-clause-order : goal.returns-clause-order
+returns-clause-order c = grind (arith, common_steps)
+
+pub returns-clause-other : goal.returns-clause-other
+returns-clause-other c = grind (arith, common_steps)
+
+pub raise_room-requires-clause-vertex : goal.raise_room-requires-clause-vertex
+raise_room-requires-clause-vertex c = grind (arith, common_steps)

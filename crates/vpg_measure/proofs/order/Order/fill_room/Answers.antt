@@ -1,4 +1,5 @@
-use Rattle.std.proofs.Common.{◌∙◌, sym}
+use Rattle.std.proofs.Common.{◌∙◌, sym, arith}
+use Rattle.std.proofs.lemmas.Grind.{common_steps}
 use Rattle.vpg_verdict.specs.declared.which.Which.TheVariants.{Hopeful, Dual}
 use Rattle.vpg_measure.specs.OrderFields.{order_of}
 use Rattle.vpg_measure.proofs.OrderLemmas.{table_count, room_filled, still_settled}
@@ -17,3 +18,9 @@ invariant_of-self c =
       games = c.self.invariant.games;
       noted = λ t. still_settled (order_of c.self.inside) c.self.inside.hopeful c.self.inside.dual (c.self.invariant.noted t);
     })
+
+pub returns-clause-order : goal.returns-clause-order
+returns-clause-order c = grind (arith, common_steps)
+
+pub returns-clause-filled : goal.returns-clause-filled
+returns-clause-filled c = grind (arith, common_steps)

@@ -1,4 +1,5 @@
-use Rattle.std.proofs.Common.{length, ap, sym, ◌∙◌}
+use Rattle.std.proofs.Common.{length, ap, sym, ◌∙◌, arith}
+use Rattle.std.proofs.lemmas.Grind.{common_steps}
 use Rattle.vpg_verdict.specs.declared.which.Which.TheVariants.{Hopeful, Dual}
 use Rattle.vpg_measure.specs.OrderFields.{order_of}
 use Rattle.vpg_measure.specs.Orders.{OrderView}
@@ -15,3 +16,9 @@ invariant_of-self c =
       games = c.self.invariant.games;
       noted = λ t. still_settled order c.args.hopeful c.args.dual (c.self.invariant.noted t);
     }
+
+pub returns-clause-order : goal.returns-clause-order
+returns-clause-order c = grind (arith, common_steps)
+
+pub returns-clause-put : goal.returns-clause-put
+returns-clause-put c = grind (arith, common_steps)

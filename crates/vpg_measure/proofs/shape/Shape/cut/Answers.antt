@@ -10,3 +10,9 @@ pub returns-clause-within : goal.returns-clause-within
 returns-clause-within c =
     let less : c.args.value < top_of c.args.self.now = omega (arith, c.top.ensures.top, c.if-value-top.false) in
     rw c.weight-weight.ensures (prog_sum_at_most c.args.self.now c.args.priority c.args.value less)
+
+pub overflow_mul-result : goal.overflow_mul-result
+overflow_mul-result c =
+    let less : c.args.value < top_of c.args.self.now = omega (arith, c.top.ensures.top, c.if-value-top.false) in
+    let most = prog_sum_at_most c.args.self.now c.args.priority c.args.value less in
+    rw c.weight-weight.ensures (omega (arith, most, c.top.ensures.top, c.top.type_inv))

@@ -1,4 +1,5 @@
 use Rattle.std.proofs.Common.{◌≡◌, ◌<◌, ◌+◌, ◌*◌, ◌∙◌, sym, ap, arith, length, reverse, cond, slice_index_or}
+use Rattle.std.proofs.lemmas.Grind.{common_steps}
 use Rattle.std.proofs.lemmas.List.{get_or_read, length_push}
 use Rattle.std.proofs.Math.Nat.{mul-le-mul_left, mul_comm, one-mul}
 use Rattle.vpg_game.specs.Levels.{bound_of, product_below, is_odd, count_of}
@@ -70,3 +71,6 @@ invariant_of-result c =
     let last : c.loop-priority.priority ≡ bound_of ps = omega (arith, counts.len, c.in_ok-counts.counts.ok.0) in
     weights_made ps _ _ _ (rw last at c.loop-priority.invariant.made) c.requires (rw last at c.loop-priority.invariant.product)
     (rw last at c.loop-priority.invariant.count) c.loop-priority.invariant.each
+
+pub returns : goal.returns
+returns c = grind (arith, common_steps)
