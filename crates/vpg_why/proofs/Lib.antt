@@ -14,6 +14,7 @@ pub mod OneRepair
 pub mod Losing
 pub mod Ordered
 pub mod Rooms
+pub mod Distinct
 pub mod Examples
 pub mod Sought
 pub mod Splits

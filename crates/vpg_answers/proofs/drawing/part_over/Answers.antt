@@ -1,4 +1,5 @@
-use Rattle.std.proofs.Common.{◌≡◌, Bool, List, ◌∙◌, sym, subst}
+use Rattle.std.proofs.lemmas.Grind.{common_steps}
+use Rattle.std.proofs.Common.{Bool, List, ◌∙◌, sym, subst, arith}
 use Rattle.vpg_guards.specs.declared.tri.Tri.{Tri}
 use Rattle.vpg_game.specs.Game.{graph_of}
 use Rattle.vpg_game.proofs.Graphs.{same_count}
@@ -27,3 +28,18 @@ returns c =
     (subst (λ (bs : List Bool). AreReachable (graph_of c.args.game.now) c.args.games.now.known c.args.mover c.args.moves.now c.args.vertex bs) (sym c.deref-2.ensures.value)
     (subst (λ (k : List Tri). AreReachable (graph_of c.args.game.now) k c.args.mover c.args.moves.now c.args.vertex c.in_ok-marks.marks.items) c.known.ensures c.in_ok-marks.ensures))
     c.draw_part.ensures.drawn
+
+pub draw_part-requires-clause-features : goal.draw_part-requires-clause-features
+draw_part-requires-clause-features c = grind (arith, common_steps)
+
+pub draw_part-requires-clause-known : goal.draw_part-requires-clause-known
+draw_part-requires-clause-known c = grind (arith, common_steps)
+
+pub reachable-requires-clause-known : goal.reachable-requires-clause-known
+reachable-requires-clause-known c = grind (arith, common_steps)
+
+pub verdicts_by-requires-clause-hopeful : goal.verdicts_by-requires-clause-hopeful
+verdicts_by-requires-clause-hopeful c = grind (arith, common_steps)
+
+pub verdicts_by-requires-clause-dual : goal.verdicts_by-requires-clause-dual
+verdicts_by-requires-clause-dual c = grind (arith, common_steps)

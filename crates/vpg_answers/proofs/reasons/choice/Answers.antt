@@ -1,3 +1,5 @@
+use Rattle.std.proofs.lemmas.Grind.{common_steps}
+use Rattle.std.proofs.Common.{arith}
 use Rattle.vpg_texts.proofs.Shown.{on_ok}
 use Rattle.vpg_why.specs.declared.question.Question.TheVariants as asks
 use Rattle.vpg_answers.proofs.Telling.{listed_below, told_conflict, told_none, none_is_not, found_explains, found_exact}
@@ -23,3 +25,6 @@ returns-in-None c =
     let none = none_is_not c.in_ok-found.field-0 _ c.in-None.is c.in_ok-found.ensures.told in
     on_ok c.no_conflict.result _ _
     (λ appended. told_none c.args.order.now c.names-names.result.now c.names-names.ensures.names c.args.feature c.args.out.now.items c.no_conflict.new.out.items c.args.value none appended) c.no_conflict.ensures
+
+pub conflict-requires-clause-feature : goal.conflict-requires-clause-feature
+conflict-requires-clause-feature c = grind (arith, common_steps)

@@ -1,4 +1,5 @@
-use Rattle.std.proofs.Common.{true, false}
+use Rattle.std.proofs.lemmas.Grind.{common_steps}
+use Rattle.std.proofs.Common.{true, false, arith}
 use Rattle.vpg_texts.proofs.Shown.{on_ok}
 use Rattle.vpg_why.specs.declared.question.Question.TheVariants as asks
 use Rattle.vpg_answers.proofs.Telling.{listed_below, told_in, told_out, told_open, none_is_not, found_explains, found_exact}
@@ -41,3 +42,9 @@ returns-in-None c =
     let not_out = none_is_not c.in_ok-found-2.field-0 _ c.in-None.is c.in_ok-found-2.ensures.told in
     on_ok c.not_known.result _ _
     (λ appended. told_open c.args.order.now c.names-names.result.now c.names-names.ensures.names c.args.feature c.args.out.now.items c.not_known.new.out.items not_in not_out appended) c.not_known.ensures
+
+pub known-requires-in-Some-2-clause-feature : goal.known-requires-in-Some-2-clause-feature
+known-requires-in-Some-2-clause-feature c = grind (arith, common_steps)
+
+pub known-requires-clause-feature : goal.known-requires-clause-feature
+known-requires-clause-feature c = grind (arith, common_steps)

@@ -1,3 +1,4 @@
+use Rattle.std.proofs.lemmas.Grind.{common_steps}
 use Rattle.std.proofs.Common.{arith, List, length, false, ap}
 use Rattle.vpg_verdict.specs.declared.which.Which.TheVariants.{Hopeful}
 use Rattle.vpg_partial.specs.declared.decision.Decision.{Decision}
@@ -30,3 +31,9 @@ trying-preserved c = elim c.match-branch-2.branch [
 pub returns-clause-singles : goal.returns-clause-singles
 returns-clause-singles c = tried (IsHopelessBy (scene_of c.args.order.now.game c.args.order.now.diagram) c.args.vertex) (RoundsSettle (scene_of c.args.order.now.game c.args.order.now.diagram) c.args.limits.rounds Hopeful) c.args.order.now.decisions c.trying.listed.items c.trying.place c.trying.exact
     (omega (arith, c.trying-test.false, ap (λ (ds : List Decision). length ds) c.decisions-decisions.ensures.decisions)) c.trying.invariant
+
+pub trying-init : goal.trying-init
+trying-init c = grind (arith, common_steps)
+
+pub is_hopeless_without-requires-clause-place : goal.is_hopeless_without-requires-clause-place
+is_hopeless_without-requires-clause-place c = grind (arith, common_steps)

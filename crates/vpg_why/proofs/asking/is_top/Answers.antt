@@ -1,6 +1,7 @@
 use Rattle.std.proofs.Common.{◌≡◌, ◌∙◌, ℕ, List, true, false, sym, ap, subst, replicate}
 use Rattle.vpg_measure.specs.Lifts.{IsProgressTable, after_rounds}
 use Rattle.vpg_why.proofs.Tops.{top_shown, top_refuted, low_shown, settles_from_zeros, value_there, zeros_fit}
+use Rattle.vpg_why.proofs.Distinct.{yes_no, yes_unsettled, no_yes, no_unsettled, unsettled_yes, unsettled_no}
 use Rattle.vpg_why.proofs.asking.is_top.Goals as goal
 
 pub raise-requires : goal.raise-requires
@@ -37,3 +38,27 @@ returns-clause-settled c s e = clash (sym (c.in_ok-settled.ensures.rounds (subst
   where
     clash : true ≡ false → ⊥
     clash x = cc
+
+pub returns-clause-yes : goal.returns-clause-yes
+returns-clause-yes c e = absurd (unsettled_yes e)
+
+pub returns-then-settled-clause-yes : goal.returns-then-settled-clause-yes
+returns-then-settled-clause-yes c e = absurd (no_yes e)
+
+pub returns-clause-no : goal.returns-clause-no
+returns-clause-no c e = absurd (unsettled_no e)
+
+pub returns-then-settled-clause-settled : goal.returns-then-settled-clause-settled
+returns-then-settled-clause-settled c s e = no_unsettled e
+
+pub returns-then-get-top-clause-no : goal.returns-then-get-top-clause-no
+returns-then-get-top-clause-no c e = absurd (yes_no e)
+
+pub returns-then-get-top-clause-settled : goal.returns-then-get-top-clause-settled
+returns-then-get-top-clause-settled c s e = yes_unsettled e
+
+pub returns-clause-low : goal.returns-clause-low
+returns-clause-low c e = absurd (unsettled_no e)
+
+pub returns-then-get-top-clause-low : goal.returns-then-get-top-clause-low
+returns-then-get-top-clause-low c e = absurd (yes_no e)

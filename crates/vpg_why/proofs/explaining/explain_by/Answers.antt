@@ -1,3 +1,4 @@
+use Rattle.std.proofs.lemmas.Grind.{common_steps}
 use Rattle.std.proofs.Common.{◌≡◌, ◌&&◌, Bool, true, false, List, refl, sym, subst, arith}
 use Rattle.vpg_diagram.specs.declared.clause.Literal.{Literal}
 use Rattle.vpg_partial.specs.declared.decision.Decision.{Decision}
@@ -53,3 +54,18 @@ returns c = record {
       (omega (arith, c.listing-test.false)) c.listing.invariant;
   settled = c.listing.invariant.settled;
 }
+
+pub bounds-decisions-last : goal.bounds-decisions-last
+bounds-decisions-last c = grind (arith, common_steps)
+
+pub offset_bounds-decisions-last : goal.offset_bounds-decisions-last
+offset_bounds-decisions-last c = grind (arith, common_steps)
+
+pub last_needed-requires-clause-within : goal.last_needed-requires-clause-within
+last_needed-requires-clause-within c = grind (arith, common_steps)
+
+pub listing-smaller-then-exact : goal.listing-smaller-then-exact
+listing-smaller-then-exact c = grind (arith, common_steps)
+
+pub listing-smaller-else-exact : goal.listing-smaller-else-exact
+listing-smaller-else-exact c = grind (arith, common_steps)

@@ -1,6 +1,8 @@
-use Rattle.std.proofs.Common.{◌≡◌, true, false, sym, ◌∙◌}
+use Rattle.std.proofs.lemmas.Grind.{common_steps}
+use Rattle.std.proofs.Common.{◌≡◌, true, false, sym, ◌∙◌, arith}
 use Rattle.vpg_why.specs.Explained.{choices}
 use Rattle.vpg_why.proofs.Sought.{one_more, otherwise, sought_with}
+use Rattle.vpg_why.proofs.Distinct.{yes_no, yes_unsettled, no_yes, no_unsettled, unsettled_yes, unsettled_no}
 use Rattle.vpg_why.proofs.forcing.is_barred.Goals as goal
 
 clash : false ≡ true → ⊥
@@ -19,3 +21,39 @@ returns-in-Product-clause-found c =
     (one_more order.game order.diagram c.args.aim (choices order.decisions) c.args.found.now.items c.in-Product.example c.requires.found
     (sought_with order.game order.diagram c.args.aim (choices order.decisions) c.args.feature c.args.value c.in-Product.example
     (rw (c.in-Product.is, c.deref-2.ensures.value, c.in_ok-more.ensures, c.decisions.ensures.decisions) at c.in_ok-example.ensures.found)))
+
+pub seek_all-requires-clause-named : goal.seek_all-requires-clause-named
+seek_all-requires-clause-named c = grind (arith, common_steps)
+
+pub returns-in-Product-clause-no : goal.returns-in-Product-clause-no
+returns-in-Product-clause-no c = grind (arith, common_steps)
+
+pub returns-in-Product-clause-yes : goal.returns-in-Product-clause-yes
+returns-in-Product-clause-yes c e = absurd (no_yes e)
+
+pub returns-in-Product-clause-settled : goal.returns-in-Product-clause-settled
+returns-in-Product-clause-settled c s e = no_unsettled e
+
+pub returns-in-Nothing-clause-yes : goal.returns-in-Nothing-clause-yes
+returns-in-Nothing-clause-yes c = grind (arith, common_steps)
+
+pub returns-clause-yes : goal.returns-clause-yes
+returns-clause-yes c e = absurd (unsettled_yes e)
+
+pub returns-clause-no : goal.returns-clause-no
+returns-clause-no c e = absurd (unsettled_no e)
+
+pub returns-in-Nothing-clause-no : goal.returns-in-Nothing-clause-no
+returns-in-Nothing-clause-no c e = absurd (yes_no e)
+
+pub returns-in-Nothing-clause-settled : goal.returns-in-Nothing-clause-settled
+returns-in-Nothing-clause-settled c s e = yes_unsettled e
+
+pub returns-clause-settled : goal.returns-clause-settled
+returns-clause-settled c = grind (arith, common_steps)
+
+pub returns-then-not-all_have-clause-yes : goal.returns-then-not-all_have-clause-yes
+returns-then-not-all_have-clause-yes c e = absurd (no_yes e)
+
+pub returns-then-not-all_have-clause-settled : goal.returns-then-not-all_have-clause-settled
+returns-then-not-all_have-clause-settled c s e = no_unsettled e

@@ -1,3 +1,4 @@
+use Rattle.std.proofs.lemmas.Grind.{common_steps}
 use Rattle.std.proofs.Common.{arith, ◌∙◌, ◌++◌, ◌∷◌, [], List, false, slice_index_or, refl, sym, ap, subst}
 use Rattle.vpg_guards.specs.declared.tri.Tri.{Tri}
 use Rattle.vpg_measure.specs.Games.{GamesView}
@@ -50,3 +51,12 @@ returns-clause-needs c =
       rw (c.features-features.ensures.count, c.deref-2.ensures, c.diagram.ensures.diagram) at c.forcing-test.false,
       rw (c.features-features.ensures.count, c.deref-2.ensures, c.diagram.ensures.diagram) at c.forcing.auto.feature-end,
     )) c.forcing.invariant.0
+
+pub forcing-init : goal.forcing-init
+forcing-init c = grind (arith, common_steps)
+
+pub is_barred-requires-clause-feature : goal.is_barred-requires-clause-feature
+is_barred-requires-clause-feature c = grind (arith, common_steps)
+
+pub value-tri-requires : goal.value-tri-requires
+value-tri-requires c = grind (arith, common_steps)

@@ -1,3 +1,4 @@
+use Rattle.std.proofs.lemmas.Grind.{common_steps}
 use Rattle.std.proofs.Common.{◌≡◌, ◌∙◌, ◌<◌, false, refl, sym, arith, add-one}
 use Rattle.vpg_why.specs.declared.question.Shown.{Shown}
 use Rattle.vpg_why.specs.declared.question.Shown.TheVariants as shown
@@ -51,3 +52,6 @@ returns-clause-repair c = gone (Suffice c.args.order.now.game c.args.order.now.d
 
 pub returns-clause-settled : goal.returns-clause-settled
 returns-clause-settled c = c.deciding.invariant.1
+
+pub deciding-init : goal.deciding-init
+deciding-init c = grind (arith, common_steps)

@@ -1,3 +1,5 @@
+use Rattle.std.proofs.lemmas.Grind.{common_steps}
+use Rattle.std.proofs.Common.{arith}
 use Rattle.vpg_why.proofs.repairing.repair.Goals as goal
 
 pub returns-clause-remedy : goal.returns-clause-remedy
@@ -5,3 +7,12 @@ returns-clause-remedy c = rw c.decisions.ensures.decisions at c.in_ok-found.ensu
 
 pub returns-in-Unsettled-clause-settled : goal.returns-in-Unsettled-clause-settled
 returns-in-Unsettled-clause-settled c s = c.in_ok-suffice.ensures.settled s c.in-Unsettled.is
+
+pub give_up-requires-clause-possible : goal.give_up-requires-clause-possible
+give_up-requires-clause-possible c = grind (arith, common_steps)
+
+pub give_up-requires-clause-named : goal.give_up-requires-clause-named
+give_up-requires-clause-named c = grind (arith, common_steps)
+
+pub returns-in-Yes-clause-remedy : goal.returns-in-Yes-clause-remedy
+returns-in-Yes-clause-remedy c = grind (arith, common_steps)

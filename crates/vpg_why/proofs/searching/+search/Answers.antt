@@ -1,3 +1,4 @@
+use Rattle.std.proofs.lemmas.Grind.{common_steps}
 use Rattle.std.proofs.Common.{true, false, ◌-◌, arith}
 use Rattle.vpg_why.specs.Explained.{choices}
 use Rattle.vpg_why.proofs.First.{found_here, found_with, found_later, found_without_it}
@@ -48,3 +49,21 @@ returns-clause-spent t c =
 
 pub returns-clause-settled : goal.returns-clause-settled
 returns-clause-settled t c room settles = absurd (not_exact c.in_ok-with_it.with_it ((rw (c.deref.ensures.value, c.in_ok-more.ensures) at c.in_ok-with_it.ensures.settled) (child_room c.args.order.now.diagram (choices c.args.decisions.now) c.in-Open.feature true (rw c.in-Open.is at c.in_ok-look.ensures.outlook) c.args.depth (c.args.depth - 1) c.args.trials.now (c.args.trials.now - 1) (one_less c.args.depth c.if-depth-eq0.false) (let r = room_trials c.args.order.now.diagram (choices c.args.decisions.now) c.args.depth (c.args.depth - 1) c.args.trials.now (one_less c.args.depth c.if-depth-eq0.false) room in omega (arith, r)) room) settles) c.in_default.not-Product c.in_default-with_it.not-Nothing)
+
+pub search-requires-2 : goal.search-requires-2
+search-requires-2 t c = grind (arith, common_steps)
+
+pub returns-in-Product-clause-spent : goal.returns-in-Product-clause-spent
+returns-in-Product-clause-spent t c =
+    let s = c.in_ok-with_it.ensures.spent in spent c.args.depth (c.args.depth - 1) c.args.trials.now (c.args.trials.now - 1) c.search.new.trials (one_less c.args.depth c.if-depth-eq0.false) (omega arith) (omega (arith, s))
+
+pub search-requires : goal.search-requires
+search-requires t c = grind (arith, common_steps)
+
+pub returns-in-Unsettled-clause-spent : goal.returns-in-Unsettled-clause-spent
+returns-in-Unsettled-clause-spent t c =
+    spent c.args.depth (c.args.depth - 1) c.args.trials.now (c.args.trials.now - 1) (c.args.trials.now - 1) (one_less c.args.depth c.if-depth-eq0.false) (omega arith) (omega arith)
+
+pub returns-in-Met-clause-spent : goal.returns-in-Met-clause-spent
+returns-in-Met-clause-spent t c =
+    spent c.args.depth (c.args.depth - 1) c.args.trials.now (c.args.trials.now - 1) (c.args.trials.now - 1) (one_less c.args.depth c.if-depth-eq0.false) (omega arith) (omega arith)

@@ -1,7 +1,7 @@
 use Rattle.std.proofs.Common.{List, refl, sym, subst}
 use Rattle.vpg_guards.specs.declared.tri.Tri.{Tri}
 use Rattle.vpg_why.specs.Explained.{choices}
-use Rattle.vpg_why.specs.Suffices.{IsTopUnder}
+use Rattle.vpg_why.specs.Suffices.{IsTopUnder, IsLowUnder}
 use Rattle.vpg_why.proofs.searching.look_at_games.Goals as goal
 
 pub is_top-requires-clause-games : goal.is_top-requires-clause-games
@@ -13,3 +13,6 @@ outlook_under-requires-clause-yes c e = subst (λ (k : List Tri). IsTopUnder c.a
 pub returns-clause-settled : goal.returns-clause-settled
 returns-clause-settled c s =
     c.in_ok-found.ensures.settled (c.in_ok-shown.ensures.settled (s (choices c.args.decisions.now) c.args.games.now.known c.requires.games.known))
+
+pub outlook_under-requires-clause-no : goal.outlook_under-requires-clause-no
+outlook_under-requires-clause-no c e = subst (λ (k : List Tri). IsLowUnder c.args.order.now.game c.args.which c.args.vertex k) (sym c.known.ensures) (c.in_ok-shown.ensures.low e)

@@ -1,4 +1,5 @@
-use Rattle.std.proofs.Common.{◌≡◌, ℕ, true, false, sym, subst, refl}
+use Rattle.std.proofs.lemmas.Grind.{common_steps}
+use Rattle.std.proofs.Common.{◌≡◌, ℕ, true, false, sym, subst, refl, arith}
 use Rattle.vpg_guards.specs.Known.{AreAllKnown}
 use Rattle.vpg_why.specs.Explained.{choices}
 use Rattle.vpg_why.specs.declared.question.Shown.{Shown}
@@ -57,3 +58,6 @@ returns c = record {
     shown_one shown.Yes a b d = a refl
     shown_one shown.No a b d = b refl
     shown_one shown.Unsettled a b d = d refl
+
+pub open_feature-requires : goal.open_feature-requires
+open_feature-requires c = grind (arith, common_steps)

@@ -1,7 +1,8 @@
+use Rattle.std.proofs.lemmas.Grind.{common_steps}
 use Rattle.std.proofs.Common.{not, ◌-◌, arith}
 use Rattle.vpg_why.specs.Explained.{choices}
 use Rattle.vpg_why.proofs.Rooms.{one_less, child_room, room_trials, spent}
-use Rattle.vpg_why.proofs.Sought.{not_settled, sought_with, sought_other}
+use Rattle.vpg_why.proofs.Sought.{not_settled, product_settled, sought_with, sought_other}
 use Rattle.vpg_why.proofs.seeking.+seek.Goals as goal
 
 pub returns-in-Product-clause-found : goal.returns-in-Product-clause-found
@@ -27,7 +28,7 @@ returns-in-Product-other t c = record {
       (rw (c.in-Product-other.is, c.deref-2.ensures.value, c.in_ok-more-2.ensures) at c.in_ok-other.ensures.found);
   spent = (let s = c.in_ok-one.ensures.spent in let u = c.in_ok-other.ensures.spent in
       spent c.args.depth (c.args.depth - 1) c.args.trials.now (c.args.trials.now - 1) c.seek-2.new.trials (one_less c.args.depth c.if-depth-eq0.false) (omega arith) (omega (arith, s, u)));
-  settled = λ room settles e. cc e;
+  settled = λ room settles e. product_settled c.in-Product-other.found e;
 }
 
 pub returns : goal.returns
@@ -37,3 +38,27 @@ returns t c = record {
       spent c.args.depth (c.args.depth - 1) c.args.trials.now (c.args.trials.now - 1) c.seek-2.new.trials (one_less c.args.depth c.if-depth-eq0.false) (omega arith) (omega (arith, s, u)));
   settled = λ room settles. absurd (not_settled c.in_ok-one.one ((rw (c.deref.ensures.value, c.in_ok-more.ensures) at c.in_ok-one.ensures.settled) (child_room c.args.order.now.diagram (choices c.args.decisions.now) c.in-Open.feature (not c.has-value.result) (rw c.in-Open.is at c.in_ok-look.ensures.outlook) c.args.depth (c.args.depth - 1) c.args.trials.now (c.args.trials.now - 1) (one_less c.args.depth c.if-depth-eq0.false) (let r = room_trials c.args.order.now.diagram (choices c.args.decisions.now) c.args.depth (c.args.depth - 1) c.args.trials.now (one_less c.args.depth c.if-depth-eq0.false) room in omega (arith, r)) room) settles) c.in_default.not-Product c.in_default-one.not-Nothing);
 }
+
+pub seek-requires-2 : goal.seek-requires-2
+seek-requires-2 t c = grind (arith, common_steps)
+
+pub seek-requires : goal.seek-requires
+seek-requires t c = grind (arith, common_steps)
+
+pub returns-in-Product-clause-spent : goal.returns-in-Product-clause-spent
+returns-in-Product-clause-spent t c =
+    let s = c.in_ok-one.ensures.spent in spent c.args.depth (c.args.depth - 1) c.args.trials.now (c.args.trials.now - 1) c.seek.new.trials (one_less c.args.depth c.if-depth-eq0.false) (omega arith) (omega (arith, s))
+
+pub returns-in-Unsettled-clause-spent : goal.returns-in-Unsettled-clause-spent
+returns-in-Unsettled-clause-spent t c =
+    spent c.args.depth (c.args.depth - 1) c.args.trials.now (c.args.trials.now - 1) (c.args.trials.now - 1) (one_less c.args.depth c.if-depth-eq0.false) (omega arith) (omega arith)
+
+pub returns-in-Met-clause-found : goal.returns-in-Met-clause-found
+returns-in-Met-clause-found t c = grind (arith, common_steps)
+
+pub returns-in-Product-clause-settled : goal.returns-in-Product-clause-settled
+returns-in-Product-clause-settled t c = grind (arith, common_steps)
+
+pub returns-in-Met-clause-spent : goal.returns-in-Met-clause-spent
+returns-in-Met-clause-spent t c =
+    spent c.args.depth (c.args.depth - 1) c.args.trials.now (c.args.trials.now - 1) (c.args.trials.now - 1) (one_less c.args.depth c.if-depth-eq0.false) (omega arith) (omega arith)

@@ -1,4 +1,5 @@
-use Rattle.std.proofs.Common.{ℕ, List, slice_index, sym, ap, ◌∙◌}
+use Rattle.std.proofs.lemmas.Grind.{common_steps}
+use Rattle.std.proofs.Common.{ℕ, List, slice_index, sym, ap, ◌∙◌, arith}
 use Rattle.vpg_game.specs.Levels.{top_of}
 use Rattle.vpg_game.specs.declared.levels.Level.{Level}
 use Rattle.vpg_why.specs.Explained.{choices}
@@ -24,3 +25,9 @@ returns-clause-lost c =
     let explains = rw c.decisions.ensures.decisions at c.in_ok-found.ensures.explains in
     sufficient_choices_lose order.game order.diagram c.args.which c.args.vertex (choices c.in_ok-found.found.decisions.items) is.game is.diagram
     (among_named order.diagram.lines (choices c.in_ok-found.found.decisions.items) (choices order.decisions) explains.among is.named) c.requires explains.enough
+
+pub get-requires : goal.get-requires
+get-requires c = grind (arith, common_steps)
+
+pub explain-requires-clause-named : goal.explain-requires-clause-named
+explain-requires-clause-named c = grind (arith, common_steps)

@@ -1,4 +1,5 @@
-use Rattle.std.proofs.Common.{◌≡◌, true, false, refl}
+use Rattle.std.proofs.lemmas.Grind.{common_steps}
+use Rattle.std.proofs.Common.{◌≡◌, true, false, refl, arith}
 use Rattle.vpg_why.specs.declared.question.Shown.{Shown}
 use Rattle.vpg_why.specs.declared.question.Shown.TheVariants as shown
 use Rattle.vpg_why.proofs.telling.why_so.Goals as goal
@@ -23,3 +24,12 @@ returns-clause-explains c = rw c.decisions-2.ensures.decisions at c.in_ok-found.
 
 pub returns-clause-exact : goal.returns-clause-exact
 returns-clause-exact c = c.in_ok-found.ensures.settled (c.requires.settled (record { budget = 0; rounds = 0; trials = 0 }))
+
+pub returns-clause-told : goal.returns-clause-told
+returns-clause-told c = grind (arith, common_steps)
+
+pub explain-requires-clause-enough : goal.explain-requires-clause-enough
+explain-requires-clause-enough c = grind (arith, common_steps)
+
+pub explain-requires-clause-named : goal.explain-requires-clause-named
+explain-requires-clause-named c = grind (arith, common_steps)

@@ -1,0 +1,7 @@
+use Rattle.vpg_answers.proofs.answering.of_page.Goals as goal
+
+pub returns-in-Empty : goal.returns-in-Empty
+returns-in-Empty c = rw c.in-Empty.is c.loss.ensures
+
+pub returns-in-Forced : goal.returns-in-Forced
+returns-in-Forced c = rw c.in-Forced.is c.forced.ensures

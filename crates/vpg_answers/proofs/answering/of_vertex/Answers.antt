@@ -1,0 +1,25 @@
+use Rattle.vpg_answers.proofs.answering.of_vertex.Goals as goal
+
+pub returns-in-Repair : goal.returns-in-Repair
+returns-in-Repair c = rw c.in-Repair.is c.repairs_at.ensures
+
+pub returns-in-Draw : goal.returns-in-Draw
+returns-in-Draw c = rw c.in-Draw.is c.part.ensures
+
+pub returns-in-Moves : goal.returns-in-Moves
+returns-in-Moves c = rw c.in-Moves.is c.moves.ensures
+
+pub returns-in-Lost : goal.returns-in-Lost
+returns-in-Lost c = rw c.in-Lost.is c.loss.ensures
+
+pub returns-in-Example : goal.returns-in-Example
+returns-in-Example c = rw c.in-Example.is c.example.ensures
+
+pub returns-in-Needs : goal.returns-in-Needs
+returns-in-Needs c = rw c.in-Needs.is c.forced.ensures
+
+pub returns-in-Offer : goal.returns-in-Offer
+returns-in-Offer c = rw c.in-Offer.is c.offers.ensures
+
+pub returns-in-Why : goal.returns-in-Why
+returns-in-Why c = rw c.in-Why.is c.vertex.ensures
