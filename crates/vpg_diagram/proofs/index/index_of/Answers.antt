@@ -1,4 +1,5 @@
 use Rattle.std.proofs.Common.{[], length, refl, ap, ◌∙◌, arith}
+use Rattle.std.proofs.lemmas.Grind.{common_steps}
 use Rattle.std.proofs.lemmas.List.{length-replicate}
 use Rattle.std.proofs.lemmas.Option.{slice_get_read}
 use Rattle.vpg_diagram.proofs.IndexLemmas.{indexed_clause, indexed_count, indexed_all}
@@ -34,3 +35,18 @@ loop-place-preserved c =
 
 pub returns : goal.returns
 returns c = indexed_all c.args.clauses.now c.args.counts.now c.loop-place.index c.loop-place.place c.loop-place-test.false c.loop-place.invariant.noted
+
+pub note_count-requires : goal.note_count-requires
+note_count-requires c = grind (arith, common_steps)
+
+pub note_clause-requires : goal.note_clause-requires
+note_clause-requires c = grind (arith, common_steps)
+
+pub overflow_add-clauses : goal.overflow_add-clauses
+overflow_add-clauses c = grind (arith, common_steps)
+
+pub bounds-counts-place : goal.bounds-counts-place
+bounds-counts-place c = grind (arith, common_steps)
+
+pub offset_bounds-counts-place : goal.offset_bounds-counts-place
+offset_bounds-counts-place c = grind (arith, common_steps)

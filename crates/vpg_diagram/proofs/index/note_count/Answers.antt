@@ -1,4 +1,5 @@
-use Rattle.std.proofs.Common.{ℕ, List, [], ◌∷◌, ◌∙◌, subst}
+use Rattle.std.proofs.Common.{ℕ, List, [], ◌∷◌, ◌∙◌, subst, arith}
+use Rattle.std.proofs.lemmas.Grind.{common_steps}
 use Rattle.std.proofs.lemmas.List.{take_all}
 use Rattle.vpg_guards.specs.Index.{NotesAlso}
 use Rattle.vpg_guards.proofs.Noted.{noted_step}
@@ -16,3 +17,6 @@ pub returns : goal.returns
 returns c =
     subst (λ (xs : List ℕ). NotesAlso c.args.index.now c.args.number (c.args.count.now.parent ∷ xs) c.loop-member.index)
     (take_all c.loop-member.member-index c.members-member-items.result.now c.loop-member-test.false ∙ c.members-member-items.ensures) c.loop-member.invariant
+
+pub note-requires-in-loop-member : goal.note-requires-in-loop-member
+note-requires-in-loop-member c = grind (arith, common_steps)

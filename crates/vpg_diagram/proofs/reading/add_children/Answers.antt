@@ -1,4 +1,5 @@
 use Rattle.std.proofs.Common.{◌≡◌, ◌+◌, ◌-◌, ◌≤◌, length, Ok, sym, ap₂, ◌∙◌, arith}
+use Rattle.std.proofs.lemmas.Grind.{common_steps}
 use Rattle.std.specs.List.{range_with_len}
 use Rattle.vpg_diagram.specs.FormView.{texts}
 use Rattle.vpg_diagram.proofs.LineLemmas.{children_complete}
@@ -51,3 +52,15 @@ returns-clause-family c =
       few = all;
       in_range = c.if-not-fits.false;
     }
+
+pub overflow_cast-members-2 : goal.overflow_cast-members-2
+overflow_cast-members-2 c = grind (arith, common_steps)
+
+pub overflow_add-members : goal.overflow_add-members
+overflow_add-members c = grind (arith, common_steps)
+
+pub overflow_cast-members : goal.overflow_cast-members
+overflow_cast-members c = grind (arith, common_steps)
+
+pub returns-clause-names : goal.returns-clause-names
+returns-clause-names c = grind (arith, common_steps)

@@ -1,4 +1,5 @@
 use Rattle.std.proofs.Common.{◌≡◌, ℕ, ◌+◌, ◌<◌, ◌≤◌, ◌++◌, ◌∷◌, [], Bool, true, false, nat_lt, List, Option, Some, None, Result, Ok, cond, refl, sym, ap, ◌∙◌, arith}
+use Rattle.std.proofs.lemmas.Grind.{common_steps}
 use Rattle.std.proofs.lemmas.Bool.{ltb-true}
 use Rattle.std.proofs.lemmas.List.{map-append}
 use Rattle.vpg_diagram.specs.FeatureDiagram.{Line, Requires, Excludes}
@@ -57,3 +58,9 @@ returns-then-is_rule-clause-ok c =
 pub returns-else-is_rule-clause-ok : goal.returns-else-is_rule-clause-ok
 returns-else-is_rule-clause-ok c =
     adds c.args.reader.now _ c.args.bytes.now c.in_ok-line.line c.in_ok-line.ensures.line c.in-Ok.ensures.items (omega arith ∙ sym (ap (λ b. c.args.reader.now.rules + cond b 1 0) (sym c.is_rule.ensures ∙ c.if-is_rule.false)))
+
+pub returns-else-is_rule-clause-bound : goal.returns-else-is_rule-clause-bound
+returns-else-is_rule-clause-bound c = grind (arith, common_steps)
+
+pub overflow_add-reader : goal.overflow_add-reader
+overflow_add-reader c = grind (arith, common_steps)

@@ -1,4 +1,5 @@
-use Rattle.std.proofs.Common.{◌≡◌, ℕ, Bool, true, List, [], ◌∷◌, Result, Ok, Err, length, IfOk, sym, ap, ◌∙◌}
+use Rattle.std.proofs.Common.{◌≡◌, ℕ, Bool, true, List, [], ◌∷◌, Result, Ok, Err, length, IfOk, sym, ap, ◌∙◌, arith}
+use Rattle.std.proofs.lemmas.Grind.{common_steps}
 use Rattle.std.proofs.lemmas.Result.{err_from_is_err_and}
 use Rattle.vpg_diagram.specs.FeatureDiagram.{Line, Mandatory, Optional, Alternative, Or, Requires, Excludes}
 use Rattle.vpg_diagram.specs.DiagramText.{Form}
@@ -103,3 +104,42 @@ returns-in_err-feature-in-Excludes-clause-names c = let p = err_from_is_err_and 
 
 pub returns-in_ok-feature-in-Excludes-clause-line : goal.returns-in_ok-feature-in-Excludes-clause-line
 returns-in_ok-feature-in-Excludes-clause-line c = ap (λ f. line_at c.args.names.now c.args.rules (view_form f)) c.in-Excludes.is ∙ c.in_ok-feature-in-Excludes.ensures.ok Excludes
+
+pub returns-in_ok-family-in-Group-clause-line : goal.returns-in_ok-family-in-Group-clause-line
+returns-in_ok-family-in-Group-clause-line c = grind (arith, common_steps)
+
+pub overflow_cast-result : goal.overflow_cast-result
+overflow_cast-result c = grind (arith, common_steps)
+
+pub overflow_cast-result-in-Group : goal.overflow_cast-result-in-Group
+overflow_cast-result-in-Group c = grind (arith, common_steps)
+
+pub returns-in_err-family-in-Group-clause-refused : goal.returns-in_err-family-in-Group-clause-refused
+returns-in_err-family-in-Group-clause-refused c = grind (arith, common_steps)
+
+pub returns-in_ok-family-in-Group-clause-names : goal.returns-in_ok-family-in-Group-clause-names
+returns-in_ok-family-in-Group-clause-names c = grind (arith, common_steps)
+
+pub returns-in_ok-family-in-Or-clause-names : goal.returns-in_ok-family-in-Or-clause-names
+returns-in_ok-family-in-Or-clause-names c = grind (arith, common_steps)
+
+pub returns-in_ok-family-in-Alternative-clause-names : goal.returns-in_ok-family-in-Alternative-clause-names
+returns-in_ok-family-in-Alternative-clause-names c = grind (arith, common_steps)
+
+pub returns-in_ok-family-in-Optional-clause-names : goal.returns-in_ok-family-in-Optional-clause-names
+returns-in_ok-family-in-Optional-clause-names c = grind (arith, common_steps)
+
+pub returns-in_ok-feature-in-Excludes-clause-names : goal.returns-in_ok-feature-in-Excludes-clause-names
+returns-in_ok-feature-in-Excludes-clause-names c = grind (arith, common_steps)
+
+pub returns-in_ok-family-in-Mandatory-clause-names : goal.returns-in_ok-family-in-Mandatory-clause-names
+returns-in_ok-family-in-Mandatory-clause-names c = grind (arith, common_steps)
+
+pub returns-in_ok-feature-in-Requires-clause-names : goal.returns-in_ok-feature-in-Requires-clause-names
+returns-in_ok-feature-in-Requires-clause-names c = grind (arith, common_steps)
+
+pub returns-in_err-feature-in-Excludes-clause-refused : goal.returns-in_err-feature-in-Excludes-clause-refused
+returns-in_err-feature-in-Excludes-clause-refused c = grind (arith, common_steps)
+
+pub returns-in_err-feature-in-Requires-clause-refused : goal.returns-in_err-feature-in-Requires-clause-refused
+returns-in_err-feature-in-Requires-clause-refused c = grind (arith, common_steps)

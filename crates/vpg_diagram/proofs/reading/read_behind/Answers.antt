@@ -1,4 +1,5 @@
 use Rattle.std.proofs.Common.{◌+◌, sym, ap, ◌∙◌, inr, subst, arith}
+use Rattle.std.proofs.lemmas.Grind.{common_steps}
 use Rattle.std.specs.Str.Lines.{lines}
 use Rattle.vpg_diagram.specs.DiagramReading.{At, read_lines}
 use Rattle.vpg_diagram.specs.LineView.{lines_of}
@@ -35,3 +36,30 @@ returns-in-Err-Refused-clause-refused c =
       sym c.loop-rest.invariant.reads ∙ (ap (λ ls. continued old.names (lines_of old.lines.items) (read_lines number ls old.names old.rules)) c.first_line.ensures.lines ∙ line_refused number line behind old c.in-Err-Refused.kind written why),
       c.at.ensures ∙ ap (fault_at number) c.in-Err-Refused.kind-is,
     )
+
+pub returns-clause-read : goal.returns-clause-read
+returns-clause-read c = grind (arith, common_steps)
+
+pub returns-in-Err-Memory-clause-refused : goal.returns-in-Err-Memory-clause-refused
+returns-in-Err-Memory-clause-refused c = grind (arith, common_steps)
+
+pub first_line-requires : goal.first_line-requires
+first_line-requires c = grind (arith, common_steps)
+
+pub loop-rest-smaller : goal.loop-rest-smaller
+loop-rest-smaller c = grind (arith, common_steps)
+
+pub loop-rest-smaller-then-is_blank_line : goal.loop-rest-smaller-then-is_blank_line
+loop-rest-smaller-then-is_blank_line c = grind (arith, common_steps)
+
+pub loop-rest-preserved-then-is_blank_line : goal.loop-rest-preserved-then-is_blank_line
+loop-rest-preserved-then-is_blank_line c = grind (arith, common_steps)
+
+pub add_line-requires : goal.add_line-requires
+add_line-requires c = grind (arith, common_steps)
+
+pub overflow_add-number : goal.overflow_add-number
+overflow_add-number c = grind (arith, common_steps)
+
+pub loop-rest-init : goal.loop-rest-init
+loop-rest-init c = grind (arith, common_steps)

@@ -1,4 +1,5 @@
-use Rattle.std.proofs.Common.{option_map, inr, refl, sym, ap, ◌∙◌}
+use Rattle.std.proofs.Common.{option_map, inr, refl, sym, ap, ◌∙◌, arith}
+use Rattle.std.proofs.lemmas.Grind.{common_steps}
 use Rattle.vpg_diagram.specs.DiagramReading.{At, Syntax, UnknownFeature, after_root}
 use Rattle.vpg_diagram.specs.FormView.{view_form}
 use Rattle.vpg_diagram.proofs.ReadLoop.{no_root_form, ok_keeps, err_keeps}
@@ -17,3 +18,6 @@ returns-clause-refused c = elim c.match-form.branch [
     refl,
   ))
 ]
+
+pub returns-clause-name : goal.returns-clause-name
+returns-clause-name c = grind (arith, common_steps)

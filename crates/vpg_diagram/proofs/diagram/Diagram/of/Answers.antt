@@ -1,4 +1,5 @@
-use Rattle.std.proofs.Common.{◌≡◌, ℕ, List, refl, sym, ◌∙◌, subst}
+use Rattle.std.proofs.Common.{◌≡◌, ℕ, List, refl, sym, ◌∙◌, subst, arith}
+use Rattle.std.proofs.lemmas.Grind.{common_steps}
 use Rattle.std.specs.List.{AllByRecursion}
 use Rattle.vpg_diagram.specs.declared.clause.Literal.{Literal}
 use Rattle.vpg_diagram.specs.Clauses.{clauses_of, IsClauseBelow}
@@ -25,3 +26,6 @@ invariant_of-result c = record {
   counts_are = rw (c.in_ok-counts.ensures, c.deref-2.ensures.value) refl;
   indexed = rw (← c.deref-3.ensures.value, ← c.deref-4.ensures.value) c.in_ok-index.ensures;
 }
+
+pub returns : goal.returns
+returns c = grind (arith, common_steps)
