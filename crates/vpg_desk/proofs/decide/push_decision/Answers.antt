@@ -7,3 +7,6 @@ returns-clause-past c = grind (arith, common_steps)
 
 pub returns-clause-notes : goal.returns-clause-notes
 returns-clause-notes c = grind (arith, common_steps)
+
+pub returns-clause-below : goal.returns-clause-below
+returns-clause-below c = grind (arith, common_steps)
