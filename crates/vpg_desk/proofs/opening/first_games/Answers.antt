@@ -7,6 +7,3 @@ returns-in_ok-share-in-Ok-clause-games c = grind (arith, common_steps)
 
 pub returns-in_ok-share-in-Ok-clause-at_limit : goal.returns-in_ok-share-in-Ok-clause-at_limit
 returns-in_ok-share-in-Ok-clause-at_limit c = grind (arith, common_steps)
-
-pub returns-in-Err-Conflict-clause-conflict : goal.returns-in-Err-Conflict-clause-conflict
-returns-in-Err-Conflict-clause-conflict c = grind (arith, common_steps)

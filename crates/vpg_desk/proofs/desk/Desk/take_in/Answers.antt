@@ -24,11 +24,5 @@ pub returns-clause-refused : goal.returns-clause-refused
 returns-clause-refused c =
     own_told c.args.self.now c.args.harvest.now (ours (goal.at.returns-clause-refused c).After-is_order_of c.if-not-is_order_of.false) c.take_own.result c.take_own.ensures.refused
 
-pub returns-clause-last : goal.returns-clause-last
-returns-clause-last c = grind (arith, common_steps)
-
 pub take_own-requires : goal.take_own-requires
 take_own-requires c = grind (arith, common_steps)
-
-pub returns-clause-same : goal.returns-clause-same
-returns-clause-same c = grind (arith, common_steps)
