@@ -1,4 +1,5 @@
-use Rattle.std.proofs.Common.{◌∙◌, ◌++◌, ℕ, List, All, length, sym, ap, subst}
+use Rattle.std.proofs.lemmas.Grind.{common_steps}
+use Rattle.std.proofs.Common.{◌∙◌, ◌++◌, ℕ, List, All, length, sym, ap, subst, arith}
 use Rattle.std.proofs.lemmas.List.Elements.{All-append}
 use Rattle.vpg_trail.specs.Page.{Hopeful, Dual}
 use Rattle.vpg_trail.specs.Shown.{entry_of, VertexBelow}
@@ -24,3 +25,6 @@ returns-clause-below c =
     subst (λ (l : List Entry). All (λ e. VertexBelow c.args.trail.now.vertices (entry_of e)) l) (sym c.in_ok-append.ensures.items)
     (subst (λ (n : ℕ). All (λ (e : Entry). VertexBelow n (entry_of e)) (c.in_ok-raised.raised.items ++ c.in_ok-dual.dual.items)) c.vertices-vertices.ensures
     (All-append (λ (e : Entry). VertexBelow c.vertices-vertices.result (entry_of e)) c.in_ok-raised.raised.items c.in_ok-dual.dual.items c.in_ok-raised.ensures.vertices c.in_ok-dual.ensures.vertices))
+
+pub returns-clause-lifts : goal.returns-clause-lifts
+returns-clause-lifts c = grind (arith, common_steps)

@@ -1,3 +1,4 @@
+use Rattle.std.proofs.lemmas.Grind.{common_steps}
 use Rattle.std.proofs.Common.{◌≡◌, ◌∙◌, ◌+◌, ◌<◌, ◌≤◌, ◌++◌, ◌∷◌, [], ℕ, None, Result, Ok, Err, IfErr, IfSome, IsTrue, refl, sym, ap, subst, arith, map, List, length}
 use Rattle.std.proofs.lemmas.Result.{err_from_is_err_and}
 use Rattle.std.specs.Arc.{arc_value}
@@ -153,3 +154,6 @@ refused_as_known-requires-clause-feature c =
 pub refused_as_known-requires-clause-fresh : goal.refused_as_known-requires-clause-fresh
 refused_as_known-requires-clause-fresh c =
     subst (λ (s : DeskState). decision_on c.args.feature s.book.present ≡ None) c.self.view_is (sym (c.in_default.ensures ∙ ap (decision_on c.args.feature) c.entries.ensures.entries))
+
+pub returns-then-self-eq-MOST_CHANGES-clause-known : goal.returns-then-self-eq-MOST_CHANGES-clause-known
+returns-then-self-eq-MOST_CHANGES-clause-known c = grind (arith, common_steps)

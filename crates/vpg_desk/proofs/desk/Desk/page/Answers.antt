@@ -1,4 +1,5 @@
-use Rattle.std.proofs.Common.{subst}
+use Rattle.std.proofs.lemmas.Grind.{common_steps}
+use Rattle.std.proofs.Common.{subst, arith}
 use Rattle.vpg_desk.specs.Desk.{family_of}
 use Rattle.vpg_desk.specs.Headline.{Tells}
 use Rattle.vpg_desk.specs.Lawful.{PageIsBelow}
@@ -18,3 +19,9 @@ returns-clause-setting c = subst (λ (s : DeskState). IsSetting (setting_of s)) 
 
 pub returns-clause-reached : goal.returns-clause-reached
 returns-clause-reached c = subst (λ (s : DeskState). IsReached (setting_of s) s.book) c.self.view_is c.self.invariant.reached
+
+pub returns-clause-reply : goal.returns-clause-reply
+returns-clause-reply c = grind (arith, common_steps)
+
+pub returns-clause-hopeful : goal.returns-clause-hopeful
+returns-clause-hopeful c = grind (arith, common_steps)

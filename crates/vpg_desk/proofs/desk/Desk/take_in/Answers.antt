@@ -1,4 +1,5 @@
-use Rattle.std.proofs.Common.{◌≡◌, Bool, true, subst}
+use Rattle.std.proofs.lemmas.Grind.{common_steps}
+use Rattle.std.proofs.Common.{◌≡◌, Bool, true, subst, arith}
 use Rattle.std.specs.Bool.{Decides}
 use Rattle.vpg_desk.specs.Book.{Commit, Refused, OtherGame}
 use Rattle.vpg_desk.specs.Commit.{IsOrderOf, handed_in}
@@ -22,3 +23,6 @@ ours c same = subst (λ (s : DeskState). IsOrderOf s c.args.harvest.now.order) c
 pub returns-clause-refused : goal.returns-clause-refused
 returns-clause-refused c =
     own_told c.args.self.now c.args.harvest.now (ours (goal.at.returns-clause-refused c).After-is_order_of c.if-not-is_order_of.false) c.take_own.result c.take_own.ensures.refused
+
+pub take_own-requires : goal.take_own-requires
+take_own-requires c = grind (arith, common_steps)
