@@ -511,7 +511,7 @@ impl<L: Terms> Engine<L> {
     }
 
     /// Carries a request out, sweeping with 1 to 64 lifters, and appends its answer. A question about the page is not
-    /// the engine's: `Stray`, and nothing changes.
+    /// the engine's, and never answered: the fault is `Stray`.
     pub fn carry_out<T: Threads + Wait + Sync>(
         &mut self,
         rt: &T,
