@@ -1,5 +1,5 @@
 // What plain_copy.py puts around the functions of vpg_regions and vpg_guess: types of the same names, and a `main`.
-#![allow(unused, dead_code)]
+#![allow(unused, dead_code, private_interfaces)]
 
 macro_rules! vec {
     (in $alloc:expr; $value:expr; $count:expr) => {
@@ -208,6 +208,7 @@ pub mod shim {
 // The crates stand here.
 
 use shim::{Arena, Global, GuardedGame, Player};
+use vpg_guess::ground::{Groundwork, TableGround, shape_in};
 use vpg_measure::lifts::settle_alone;
 use vpg_measure::{Shape, Table, is_progress};
 use vpg_regions::Budget;
@@ -301,37 +302,44 @@ impl Page {
         (0..2).all(|k| is_progress(&self.shapes[k], &self.arenas[k], &tables[k]))
     }
 
-    fn raised(&self, k: usize, dual_shape: &Shape, table: &Table, budget: &mut Budget) -> (Table, bool) {
+    fn raised(
+        &self,
+        k: usize,
+        dual: &Shape,
+        kept: &mut Option<TableGround>,
+        table: &Table,
+        budget: &mut Budget,
+    ) -> (Table, bool) {
         let mut table = table.copy(Global).unwrap();
         let (shape, arena) = (&self.shapes[k], &self.arenas[k]);
-        let raised = vpg_guess::raising::raise_within(Global, shape, dual_shape, arena, &mut table, budget);
+        let raised = vpg_guess::raising::raise_within(Global, shape, dual, arena, kept, &mut table, budget);
         (table, raised.unwrap())
     }
 
     /// As `harvest_by_bounds`.
-    fn guessed(&self, tables: &[Table; 2]) -> ([Table; 2], bool) {
-        let again = Shape::of_dual_of_dual(Global, &self.game).unwrap();
+    fn guessed(&self, tables: &[Table; 2], kept: &mut Groundwork) -> ([Table; 2], bool) {
+        let again = shape_in(Global, &self.game, &mut kept.dual_of_dual).unwrap();
         let mut budget = Budget::new(BUDGET);
         let mut share = budget.take_half();
-        let (hopeful, one) = self.raised(0, &self.shapes[1], &tables[0], &mut share);
+        let (hopeful, one) = self.raised(0, &self.shapes[1], &mut kept.hopeful, &tables[0], &mut share);
         budget.give_back(share);
-        let (dual, other) = self.raised(1, &again, &tables[1], &mut budget);
+        let (dual, other) = self.raised(1, again, &mut kept.dual, &tables[1], &mut budget);
         ([hopeful, dual], one && other)
     }
 
     /// As a line `settle`: a sweep comes first where the tables are of zeros.
-    fn settled(&self, tables: &[Table; 2]) -> ([Table; 2], bool) {
+    fn settled(&self, tables: &[Table; 2], kept: &mut Groundwork) -> ([Table; 2], bool) {
         let mut swept = [0, 1].map(|k| tables[k].copy(Global).unwrap());
         if self.is_settled(&swept) {
             return (swept, true);
         }
         if tables.iter().any(|table| table.values().iter().any(|value| *value != 0)) {
-            return self.guessed(tables);
+            return self.guessed(tables, kept);
         }
         for k in 0..2 {
             settle_alone(&self.shapes[k], &self.arenas[k], &mut swept[k], 1);
         }
-        if self.is_settled(&swept) { (swept, true) } else { self.guessed(&swept) }
+        if self.is_settled(&swept) { (swept, true) } else { self.guessed(&swept, kept) }
     }
 }
 
@@ -351,13 +359,13 @@ fn main() {
     let vertices = read(&std::fs::read_to_string(&words[1]).unwrap());
     let (page, without_f) = (Page::of(&vertices, false), Page::of(&vertices, true));
     let zeros = [0, 1].map(|_| Table::zero(Global, vertices.len() as u32).unwrap());
-    let before = spent();
+    let (mut kept, before) = (Groundwork::none(), spent());
     if words[2] == "zeros" {
-        println!("{}", told(before, &page.guessed(&zeros)));
+        println!("{}", told(before, &page.guessed(&zeros, &mut kept)));
     } else {
-        let first = page.settled(&zeros);
+        let first = page.settled(&zeros, &mut kept);
         let line = told(before, &first);
         let before = spent();
-        println!("{line} {}", told(before, &without_f.settled(&first.0)));
+        println!("{line} {}", told(before, &without_f.settled(&first.0, &mut kept)));
     }
 }

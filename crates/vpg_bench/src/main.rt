@@ -28,7 +28,7 @@ use std::{env, fs};
 use vpg_board::{Board, Gate, OpenGate, Predecessors, Seat, sweep_along};
 use vpg_diagram::Diagram;
 use vpg_game::GuardedGame;
-use vpg_guess::harvest_by_bounds;
+use vpg_guess::{Groundwork, harvest_by_bounds};
 use vpg_measure::laws::orders::zeros_are_opening;
 use vpg_measure::{Harvest, Order, Refused, Table};
 use vpg_verdict::Which;
@@ -167,7 +167,7 @@ fn swept_from<G: Gate + Sync, T: Threads + Wait + Sync>(
 
 /// The harvest of certified guesses. Where they find no memory, that of the order as it is.
 fn by_bounds(alloc: Global, order: Order) -> Harvest {
-    match harvest_by_bounds(alloc, order, BUDGET) {
+    match harvest_by_bounds(alloc, order, &mut Groundwork::none(), BUDGET) {
         Ok(harvest) => harvest,
         Err(order) => Harvest::alone(order, 0),
     }

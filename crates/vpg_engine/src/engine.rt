@@ -30,6 +30,7 @@ use vpg_desk::OpenFault;
 use vpg_diagram::Diagram;
 use vpg_game::GuardedGame;
 use vpg_guards::Names;
+use vpg_guess::Groundwork;
 use vpg_measure::{Harvest, Order};
 use vpg_office::{Never, NotOpened, Redo, Site, Terms, Undo};
 use vpg_script::{Command, Lookup, Request};
@@ -46,7 +47,8 @@ const SWEEPS: u64 = 1_000_000;
 
 /// The client of an office, with its game and its diagram, the tokens that are held, the harvests that were kept, and
 /// the verdicts that were told last, none before the first time. Harvest K stands at place K - 1 until it is committed.
-/// Contracts see the client, and what is held. An engine can't be let go: `end` spends its tokens.
+/// What guesses make of the game alone is kept from the first of them on. Contracts see the client, and what is held.
+/// An engine can't be let go: `end` spends its tokens.
 pub struct Engine<L: Terms> {
     game: Arc<GuardedGame>,
     diagram: Arc<Diagram>,
@@ -55,6 +57,7 @@ pub struct Engine<L: Terms> {
     redos: Vec<Redo<L>>,
     harvests: Vec<Option<Harvest>>,
     seen: Vec<Verdict>,
+    ground: Groundwork,
 }
 
 impl<L: Terms> Model for Engine<L> {
@@ -290,7 +293,8 @@ impl<L: Terms> Engine<L> {
             Ok(order) => order,
             Err(fault) => return lines::put_unanswered(fault, out),
         };
-        let harvest = swept(rt, alloc, order, SWEEPS, lifters, &OpenGate).harvest;
+        let ground = &mut self.ground;
+        let harvest = swept(rt, alloc, order, SWEEPS, lifters, &OpenGate, ground).harvest;
         self.harvests.push_reserved(Some(harvest));
         lines::numbered(b"harvest", self.harvests.len() as u64, out)
     }
@@ -344,6 +348,7 @@ impl<L: Terms> Engine<L> {
             sweeps.unwrap_or(SWEEPS),
             lifters,
             &OpenGate,
+            &mut self.ground,
         )
         .harvest;
         let added = match self.client.commit_own(rt, alloc, session, harvest) {
@@ -453,6 +458,7 @@ impl<L: Terms> Engine<L> {
                 redos: Vec::new(alloc),
                 harvests: Vec::new(alloc),
                 seen: Vec::new(alloc),
+                ground: Groundwork::none(),
             }),
             Err(refused) => Err(refused.fault),
         }
@@ -472,6 +478,7 @@ impl<L: Terms> Engine<L> {
             redos,
             harvests: _,
             seen: _,
+            ground: _,
         } = self;
         client.end(rt, undos, redos)
     }

@@ -4,6 +4,7 @@ ghost use Rattle.std.specs.Thread.{IsSync};
 ghost use Rattle.vpg_measure.specs.Lifts.{IsProgressTable, IsBelowTable, after_rounds};
 ghost use Rattle.vpg_measure.specs.Orders.{IsSameOrder, IsHarvest, IsRaised, order_levels, order_arena, order_table, harvest_table};
 
+use crate::ground::{Groundwork, TableGround, shape_in};
 use crate::raising::{RaisedTable, harvest_of, raised};
 use std::alloc::{AllocError, Global};
 use std::sync::Wait;
@@ -18,6 +19,7 @@ fn raised_alone(
     order: &Order,
     which: Which,
     dual_shape: &Shape,
+    kept: &mut Option<TableGround>,
     budget: u64,
 ) -> Result<RaisedTable, AllocError>
     ensures raised { IfOk result (λ found. IsRaised which order.now found.table) }
@@ -29,7 +31,7 @@ fn raised_alone(
         IsProgressTable (order_levels which order.now) (order_arena which order.now) found.table) }
 {
     let mut budget = Budget::new(budget);
-    raised(alloc, order, which, dual_shape, &mut budget)
+    raised(alloc, order, which, dual_shape, kept, &mut budget)
 }
 
 // Both tables, each by a thread and within this budget.
@@ -38,6 +40,8 @@ fn each_raised<R: Threads + Wait + Sync>(
     alloc: Global,
     order: &Order,
     again: &Shape,
+    kept_hopeful: &mut Option<TableGround>,
+    kept_dual: &mut Option<TableGround>,
     budget: u64,
 ) -> (
     Result<RaisedTable, AllocError>,
@@ -71,6 +75,7 @@ fn each_raised<R: Threads + Wait + Sync>(
                 order,
                 Which::Hopeful,
                 order.shape(Which::Dual),
+                kept_hopeful,
                 budget,
             )
         },
@@ -81,7 +86,7 @@ fn each_raised<R: Threads + Wait + Sync>(
                 (order_arena Which.Dual order.entry.now) 1 (order_table Which.Dual order.entry.now)) found.table
                 × (IsTrue found.settled → IsProgressTable (order_levels Which.Dual order.entry.now)
                 (order_arena Which.Dual order.entry.now) found.table)) }
-        { raised_alone(alloc, order, Which::Dual, again, budget) },
+        { raised_alone(alloc, order, Which::Dual, again, kept_dual, budget) },
     )
 }
 
@@ -90,6 +95,7 @@ fn both_raised_at_once<R: Threads + Wait + Sync>(
     rt: &R,
     alloc: Global,
     order: &Order,
+    kept: &mut Groundwork,
     budget: u64,
 ) -> Result<(RaisedTable, RaisedTable), AllocError>
     ensures hopeful { IfOk result
@@ -105,8 +111,16 @@ fn both_raised_at_once<R: Threads + Wait + Sync>(
         × (IsTrue tables.1.settled → IsProgressTable (order_levels Which.Dual order.now)
         (order_arena Which.Dual order.now) tables.1.table)) }
 {
-    let again = Shape::of_dual_of_dual(alloc, order.game())?;
-    let (hopeful, dual) = each_raised(rt, alloc, order, &again, budget / 2);
+    let again = shape_in(alloc, order.game(), &mut kept.dual_of_dual)?;
+    let (hopeful, dual) = each_raised(
+        rt,
+        alloc,
+        order,
+        again,
+        &mut kept.hopeful,
+        &mut kept.dual,
+        budget / 2,
+    );
     Ok((hopeful?, dual?))
 }
 
@@ -116,6 +130,7 @@ pub fn harvest_by_bounds_at_once<R: Threads + Wait + Sync>(
     rt: &R,
     alloc: Global,
     order: Order,
+    kept: &mut Groundwork,
     budget: u64,
 ) -> Result<Harvest, Order>
     ensures order { IfOk result (λ harvest. IsSameOrder harvest.order order) }
@@ -128,7 +143,7 @@ pub fn harvest_by_bounds_at_once<R: Threads + Wait + Sync>(
         (harvest_table which harvest)) }
     ensures back { IfErr result (λ same. same ≡ order) }
 {
-    match both_raised_at_once(rt, alloc, &order, budget) {
+    match both_raised_at_once(rt, alloc, &order, kept, budget) {
         Ok((hopeful, dual)) => Ok(harvest_of(order, hopeful, dual)),
         Err(_) => Err(order),
     }

@@ -1,13 +1,16 @@
 //! What guesses of one table are made over.
 use crate::scale::Scale;
 use std::alloc::{AllocError, Global};
-use vpg_game::Player;
+use vpg_game::{GuardedGame, Player};
 use vpg_hope::Arena;
 use vpg_measure::Shape;
 use vpg_regions::{Graph, PerVertex, Predecessors};
 
 /// A part with less than one in so many of the vertices is small.
 const SMALL_PART: usize = 4;
+
+/// Lists of an earlier page serve where at most one in so many of their edges and vertices is gone.
+const STALE: u64 = 8;
 
 /// What lifts go by: who moves to each vertex, and how measures grow for Even.
 #[derive(Clone, Copy)]
@@ -30,6 +33,94 @@ impl LiftGround<'_> {
     pub(crate) fn is_small_part(self, count: usize) -> bool {
         count < self.vertices() as usize / SMALL_PART
     }
+}
+
+/// What lifts of one table go by, as it was made for some page of a game. On other pages some edges are others: the
+/// lists may miss one that lifts would follow, and never cost a clause.
+pub(crate) struct TableGround {
+    pub(crate) predecessors: Predecessors,
+    pub(crate) even: Scale,
+}
+
+// Not derived, so that letting one go is one call: a derived way would be proved anew at each exit that owns one.
+impl Drop for TableGround {
+    fn drop(self) {
+        let TableGround {
+            predecessors: _,
+            even: _,
+        } = self;
+    }
+}
+
+impl TableGround {
+    pub(crate) fn lifts(&self) -> LiftGround<'_> {
+        LiftGround {
+            predecessors: &self.predecessors,
+            even: &self.even,
+        }
+    }
+
+    /// Whether the lists serve another page of the game, whose arena this is: it has as many edges or a few less.
+    pub(crate) fn serves(&self, arena: &Arena) -> bool {
+        let listed = self.predecessors.size();
+        let present = size_of(arena);
+        present <= listed && listed.saturating_sub(listed / STALE) <= present
+    }
+
+    fn into_parts(self) -> (Predecessors, Scale) {
+        let TableGround { predecessors, even } = self;
+        (predecessors, even)
+    }
+
+    /// The same for another page of the game, whose arena this is.
+    pub(crate) fn renewed(self, alloc: Global, arena: &Arena) -> Result<TableGround, AllocError> {
+        let (_, even) = self.into_parts();
+        let predecessors = Predecessors::of(alloc, arena)?;
+        Ok(TableGround { predecessors, even })
+    }
+}
+
+/// What guesses make of a game, kept from one of its pages to the next: what lifts of either table go by, and the shape
+/// of the dual's dual. That of another game costs time, and never a clause.
+pub struct Groundwork {
+    pub(crate) hopeful: Option<TableGround>,
+    pub(crate) dual: Option<TableGround>,
+    pub(crate) dual_of_dual: Option<Shape>,
+}
+
+// Not derived, so that letting one go is one call: a derived way would be proved anew at each exit that owns one.
+impl Drop for Groundwork {
+    fn drop(self) {
+        let Groundwork {
+            hopeful: _,
+            dual: _,
+            dual_of_dual: _,
+        } = self;
+    }
+}
+
+impl Groundwork {
+    /// Nothing yet.
+    pub fn none() -> Groundwork {
+        Groundwork {
+            hopeful: None,
+            dual: None,
+            dual_of_dual: None,
+        }
+    }
+}
+
+/// The shape of the dual's dual of a game, made first where it isn't kept.
+pub(crate) fn shape_in<'a>(
+    alloc: Global,
+    game: &GuardedGame,
+    kept: &'a mut Option<Shape>,
+) -> Result<&'a Shape, AllocError> {
+    let shape = match kept.take() {
+        Some(shape) => shape,
+        None => Shape::of_dual_of_dual(alloc, game)?,
+    };
+    Ok(kept.insert(shape))
 }
 
 /// A graph, and how measures grow along its edges for either player.
@@ -59,26 +150,40 @@ impl GuessGround {
     ) -> Result<GuessGround, AllocError> {
         let even = Scale::of(alloc, arena, shape, Player::Even)?;
         let predecessors = Predecessors::of(alloc, arena)?;
-        GuessGround::over(alloc, dual_shape, arena, even, predecessors)
+        let lifts = TableGround { predecessors, even };
+        GuessGround::over(alloc, dual_shape, arena, lifts)
     }
 
-    /// The same, with this scale for Even and these predecessors.
+    /// The same, with what its lifts go by.
     pub(crate) fn over(
         alloc: Global,
         dual_shape: &Shape,
         arena: &Arena,
-        even: Scale,
-        predecessors: Predecessors,
+        lifts: TableGround,
     ) -> Result<GuessGround, AllocError> {
+        let (predecessors, even) = lifts.into_parts();
         let odd = Scale::of(alloc, arena, dual_shape, Player::Odd)?;
         let graph = Graph::over(alloc, arena, predecessors)?;
         Ok(GuessGround { graph, even, odd })
     }
 
+    /// What its lifts go by, all else let go.
+    pub(crate) fn into_lifts(self) -> TableGround {
+        let GuessGround {
+            graph,
+            even,
+            odd: _,
+        } = self;
+        TableGround {
+            predecessors: graph.into_predecessor_lists(),
+            even,
+        }
+    }
+
     /// What lifts go by.
     pub(crate) fn lifts(&self) -> LiftGround<'_> {
         LiftGround {
-            predecessors: self.graph.moves_back(),
+            predecessors: self.graph.predecessor_lists(),
             even: &self.even,
         }
     }
@@ -124,6 +229,15 @@ impl GuessGround {
         }
         Ok(weights)
     }
+}
+
+// How many edges and vertices there are in an arena.
+fn size_of(arena: &Arena) -> u64 {
+    let mut size = u64::from(arena.vertices());
+    for v in 0..arena.vertices() {
+        size = size.saturating_add(arena.kept(v).len() as u64);
+    }
+    size
 }
 
 /// A vertex's value in a table.

@@ -8,7 +8,8 @@
 //! below every progress table that it was below.
 //!
 //! The layer above uses `raise_by_bounds` for one table, `harvest_by_bounds` for both tables of an order, and
-//! `harvest_by_bounds_at_once` for both with a thread for each.
+//! `harvest_by_bounds_at_once` for both with a thread for each. What those make of a game is its `Groundwork`, which
+//! the layer above keeps from one page to the next.
 //! Definitions: those of `vpg_measure` (`specs/Bounds`, `specs/Lifts`, `specs/Orders`).
 #![tactic(auto)]
 
@@ -25,4 +26,5 @@ mod subgame;
 mod values;
 
 pub use at_once::harvest_by_bounds_at_once;
+pub use ground::Groundwork;
 pub use raising::{harvest_by_bounds, raise_by_bounds};

@@ -11,7 +11,7 @@ use std::sync::Wait;
 use std::test::*;
 use std::thread::Threads;
 use vpg_board::{Gate, OpenGate, sweep};
-use vpg_guess::{harvest_by_bounds, harvest_by_bounds_at_once};
+use vpg_guess::{Groundwork, harvest_by_bounds, harvest_by_bounds_at_once};
 use vpg_measure::{Harvest, Order};
 use vpg_settle::swept;
 use vpg_verdict::Which;
@@ -62,8 +62,14 @@ fn harvest<G: Gate + Sync, R: Threads + Wait + Abort + AllocGlobal + Sync>(
         }
         Alone(rounds) => Harvest::alone(order, rounds),
         Given(rounds) => handed_in(rt, order, rounds),
-        Bounds => given(rt, harvest_by_bounds(rt.alloc(), order, BUDGET)),
-        AtOnce => given(rt, harvest_by_bounds_at_once(rt, rt.alloc(), order, BUDGET)),
+        Bounds => given(
+            rt,
+            harvest_by_bounds(rt.alloc(), order, &mut Groundwork::none(), BUDGET),
+        ),
+        AtOnce => given(
+            rt,
+            harvest_by_bounds_at_once(rt, rt.alloc(), order, &mut Groundwork::none(), BUDGET),
+        ),
         Seated(sitting) => seated(rt, order, sitting),
         How::Sweep(lifters) => {
             assert!(rt; 1 <= lifters && lifters <= 64);
@@ -71,7 +77,16 @@ fn harvest<G: Gate + Sync, R: Threads + Wait + Abort + AllocGlobal + Sync>(
         }
         How::Swept(lifters) => {
             assert!(rt; 1 <= lifters && lifters <= 64);
-            swept(rt, rt.alloc(), order, 1, lifters, gate).harvest
+            swept(
+                rt,
+                rt.alloc(),
+                order,
+                1,
+                lifters,
+                gate,
+                &mut Groundwork::none(),
+            )
+            .harvest
         }
     }
 }

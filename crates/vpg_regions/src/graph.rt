@@ -346,8 +346,20 @@ impl Graph {
     }
 
     /// Who moves to each vertex.
-    pub fn moves_back(&self) -> &Predecessors {
+    pub fn predecessor_lists(&self) -> &Predecessors {
         &self.predecessors
+    }
+
+    /// The same, all else let go.
+    pub fn into_predecessor_lists(self) -> Predecessors {
+        let Graph {
+            count: _,
+            owners: _,
+            priorities: _,
+            successors: _,
+            predecessors,
+        } = self;
+        predecessors
     }
 
     /// The greatest priority of some vertices.

@@ -9,7 +9,7 @@ use std::alloc::Global;
 use std::sync::Wait;
 use std::thread::Threads;
 use vpg_board::{Gate, Predecessors, sweep_along};
-use vpg_guess::{harvest_by_bounds, harvest_by_bounds_at_once};
+use vpg_guess::{Groundwork, harvest_by_bounds, harvest_by_bounds_at_once};
 use vpg_measure::{Harvest, Order, Table};
 use vpg_verdict::Which;
 
@@ -248,15 +248,16 @@ fn raise_tables<T: Threads + Wait + Sync>(
     alloc: Global,
     order: Order,
     lifters: u32,
+    kept: &mut Groundwork,
 ) -> Result<Harvest, Order>
     ensures order { IfOk result (λ harvest. IsSameOrder harvest.order order) }
     ensures harvest { IfOk result IsHarvest }
     ensures back { IfErr result (λ same. same ≡ order) }
 {
     if lifters > 1 {
-        harvest_by_bounds_at_once(rt, alloc, order, BUDGET)
+        harvest_by_bounds_at_once(rt, alloc, order, kept, BUDGET)
     } else {
-        harvest_by_bounds(alloc, order, BUDGET)
+        harvest_by_bounds(alloc, order, kept, BUDGET)
     }
 }
 
@@ -266,13 +267,14 @@ fn guess<T: Threads + Wait + Sync>(
     alloc: Global,
     order: Order,
     lifters: u32,
+    kept: &mut Groundwork,
 ) -> Result<Harvest, Order>
     ensures order { IfOk result (λ harvest. IsSameOrder harvest.order order) }
     ensures harvest { IfOk result IsHarvest }
     ensures guessed { IfOk result (IsGuessed order) }
     ensures back { IfErr result (λ same. same ≡ order) }
 {
-    raise_tables(rt, alloc, order, lifters)
+    raise_tables(rt, alloc, order, lifters, kept)
 }
 
 /// The order raised by guesses, and swept from there where they don't settle it. Out of memory it is swept alone.
@@ -283,6 +285,7 @@ fn by_guesses<G: Gate + Sync, T: Threads + Wait + Sync>(
     sweeps: u64,
     lifters: u32,
     gate: &G,
+    kept: &mut Groundwork,
 ) -> SweptHarvest
     requires lifters { (1 ≤ lifters) × (lifters ≤ 64) }
     ensures swept { IsSweptOrder order sweeps result.harvest }
@@ -290,7 +293,7 @@ fn by_guesses<G: Gate + Sync, T: Threads + Wait + Sync>(
     ensures made { Settles lifters result.sweeps order result.harvest }
 {
     let goal = goal_of(&order, sweeps);
-    match guess(rt, alloc, order, lifters) {
+    match guess(rt, alloc, order, lifters, kept) {
         Ok(harvest) => {
             if harvest.check() {
                 let harvest = harvest.noted();
@@ -315,6 +318,8 @@ fn has_risen(table: &Table) -> bool {
 /// A guess has one budget for both tables; when it is spent, what is known until then is certified and raised. With two
 /// lifters or more each table has a thread and half of the budget. Sweeps follow, up to the number. From `MANY_SWEEPS`
 /// on they end, settled or not, where the tables exceed the order's in sum by the number.
+///
+/// What guesses make of the game alone is kept for the next order of the same game. With nothing kept a guess makes it.
 pub fn swept<G: Gate + Sync, T: Threads + Wait + Sync>(
     rt: &T,
     alloc: Global,
@@ -322,6 +327,7 @@ pub fn swept<G: Gate + Sync, T: Threads + Wait + Sync>(
     sweeps: u64,
     lifters: u32,
     gate: &G,
+    kept: &mut Groundwork,
 ) -> SweptHarvest
     requires lifters { (1 ≤ lifters) × (lifters ≤ 64) }
     ensures swept { IsSweptOrder order sweeps result.harvest }
@@ -347,12 +353,13 @@ pub fn swept<G: Gate + Sync, T: Threads + Wait + Sync>(
         return by_sweeps(rt, alloc, order, sweeps, lifters, gate, &plain);
     }
     if has_risen(order.hopeful()) || has_risen(order.dual()) {
-        return by_guesses(rt, alloc, order, sweeps, lifters, gate);
+        return by_guesses(rt, alloc, order, sweeps, lifters, gate, kept);
     }
     match sweep_often(rt, alloc, order, FIRST_SWEEPS, lifters, gate, &plain) {
         Ok(swept) => swept,
         Err(order) => {
-            let more = by_guesses(rt, alloc, order, sweeps - FIRST_SWEEPS, lifters, gate);
+            let left = sweeps - FIRST_SWEEPS;
+            let more = by_guesses(rt, alloc, order, left, lifters, gate, kept);
             SweptHarvest {
                 harvest: more.harvest,
                 sweeps: FIRST_SWEEPS + more.sweeps,

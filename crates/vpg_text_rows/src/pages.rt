@@ -18,7 +18,7 @@ use std::alloc::{AllocError, Global};
 use std::sync::Arc;
 use vpg_diagram::Diagram;
 use vpg_game::GuardedGame;
-use vpg_guess::harvest_by_bounds;
+use vpg_guess::{Groundwork, harvest_by_bounds};
 use vpg_measure::laws::orders::zeros_are_opening;
 use vpg_measure::{Order, Refused, Table};
 use vpg_partial::Decision;
@@ -99,7 +99,7 @@ fn zeros_over(
 
 /// The order with both tables raised by certified bounds.
 fn raised(order: Order, line: &mut Line) -> Option<Order> {
-    let harvest = harvest_by_bounds(line.alloc, order, 1 << 27).ok();
+    let harvest = harvest_by_bounds(line.alloc, order, &mut Groundwork::none(), 1 << 27).ok();
     line.note(harvest.is_some());
     match harvest {
         Some(harvest) => Some(harvest.again()),

@@ -3,5 +3,5 @@ use Rattle.vpg_guess.proofs.raising.raise_on.Goals as goal
 
 pub returns-clause-raised : goal.returns-clause-raised
 returns-clause-raised c =
-    kept_then c.args.shape.now c.args.arena.now c.args.table.now c.lift_each.new.table c.raise_behind.new.table
-    c.lift_each.ensures c.raise_behind.ensures.raised
+    kept_then c.args.shape.now c.args.arena.now c.args.table.now c.raise_by_kept.new.table c.raise_anew.new.table
+    c.raise_by_kept.ensures.raised c.raise_anew.ensures.raised
