@@ -160,6 +160,11 @@ impl Waiting {
         }
     }
 
+    /// Whether most vertices wait.
+    pub(crate) fn are_most(&self, ground: LiftGround<'_>) -> bool {
+        ground.vertices() as usize / 2 < self.waits.size()
+    }
+
     /// Rounds of lifts may come first: all wait that are below the top.
     pub(crate) fn begin_rounds(&mut self) {
         self.rounds = ROUNDS;

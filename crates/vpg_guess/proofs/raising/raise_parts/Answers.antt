@@ -1,6 +1,9 @@
 use Rattle.vpg_guess.proofs.Kept.{kept_self, kept_then}
 use Rattle.vpg_guess.proofs.raising.raise_parts.Goals as goal
 
+pub returns-then-are_most : goal.returns-then-are_most
+returns-then-are_most c = kept_self c.args.shape.now c.args.arena.now c.args.table.now c.requires
+
 pub loop-init : goal.loop-init
 loop-init c = kept_self c.args.shape.now c.args.arena.now c.args.table.now c.requires
 
