@@ -181,11 +181,16 @@ impl Waiting {
         }
     }
 
+    /// All that are below the top are to be looked at again, by rounds of lifts first.
+    pub(crate) fn wake_all(&mut self, ground: LiftGround<'_>, table: &[u64]) {
+        self.add_all(ground, table);
+        self.begin_rounds();
+    }
+
     /// Those that move to what rose are to be looked at again.
     pub(crate) fn wake_risen(&mut self, ground: LiftGround<'_>, table: &[u64], risen: &[u32]) {
         if ground.vertices() as usize / MANY < risen.len() {
-            self.add_all(ground, table);
-            self.begin_rounds();
+            self.wake_all(ground, table);
             return;
         }
         for v in risen {
