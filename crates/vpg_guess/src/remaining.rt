@@ -187,6 +187,13 @@ impl Waiting {
         self.begin_rounds();
     }
 
+    /// The same, where any wait.
+    pub(crate) fn wake_the_rest(&mut self, ground: LiftGround<'_>, table: &[u64]) {
+        if self.waits.size() > 0 {
+            self.wake_all(ground, table);
+        }
+    }
+
     /// Those that move to what rose are to be looked at again.
     pub(crate) fn wake_risen(&mut self, ground: LiftGround<'_>, table: &[u64], risen: &[u32]) {
         if ground.vertices() as usize / MANY < risen.len() {
