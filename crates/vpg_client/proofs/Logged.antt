@@ -47,6 +47,17 @@ unless_stray (Refused fault) p = p
 unless_stray Stray p = tt
 unless_stray Memory p = p
 
+-- what was handed in comes back as it was
+pub given_back : {G X : Type 0} (told : ClientFault G) (value : X) → UnlessStray told (value ≡ value)
+given_back told value = unless_stray told refl
+
+-- what is said of an answer that is known
+pub said_of_ok : {T E : Type 0} (answer : Result T E) (made : T) (P : T → Type 0) (Q : E → Type 0) → answer ≡ Ok made → P made → MatchResult answer P Q
+said_of_ok {T} {E} answer made P Q is p = subst (λ (a : Result T E). MatchResult a P Q) (sym is) p
+
+pub said_of_err : {T E : Type 0} (answer : Result T E) (fault : E) (P : T → Type 0) (Q : E → Type 0) → answer ≡ Err fault → Q fault → MatchResult answer P Q
+said_of_err {T} {E} answer fault P Q is q = subst (λ (a : Result T E). MatchResult a P Q) (sym is) q
+
 -- the same comes back with each refusal
 pub same_back : {U D T E G X : Type 0} (result : Result U D) (answer : Result T E) (told_of : D → ClientFault G) (value_of : D → X) (Sorted : D → E → Type 0) (value : X) →
     IfErr result (λ d. MatchResult answer (λ _. told_of d ≡ Stray) (λ e. Sorted d e × (value_of d ≡ value))) → IfErr result (λ d. UnlessStray (told_of d) (value_of d ≡ value))

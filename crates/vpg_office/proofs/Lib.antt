@@ -3,6 +3,7 @@ pub mod Committing
 pub mod Crossing
 pub mod Entering
 pub mod Given
+pub mod Opening
 pub mod Places
 pub mod Sheets
 pub mod Stories

@@ -1,5 +1,5 @@
 -- The tokens of the row that show the log.
-use Rattle.std.proofs.Common.{◌≡◌, ◌≢◌, ◌⊎◌, Some, ℕ, zero, suc, ◌+◌, ◌-◌, ◌<◌, ◌≤◌, ◌==◌, cond, List, [], ◌∷◌, ◌++◌, length, take, drop, get_or, refl, sym, ap, ◌∙◌, subst, ⊎_elim, inl, inr, arith, length-append, add-one}
+use Rattle.std.proofs.Common.{◌≡◌, ◌≢◌, ◌⊎◌, Option, Some, ℕ, zero, suc, ◌+◌, ◌-◌, ◌<◌, ◌≤◌, ◌==◌, cond, List, [], ◌∷◌, ◌++◌, length, take, drop, get_or, refl, sym, ap, ◌∙◌, subst, ⊎_elim, inl, inr, arith, length-append, add-one}
 use Rattle.std.proofs.lemmas.Bool.Decides.{nat_tests}
 use Rattle.std.proofs.lemmas.List.{take-append-le, length-map}
 use mathlib.Core.Option.{some, some-injective, some-ne-none}
@@ -11,7 +11,7 @@ use Rattle.vpg_game.specs.Game.{NamedGame}
 use Rattle.vpg_desk.specs.Book.{Family, opened}
 use Rattle.vpg_desk.specs.History.{Event}
 use Rattle.vpg_office.specs.Fronts.{family_between}
-use Rattle.vpg_office.specs.Kept.{IsEntryOf, ShowsEach, IsFront, IsChronicle, line, lines_of, story}
+use Rattle.vpg_office.specs.Kept.{IsEntryOf, ShowsEach, IsFront, IsChronicle, line, lines_of, story, story_to}
 use Rattle.vpg_office.specs.Story.{Line, line_of, lines_by, events_of, IsStory}
 use Rattle.vpg_office.specs.declared.asked.Answer.{Answer}
 use Rattle.vpg_office.specs.declared.asked.Answer.TheVariants.{Spent}
@@ -118,6 +118,13 @@ prefix_take n events = (drop n events, take-append-drop n events)
 
 pub some_story : (e : Entry) (answer : Answer) → 0 < length (story e answer)
 some_story e answer = omega (arith, length-append (lines_of e.before.value.items) (line e.session e.asked.value answer ∷ []))
+
+-- a front with a last call has calls
+pub has_calls : (row : Shelves) (game : NamedGame) (diagram : NamedDiagram) (limit count : ℕ) (last : Option (Where Entry × Answer)) (p : Where Entry × Answer) → IsFront row game diagram limit count last → last ≡ Some p → 1 ≤ count
+has_calls row game diagram limit count last p front is =
+    let size : count ≡ length (story p.0.value p.1) = front.count_is ∙ ap (λ (o : Option (Where Entry × Answer)). length (story_to o)) is in
+    let some = some_story p.0.value p.1 in
+    omega arith
 
 module _ (row : Shelves) (game : NamedGame) (diagram : NamedDiagram) (c : Chronicle) (newest : List Event) (kept : IsChronicle row game diagram c newest) where
   abbrev F : Family

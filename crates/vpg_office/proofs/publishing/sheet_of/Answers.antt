@@ -10,3 +10,6 @@ returns-clause-belongs g c =
     let diagram = g.L.Terms.diagram in
     subst (Belongs (IsSheetOf game diagram)) (sym (c.in_ok-new.ensures.ok ∙ c.of-sheet.ensures))
     (sheet_is game diagram c.args.desk.now c.args.front c.settled.result c.in_ok-verdicts.verdicts c.requires.of.0 c.requires.of.1 c.requires.replay c.len-calls.ensures.history c.settled.ensures.reply c.in_ok-verdicts.ensures.size c.in_ok-verdicts.ensures.each)
+
+pub returns-clause-front : goal.returns-clause-front
+returns-clause-front g c = λ k. ((c.in_ok-new.ensures.ok ∙ c.of-sheet.ensures) k).front

@@ -1,8 +1,9 @@
+use Rattle.std.proofs.lemmas.Grind.{common_steps}
 use Rattle.std.proofs.Common.{sym, ◌∙◌, subst, arith}
 use Rattle.vpg_desk.specs.Desk.{family_of}
 use Rattle.vpg_desk.specs.State.{setting_of}
 use Rattle.vpg_office.specs.Sheets.{AreSaid}
-use Rattle.vpg_office.proofs.Sheets.{said_more}
+use Rattle.vpg_office.proofs.Sheets.{none_said, said_more}
 use Rattle.vpg_office.proofs.publishing.verdicts_of.Goals as goal
 
 pub loop-v-preserved : goal.loop-v-preserved
@@ -13,3 +14,9 @@ loop-v-preserved c =
       each = subst (AreSaid family c.args.desk.now.book) (sym c.in_ok-push.ensures.items)
           (said_more family c.args.desk.now.book c.loop-v.verdicts.items c.verdict.result c.loop-v.v (sym c.loop-v.verdicts.ok.0 ∙ c.loop-v.invariant.size) c.loop-v.invariant.each c.verdict.ensures.reply);
     }
+
+pub loop-v-init : goal.loop-v-init
+loop-v-init c = grind (arith, common_steps, none_said)
+
+pub returns-clause-each : goal.returns-clause-each
+returns-clause-each c = subst (AreSaid (family_of (setting_of c.args.desk.now)) c.args.desk.now.book) (sym c.new.ensures) c.loop-v.invariant.each

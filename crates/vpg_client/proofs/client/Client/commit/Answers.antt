@@ -3,7 +3,7 @@ use Rattle.std.specs.Prelude.{true}
 use Rattle.vpg_desk.specs.Book as book
 use Rattle.vpg_desk.specs.Commit.{IsOrderOf, handed_in}
 use Rattle.vpg_office.specs.Story.{IsOf}
-use Rattle.vpg_client.proofs.Logged.{number_is, step_made, on_made, all_commit_told, comes_back, absent_commit_tells}
+use Rattle.vpg_client.proofs.Logged.{number_is, step_made, on_made, all_commit_told, comes_back, absent_commit_tells, given_back}
 use Rattle.vpg_client.specs.Client.{client_after}
 use Rattle.vpg_client.specs.Faults.{Sorts}
 use Rattle.vpg_client.proofs.client.Client.commit.Goals as goal
@@ -37,3 +37,6 @@ returns-clause-back g c =
 pub returns-in-Err-clause-fault : goal.returns-in-Err-clause-fault
 returns-in-Err-clause-fault g c =
     absent_commit_tells g.L.Terms.limit c.args.self.now (client_after g.L.Terms.game g.L.Terms.diagram c.self.inside.front) c.args.label c.args.harvest c.in-Err.fault c.self.view_is c.in-Err.ensures.absent
+
+pub returns-in-Err-clause-back : goal.returns-in-Err-clause-back
+returns-in-Err-clause-back g c = given_back c.in-Err.fault (Some c.args.harvest)

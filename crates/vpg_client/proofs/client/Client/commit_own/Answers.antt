@@ -1,8 +1,8 @@
-use Rattle.std.proofs.Common.{◌≡◌, Some, length}
+use Rattle.std.proofs.Common.{◌≡◌, Some, length, sym}
 use Rattle.std.specs.Prelude.{true}
 use Rattle.vpg_desk.specs.Book as book
-use Rattle.vpg_desk.specs.Commit.{commit_refusal, handed_in}
-use Rattle.vpg_client.proofs.Logged.{number_is, step_made, all_commit_told, all_own_told, comes_back, absent_tells}
+use Rattle.vpg_desk.specs.Commit.{IsOrderOf, commit_refusal, handed_in}
+use Rattle.vpg_client.proofs.Logged.{number_is, step_made, all_commit_told, all_own_told, comes_back, absent_tells, given_back}
 use Rattle.vpg_client.specs.Client.{client_after}
 use Rattle.vpg_client.specs.Faults.{Sorts}
 use Rattle.vpg_client.proofs.client.Client.commit_own.Goals as goal
@@ -32,3 +32,9 @@ returns-clause-back g c =
 pub returns-in-Err-clause-fault : goal.returns-in-Err-clause-fault
 returns-in-Err-clause-fault g c =
     absent_tells g.L.Terms.limit commit_refusal c.args.self.now (client_after g.L.Terms.game g.L.Terms.diagram c.self.inside.front) c.args.label (book.Commit (handed_in true c.args.harvest)) c.in-Err.fault c.self.view_is c.in-Err.ensures.absent
+
+pub returns-in-Err-clause-back : goal.returns-in-Err-clause-back
+returns-in-Err-clause-back g c = given_back c.in-Err.fault (Some c.args.harvest)
+
+pub commit_own-answer-requires : goal.commit_own-answer-requires
+commit_own-answer-requires g c = record { ours = coe 0 1 (k. IsOrderOf ((sym c.self.view_is) k).desk c.args.harvest.order) c.requires.ours }

@@ -1,7 +1,8 @@
-use Rattle.std.proofs.Common.{◌≡◌, None, length}
+use Rattle.std.proofs.Common.{◌≡◌, None, Option, length}
+use Rattle.vpg_office.specs.Token.{Held}
 use Rattle.vpg_desk.specs.Book as book
 use Rattle.vpg_desk.specs.Faults.{decide_refusal}
-use Rattle.vpg_client.proofs.Logged.{number_is, token_made, token_stands, all_told, same_back, absent_tells}
+use Rattle.vpg_client.proofs.Logged.{number_is, token_made, token_stands, all_told, same_back, absent_tells, given_back}
 use Rattle.vpg_client.specs.Faults.{Sorts}
 use Rattle.vpg_client.specs.Client.{client_after}
 use Rattle.vpg_client.proofs.client.Client.decide.Goals as goal
@@ -40,3 +41,6 @@ returns-clause-back g c =
 pub returns-in-Err-clause-fault : goal.returns-in-Err-clause-fault
 returns-in-Err-clause-fault g c =
     absent_tells g.L.Terms.limit decide_refusal c.args.self.now (client_after g.L.Terms.game g.L.Terms.diagram c.self.inside.front) c.args.label (book.Decide c.args.feature c.args.value) c.in-Err.fault c.self.view_is c.in-Err.ensures.absent
+
+pub returns-in-Err-clause-back : goal.returns-in-Err-clause-back
+returns-in-Err-clause-back g c = given_back {X = Option Held} c.in-Err.fault None

@@ -1,7 +1,7 @@
 use Rattle.std.proofs.Common.{◌≡◌, length}
 use Rattle.vpg_desk.specs.Book as book
 use Rattle.vpg_desk.specs.Faults.{undo_refusal}
-use Rattle.vpg_client.proofs.Logged.{number_is, token_made, token_stands, page_restored, all_told, comes_back, absent_tells}
+use Rattle.vpg_client.proofs.Logged.{number_is, token_made, token_stands, page_restored, all_told, comes_back, absent_tells, given_back}
 use Rattle.vpg_client.specs.Faults.{Sorts}
 use Rattle.vpg_client.specs.declared.fault.Token.TheVariants as token
 use Rattle.vpg_client.specs.Client.{client_after}
@@ -50,3 +50,6 @@ returns-clause-back g c =
 pub returns-in-Err-clause-fault : goal.returns-in-Err-clause-fault
 returns-in-Err-clause-fault g c =
     absent_tells g.L.Terms.limit undo_refusal c.args.self.now (client_after g.L.Terms.game g.L.Terms.diagram c.self.inside.front) c.args.label (book.Undo c.args.token.serial) c.in-Err.fault c.self.view_is c.in-Err.ensures.absent
+
+pub returns-in-Err-clause-back : goal.returns-in-Err-clause-back
+returns-in-Err-clause-back g c = given_back c.in-Err.fault (token.Undo c.args.token)

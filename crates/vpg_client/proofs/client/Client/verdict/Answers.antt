@@ -1,7 +1,8 @@
+use Rattle.std.proofs.Common.{◌<◌, length, sym, subst}
 use Rattle.vpg_desk.specs.Book as book
 use Rattle.vpg_office.specs.Faults.{never_refused}
 use Rattle.vpg_client.proofs.Logged.{number_is, step_made, look_told, absent_tells}
-use Rattle.vpg_client.specs.Client.{client_after}
+use Rattle.vpg_client.specs.Client.{ClientState, client_after}
 use Rattle.vpg_client.proofs.client.Client.verdict.Goals as goal
 
 pub returns-clause-accepted : goal.returns-clause-accepted
@@ -25,3 +26,6 @@ returns-clause-fault g c =
 pub returns-in-Err-clause-fault : goal.returns-in-Err-clause-fault
 returns-in-Err-clause-fault g c =
     absent_tells g.L.Terms.limit never_refused c.args.self.now (client_after g.L.Terms.game g.L.Terms.diagram c.self.inside.front) c.args.label (book.Verdict c.args.vertex) c.in-Err.fault c.self.view_is c.in-Err.ensures.absent
+
+pub verdict-answer-requires : goal.verdict-answer-requires
+verdict-answer-requires g c = subst (λ (s : ClientState). c.args.vertex < length s.desk.game.vertices) (sym c.self.view_is) c.requires

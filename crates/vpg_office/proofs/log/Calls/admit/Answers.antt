@@ -1,4 +1,5 @@
 use Rattle.std.proofs.Common.{◌≡◌, ◌<◌, length, drop, sym, ap, ◌∙◌, arith, subst}
+use Rattle.boxcar.specs.Table.{Shelves, Shows}
 use Rattle.vpg_office.specs.Kept.{lines_of}
 use Rattle.vpg_office.specs.Story.{lines_by}
 use Rattle.vpg_office.proofs.Entering.{calls_since, same_kept, seen_fits}
@@ -27,3 +28,6 @@ returns-in-Ok-clause-kept g c = same_kept c.prepare.new.self c.prepare.ensures.s
 
 pub returns-in-Err-clause-kept : goal.returns-in-Err-clause-kept
 returns-in-Err-clause-kept g c = same_kept c.prepare.new.self c.prepare.ensures.same c.requires.kept
+
+pub returns-in-Ok-clause-place : goal.returns-in-Ok-clause-place
+returns-in-Ok-clause-place g c = (subst (λ (s : Shelves). Shows s c.in-Ok.place) c.requires.row c.in-Ok.ensures.place.0, c.in-Ok.ensures.place.1)

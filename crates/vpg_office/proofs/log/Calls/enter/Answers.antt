@@ -1,4 +1,5 @@
-use Rattle.std.proofs.Common.{◌+◌, sym, ap, ◌∙◌, arith}
+use Rattle.std.proofs.Common.{◌+◌, sym, ap, ◌∙◌, arith, subst}
+use Rattle.vpg_office.specs.Fronts.{IsHistory, family_between}
 use Rattle.vpg_office.proofs.Entering.{story_length, new_story, new_events, new_kept}
 use Rattle.vpg_office.proofs.log.Calls.enter.Goals as goal
 
@@ -20,3 +21,6 @@ returns-clause-kept g c =
 pub returns-clause-newest : goal.returns-clause-newest
 returns-clause-newest g c =
     c.at.ensures ∙ new_events g.L.Terms.shelves g.L.Terms.game g.L.Terms.diagram c.args.self.now.chronicle c.args.self.now.newest c.requires.kept c.args.place c.args.request.now.session c.args.request.now.asked c.args.answer c.requires.place.0 c.requires.place.1 c.requires.reply c.requires.hands c.requires.named
+
+pub returns-clause-history : goal.returns-clause-history
+returns-clause-history g c = subst (IsHistory (family_between g.L.Terms.game g.L.Terms.diagram)) (sym c.copy.ensures.same) c.copy.ensures.history

@@ -1,4 +1,4 @@
-use Rattle.std.proofs.Common.{◌≡◌, List, [], ◌++◌, Option, length, sym, ap, ◌∙◌, subst, arith}
+use Rattle.std.proofs.Common.{◌≡◌, ◌≤◌, List, [], ◌++◌, Option, length, sym, ap, ◌∙◌, subst, arith}
 use mathlib.Core.List.{IsPrefix}
 use Rattle.boxcar.specs.Table.{Shelves, Where, Shows}
 use Rattle.vpg_desk.specs.History.{Event}
@@ -7,7 +7,7 @@ use Rattle.vpg_office.specs.Fronts.{family_between}
 use Rattle.vpg_office.specs.Story.{events_of}
 use Rattle.vpg_office.specs.declared.asked.Answer.{Answer}
 use Rattle.vpg_office.specs.declared.asked.Entry.{Entry}
-use Rattle.vpg_office.proofs.Places.{is_beginning, is_shown, some_story}
+use Rattle.vpg_office.proofs.Places.{has_calls, is_beginning, is_shown, some_story}
 use Rattle.vpg_office.proofs.log.Calls.has.Goals as goal
 
 pub agrees-requires : goal.agrees-requires
@@ -29,3 +29,11 @@ pub returns-in_default : goal.returns-in_default
 returns-in_default g c = λ _.
     let none : [] ≡ c.args.front.now = ap (λ (o : Option (Where Entry × Answer)). events_of (family_between g.L.Terms.game g.L.Terms.diagram) (story_to o)) (sym c.in_default.is) ∙ c.front.view_is in
     (c.args.self.now.newest, ap (λ (l : List Event). l ++ c.args.self.now.newest) (sym none))
+
+pub overflow_sub-count : goal.overflow_sub-count
+overflow_sub-count g c = has_calls g.L.Terms.shelves g.L.Terms.game g.L.Terms.diagram g.L.Terms.limit c.front.inside.count c.front.inside.last (c.in-Some.place, c.in-Some.field-0-1) c.front.invariant c.in-Some.is
+
+pub index-mine-requires : goal.index-mine-requires
+index-mine-requires g c =
+    let some : 1 ≤ c.front.inside.count = has_calls g.L.Terms.shelves g.L.Terms.game g.L.Terms.diagram g.L.Terms.limit c.front.inside.count c.front.inside.last (c.in-Some.place, c.in-Some.field-0-1) c.front.invariant c.in-Some.is in
+    omega (arith, some, c.if-count-len.false, c.len.ensures)

@@ -1,4 +1,4 @@
-use Rattle.std.proofs.Common.{List, inl, inr, refl, sym, subst, arith}
+use Rattle.std.proofs.Common.{List, inl, inr, refl, sym, subst, arith, true≢false}
 use mathlib.Core.List.{IsPrefix}
 use Rattle.vpg_desk.specs.History.{Event}
 use Rattle.vpg_office.specs.Fronts.{IsHistory, family_between}
@@ -21,3 +21,6 @@ returns-else-len-clause-yes g c = λ _.
     let mine : IsPrefix c.args.front.now c.args.self.now = c.has.ensures c.if-not-has.false in
     let theirs : IsPrefix c.args.other.now c.args.self.now = c.has-else-not-has.ensures c.if-not-has-2.false in
     (prefix_self c.args.front.now, prefix_shorter c.args.other.now c.args.front.now c.args.self.now theirs mine (omega (arith, c.len.ensures.length, c.len-2.ensures.length, c.if-len.false)), inl refl, c.len.ensures.history)
+
+pub returns-then-len-clause-no : goal.returns-then-len-clause-no
+returns-then-len-clause-no g c = λ no. absurd (true≢false no)

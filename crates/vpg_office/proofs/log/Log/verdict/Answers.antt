@@ -1,4 +1,5 @@
-use Rattle.std.proofs.Common.{◌≤◌, ◌<◌, arith, ◌∙◌, List, refl, sym, subst}
+use Rattle.std.proofs.Common.{◌≤◌, ◌<◌, arith, ◌∙◌, List, length, refl, sym, subst}
+use Rattle.vpg_game.specs.Game.{NamedGame}
 use Rattle.vpg_desk.specs.Book as book
 use Rattle.vpg_desk.specs.Book.{Book, Refusal, Reply, opened, IsReply}
 use Rattle.vpg_desk.specs.History.{Event}
@@ -60,3 +61,6 @@ returns-clause-done g c =
 
 pub invariant_of-self : goal.invariant_of-self
 invariant_of-self g c = admitted c.self.invariant c.admit.ensures.newest c.admit.ensures.limit c.admit.ensures.kept
+
+pub verdict-r-requires : goal.verdict-r-requires
+verdict-r-requires g c = subst (λ (game : NamedGame). c.args.vertex < length game.vertices) (sym c.self.invariant.replay.of_game) c.requires.vertex

@@ -1,4 +1,5 @@
-use Rattle.std.proofs.Common.{true, IfOk, IfErr}
+use Rattle.std.proofs.Common.{true, IfOk, IfErr, sym}
+use mathlib.Core.List.{IsPrefix}
 use Rattle.vpg_desk.specs.Book as book
 use Rattle.vpg_desk.specs.Commit.{handed_in}
 use Rattle.vpg_office.specs.Faults.{CommitTells}
@@ -16,3 +17,6 @@ returns-clause-fault g c =
     let F = family_between g.L.Terms.game g.L.Terms.diagram in
     let n = c.self.view_is in
     coe 0 1 (k. IfErr c.commit-answer.result (λ b. CommitTells g.L.Terms.game g.L.Terms.diagram g.L.Terms.limit c.args.harvest (n k) c.args.front.now c.commit-answer.new.front b.fault)) c.commit-answer.ensures.fault
+
+pub commit-answer-requires-clause-seen : goal.commit-answer-requires-clause-seen
+commit-answer-requires-clause-seen g c = coe 0 1 (k. IsPrefix c.args.front.now ((sym c.deref_mut.ensures.value) k)) c.log_with-log.ensures

@@ -1,4 +1,5 @@
-use Rattle.std.proofs.Common.{◌≡◌, IfOk, IfErr}
+use Rattle.std.proofs.Common.{◌≡◌, IfOk, IfErr, sym}
+use mathlib.Core.List.{IsPrefix}
 use Rattle.vpg_desk.specs.Book as book
 use Rattle.vpg_desk.specs.Faults.{decide_refusal}
 use Rattle.vpg_office.specs.Faults.{Tells}
@@ -16,3 +17,6 @@ returns-clause-fault g c =
     let F = family_between g.L.Terms.game g.L.Terms.diagram in
     let n = c.self.view_is in
     coe 0 1 (k. IfErr c.decide-answer.result (Tells F g.L.Terms.limit decide_refusal (book.Decide c.args.feature c.args.value) (n k) c.args.front.now c.decide-answer.new.front)) c.decide-answer.ensures.fault
+
+pub decide-answer-requires-clause-seen : goal.decide-answer-requires-clause-seen
+decide-answer-requires-clause-seen g c = coe 0 1 (k. IsPrefix c.args.front.now ((sym c.deref_mut.ensures.value) k)) c.log_with-log.ensures

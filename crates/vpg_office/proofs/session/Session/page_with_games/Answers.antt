@@ -1,4 +1,5 @@
-use Rattle.std.proofs.Common.{IfOk, IfErr}
+use Rattle.std.proofs.Common.{IfOk, IfErr, sym}
+use mathlib.Core.List.{IsPrefix}
 use Rattle.vpg_desk.specs.Book as book
 use Rattle.vpg_office.specs.Faults.{Tells, never_refused}
 use Rattle.vpg_office.specs.Fronts.{Extends, family_between}
@@ -15,3 +16,6 @@ returns-clause-fault g c =
     let F = family_between g.L.Terms.game g.L.Terms.diagram in
     let n = c.self.view_is in
     coe 0 1 (k. IfErr c.page_with_games-answer.result (Tells F g.L.Terms.limit never_refused book.Page (n k) c.args.front.now c.page_with_games-answer.new.front)) c.page_with_games-answer.ensures.fault
+
+pub page_with_games-answer-requires-clause-seen : goal.page_with_games-answer-requires-clause-seen
+page_with_games-answer-requires-clause-seen g c = coe 0 1 (k. IsPrefix c.args.front.now ((sym c.deref_mut.ensures.value) k)) c.log_with-log.ensures

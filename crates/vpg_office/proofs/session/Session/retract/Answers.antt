@@ -1,4 +1,5 @@
-use Rattle.std.proofs.Common.{◌≡◌, IfOk, IfErr}
+use Rattle.std.proofs.Common.{◌≡◌, IfOk, IfErr, sym}
+use mathlib.Core.List.{IsPrefix}
 use Rattle.vpg_desk.specs.Book as book
 use Rattle.vpg_desk.specs.Faults.{retract_refusal}
 use Rattle.vpg_office.specs.Faults.{Tells}
@@ -16,3 +17,6 @@ returns-clause-fault g c =
     let F = family_between g.L.Terms.game g.L.Terms.diagram in
     let n = c.self.view_is in
     coe 0 1 (k. IfErr c.retract-answer.result (Tells F g.L.Terms.limit retract_refusal (book.Retract c.args.feature) (n k) c.args.front.now c.retract-answer.new.front)) c.retract-answer.ensures.fault
+
+pub retract-answer-requires-clause-seen : goal.retract-answer-requires-clause-seen
+retract-answer-requires-clause-seen g c = coe 0 1 (k. IsPrefix c.args.front.now ((sym c.deref_mut.ensures.value) k)) c.log_with-log.ensures
