@@ -19,7 +19,7 @@ use Rattle.vpg_texts.specs.Scene.{Scene}
 use Rattle.vpg_engine.specs.Answers.{Own, NoFeature, NoVertex, IsOwn, own_text, full_line, refused_line, refusal_text, numbered, settled_text, room, call_or, vertex_of, first_call, IsSwept, IsLifted, most_sweeps, sweeps_of, Rest, Follows, Continues, Begins}
 use Rattle.vpg_engine.specs.Made.{IsMadeBy, AreMadeBy}
 use Rattle.vpg_engine.specs.Setting.{setting_in}
-use Rattle.vpg_engine.specs.Engine.{EngineState, scene_at, between_of, deciding, TellsRefusal, TellsFault, AnswersBy, AnswersTo, SweepsTo}
+use Rattle.vpg_engine.specs.Engine.{EngineState, scene_at, deciding, TellsRefusal, TellsFault, AnswersBy, AnswersTo, SweepsTo}
 
 -- ---- what the code shows
 

@@ -1,14 +1,14 @@
 -- What an engine keeps over a call.
-use Rattle.std.proofs.Common.{◌≡◌, ℕ, List, Option, refl, sym, ap, ◌∙◌}
+use Rattle.std.proofs.Common.{◌≡◌, ℕ, List, Option, Result, Ok, Err, sym, ap, ◌∙◌}
+use Rattle.std.specs.Prelude.{IfOk, IfErr}
 use Rattle.vpg_diagram.specs.DiagramText.{NamedDiagram}
 use Rattle.vpg_diagram.specs.FeatureDiagram.{feature_count}
 use Rattle.vpg_game.specs.Game.{NamedGame}
 use Rattle.vpg_measure.specs.Orders.{HarvestView}
-use Rattle.vpg_desk.specs.Book.{Call, Refusal}
-use Rattle.vpg_desk.specs.Commit.{commit_refusal, handed_in}
+use Rattle.vpg_desk.specs.Book.{Call, Refusal, Reply}
 use Rattle.vpg_desk.specs.State.{DeskState}
 use Rattle.vpg_desk.specs.declared.fault.CommitFault.{CommitFault}
-use Rattle.vpg_client.specs.Client.{ClientState}
+use Rattle.vpg_client.specs.Client.{ClientState, IsLogged}
 use Rattle.vpg_client.specs.Faults.{Tells, CommitTells, UnlessStray}
 use Rattle.vpg_client.specs.declared.fault.ClientFault.{ClientFault}
 use Rattle.vpg_client.specs.declared.fault.ClientFault.TheVariants.{LogFull, Refused, Stray, Memory}
@@ -26,6 +26,12 @@ stays limit refusal old label call new LogFull told = same old new told.1
 stays limit refusal old label call new (Refused fault) told = (told.1.1.step.game, told.1.1.step.diagram)
 stays limit refusal old label call new Stray told = told
 stays limit refusal old label call new Memory told = same old new told
+
+-- the same of a call that is answered, or isn't
+pub answered_stays : {A F : Type 0} (limit : ℕ) (refusal : F → Option Refusal) (old : ClientState) (label : ℕ) (call : Call) (reply : A → Reply) (new : ClientState) (r : Result A (ClientFault F)) →
+    IfOk r (λ a. IsLogged limit old label call (reply a) new) → IfErr r (Tells limit refusal old label call new) → Stays old new
+answered_stays limit refusal old label call reply new (Ok a) logged told = (logged.step.game, logged.step.diagram)
+answered_stays limit refusal old label call reply new (Err fault) logged told = stays limit refusal old label call new fault told
 
 pub commit_stays : (limit : ℕ) (old : ClientState) (label : ℕ) (harvest : HarvestView) (new : ClientState) (fault : ClientFault CommitFault) → CommitTells limit old label harvest new fault → Stays old new
 commit_stays limit old label harvest new (Refused fault) told = (told.1.1.1.1.step.game, told.1.1.1.1.step.diagram)

@@ -1,5 +1,5 @@
 -- Tokens that are exchanged or spent.
-use Rattle.std.proofs.Common.{◌≡◌, ℕ, ◌+◌, Bool, true, false, List, [], ◌∷◌, ◌++◌, length, Option, Some, None, refl, sym, ap, ap₂, ◌∙◌, subst}
+use Rattle.std.proofs.Common.{◌≡◌, ℕ, Bool, true, false, List, [], ◌∷◌, ◌++◌, Option, Some, None, refl, sym, ap, ap₂, ◌∙◌, subst}
 use Rattle.std.specs.Prelude.{codes, if◌then◌else◌, slice_index_or}
 use Rattle.std.specs.List.{remove, insert}
 use Rattle.vpg_desk.specs.Book.{Family, Book, Undo, Redo, Keep, Forget, Undone, Redone, Spent, IsReply, has_serial}

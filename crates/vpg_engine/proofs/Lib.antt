@@ -10,3 +10,4 @@ pub mod Committing
 pub mod Enduring
 pub mod Settling
 pub mod Within
+pub mod Written

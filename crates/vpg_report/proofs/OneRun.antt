@@ -1,11 +1,8 @@
 -- A known script is read in one way, so a run through it is one.
-use Rattle.std.proofs.Common.{◌≡◌, ◌≢◌, ℕ, ◌+◌, ◌-◌, ◌<◌, ◌≤◌, Bool, true, false, List, [], ◌∷◌, ◌++◌, length, take, Option, Some, None, Result, Ok, Err, refl, sym, ap, ap₂, ◌∙◌, subst, arith, inl, inr, length-append}
-use Rattle.std.specs.Prelude.{⊤, ◌==◌, ◌&&◌, if◌then◌else◌, slice_index}
-use Rattle.std.specs.List.{list_all, AllByRecursion}
-use Rattle.std.specs.Str.Lines.{strip_carriage_return}
-use Rattle.std.proofs.lemmas.Bool.{lt-ltb}
-use Rattle.std.proofs.lemmas.List.{length-take}
-use Rattle.vpg_script.specs.Lines.{is_within_line, IsUnended, BeginsTooLong, NextLine, ReadLines}
+use Rattle.std.proofs.Common.{◌≡◌, ◌≢◌, ℕ, ◌+◌, List, [], ◌∷◌, ◌++◌, length, Option, Some, None, Result, Ok, Err, refl, sym, ap, ap₂, ◌∙◌, subst, arith, inl, inr, length-append}
+use Rattle.std.specs.Prelude.{⊤}
+use Rattle.std.specs.List.{AllByRecursion}
+use Rattle.vpg_script.specs.Lines.{NextLine, ReadLines}
 use Rattle.vpg_serving.specs.Output.{Machine, Speaks, Answered, Wrote, IsEmptyKnown, BeginsFaulty, FaultyKnown}
 use Rattle.vpg_report.specs.Output.{Outcome}
 use Rattle.vpg_report.specs.Results.{IsThrough}

@@ -1,8 +1,8 @@
 -- What a run's result says, by that of its script.
-use Rattle.std.proofs.Common.{◌≡◌, ℕ, false, List, Option, Result, Ok, Err}
+use Rattle.std.proofs.Common.{◌≡◌, ℕ, false, List, Option, Result, Ok, Err, ap}
 use Rattle.std.specs.Prelude.{IsErrOf}
 use Rattle.vpg_desk.specs.declared.fault.OpenFault.{OpenFault}
-use Rattle.vpg_serving.specs.Output.{Machine, ScriptOutcome}
+use Rattle.vpg_serving.specs.Output.{Machine}
 use Rattle.vpg_serving.specs.Manners.{MannerOutcome}
 use Rattle.vpg_serving.specs.declared.serving.Manner.{Manner}
 use Rattle.vpg_serving.specs.declared.serving.Ending.{Ending}
@@ -78,3 +78,13 @@ unless_write (Err ends.Read) P p = p
 unless_write (Err ends.Write) P p = tt
 unless_write (Err ends.Memory) P p = p
 unless_write (Err ends.Stray) P p = p
+
+-- the same fault of a run with another value
+pub stopped_alike : (A B : Type 0) (fault stop : RunFault) → IsErrOf {T = A} (Err fault) stop → IsErrOf {T = B} (Err fault) stop
+stopped_alike A B fault stop is =
+    let same : fault ≡ stop = cc is in
+    ap (λ (f : RunFault). Err f) same
+
+-- a run with a value has no fault
+pub not_stopped : (A : Type 0) (value : A) (stop : RunFault) → IsErrOf (Ok value) stop → ⊥
+not_stopped A value stop is = absurd (cc is)

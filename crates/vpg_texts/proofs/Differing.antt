@@ -1,5 +1,5 @@
 -- What changed, line by line.
-use Rattle.std.proofs.Common.{◌≡◌, ℕ, ◌+◌, Bool, true, false, List, [], ◌∷◌, ◌++◌, length, suc, sym, ap, ◌∙◌, subst, append_assoc, append-nil, add-one, arith}
+use Rattle.std.proofs.Common.{◌≡◌, ℕ, ◌+◌, Bool, true, false, List, [], ◌++◌, length, suc, sym, ap, ◌∙◌, subst, append_assoc, append-nil, add-one, arith}
 use Rattle.std.specs.Prelude.{if◌then◌else◌, slice_index}
 use Rattle.std.proofs.lemmas.List.{length-map}
 use Rattle.vpg_game.specs.Game.{NamedGame, unnamed, graph_of}

@@ -7,3 +7,4 @@ pub mod Planned
 pub mod Reading
 pub mod Seen
 pub mod Named
+pub mod Pieces

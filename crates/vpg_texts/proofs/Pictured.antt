@@ -1,12 +1,11 @@
 -- The picture of a page's game.
-use Rattle.std.proofs.Common.{◌≡◌, ℕ, zero, suc, ◌+◌, List, [], ◌∷◌, ◌++◌, length, Result, refl, ap, ◌∙◌, sym, arith}
+use Rattle.std.proofs.Common.{◌≡◌, ℕ, zero, suc, ◌+◌, List, [], ◌∷◌, ◌++◌, length, Result, refl, ap, ◌∙◌, arith}
 use Rattle.std.specs.Prelude.{map, OnOk, slice_index}
 use Rattle.std.proofs.lemmas.List.{length-append, length-map}
 use Rattle.vpg_diagram.specs.DiagramText.{NamedDiagram}
 use Rattle.vpg_diagram.specs.FeatureDiagram.{feature_count}
 use Rattle.vpg_draw.specs.GameDrawing.{game_drawing}
 use Rattle.vpg_game.specs.Game.{NamedVertex, NamedGame, unnamed, graph_of, vertex_ids}
-use Rattle.vpg_game.specs.Levels.{top_of}
 use Rattle.vpg_guards.specs.declared.tri.Tri.{Tri}
 use Rattle.vpg_measure.specs.Games.{GamesView, ArePageGames}
 use Rattle.vpg_measure.specs.TwoGames.{top_for}

@@ -1,7 +1,6 @@
-use Rattle.std.proofs.Common.{◌∙◌, Ok, sym}
+use Rattle.std.proofs.Common.{◌∙◌, sym}
 use Rattle.vpg_office.specs.Faults.{never_refused}
 use Rattle.vpg_script.specs.View.{inquiry_shown}
-use Rattle.vpg_serving.specs.declared.serving.ServeFault.{ServeFault}
 use Rattle.vpg_engine.specs.Engine.{own_of}
 use Rattle.vpg_engine.proofs.Asked.{both_on}
 use Rattle.vpg_report.proofs.Inquired.{ask_answers, full_answers, missing_answers, on_ok, within_order}

@@ -1,9 +1,10 @@
-use Rattle.std.proofs.Common.{◌≡◌, ◌++◌, ℕ, List, ap, ap₂, ◌∙◌, arith, slice_index}
+use Rattle.std.proofs.Common.{◌≡◌, ◌++◌, ℕ, List, ap, ap₂, ◌∙◌, arith, slice_index, length, subst}
 use Rattle.std.specs.Global.{Vec}
 use Rattle.vpg_game.specs.Game.{vertex_ids}
-use Rattle.vpg_texts.specs.Changed.{change_line, same_verdicts, seen_at}
+use Rattle.vpg_texts.specs.Changed.{change_line, same_verdicts, seen_at, change_count, change_lines}
 use Rattle.vpg_texts.proofs.Differing.{one_more, no_more, line_more, no_line}
 use Rattle.vpg_texts.proofs.changed.changes.Goals as goal
+use Rattle.vpg_texts.proofs.Pieces.{reached}
 use Rattle.vpg_texts.proofs.changed.changes.Goals.{then-not-same+in_ok-change, else-not-same}
 
 pub loop-v-preserved : goal.loop-v-preserved
@@ -29,3 +30,13 @@ loop-v-preserved c =
         lines = no_line ids seen present v c.same.result is w.if-not-same.false c.args.out.now.items c.loop-v.out.items c.if-not-same.out.items c.loop-v.invariant.lines (ap (λ (v : Vec ℕ). v.items) w.out-is);
       }
     ]
+
+pub returns-clause-count : goal.returns-clause-count
+returns-clause-count c =
+    subst (λ (n : ℕ). c.loop-v.changed ≡ change_count c.args.seen.now c.args.present.now n)
+    (reached c.loop-v.v c.vertices-count.result (length c.args.game.now.vertices) c.loop-v.auto.v-end c.loop-v-test.false c.vertices-count.ensures.count) c.loop-v.invariant.count
+
+pub returns-clause-lines : goal.returns-clause-lines
+returns-clause-lines c =
+    subst (λ (n : ℕ). c.loop-v.out.items ≡ c.args.out.now.items ++ change_lines (vertex_ids c.args.game.now.vertices) c.args.seen.now c.args.present.now n)
+    (reached c.loop-v.v c.vertices-count.result (length c.args.game.now.vertices) c.loop-v.auto.v-end c.loop-v-test.false c.vertices-count.ensures.count) c.loop-v.invariant.lines

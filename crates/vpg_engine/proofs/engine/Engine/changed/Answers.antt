@@ -6,9 +6,33 @@ use Rattle.vpg_desk.specs.Book.{Page}
 use Rattle.vpg_script.specs.Script as script
 use Rattle.vpg_engine.specs.EngineFields.{engine_in}
 use Rattle.vpg_engine.proofs.Asked.{on_view, both_on, log_full}
-use Rattle.vpg_engine.proofs.Enduring.{unless_stray_any}
+use Rattle.vpg_engine.proofs.Enduring.{endures, stays, unless_stray_any}
 use Rattle.vpg_engine.proofs.Paged.{games_are, table_length, changed_answers}
 use Rattle.vpg_engine.proofs.engine.Engine.changed.Goals as goal
+
+pub invariant_of-self : goal.invariant_of-self
+invariant_of-self g c =
+    let e = c.self.inside in
+    let same = stays g.L.Terms.limit never_refused e.client c.args.session Page _ _ c.in-Err.ensures.fault in
+    endures g.L.Terms.limit _ _ e.client.desk e.harvests.items c.self.invariant _ e.harvests.items same.0 same.1 c.self.invariant.harvests
+
+pub invariant_of-self-in_err-verdicts : goal.invariant_of-self-in_err-verdicts
+invariant_of-self-in_err-verdicts g c =
+    let e = c.self.inside in
+    let step = c.in-Ok.ensures.accepted.step in
+    endures g.L.Terms.limit _ _ e.client.desk e.harvests.items c.self.invariant _ e.harvests.items step.game step.diagram c.self.invariant.harvests
+
+pub invariant_of-self-in_err-put_changed : goal.invariant_of-self-in_err-put_changed
+invariant_of-self-in_err-put_changed g c =
+    let e = c.self.inside in
+    let step = c.in-Ok.ensures.accepted.step in
+    endures g.L.Terms.limit _ _ e.client.desk e.harvests.items c.self.invariant _ e.harvests.items step.game step.diagram c.self.invariant.harvests
+
+pub invariant_of-self-2 : goal.invariant_of-self-2
+invariant_of-self-2 g c =
+    let e = c.self.inside in
+    let step = c.in-Ok.ensures.accepted.step in
+    endures g.L.Terms.limit _ _ e.client.desk e.harvests.items c.self.invariant _ e.harvests.items step.game step.diagram c.self.invariant.harvests
 
 pub verdicts_over-requires-clause-levels : goal.verdicts_over-requires-clause-levels
 verdicts_over-requires-clause-levels g c =

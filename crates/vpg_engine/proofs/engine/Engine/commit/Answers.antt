@@ -1,8 +1,7 @@
-use Rattle.std.proofs.Common.{◌≡◌, ◌∙◌, ℕ, ◌-◌, ◌<◌, true, List, length, Option, Some, refl, sym, ap, ap₂, subst}
-use Rattle.std.specs.Prelude.{slice_set}
+use Rattle.std.proofs.Common.{◌≡◌, ◌∙◌, ℕ, ◌-◌, ◌<◌, true, List, length, Option, refl, sym, ap, subst}
 use Rattle.vpg_diagram.specs.DiagramText.{NamedDiagram}
 use Rattle.vpg_measure.specs.Orders.{HarvestView}
-use Rattle.vpg_desk.specs.Book.{Harvest, Commit}
+use Rattle.vpg_desk.specs.Book.{Harvest}
 use Rattle.vpg_desk.specs.Commit.{handed_in}
 use Rattle.vpg_script.specs.Script as script
 use Rattle.vpg_engine.specs.Held.{Held}
@@ -11,7 +10,7 @@ use Rattle.vpg_engine.specs.EngineFields.{engine_in, harvests_of, AreOwnHarvests
 use Rattle.vpg_engine.proofs.Asked.{on_view}
 use Rattle.vpg_engine.proofs.Committing.{commit_unknown, committed, commit_refused, outdated_within, own_kept, own_gone, own_returned, returned_again}
 use Rattle.vpg_engine.proofs.Enduring.{endures, commit_stays, unless_stray}
-use Rattle.vpg_engine.proofs.KeptHarvests.{gone_seen, put_back}
+use Rattle.vpg_engine.proofs.KeptHarvests.{gone_seen}
 use Rattle.vpg_engine.proofs.engine.Engine.commit.Goals as goal
 
 pub returns-in_default : goal.returns-in_default
@@ -70,3 +69,9 @@ returns-in-Err g c =
     on_view c.commit_refused.result _ old _ _ _ _ _ c.self.view_is
     (λ told. commit_refused old c.args.session c.args.number hs refl c.args.out.now.items _ g.L.Terms.limit c.self.invariant.room_is _ harvest c.in-Some.ensures.kept c.in-Err.field-0.fault c.names.result.now (own.game, own.diagram) c.in-Err.ensures.fault
     (unless_stray c.in-Err.field-0.fault _ _ again (λ same. ap holds same)) c.names.ensures told) c.commit_refused.ensures
+
+pub invariant_of-self : goal.invariant_of-self
+invariant_of-self g c =
+    let e = c.self.inside in
+    endures g.L.Terms.limit _ _ e.client.desk e.harvests.items c.self.invariant _ _ refl refl
+    (subst (λ (hs : List (Option HarvestView)). AreOwnHarvests e.client.desk.game e.client.desk.diagram hs) (sym c.in_default.ensures.none) c.self.invariant.harvests)

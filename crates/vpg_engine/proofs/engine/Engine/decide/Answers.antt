@@ -1,8 +1,8 @@
-use Rattle.std.proofs.Common.{◌≡◌, ◌<◌, ℕ, List, ◌++◌, ◌∷◌, [], length, Option, Some, None, refl, sym, ap, ◌∙◌, subst}
+use Rattle.std.proofs.Common.{◌≡◌, ℕ, List, ◌++◌, ◌∷◌, [], Option, Some, None, sym, ap, ◌∙◌, subst}
 use Rattle.std.specs.Prelude.{IfNone, slice_get}
 use Rattle.vpg_guards.specs.Names.{index_of}
-use Rattle.vpg_desk.specs.Book.{Decide, Retract}
-use Rattle.vpg_desk.specs.Faults.{decide_refusal, retract_refusal}
+use Rattle.vpg_desk.specs.Book.{Decide}
+use Rattle.vpg_desk.specs.Faults.{decide_refusal}
 use Rattle.vpg_office.specs.Token.{Held as Token}
 use Rattle.vpg_diagram.specs.DiagramText.{NamedDiagram}
 use Rattle.vpg_engine.specs.Held.{Held}

@@ -1,4 +1,4 @@
-use Rattle.std.proofs.Common.{◌≡◌, ◌<◌, ℕ, List, Option, Some, refl, sym, ap, ◌∙◌, subst, arith}
+use Rattle.std.proofs.Common.{◌≡◌, ℕ, List, Option, Some, refl, sym, ap, ◌∙◌, subst, arith, None}
 use Rattle.std.specs.Prelude.{IfSome}
 use Rattle.std.specs.List.{insert}
 use Rattle.vpg_office.specs.Token.{Held as Token}
@@ -10,12 +10,18 @@ use Rattle.vpg_engine.specs.Serials.{serials}
 use Rattle.vpg_engine.specs.Answers.{NoToken, call_or}
 use Rattle.vpg_engine.specs.Engine.{IsPlaceOf}
 use Rattle.vpg_engine.specs.EngineFields.{engine_in}
-use Rattle.vpg_engine.proofs.Asked.{on_view, both_on, log_full}
+use Rattle.vpg_engine.proofs.Asked.{on_view, both_on, log_full, on_same_view, unasked}
 use Rattle.vpg_engine.proofs.Enduring.{endures, stays, unless_stray}
 use Rattle.vpg_engine.proofs.Places.{Stands, stands}
 use Rattle.vpg_engine.proofs.Serials.{serials_removed, serials_length, serial_at}
 use Rattle.vpg_engine.proofs.Exchanging.{forgotten, put_again}
 use Rattle.vpg_engine.proofs.engine.Engine.forget.Goals as goal
+
+pub invariant_of-self : goal.invariant_of-self
+invariant_of-self g c =
+    let e = c.self.inside in
+    let step = c.in-Ok.ensures.accepted.step in
+    endures g.L.Terms.limit _ _ e.client.desk e.harvests.items c.self.invariant _ e.harvests.items step.game step.diagram c.self.invariant.harvests
 
 pub invariant_of-self-in-Err : goal.invariant_of-self-in-Err
 invariant_of-self-in-Err g c =
@@ -70,3 +76,11 @@ put_back_unspent-requires-clause-place g c =
     let at = subst (λ (ts : List Token). IsPlaceOf (redo_meant (serials ts) (Some c.args.serial)) (serials ts) (Some c.in-Some.place)) c.deref.ensures.value c.in-Some.ensures in
     let here : Stands at.0 c.in-Some.place (serials tokens) = stands at.0 c.in-Some.place (serials tokens) at.1.1 in
     omega (arith, here.within, serials_length tokens, c.remove-token.ensures.len, e.redos.ok.0)
+
+pub returns-in_default : goal.returns-in_default
+returns-in_default g c =
+    let e = c.self.inside in
+    let old = engine_in e.client e.undos.items e.redos.items e.harvests.items e.seen.items in
+    let none = subst (λ (ts : List Token). IsPlaceOf (redo_meant (serials ts) (Some c.args.serial)) (serials ts) None) c.deref.ensures.value c.in_default.ensures in
+    on_same_view c.refused.result _ old _ _ _ _ c.self.view_is
+    (λ told. unasked old c.args.session (script.Forget c.args.serial) NoToken c.args.out.now.items _ (ap (λ (x : Option ℕ). call_or NoToken Forget x) none) told) c.refused.ensures

@@ -1,4 +1,4 @@
-use Rattle.std.proofs.Common.{◌≡◌, ◌<◌, ℕ, List, Option, Some, refl, sym, ap, ◌∙◌, subst, arith}
+use Rattle.std.proofs.Common.{◌≡◌, ℕ, List, Option, Some, refl, sym, ap, ◌∙◌, subst, arith}
 use Rattle.std.specs.Prelude.{IfSome}
 use Rattle.std.specs.List.{insert}
 use Rattle.vpg_office.specs.Token.{Held as Token}
@@ -16,6 +16,12 @@ use Rattle.vpg_engine.proofs.Places.{Stands, stands}
 use Rattle.vpg_engine.proofs.Serials.{serials_removed, serials_length, serial_at}
 use Rattle.vpg_engine.proofs.Exchanging.{kept, put_again}
 use Rattle.vpg_engine.proofs.engine.Engine.keep.Goals as goal
+
+pub invariant_of-self : goal.invariant_of-self
+invariant_of-self g c =
+    let e = c.self.inside in
+    let step = c.in-Ok.ensures.accepted.step in
+    endures g.L.Terms.limit _ _ e.client.desk e.harvests.items c.self.invariant _ e.harvests.items step.game step.diagram c.self.invariant.harvests
 
 pub invariant_of-self-in-Err : goal.invariant_of-self-in-Err
 invariant_of-self-in-Err g c =

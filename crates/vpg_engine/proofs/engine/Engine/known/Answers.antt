@@ -10,12 +10,30 @@ use Rattle.vpg_engine.specs.Answers.{Own, NoFeature, call_or}
 use Rattle.vpg_engine.specs.Engine.{EngineState}
 use Rattle.vpg_engine.specs.EngineFields.{engine_in}
 use Rattle.vpg_engine.proofs.Asked.{on_view, on_same_view, both_on, log_full, unasked}
-use Rattle.vpg_engine.proofs.Enduring.{unless_stray_any}
+use Rattle.vpg_engine.proofs.Enduring.{endures, stays, unless_stray_any}
 use Rattle.vpg_engine.proofs.Paged.{games_are, known_answers}
 use Rattle.vpg_engine.proofs.engine.Engine.known.Goals as goal
 
 abbrev page_or : Option ℕ → Result Call Own
 page_or found = call_or NoFeature (λ f. Page) found
+
+pub invariant_of-self : goal.invariant_of-self
+invariant_of-self g c =
+    let e = c.self.inside in
+    let same = stays g.L.Terms.limit never_refused e.client c.args.session Page _ _ c.in-Err.ensures.fault in
+    endures g.L.Terms.limit _ _ e.client.desk e.harvests.items c.self.invariant _ e.harvests.items same.0 same.1 c.self.invariant.harvests
+
+pub invariant_of-self-in_err-put_known_over : goal.invariant_of-self-in_err-put_known_over
+invariant_of-self-in_err-put_known_over g c =
+    let e = c.self.inside in
+    let step = c.in-Ok.ensures.accepted.step in
+    endures g.L.Terms.limit _ _ e.client.desk e.harvests.items c.self.invariant _ e.harvests.items step.game step.diagram c.self.invariant.harvests
+
+pub invariant_of-self-2 : goal.invariant_of-self-2
+invariant_of-self-2 g c =
+    let e = c.self.inside in
+    let step = c.in-Ok.ensures.accepted.step in
+    endures g.L.Terms.limit _ _ e.client.desk e.harvests.items c.self.invariant _ e.harvests.items step.game step.diagram c.self.invariant.harvests
 
 pub returns-in_default : goal.returns-in_default
 returns-in_default g c =

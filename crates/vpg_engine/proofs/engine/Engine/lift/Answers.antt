@@ -45,6 +45,12 @@ commit_own-requires g c =
     let step = c.in-Ok.ensures.accepted.step in
     record { ours = (same.game ∙ c.in-Ok.ensures.ours.0 ∙ sym step.game, same.diagram ∙ c.in-Ok.ensures.ours.1 ∙ sym step.diagram) }
 
+pub invariant_of-self : goal.invariant_of-self
+invariant_of-self g c =
+    let e = c.self.inside in
+    let same = stays g.L.Terms.limit never_refused e.client c.args.session Order _ _ c.in-Err.ensures.fault in
+    endures g.L.Terms.limit _ _ e.client.desk e.harvests.items c.self.invariant _ e.harvests.items same.0 same.1 c.self.invariant.harvests
+
 pub invariant_of-self-in-Err-commit_own : goal.invariant_of-self-in-Err-commit_own
 invariant_of-self-in-Err-commit_own g c =
     let e = c.self.inside in

@@ -1,5 +1,4 @@
-use Rattle.std.proofs.Common.{◌≡◌, ◌<◌, ℕ, List, ◌++◌, ◌∷◌, [], Option, Some, None, refl, sym, ap, ap₂, ◌∙◌, subst, arith}
-use Rattle.std.specs.List.{insert}
+use Rattle.std.proofs.Common.{ℕ, List, ◌++◌, ◌∷◌, [], Option, Some, None, refl, sym, ap, ap₂, ◌∙◌, subst, arith}
 use Rattle.vpg_office.specs.Token.{Held as Token}
 use Rattle.vpg_engine.specs.Held.{Held, redo_meant}
 use Rattle.vpg_engine.specs.Serials.{serials}
@@ -14,6 +13,7 @@ use Rattle.vpg_desk.specs.Faults.{redo_refusal}
 use Rattle.vpg_script.specs.Script as script
 use Rattle.vpg_engine.specs.Answers.{NoToken, call_or}
 use Rattle.vpg_engine.proofs.Exchanging.{redone, put_again}
+use Rattle.std.proofs.lemmas.Grind.{common_steps}
 use Rattle.vpg_engine.proofs.engine.Engine.redo.Goals as goal
 
 pub invariant_of-self-in-Ok : goal.invariant_of-self-in-Ok
@@ -83,3 +83,6 @@ returns-in_default g c =
     let none = subst (λ (ts : List Token). IsPlaceOf (redo_meant (serials ts) c.args.serial) (serials ts) None) c.deref.ensures.value c.in_default.ensures in
     on_same_view c.refused.result _ old _ _ _ _ c.self.view_is
     (λ told. unasked old c.args.session (script.Redo c.args.serial) NoToken c.args.out.now.items _ (ap (λ (x : Option ℕ). call_or NoToken Redo x) none) told) c.refused.ensures
+
+pub hold_redone-requires-clause-room : goal.hold_redone-requires-clause-room
+hold_redone-requires-clause-room g c = grind (arith, common_steps)

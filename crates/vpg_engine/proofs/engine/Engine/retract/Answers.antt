@@ -1,17 +1,18 @@
-use Rattle.std.proofs.Common.{◌≡◌, ◌<◌, ℕ, List, ◌++◌, ◌∷◌, [], length, Option, Some, None, refl, sym, ap, ◌∙◌, subst}
-use Rattle.std.specs.Prelude.{IfNone, slice_get}
+use Rattle.std.proofs.Common.{◌≡◌, ℕ, List, ◌++◌, ◌∷◌, [], Option, Some, None, sym, ap, ◌∙◌, subst}
+use Rattle.std.specs.Prelude.{IfNone}
 use Rattle.vpg_guards.specs.Names.{index_of}
-use Rattle.vpg_desk.specs.Book.{Decide, Retract}
-use Rattle.vpg_desk.specs.Faults.{decide_refusal, retract_refusal}
+use Rattle.vpg_desk.specs.Book.{Retract}
+use Rattle.vpg_desk.specs.Faults.{retract_refusal}
 use Rattle.vpg_office.specs.Token.{Held as Token}
-use Rattle.vpg_diagram.specs.DiagramText.{NamedDiagram}
+use Rattle.vpg_script.specs.Script as script
 use Rattle.vpg_engine.specs.Held.{Held}
 use Rattle.vpg_engine.specs.Serials.{serials}
 use Rattle.vpg_engine.specs.Engine.{EngineState}
 use Rattle.vpg_engine.specs.EngineFields.{engine_in}
-use Rattle.vpg_engine.proofs.Asked.{on_view, on_same_view}
+use Rattle.vpg_engine.proofs.Asked.{on_view, on_same_view, unasked}
 use Rattle.vpg_engine.proofs.Deciding.{retracted, retract_refused}
 use Rattle.vpg_engine.proofs.Enduring.{endures, stays, unless_stray}
+use Rattle.vpg_engine.specs.Answers.{NoFeature, call_or}
 use Rattle.vpg_engine.proofs.engine.Engine.retract.Goals as goal
 
 pub invariant_of-self-in-Ok : goal.invariant_of-self-in-Ok
@@ -50,3 +51,12 @@ returns-in-Err g c =
     on_view c.retract_refused.result _ old _ _ _ _ _ c.self.view_is
     (λ told. retract_refused old c.args.session c.args.name.now g.L.Terms.limit c.self.invariant.room_is _ c.in-Some.feature c.args.out.now.items _ found c.in-Err.field-0.fault c.names-in-Err.result.now c.in-Err.ensures.fault
     stays_held c.names-in-Err.ensures told) c.retract_refused.ensures
+
+pub returns-in_default : goal.returns-in_default
+returns-in_default g c =
+    let e = c.self.inside in
+    let old = engine_in e.client e.undos.items e.redos.items e.harvests.items e.seen.items in
+    let none : index_of old.client.desk.diagram.names c.args.name.now ≡ None =
+    ap (λ (s : EngineState). index_of s.client.desk.diagram.names c.args.name.now) c.self.view_is ∙ ap (λ (ns : List (List ℕ)). index_of ns c.args.name.now) (sym c.names.ensures) ∙ sym c.in_default.ensures.index in
+    on_same_view c.refused.result _ old _ _ _ _ c.self.view_is
+    (λ told. unasked old c.args.session (script.Retract c.args.name.now) NoFeature c.args.out.now.items _ (ap (λ (found : Option ℕ). call_or NoFeature Retract found) none) told) c.refused.ensures

@@ -5,6 +5,7 @@ use Rattle.vpg_texts.specs.Scene.{IsCounted, scene_of}
 use Rattle.vpg_texts.proofs.Counted.{counts}
 use Rattle.vpg_texts.proofs.Settled.{table_of_games}
 use Rattle.vpg_texts.proofs.Shown.{on_ok, appended, written}
+use Rattle.vpg_texts.proofs.Pieces.{unwritten}
 use Rattle.vpg_texts.proofs.showing.counts.count_over.Goals as goal
 
 pub is_settled-settled-requires-clause-hopeful : goal.is_settled-settled-requires-clause-hopeful
@@ -24,3 +25,6 @@ returns-clause-counted c =
     c.requires.hopeful c.requires.dual c.requires.hopeful_within c.requires.dual_within c.is_full-full.result c.is_settled-settled.result
     (rw c.known.ensures at c.is_full-full.ensures.known) c.is_settled-settled.ensures (written text text c.new-text.result.items _ refl c.in_ok-count.ensures c.new-text.ensures.items) in
     on_ok c.extend_from_slice.result _ _ (λ items. (text, (counted, items ∙ ap (λ (bytes : List ℕ). c.args.out.now.items ++ bytes) c.deref.ensures.value))) (appended c.extend_from_slice.result _ _ _ c.extend_from_slice.ensures.items)
+
+pub returns-clause-unchanged : goal.returns-clause-unchanged
+returns-clause-unchanged c = unwritten c.extend_from_slice.result _ _ _ _ c.extend_from_slice.ensures.items refl

@@ -7,6 +7,7 @@ use Rattle.vpg_texts.specs.Sights.{IsAsserted}
 use Rattle.vpg_texts.proofs.Counted.{asserts}
 use Rattle.vpg_texts.proofs.Settled.{table_of_games}
 use Rattle.vpg_texts.proofs.Shown.{on_ok, appended, written}
+use Rattle.vpg_texts.proofs.Pieces.{unwritten}
 use Rattle.vpg_texts.proofs.showing.lookups.assertion_over.Goals as goal
 
 pub is_settled-settled-requires-clause-hopeful : goal.is_settled-settled-requires-clause-hopeful
@@ -27,3 +28,6 @@ returns-clause-asserted c =
     c.requires.hopeful c.requires.dual c.requires.hopeful_within c.requires.dual_within said c.is_full-full.result c.is_settled-settled.result
     (rw c.known.ensures at c.is_full-full.ensures.known) c.is_settled-settled.ensures (written text text c.new-text.result.items _ refl c.in_ok-assertion.ensures c.new-text.ensures.items) in
     on_ok c.extend_from_slice.result _ _ (λ items. (text, (asserted, items ∙ ap (λ (bytes : List ℕ). c.args.out.now.items ++ bytes) c.deref.ensures.value))) (appended c.extend_from_slice.result _ _ _ c.extend_from_slice.ensures.items)
+
+pub returns-clause-unchanged : goal.returns-clause-unchanged
+returns-clause-unchanged c = unwritten c.extend_from_slice.result _ _ _ _ c.extend_from_slice.ensures.items refl

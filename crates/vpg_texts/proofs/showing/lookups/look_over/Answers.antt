@@ -1,8 +1,6 @@
 use Rattle.std.proofs.Common.{sym, ap}
 use Rattle.vpg_script.specs.Script as script
 use Rattle.vpg_script.specs.View.{assertion_shown, lookup_shown}
-use Rattle.vpg_partial.specs.Known.{literal_of}
-use Rattle.std.specs.Prelude.{map}
 use Rattle.vpg_texts.specs.Scene.{scene_of}
 use Rattle.vpg_texts.proofs.Seen.{seen_as, named_seen}
 use Rattle.vpg_texts.proofs.showing.lookups.look_over.Goals as goal

@@ -1,8 +1,9 @@
-use Rattle.std.proofs.Common.{◌≡◌, List, ◌<◌, sym, ◌∙◌, subst}
+use Rattle.std.proofs.Common.{List, ◌<◌, sym, ◌∙◌, subst, ℕ, length, ap}
 use Rattle.std.specs.Prelude.{All}
 use Rattle.vpg_partial.specs.declared.decision.Decision.{Decision}
 use Rattle.vpg_texts.proofs.Pictured.{draws, verdict_each}
 use Rattle.vpg_texts.proofs.Shown.{named_below}
+use Rattle.vpg_guards.specs.declared.tri.Tri.{Tri}
 use Rattle.vpg_texts.proofs.showing.pictures.draw_over.Goals as goal
 
 pub draw_game-requires-clause-decisions : goal.draw_game-requires-clause-decisions
@@ -20,3 +21,9 @@ returns-clause-drawn c =
     draws c.args.game.now c.args.diagram.now page.decisions c.args.games.now c.requires.games c.requires.features page.hopeful page.dual
     c.draw_game.result c.args.out.now.items c.draw_game.new.out.items c.names-2.result.now c.known.result.now c.as_slice.result.now c.none-names.result.names c.deref.result.now
     c.names-2.ensures.names c.known.ensures c.as_slice.ensures c.none-names.ensures.names (c.deref.ensures.value ∙ c.in_ok-verdicts.ensures) c.draw_game.ensures.drawn
+
+pub draw_game-requires-clause-features : goal.draw_game-requires-clause-features
+draw_game-requires-clause-features c = ap (λ (names : List (List ℕ)). length names) c.names-2.ensures.names ∙ c.names-2.ensures.diagram.each_named ∙ sym c.requires.features
+
+pub draw_game-requires-clause-known : goal.draw_game-requires-clause-known
+draw_game-requires-clause-known c = ap (λ (known : List Tri). length known) c.known.ensures ∙ c.requires.games.known.length_is ∙ sym c.requires.features
