@@ -1,5 +1,5 @@
 -- Steps that lifters took, one after another.
-use Rattle.std.proofs.Common.{◌≡◌, ℕ, ◌+◌, ◌-◌, ◌<◌, ◌≤◌, Bool, true, false, true≢false, List, [], ◌∷◌, ◌++◌, length, map, take, set, get_or, refl, sym, ap, ◌∙◌, subst, arith}
+use Rattle.std.proofs.Common.{◌≡◌, ℕ, ◌+◌, ◌-◌, ◌<◌, ◌≤◌, Bool, true, false, true≢false, ◌||◌, List, [], ◌∷◌, ◌++◌, length, map, take, set, get_or, refl, sym, ap, ap₂, ◌∙◌, subst, arith}
 use Rattle.std.proofs.lemmas.List.{take_more, take_all}
 use mathlib.Core.Option.{some}
 use lib.ListN.{get_elem?}
@@ -9,11 +9,11 @@ use Rattle.vpg_hope.specs.Arena.{vertex_at}
 use Rattle.vpg_verdict.specs.declared.which.Which.{Which}
 use Rattle.vpg_measure.specs.Orders.{OrderView, order_arena}
 use Rattle.vpg_board.specs.declared.lifter.Lifter.{Lifter}
-use Rattle.vpg_board.specs.Places.{place_of}
-use Rattle.vpg_board.specs.Lifters.{opener, spent, splits, newcomer}
+use Rattle.vpg_board.specs.Places.{places, place_of}
+use Rattle.vpg_board.specs.Lifters.{opener, spent, splits, newcomer, both}
 use Rattle.vpg_board.specs.Run.{BoardState, Move, load, split, lifter, opened, after, May, Reached}
 use Rattle.vpg_board.specs.Taken.{IsOnBoard, Takes, TakesAll, load_of}
-use Rattle.vpg_board.specs.Seats.{IsSafe, IsSeat}
+use Rattle.vpg_board.specs.Seats.{IsSafe, AreSeatClaims, IsSeat}
 use Rattle.vpg_board.proofs.Totals.{at_get, at_below}
 use Rattle.vpg_board.proofs.Known.{claims_of_splits, claims_of_newcomer}
 
@@ -116,4 +116,30 @@ seat_newcomer table v opening count done i opens few = record {
   opens = refl;
   open_claims = λ _. refl;
   no_more = λ f. absurd (true≢false (sym f));
+}
+
+-- ---- the seat of a join
+
+none_empty : (a b : Bool) (m n : ℕ) → (a ≡ false → m ≡ 0) → (b ≡ false → n ≡ 0) → (a || b) ≡ false → m + n ≡ 0
+none_empty true b m n p q f = absurd (true≢false f)
+none_empty false true m n p q f = absurd (true≢false f)
+none_empty false false m n p q f = omega (arith, p refl, q refl)
+
+some_empty : (a b : Bool) (m n : ℕ) → (a ≡ true → 0 < m) → (b ≡ true → 0 < n) → (a || b) ≡ true → 0 < m + n
+some_empty true b m n p q f = omega (arith, p refl)
+some_empty false true m n p q f = omega (arith, q refl)
+some_empty false false m n p q f = absurd (true≢false (sym f))
+
+pub seat_both : (t t' t'' : TableId) (v w x : Lifter) (o o' o'' : Bool) (n n' : ℕ) (d d' d'' : Bool) → IsSeat t v o n d → IsSeat t' w o' n' d' → t'' ≡ t → x ≡ both v w
+    → IsSafe x → AreSeatClaims x → IsOnBoard x → o'' ≡ (o || o') → d'' ≡ (d || d') → IsSeat t'' x o'' (n + n') d''
+seat_both t t' t'' v w x o o' o'' n n' d d' d'' i j table is safe claims run opening done = record {
+  words = ap (λ (k : TableId). k.words) table ∙ i.words ∙ ap (λ (y : Lifter). places y.order + 1) (sym is);
+  stands = subst (λ (y : Lifter). 0 < y.stands) (sym is) (omega (arith, i.stands, j.stands));
+  safe = safe;
+  claims = claims;
+  run = run;
+  splits = ap (λ (y : Lifter). y.splits) is ∙ ap₂ (λ (a b : ℕ). a + b) i.splits j.splits;
+  opens = ap (λ (y : Lifter). y.opening) is ∙ ap₂ (λ (a b : Bool). a || b) i.opens j.opens ∙ sym opening;
+  open_claims = λ f. ap (λ (y : Lifter). y.empty) is ∙ none_empty d d' v.empty w.empty i.open_claims j.open_claims (sym done ∙ f);
+  no_more = λ f. subst (λ (y : Lifter). 0 < y.empty) (sym is) (some_empty d d' v.empty w.empty i.no_more j.no_more (sym done ∙ f));
 }

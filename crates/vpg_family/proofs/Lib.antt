@@ -3,3 +3,4 @@ pub mod Contradictions
 pub mod Counting
 pub mod Naming
 pub mod Sights
+pub mod Told

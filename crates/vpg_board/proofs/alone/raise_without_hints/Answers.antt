@@ -19,3 +19,15 @@ claims-preserved g c =
       rises = rises_trans c.args.harvest.now c.claims.harvest c.raise.new.self i.rises one;
       lifted = lifted_next c.args.harvest.now c.claims.harvest c.raise.new.self c.raise.new.self c.args.which c.claims.v (omega arith) i.lifted i.rises one here (rises_none c.raise.new.self r.harvests.1);
     }
+
+pub returns-clause-lifted : goal.returns-clause-lifted
+returns-clause-lifted g c =
+    let count : c.vertices-count.result ≡ vertices c.args.harvest.now.order =
+    c.vertices-count.ensures.count ∙ ap (λ (g : NamedGame). length g.vertices) (c.deref.ensures ∙ c.game.ensures.game ∙ ap (λ (o : OrderView). o.game) c.order.ensures.order) in
+    λ v less. c.claims.invariant.lifted v (omega arith)
+
+pub raise-requires : goal.raise-requires
+raise-requires g c =
+    let count : c.vertices-count.result ≡ vertices c.args.harvest.now.order =
+    c.vertices-count.ensures.count ∙ ap (λ (g : NamedGame). length g.vertices) (c.deref.ensures ∙ c.game.ensures.game ∙ ap (λ (o : OrderView). o.game) c.order.ensures.order) in
+    less_still c.args.harvest.now c.claims.harvest c.claims.v c.claims.invariant.rises (omega arith)

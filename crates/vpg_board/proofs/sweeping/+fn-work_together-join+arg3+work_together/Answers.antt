@@ -1,14 +1,15 @@
-use Rattle.std.proofs.Common.{rules, subst}
+use Rattle.std.proofs.Common.{rules, sym, subst}
 use denote.Param.{param}
 use denote.Param.Send.{IsSync, sendable}
 use Rattle.std.proofs.Crossing.{crosses}
 use Rattle.vpg_board.specs.declared.lifter.Lifter.{Lifter}
-use Rattle.vpg_board.specs.Worked.{HasWorked}
+use Rattle.vpg_board.specs.Worked.{Works, HasWorked}
 use Rattle.vpg_board.proofs.Sharing.{board_sync}
 use Rattle.vpg_board.proofs.Working.{has_worked_both}
 use Rattle.vpg_board.proofs.seat.Seat.TheSendSync as seat
 use Rattle.vpg_board.proofs.hints.Hints.TheSendSync as hints
 use Rattle.vpg_board.proofs.predecessors.Predecessors.TheSendSync as predecessors
+use Rattle.vpg_board.specs.Seats.{SeatView}
 use Rattle.vpg_board.proofs.sweeping.+fn-work_together-join+arg3+work_together.Goals as goal
 
 -- what each captured value may do stands beside the goal, since a search through all of it takes too many steps
@@ -31,3 +32,10 @@ returns g t c =
     (subst (λ (v : Lifter). HasWorked c.args.board.now v c.join-other.result.1) split.0 both.second)
     (subst (λ (v : Lifter). HasWorked c.args.board.now v c.join-other.result.0) split.1 both.first)
     j.board j.both j.safe j.all
+
+pub work-requires-in_default-clause-works : goal.work-requires-in_default-clause-works
+work-requires-in_default-clause-works g t c = subst (Works c.args.board.now) (sym c.in_default.ensures.same) c.requires.works
+
+pub returns-in_default : goal.returns-in_default
+returns-in_default g t c =
+    subst (λ (s : SeatView). HasWorked c.args.board.now s.lifter c.work-in_default.result) c.in_default.ensures.same c.work-in_default.ensures

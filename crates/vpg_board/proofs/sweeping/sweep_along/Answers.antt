@@ -2,7 +2,7 @@ use Rattle.std.proofs.Common.{ℕ, ◌+◌, ◌<◌, ◌≤◌, subst}
 use Rattle.std.specs.Prelude.{slice_index, sum}
 use Rattle.vpg_hope.specs.Arena.{vertex_at}
 use Rattle.vpg_verdict.specs.declared.which.Which.{Which}
-use Rattle.vpg_measure.specs.Lifts.{lift_of}
+use Rattle.vpg_measure.specs.Lifts.{lift_of, IsBelowTable}
 use Rattle.vpg_measure.specs.Orders.{OrderView, IsSettledHarvest, order_levels, order_arena, order_table, harvest_table}
 use Rattle.vpg_board.specs.Places.{vertices}
 use Rattle.vpg_board.proofs.sweeping.sweep_along.Goals as goal
@@ -19,3 +19,8 @@ returns-in-Err-clause-moved g c =
     let harvest = c.sweep_alone-in-Err.result in
     subst (λ (o : OrderView). ¬ IsSettledHarvest harvest → sum o.hopeful + sum o.dual < sum harvest.hopeful + sum harvest.dual)
     c.in-Err.ensures.back c.sweep_alone-in-Err.ensures.moved
+
+pub returns-in-Err-clause-above : goal.returns-in-Err-clause-above
+returns-in-Err-clause-above g c =
+    let harvest = c.sweep_alone-in-Err.result in
+    subst (λ (o : OrderView). (which : Which) → IsBelowTable (order_table which o) (harvest_table which harvest)) c.in-Err.ensures.back c.sweep_alone-in-Err.ensures.above

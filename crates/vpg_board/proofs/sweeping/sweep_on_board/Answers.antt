@@ -1,5 +1,8 @@
 use Rattle.vpg_board.proofs.Swept as swept
 use Rattle.vpg_board.proofs.Working.{works_open}
+use Rattle.std.proofs.Common.{◌≡◌, subst}
+use Rattle.std.specs.Prelude.{IfErr}
+use Rattle.vpg_measure.specs.Orders.{OrderView}
 use Rattle.vpg_board.proofs.sweeping.sweep_on_board.Goals as goal
 
 pub work_with_hints-seat-requires-clause-works : goal.work_with_hints-seat-requires-clause-works
@@ -20,3 +23,7 @@ pub returns-clause-moved : goal.returns-clause-moved
 returns-clause-moved g c =
     let o = c.in_ok-board.ensures in let e = c.close.ensures in
     swept.ok_of _ _ _ _ c.close.result (λ h. swept.moved c.args.order c.in_ok-board.board o.order c.in_ok-board.seat c.work_with_hints-seat.result o.seat c.work_with_hints-seat.ensures h) e.order e.seen e.harvest
+
+pub returns-clause-back : goal.returns-clause-back
+returns-clause-back g c =
+    subst (λ (o : OrderView). IfErr c.close.result (λ (back : OrderView). back ≡ o)) c.in_ok-board.ensures.order c.close.ensures.back

@@ -1,4 +1,5 @@
 use Rattle.vpg_board.proofs.Working.{none_left, one_more, stand_trans}
+use Rattle.std.proofs.Common.{◌∙◌}
 use Rattle.vpg_board.proofs.sweeping.work.Goals as goal
 
 pub returns-in_default : goal.returns-in_default
@@ -22,3 +23,6 @@ claims-preserved g c =
     let h = c.lift_hinted.ensures in
     let more = one_more c.args.board.now c.args.seat.lifter c.claims.seat c.claim.new.seat c.lift_and_hint.new.seat c.in-Some-claim.which c.in-Some-claim.v i.works i.stand t.board t.vertex t.claimed l.board l.seen l.safe l.lifted in
     record { works = h.works; stand = stand_trans c.args.seat.lifter c.lift_and_hint.new.seat.lifter c.lift_hinted.new.seat.lifter more.1 h.stand }
+
+pub lift_and_hint-requires-clause-board : goal.lift_and_hint-requires-clause-board
+lift_and_hint-requires-clause-board g c = c.in-Some-claim.ensures.board ∙ c.claims.invariant.works.board_is

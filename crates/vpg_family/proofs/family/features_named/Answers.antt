@@ -1,6 +1,7 @@
 use Rattle.std.proofs.Common.{ℕ, false, replicate, ap, ◌∙◌, arith}
 use Rattle.std.proofs.lemmas.Result.{err_from_is_err_and}
 use Rattle.vpg_family.proofs.Naming.{named_first, named_next, named_within, unknown_first}
+use Rattle.std.proofs.lemmas.Grind.{common_steps}
 use Rattle.vpg_family.proofs.family.features_named.Goals as goal
 
 pub loop-word-init : goal.loop-word-init
@@ -18,3 +19,6 @@ index_mut-requires c =
 pub loop-word-preserved : goal.loop-word-preserved
 loop-word-preserved c =
     named_next c.args.names.now c.args.words.now c.loop-word.word-index c.in_ok-f.f c.loop-word.set.items c.loop-word-test.true c.len.ensures.names.distinct c.in_ok-f.ensures.found c.loop-word.invariant
+
+pub returns-clause-set : goal.returns-clause-set
+returns-clause-set c = grind (arith, common_steps)

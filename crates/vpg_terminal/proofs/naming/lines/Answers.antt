@@ -7,4 +7,4 @@ use Rattle.vpg_terminal.proofs.naming.lines.Goals as goal
 pub returns : goal.returns
 returns c =
     map_from_collect _ c.collect.ensures.ran
-    (YieldsList-from_slice_split _ is_line_end c.args.text.now (cc) (cc) (cc) (λ x r q k. search (rules, tests)))
+    (YieldsList-from_slice_split _ is_line_end c.args.text.now c.split.ensures.rest c.split.ensures.done c.split.ensures.closure (λ x r q k. search (rules, tests)))

@@ -3,7 +3,7 @@ use Rattle.std.specs.Mem.Slots.{slots_items}
 use Rattle.vpg_verdict.specs.declared.which.Which.{Which}
 use Rattle.vpg_verdict.specs.declared.which.Which.TheVariants.{Hopeful, Dual}
 use Rattle.vpg_measure.specs.Lifts.{IsBelowTable}
-use Rattle.vpg_measure.specs.Orders.{OrderView, harvest_table}
+use Rattle.vpg_measure.specs.Orders.{OrderView, IsSameOrder, harvest_table}
 use Rattle.vpg_board.specs.declared.lifter.Lifter.{Lifter}
 use Rattle.vpg_board.specs.Places.{table_in, places}
 use Rattle.vpg_board.proofs.Ending.{may_be_harvested, was_seen}
@@ -36,3 +36,9 @@ returns-clause-seen c which =
     ] in
     subst (λ (x : OrderView). IsBelowTable (table_in x which c.args.seat.lifter.seen) (harvest_table which c.of.result)) (ap (λ b. b.order) c.self.view_is)
     (subst (λ (x : Lifter). IsBelowTable (table_in self.order which x.seen) (harvest_table which c.of.result)) (ap (λ s. s.lifter) c.seat.view_is) (at which))
+
+pub returns-in_default-clause-back : goal.returns-in_default-clause-back
+returns-in_default-clause-back c = ap (λ b. b.order) c.self.view_is
+
+pub returns-clause-order : goal.returns-clause-order
+returns-clause-order c = subst (IsSameOrder c.of.result.order) (ap (λ b. b.order) c.self.view_is) c.of.ensures.order

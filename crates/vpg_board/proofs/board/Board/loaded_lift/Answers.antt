@@ -133,3 +133,19 @@ returns-clause-safe c = c.loop-successor.invariant.safe
 
 pub returns-clause-run : goal.returns-clause-run
 returns-clause-run c = c.loop-successor.invariant.run
+
+pub kept-kept-requires : goal.kept-kept-requires
+kept-kept-requires c =
+    let order = c.self.inside.order in
+    let same : order ≡ c.args.self.now.order = ap (λ b. b.order) c.self.view_is in
+    let count : length c.arena-arena.result.now ≡ vertices c.args.self.now.order =
+    ap length c.arena-arena.ensures ∙ arena_count order.known c.args.which order.game ∙ ap (λ (o : OrderView). vertices o) same in
+    subst (λ (n : ℕ). c.args.v < n) (sym count) c.requires.vertex
+
+pub owner-owner-requires : goal.owner-owner-requires
+owner-owner-requires c =
+    let order = c.self.inside.order in
+    let same : order ≡ c.args.self.now.order = ap (λ b. b.order) c.self.view_is in
+    let count : length c.arena-arena.result.now ≡ vertices c.args.self.now.order =
+    ap length c.arena-arena.ensures ∙ arena_count order.known c.args.which order.game ∙ ap (λ (o : OrderView). vertices o) same in
+    subst (λ (n : ℕ). c.args.v < n) (sym count) c.requires.vertex

@@ -1,15 +1,16 @@
-use Rattle.std.proofs.Common.{◌≡◌, ℕ, [], ◌∷◌, List, sym, ap, ◌∙◌, subst, refl, length, arith, false, true, true≢false}
+use Rattle.std.proofs.Common.{◌≡◌, ℕ, [], ◌∷◌, List, sym, ap, ap₂, ◌∙◌, subst, refl, length, arith, false, true, true≢false}
 use Rattle.atomic_table.specs.Table.{opening}
 use Rattle.vpg_board.specs.Lifters.{opener}
 use Rattle.vpg_board.specs.Places.{values}
 use Rattle.vpg_board.specs.Steps.{IsBoard}
 use Rattle.vpg_board.specs.Taken.{IsOnBoard}
-use Rattle.vpg_board.specs.Seats.{IsSeat, IsSafe}
+use Rattle.vpg_board.specs.Seats.{SeatView, IsSeat, IsSafe}
 use Rattle.vpg_board.specs.declared.lifter.Lifter.{Lifter}
 use Rattle.vpg_board.proofs.Atomic.{begins}
 use Rattle.vpg_board.proofs.Known.{claims_of_opener, safe_of_opener}
 use Rattle.vpg_board.proofs.Halves.{values_wide}
 use Rattle.vpg_board.proofs.Taking.{opener_on_board}
+use Rattle.atomic_table.specs.Seated.{TableId}
 use Rattle.vpg_board.proofs.board.Board.open.Goals as goal
 
 pub of_words-requires : goal.of_words-requires
@@ -60,3 +61,9 @@ returns-clause-safe c =
 
 pub returns-clause-run : goal.returns-clause-run
 returns-clause-run c = subst IsOnBoard (sym (ap (λ m. m.0) c.in-Ok-of_words.ensures.4)) (opener_on_board c.args.order)
+
+abbrev seat : TableId → Lifter → SeatView
+seat table lifter = record { board = record { table = table; order = lifter.order }; lifter = lifter }
+
+pub returns-clause-seat : goal.returns-clause-seat
+returns-clause-seat c = let e = c.in-Ok-of_words.ensures in ap₂ seat e.2 (ap (λ m. m.0) e.4)

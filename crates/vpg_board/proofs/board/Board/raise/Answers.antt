@@ -140,3 +140,9 @@ returns-clause-steps c =
       takes_next (lift_steps c.args.self.now.order c.args.which c.args.v false) (raise_of c.args.self.now.order c.args.which c.args.v) c.args.seat.now.me.0 c.loaded_lift-lifted.new.seat.me.0 c.fetch_max-found.new.seat.me.0
           (loaded (goal.at.returns-clause-steps c).After-loaded_lift-lifted) step,
     )
+
+pub returns-then-lifted-before-clause-safe : goal.returns-then-lifted-before-clause-safe
+returns-then-lifted-before-clause-safe c = c.loaded_lift-lifted.ensures.safe
+
+pub returns-clause-safe : goal.returns-clause-safe
+returns-clause-safe c = c.fetch_max-found.ensures.2.2

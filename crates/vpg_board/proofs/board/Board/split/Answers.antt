@@ -1,11 +1,13 @@
-use Rattle.std.proofs.Common.{◌+◌, sym, ap, ◌∙◌, subst, false, arith}
+use Rattle.std.proofs.Common.{◌+◌, sym, ap, ap₂, ◌∙◌, subst, false, arith}
 use Rattle.atomic_table.specs.Seated.{TableId}
 use Rattle.vpg_board.specs.declared.lifter.Lifter.{Lifter}
+use Rattle.vpg_board.specs.Lifters.{splits, newcomer}
 use Rattle.vpg_board.specs.Run.{split}
 use Rattle.vpg_board.specs.Taken.{IsOnBoard, Takes}
-use Rattle.vpg_board.specs.Seats.{IsSeat}
+use Rattle.vpg_board.specs.Seats.{BoardView, IsSeat}
 use Rattle.vpg_board.proofs.Atomic.{splitting}
 use Rattle.vpg_board.proofs.Taking.{takes_split, on_board_newcomer, seat_splits, seat_newcomer}
+use Rattle.vpg_measure.specs.Orders.{OrderView}
 use Rattle.vpg_board.proofs.board.Board.split.Goals as goal
 
 pub split_seat-inner-requires : goal.split_seat-inner-requires
@@ -51,3 +53,19 @@ returns-clause-run c =
     let i = c.seat.invariant.1 in
     subst IsOnBoard (sym (ap (λ m. m.0) c.split_seat-inner.ensures.4))
     (on_board_newcomer c.seat.inside.inner.me.0 i.run i.stands (i.opens ∙ c.if-not-seat.false) (omega (arith, i.splits, c.if-seat-ge63.false)))
+
+abbrev board : TableId → OrderView → BoardView
+board table order = record { table = table; order = order }
+
+pub returns-clause-other : goal.returns-clause-other
+returns-clause-other c =
+    let e = c.split_seat-inner.ensures in
+    (ap₂ board e.3 (ap (λ m. m.0.order) e.4) ∙ ap (λ s. s.board) c.seat.view_is, ap (λ m. m.0) e.4 ∙ ap (λ s. newcomer s.lifter) c.seat.view_is)
+
+pub returns-clause-board : goal.returns-clause-board
+returns-clause-board c =
+    let e = c.split_seat-inner.ensures in
+    ap₂ board e.0 (ap (λ m. m.0.order) e.2) ∙ ap (λ s. s.board) c.seat.view_is
+
+pub returns-clause-split : goal.returns-clause-split
+returns-clause-split c = ap (λ m. m.0) c.split_seat-inner.ensures.2 ∙ ap (λ s. splits s.lifter) c.seat.view_is

@@ -1,4 +1,4 @@
-use Rattle.std.proofs.Common.{◌≡◌, ◌<◌, ◌≤◌, ◌⊎◌, inl, inr, length, arith}
+use Rattle.std.proofs.Common.{◌≡◌, ◌<◌, ◌≤◌, ◌-◌, ◌⊎◌, ℕ, inl, inr, length, sym, subst, arith}
 use Rattle.vpg_board.proofs.Chaining.{chain_none, chain_here}
 use Rattle.vpg_board.proofs.predecessors.Chains.edge_before.Goals.{then-place-eq0-via-then-place-eq0}
 use Rattle.vpg_board.proofs.predecessors.Chains.edge_before.Goals.{then-place-eq0-via-else-place-eq0+then-place-len}
@@ -20,3 +20,10 @@ returns-clause-chain c =
     let some : 0 < c.args.place = omega (arith, c.if-place-eq0.false) in
     let within : c.args.place ≤ length edges.items = omega (arith, c.if-place-len.false, c.len.ensures, edges.ok.0) in
     chain_here edges.items c.args.place c.index.result.now c.args.self.now.linked.back some within c.index.ensures
+
+pub returns-clause-inside : goal.returns-clause-inside
+returns-clause-inside c = λ n all.
+    let edges = c.args.self.now.edges in
+    let some : 0 < c.args.place = omega (arith, c.if-place-eq0.false) in
+    let within : c.args.place - 1 < length edges.items = omega (arith, c.if-place-len.false, c.len.ensures, edges.ok.0) in
+    subst (λ (e : ℕ × ℕ). e.0 < n) (sym c.index.ensures) (all (c.args.place - 1) c.index.result.now within)

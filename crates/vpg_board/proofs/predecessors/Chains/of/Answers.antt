@@ -1,5 +1,6 @@
 use Rattle.std.proofs.Common.{◌<◌, ℕ, length, All, ap, sym, subst, arith}
 use Rattle.vpg_board.proofs.Chaining.{filled_more, filled_all, room_for}
+use Rattle.std.proofs.lemmas.Grind.{common_steps}
 use Rattle.vpg_board.proofs.predecessors.Chains.of.Goals as goal
 
 pub add_edges-requires-clause-closed : goal.add_edges-requires-clause-closed
@@ -33,3 +34,9 @@ returns-clause-edges c =
     let i = c.vertices in
     filled_all c.args.arena.now i.v i.last.items i.edges.items i.invariant
     (omega (arith, c.vertices-test.false, c.vertices-v-end.ensures))
+
+pub vertices-init : goal.vertices-init
+vertices-init c = grind (arith, common_steps)
+
+pub returns-clause-inside : goal.returns-clause-inside
+returns-clause-inside c = c.vertices.invariant.inside

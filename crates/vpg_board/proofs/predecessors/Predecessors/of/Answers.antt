@@ -1,5 +1,7 @@
 use Rattle.vpg_verdict.specs.declared.which.Which.TheVariants.{Hopeful, Dual}
 use Rattle.vpg_board.proofs.Kept.{order_edges}
+use Rattle.std.proofs.Common.{arith}
+use Rattle.std.proofs.lemmas.Grind.{common_steps}
 use Rattle.vpg_board.proofs.predecessors.Predecessors.of.Goals as goal
 
 pub of-requires : goal.of-requires
@@ -7,3 +9,6 @@ of-requires c = order_edges c.args.order.now Hopeful c.arena.result.now c.game.e
 
 pub of-requires-2 : goal.of-requires-2
 of-requires-2 c = order_edges c.args.order.now Dual c.arena-2.result.now c.game.ensures.order c.arena-2.ensures
+
+pub invariant_of-result : goal.invariant_of-result
+invariant_of-result c = grind (arith, common_steps)

@@ -1,0 +1,74 @@
+-- What calls that append leave, and what is told of two texts, by what their parts tell.
+use Rattle.std.proofs.Common.{◌≡◌, ℕ, Bool, true, false, true≢false, List, ◌++◌, Result, Ok, Err, is_ok, is_err, IfErr, OnOk, ap, sym, subst, ◌∙◌, append_assoc, ◌⊎◌, inl, inr}
+use Rattle.std.specs.Prelude.{OnErr, if◌then◌else◌}
+use Rattle.vpg_diagram.specs.DiagramText.{NamedDiagram, IsTextOf}
+use Rattle.vpg_game.specs.Game.{NamedGame}
+use Rattle.vpg_family.specs.Families.{IsDiagramFault, IsGameFault, IsFamilyFault, IsSomeDiagram, IsUnread, SpellsFamily}
+use Rattle.vpg_family.specs.Pictures.{IsUndrawn, TellsContradiction}
+use Rattle.vpg_family.specs.declared.fault.Fault.{Fault}
+use Rattle.vpg_family.specs.declared.fault.Fault.TheVariants as told
+
+-- a text is appended behind another
+pub appended : {A E : Type 0} (r : Result A E) (new mid old front back : List ℕ) → mid ≡ old ++ front → OnOk r (new ≡ mid ++ back) → OnOk r (new ≡ (old ++ front) ++ back)
+appended (Ok x) new mid old front back m e = e ∙ ap (λ l. l ++ back) m
+appended (Err x) new mid old front back m e = tt
+
+-- the text of two parts is appended
+pub told_parts : {A E : Type 0} (r : Result A E) (new old front back text : List ℕ) → text ≡ front ++ back → OnOk r (new ≡ (old ++ front) ++ back) → OnOk r (new ≡ old ++ text)
+told_parts (Ok x) new old front back text is e = e ∙ append_assoc old front back ∙ ap (λ l. old ++ l) (sym is)
+told_parts (Err x) new old front back text is e = tt
+
+-- this text is appended
+pub told_as : {A E : Type 0} (r : Result A E) (new old front text : List ℕ) → text ≡ front → new ≡ (if is_ok r then old ++ front else old) → OnOk r (new ≡ old ++ text)
+told_as (Ok x) new old front text is e = e ∙ ap (λ l. old ++ l) (sym is)
+told_as (Err x) new old front text is e = tt
+
+pub if_err_to : {A E : Type 0} (P Q : E → Type 0) (r : Result A E) → ((e : E) → P e → Q e) → IfErr r P → IfErr r Q
+if_err_to P Q (Ok x) f h = tt
+if_err_to P Q (Err e) f h = f e h
+
+-- ---- what is told of two texts
+
+pub family_of_game : (diagram_text game_text : List ℕ) (diagram : NamedDiagram) (fault : Fault) → IsTextOf diagram_text diagram → IsGameFault diagram.names game_text fault → IsFamilyFault diagram_text game_text fault
+family_of_game diagram_text game_text diagram (told.Game fault) is h = (diagram, (is, h))
+family_of_game diagram_text game_text diagram told.Memory is h = tt
+family_of_game diagram_text game_text diagram _ is h = absurd h
+
+pub undrawn_of_game : (diagram_text game_text : List ℕ) (diagram : NamedDiagram) (fault : Fault) → IsTextOf diagram_text diagram → IsGameFault diagram.names game_text fault → IsUndrawn diagram_text game_text fault
+undrawn_of_game diagram_text game_text diagram (told.Game fault) is h = (diagram, (is, h))
+undrawn_of_game diagram_text game_text diagram told.Memory is h = tt
+undrawn_of_game diagram_text game_text diagram _ is h = absurd h
+
+pub undrawn_contradiction : (diagram_text game_text : List ℕ) (diagram : NamedDiagram) (game : NamedGame) (fault : Fault) → SpellsFamily diagram_text game_text diagram game → TellsContradiction diagram fault → IsUndrawn diagram_text game_text fault
+undrawn_contradiction diagram_text game_text diagram game (told.Conflict name) is h = (diagram, game, is, h)
+undrawn_contradiction diagram_text game_text diagram game told.Memory is h = tt
+undrawn_contradiction diagram_text game_text diagram game _ is h = absurd h
+
+pub unread_family : (diagram_text game_text : List ℕ) (fault : Fault) → IsFamilyFault diagram_text game_text fault → IsUnread fault
+unread_family diagram_text game_text (told.Game fault) h = (diagram_text, game_text, h)
+unread_family diagram_text game_text (told.Diagram fault) h = (diagram_text, h)
+unread_family diagram_text game_text told.Memory h = tt
+unread_family diagram_text game_text _ h = absurd h
+
+pub unread_diagram : (text : List ℕ) (fault : Fault) → IsDiagramFault text fault → IsUnread fault
+unread_diagram text (told.Diagram fault) h = (text, h)
+unread_diagram text told.Memory h = tt
+unread_diagram text _ h = absurd h
+
+pub unread_game : (text : List ℕ) (fault : Fault) → IsSomeDiagram text → (fault ≡ told.Memory) ⊎ (fault ≡ told.GameUnreadable) → IsUnread fault
+unread_game text fault is (inl e) = subst IsUnread (sym e) tt
+unread_game text fault is (inr e) = subst IsUnread (sym e) (text, is)
+
+-- ---- results that failed or did not
+
+pub none_failed : {A E : Type 0} (P : Type 0) (r : Result A E) → true ≡ is_err r → OnOk r P
+none_failed P (Ok x) e = absurd (true≢false e)
+none_failed P (Err x) e = tt
+
+pub all_failed : {A E : Type 0} (P : Type 0) (r : Result A E) → P → OnErr r P
+all_failed P (Ok x) p = tt
+all_failed P (Err x) p = p
+
+pub one_went : {A E : Type 0} (P : Type 0) (r : Result A E) → false ≡ is_err r → OnErr r P
+one_went P (Ok x) e = tt
+one_went P (Err x) e = absurd (true≢false (sym e))

@@ -1,0 +1,6 @@
+use Rattle.vpg_family.proofs.Told.{family_of_game}
+use Rattle.vpg_family.proofs.linting.linted.Goals as goal
+
+pub returns-in-Err-read_game : goal.returns-in-Err-read_game
+returns-in-Err-read_game c =
+    family_of_game c.args.diagram_text.now c.args.game_text.now c.in-Ok.diagram c.in-Err-read_game.fault c.in-Ok.ensures.found c.in-Err-read_game.ensures.refused
