@@ -3,10 +3,10 @@
 
     histories.py VPGDESK COUNT [SEED]
 
-Each is a script of 6 to 25 lines on a game of `families.py` of 64 to 3,000 vertices, with some guards negated, so that
-edges come back as features are decided. It ends in `settle` and `show`. Then a script of the decisions that stand, in
-their order, with one `settle`, has to show the same; and no `settle` without a number may answer `unsettled`. Prints
-what differs, and how many there were; exits with 1 where anything did.
+Each is a script of 8 to 27 lines on a game of `families.py` of 64 to 3,000 vertices, with some guards negated, so that
+edges come back as features are decided, by one lifter or two. It ends in `settle` and `show`. Then a script of the
+decisions that stand, in their order, with one `settle`, has to show the same; and no `settle` without a number may
+answer `unsettled`. Prints what differs, and how many there were; exits with 1 where anything did.
 """
 import random
 import subprocess
@@ -30,11 +30,12 @@ def game(family, vertices, rng):
     return "".join([f"parity {len(lines) - 1};\n", *lines])
 
 
-def run(program, folder, lines):
+def run(program, folder, lines, lifters=1):
     with open(f"{folder}/script", "w") as out:
         out.write("".join(line + "\n" for line in lines))
     files = [f"{folder}/{name}" for name in ("game", "diagram", "script")]
-    done = subprocess.run([program, "run", *files], stdout=subprocess.PIPE, stderr=subprocess.STDOUT, check=False)
+    words = [program, "run", "--lifters", str(lifters), *files]
+    done = subprocess.run(words, stdout=subprocess.PIPE, stderr=subprocess.STDOUT, check=False)
     return done.stdout.decode().split("\n")
 
 
@@ -61,15 +62,15 @@ def main():
             with open(f"{folder}/game", "w") as out:
                 out.write(game(family, vertices, rng))
             script = [rng.choice(LINES) for _ in range(rng.randint(6, 25))] + ["settle", "show"]
-            answers = run(program, folder, script)
+            answers = run(program, folder, script, rng.choice([1, 1, 2]))
             stands = shown(answers)
             decided = [("select " if word[0] == "+" else "exclude ") + word[1:] for word in stands[0].split(" ")[1:]]
-            why = "does not settle" if unsettled(script, answers) else ""
+            why = ["does not settle"] if unsettled(script, answers) else []
             if shown(run(program, folder, [*decided, "settle", "show"])) != stands:
-                why = "shows other than its decisions alone"
+                why.append("shows other than its decisions alone")
             if why:
                 found += 1
-                print(f"{family} of {vertices}, number {at}: {why}: {'; '.join(script)}", flush=True)
+                print(f"{family} of {vertices}, number {at}: {', '.join(why)}: {'; '.join(script)}", flush=True)
     print(f"{count} histories, {found} with a fault")
     sys.exit(1 if found else 0)
 
