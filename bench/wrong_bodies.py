@@ -6,7 +6,7 @@
 
 A wrong body is a file of crates/CRATE/must-fail (tried by the gate) or crates/CRATE/wrong-bodies (outside it); with no CRATE all crates are tried, lowest
 first. --only takes those whose name holds the word. Wrong bodies of different functions are tried in one check, up to eight (--together), since each function
-is proved by itself; what is not told apart so is tried alone. What was tried on the same text (the crate's, and the code and definitions below it) is not
+is proved by itself; what is not told apart so is tried alone. What was tried on the same text (the crate's, and the contracts and definitions below it) is not
 tried again, so a run that was broken off goes on where it ended. The copy is made in a folder that is removed, or in --room, where what was proved stays for
 the next run. Kept work (out/) of the checkout is copied, so that little is proved again; the checkout itself is only read, but for the table.
 
@@ -88,15 +88,46 @@ def read(path):
         return it.read()
 
 
+def interface(text):
+    """A source file without the bodies of its functions and its comments: what the proofs of a crate above see of it."""
+    lines, kept, at = [it for it in text.split("\n") if not it.lstrip().startswith("//")], [], 0
+    while at < len(lines):
+        found = re.match(r"( *)(?:pub(?:\([a-z]+\))? )?fn ", lines[at])
+        kept.append(lines[at])
+        at += 1
+        if not found or kept[-1].endswith((";", "}")):
+            continue
+        ends = (f"{found[1]}{{", f"{found[1]}{{}}")
+        # (a body begins on a line of its own where clauses stand before it)
+        while not (kept[-1].endswith(" {") and kept[-1].startswith((f"{found[1]})", found[0]))) and at < len(lines) and lines[at] not in ends:
+            kept.append(lines[at])
+            at += 1
+            if kept[-1].endswith(";"):
+                break
+        if at < len(lines) and not kept[-1].endswith(";") and (kept[-1].endswith(" {") or lines[at] in ends):
+            while at < len(lines) and lines[at] not in (f"{found[1]}}}", ends[1]):
+                at += 1
+            at += 1
+    return "\n".join(kept)
+
+
 def text_of(crate, edit):
-    """Names the text that a verdict rests on: the crate's, the code and definitions below it, and the edit's own."""
-    found = hashlib.sha256(read(edit))
+    """
+    Names the text that a verdict rests on: the crate's, the contracts and definitions below it, and the edit's own. What
+    a test has to refuse rests on the code below, too.
+    """
+    text = read(edit)
+    found = hashlib.sha256(text)
+    is_run = text.decode().startswith((BY_TEST, BY_ROW))
     for it in [crate, *crate.below()]:
         for part in RT.rtlib.PARTS if it is crate else ("src", "specs"):
             for at, folders, names in os.walk(f"{it.folder}/{part}"):
                 folders.sort()
                 for name in sorted(names):
-                    found.update(f"{it.name} {os.path.relpath(f'{at}/{name}', it.folder)}\0".encode() + read(f"{at}/{name}"))
+                    content = read(f"{at}/{name}")
+                    if it is not crate and name.endswith(".rt") and not is_run:
+                        content = interface(content.decode()).encode()
+                    found.update(f"{it.name} {os.path.relpath(f'{at}/{name}', it.folder)}\0".encode() + content)
     return found.hexdigest()[:12]
 
 
