@@ -4,7 +4,7 @@ use Rattle.std.specs.List.{AllByRecursion, AllZip}
 use Rattle.std.specs.Str.Lines.{lines}
 use Rattle.std.proofs.lemmas.Bool.{both_ways, leb-false, ltb-false, leb-true, and_cases}
 use Rattle.vpg_diagram.specs.FeatureDiagram.{Line, Mandatory, Optional, Alternative, Or, Group, Requires, Excludes}
-use Rattle.vpg_guards.specs.Names.{AreDistinct}
+use Rattle.vpg_features.specs.Names.{AreDistinct}
 use Rattle.vpg_diagram.specs.DiagramText.{Form, RootLine, MandatoryLine, OptionalLine, AlternativeLine, OrLine, GroupLine, RequiresLine, ExcludesLine, SpellsForm, NamedDiagram, is_rule}
 use Rattle.vpg_diagram.specs.DiagramReading.{LineFault, Syntax, TwoRoots, UnknownFeature, TwoParents, TooMany, BadRange, Fault, NoRoot, At, checked, place_of_name, are_new, children_at, rule_at, line_at, form_of, new_names, rules_in, with_line, with_root, after_line, after_form, read_lines, after_root, read_root, reading}
 use Rattle.vpg_diagram.specs.TextFaults.{not_blank, AreLinesOf, earlier_names, IsOther, IsAmong, HasBadRange, IsFormFault, IsLineFault, IsRootFault, IsFaultAt, fault_at, IsFirstFault}

@@ -5,7 +5,7 @@ use Rattle.std.specs.Char.{is_ascii_digit}
 use Rattle.std.specs.Str.Parse.{digits_value}
 use Rattle.std.proofs.lemmas.Bool.{cases_Bool, both_ways, or_cases}
 use Rattle.vpg_diagram.specs.DiagramText.{is_blank, is_nonempty, words, is_numeral, Form, RootLine, MandatoryLine, OptionalLine, AlternativeLine, OrLine, GroupLine, RequiresLine, ExcludesLine, HasTwoNames, HasMembers, SpellsForm}
-use Rattle.vpg_guards.specs.Names.{is_name_byte, IsFeatureName}
+use Rattle.vpg_features.specs.Names.{is_name_byte, IsFeatureName}
 use Rattle.vpg_diagram.specs.DiagramReading.{is_feature_name, before_next, at_colon, if_names, plain_form, group_form, form_by_colon, form_of}
 use Rattle.vpg_diagram.proofs.NameLemmas.{eq_same, name_from_test, test_from_name, names_from_tests, tests_from_names}
 

@@ -2,7 +2,7 @@
 use Rattle.std.proofs.Common.{◌≡◌, ℕ, ◌+◌, ◌-◌, ◌<◌, ◌≤◌, List, [], length, get_or, Some, slice_get, Contains, ◌⊎◌, inl, inr, refl, sym, ap, ◌∙◌, subst, arith}
 use Rattle.std.proofs.lemmas.Bool.{cases_lt}
 use Rattle.std.proofs.lemmas.Option.{slice_get_within}
-use Rattle.vpg_guards.specs.Index.{NotesAlso}
+use Rattle.vpg_features.specs.Index.{NotesAlso}
 use Rattle.vpg_diagram.specs.declared.clause.Literal.{Literal}
 use Rattle.vpg_diagram.specs.Tally.{Tally}
 use Rattle.vpg_diagram.specs.Rules.{Rule, AtClause, AtCount, HasNumber, features_of, IsIndex}

@@ -6,7 +6,7 @@ use Rattle.std.specs.Cmp.Lexicographic.{bytes_decides}
 use Rattle.std.proofs.lemmas.Bool.{cases_Bool, both_ways, leb-true, le-leb}
 use Rattle.std.proofs.lemmas.List.{get_or_append_left, get_or-append-add}
 use Rattle.std.proofs.lemmas.Option.{slice_get_within, get_or_from_slice_get}
-use Rattle.vpg_guards.specs.Names.{starts_as_name, is_name_byte, constant_of, IsFeatureName, AreDistinct, EachIsName}
+use Rattle.vpg_features.specs.Names.{starts_as_name, is_name_byte, constant_of, IsFeatureName, AreDistinct, EachIsName}
 use Rattle.vpg_diagram.specs.DiagramText.{name_of}
 use Rattle.vpg_diagram.specs.DiagramReading.{is_feature_name, place_of_name, are_new}
 

@@ -8,7 +8,7 @@ use Rattle.std.proofs.lemmas.List.Sums.{sum_by-cons}
 use Rattle.vpg_diagram.specs.FeatureDiagram.{Line, introduced, StandAfter}
 use Rattle.vpg_diagram.specs.DiagramText.{is_nonempty, words, Form, RootLine, MandatoryLine, OptionalLine, AlternativeLine, OrLine, GroupLine, RequiresLine, ExcludesLine, SpellsForm, NamedDiagram, name_of, named, is_rule, IsNamedDiagram, IsTextOf}
 use Rattle.vpg_diagram.specs.DiagramReading.{LineFault, Fault, form_of, line_at, new_names, rules_in, with_line, with_root, after_line, after_form, read_lines, after_root, read_root, reading}
-use Rattle.vpg_guards.specs.Names.{IsFeatureName}
+use Rattle.vpg_features.specs.Names.{IsFeatureName}
 use Rattle.vpg_diagram.proofs.Lists.{All-append}
 use Rattle.vpg_diagram.proofs.NameLemmas.{AreApart, apart_from_distinct, distinct_from_apart, each_from_all}
 use Rattle.vpg_diagram.proofs.FormLemmas.{form_sound, form_complete}

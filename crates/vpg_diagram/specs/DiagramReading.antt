@@ -3,7 +3,7 @@ use Rattle.std.specs.Prelude.{ℕ, suc, ◌+◌, Bool, true, false, not, ◌&&�
 use Rattle.std.specs.List.{list_all, range_with_len}
 use Rattle.std.specs.Str.Parse.{digits_value}
 use Rattle.std.specs.Str.Lines.{lines}
-use Rattle.vpg_guards.specs.Names.{starts_as_name, is_name_byte, constant_of}
+use Rattle.vpg_features.specs.Names.{starts_as_name, is_name_byte, constant_of}
 use Rattle.vpg_diagram.specs.FeatureDiagram.{Line, Mandatory, Optional, Alternative, Or, Group, Requires, Excludes}
 pub use Rattle.vpg_diagram.specs.declared.fault.LineFault.{LineFault}
 pub use Rattle.vpg_diagram.specs.declared.fault.LineFault.TheVariants.{Syntax, TwoRoots, UnknownFeature, TwoParents, TooMany, BadRange}

@@ -4,7 +4,7 @@ use Rattle.std.specs.List.{AllByRecursion, AllZip, list_all, slice_split}
 use Rattle.std.specs.Char.{is_ascii_digit}
 use Rattle.std.specs.Str.Parse.{digits_value}
 use Rattle.std.specs.Str.Lines.{lines}
-use Rattle.vpg_guards.specs.Names.{IsFeatureName, AreNames}
+use Rattle.vpg_features.specs.Names.{IsFeatureName, AreNames}
 use Rattle.vpg_diagram.specs.FeatureDiagram.{Line, Mandatory, Optional, Alternative, Or, Group, Requires, Excludes, feature_count, IsDiagram}
 
 -- a space or a tab

@@ -2,7 +2,7 @@
 use Rattle.std.specs.Prelude.{ℕ, ◌+◌, ◌<◌, ◌≤◌, ◌≡◌, Bool, List, [], ◌∷◌, ◌++◌, length, filter, Some, slice_get, IsTrue, count_by, ◌⊎◌, ⊤}
 use Rattle.std.specs.List.{AllByRecursion, AllZip}
 use Rattle.std.specs.Str.Lines.{lines}
-use Rattle.vpg_guards.specs.Names.{AreDistinct}
+use Rattle.vpg_features.specs.Names.{AreDistinct}
 use Rattle.vpg_diagram.specs.DiagramText.{is_nonempty, words, Form, RootLine, MandatoryLine, OptionalLine, AlternativeLine, OrLine, GroupLine, RequiresLine, ExcludesLine, SpellsForm, NamedDiagram, name_of, named, is_rule, IsNamedDiagram}
 use Rattle.vpg_diagram.specs.declared.fault.DiagramFault.{DiagramFault}
 use Rattle.vpg_diagram.specs.declared.fault.DiagramFault.TheVariants as faults

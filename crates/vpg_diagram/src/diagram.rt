@@ -16,7 +16,7 @@ use crate::reading::read_text;
 use crate::{building, product};
 use std::alloc::{AllocError, Global};
 use std::marker::Model;
-use vpg_guards::{Index, Names};
+use vpg_features::{Index, Names};
 
 /// A feature diagram: the names of its features, in order, and the lines below its root line.
 pub struct Diagram {

@@ -2,13 +2,13 @@
 
 ghost use Rattle.std.specs.Prelude.{◌≡◌, ◌<◌, length, OnOk, IfOk};
 ghost use Rattle.std.specs.List.{AllByRecursion};
-ghost use Rattle.vpg_guards.specs.Index.{NotesAlso};
+ghost use Rattle.vpg_features.specs.Index.{NotesAlso};
 ghost use Rattle.vpg_diagram.specs.Clauses.{IsClauseBelow, IsCountBelow};
 ghost use Rattle.vpg_diagram.specs.Rules.{AtClause, AtCount, IsIndex, features_of};
 
 use crate::clause::{Clause, Count};
 use std::alloc::{AllocError, Global};
-use vpg_guards::Index;
+use vpg_features::Index;
 
 /// The index of the clauses and counts over this many features. The clauses have the first numbers.
 pub(crate) fn index_of(

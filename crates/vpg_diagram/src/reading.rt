@@ -10,7 +10,7 @@ use crate::line::{Line, Members};
 use crate::text::{LineForm, first_line, form_of, is_blank_line, number};
 use indexmap::IndexSet;
 use std::alloc::{AllocError, Global};
-use vpg_guards::{MOST_FEATURES, Names};
+use vpg_features::{MOST_FEATURES, Names};
 
 /// The most rules that a diagram has.
 pub const MOST_RULES: usize = 16_384;

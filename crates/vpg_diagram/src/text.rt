@@ -6,7 +6,7 @@ ghost use Rattle.vpg_diagram.specs.DiagramText.{is_blank, is_nonempty, words, is
 ghost use Rattle.std.specs.Char.{is_ascii_digit};
 
 use std::alloc::{AllocError, Global};
-use vpg_guards::is_feature_name;
+use vpg_features::is_feature_name;
 
 fn is_blank(byte: u8) -> bool
     ensures { result ≡ is_blank byte }

@@ -2,7 +2,7 @@
 use Rattle.std.proofs.Common.{◌≡◌, ℕ, ◌+◌, ◌<◌, Bool, List, ◌++◌, length, Option, Some, None, Ok, refl, sym, ap, ◌∙◌, subst}
 use Rattle.std.specs.Prelude.{codes, slice_get, IfSome}
 use Rattle.std.proofs.lemmas.Option.{slice_get_within}
-use Rattle.vpg_guards.specs.Names.{index_of}
+use Rattle.vpg_features.specs.Names.{index_of}
 use Rattle.vpg_desk.specs.Book.{Family, Book, Decide, Retract, Changed, Refused, Refusal, Conflict, RefusesDecide, IsReply}
 use Rattle.vpg_desk.specs.Faults.{decide_refusal, retract_refusal}
 use Rattle.vpg_desk.specs.declared.fault.DecideFault.{DecideFault}

@@ -4,7 +4,7 @@ use Rattle.std.specs.Prelude.{map, codes}
 use Rattle.std.proofs.lemmas.List.{length-map}
 use Rattle.vpg_guards.specs.Formula.{Formula}
 use Rattle.vpg_guards.specs.Known.{kleene}
-use Rattle.vpg_guards.specs.Names.{index_of}
+use Rattle.vpg_features.specs.Names.{index_of}
 use Rattle.vpg_guards.specs.declared.tri.Tri.{Tri}
 use Rattle.vpg_diagram.specs.DiagramText.{NamedDiagram}
 use Rattle.vpg_game.specs.Game.{NamedGame, unnamed, graph_of, vertex_ids}

@@ -6,7 +6,7 @@ use Rattle.std.proofs.lemmas.List.{take_more, length-map, get_or-map}
 use Rattle.std.proofs.lemmas.List.Elements.{All-nil, All-push}
 use Rattle.std.proofs.lemmas.Option.{slice_get_within, get_or_from_slice_get, slice_get-get_or}
 use Rattle.std.proofs.lemmas.Slice.Eq.{bytes_eq-Decides}
-use Rattle.vpg_guards.specs.Names.{Lacks, AreDistinct}
+use Rattle.vpg_features.specs.Names.{Lacks, AreDistinct}
 use Rattle.vpg_diagram.specs.DiagramText.{NamedDiagram}
 use Rattle.vpg_diagram.specs.FeatureDiagram.{IsProduct}
 use Rattle.vpg_game.specs.Game.{NamedGame}

@@ -3,7 +3,7 @@ use Rattle.std.specs.Prelude.{◌≡◌, ◌≢◌, ℕ, ⊤, Bool, List, map, t
 use Rattle.std.specs.List.{list_any}
 use Rattle.std.specs.Str.{bytes_eq}
 use Rattle.std.specs.String.{string_bytes}
-use Rattle.vpg_guards.specs.Names.{Lacks}
+use Rattle.vpg_features.specs.Names.{Lacks}
 use Rattle.vpg_diagram.specs.DiagramText.{NamedDiagram, IsTextOf}
 use Rattle.vpg_diagram.specs.FeatureDiagram.{IsProduct}
 use Rattle.vpg_diagram.specs.TextFaults.{IsFirstFault}

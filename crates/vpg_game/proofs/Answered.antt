@@ -1,7 +1,7 @@
 -- What reading answers, against what the text spells.
 use Rattle.std.proofs.Common.{◌≡◌, ℕ, zero, suc, ◌<◌, List, [], ◌∷◌, length, take, Some, None, Result, Ok, Err, slice_get, refl, sym, ap, ap₂, subst, ◌∙◌, arith}
 use Rattle.std.specs.Prelude.{IfOk, IfErr, MatchResult}
-use Rattle.vpg_guards.specs.Names.{AreNames}
+use Rattle.vpg_features.specs.Names.{AreNames}
 use Rattle.vpg_game.specs.declared.fault.GameFault.{GameFault}
 use Rattle.vpg_game.specs.declared.fault.GameFault.TheVariants as faults
 use Rattle.vpg_game.specs.Spelled.{SpelledSuccessor, SpelledEntry}

@@ -4,9 +4,9 @@ use Rattle.std.proofs.lemmas.Bool.{cases_eq, cases_lt}
 use Rattle.std.proofs.lemmas.List.{length-replicate, get_or-replicate}
 use Rattle.std.proofs.lemmas.List.Elements.{All-append}
 use Rattle.vpg_guards.specs.Formula.{Formula, named}
-use Rattle.vpg_guards.specs.Index.{NotesAlso}
+use Rattle.vpg_features.specs.Index.{NotesAlso}
 use Rattle.vpg_guards.proofs.Named.{named_below}
-use Rattle.vpg_guards.proofs.Noted.{Contains-none}
+use Rattle.vpg_features.proofs.Noted.{Contains-none}
 use Rattle.vpg_edges.specs.Edges.{GuardedEdge}
 use Rattle.vpg_game.specs.Game.{NamedVertex, NamedGame, AreEdges, AreVertices, no_vertex, graph_of, vertex_in}
 use Rattle.vpg_game.specs.Naming.{features_named, IsNaming}

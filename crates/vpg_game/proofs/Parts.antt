@@ -8,10 +8,10 @@ use Rattle.std.proofs.lemmas.Bool.{lt-ltb, ltb-true, eqb-true, eq-eqb}
 use Rattle.std.proofs.lemmas.Bool.Decides.{nat_tests}
 use Rattle.std.proofs.lemmas.List.{take_at, drop_at}
 use Rattle.vpg_guards.specs.Formula.{Formula, always}
-use Rattle.vpg_guards.specs.Names.{AreNames}
+use Rattle.vpg_features.specs.Names.{AreNames}
 use Rattle.vpg_guards.specs.Grammar.{is_blank, AreBlank}
 use Rattle.vpg_guards.specs.Reading.{◌>>=◌, after_blanks, after_byte, after_sign, guard_at}
-use Rattle.vpg_guards.proofs.Held.{both_true}
+use Rattle.vpg_features.proofs.Held.{both_true}
 use Rattle.vpg_guards.proofs.Blanks.{bind_some, front_all, front_split, Stops, front_stops, after_blanks_is, sign_behind}
 use Rattle.vpg_guards.proofs.Found.{guard_found}
 use Rattle.vpg_guards.proofs.Again.{guard_again}

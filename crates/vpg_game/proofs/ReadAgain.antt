@@ -5,10 +5,10 @@ use Rattle.std.specs.List.{list_all}
 use Rattle.std.specs.Char.{is_ascii_digit}
 use Rattle.std.proofs.lemmas.List.{append-nil}
 use Rattle.std.proofs.lemmas.Bool.{eq-eqb}
-use Rattle.vpg_guards.specs.Names.{AreNames}
+use Rattle.vpg_features.specs.Names.{AreNames}
 use Rattle.vpg_guards.specs.Grammar.{is_blank, AreBlank}
 use Rattle.vpg_guards.specs.Reading.{◌>>=◌, after_blanks, after_sign}
-use Rattle.vpg_guards.proofs.Held.{both_true}
+use Rattle.vpg_features.proofs.Held.{both_true}
 use Rattle.vpg_guards.proofs.Blanks.{Stops, after_blanks_is}
 use Rattle.vpg_game.specs.Spelled.{SpelledSuccessor, SpelledEntry, named_in}
 use Rattle.vpg_game.specs.Grammar.{Number, Successor, Successors, one, comma, Name, Entry, Heading, number_text, bracket_text, successor_text, successors_text, all_successors_text, name_text, entry_text, entries_text, heading_text, file_text, IsNumber, IsNumberBelow, number_value, IsSuccessor, AreSuccessors, first_successor, AreAllSuccessors, IsName, IsEntry, AreEntries, IsHeading, IsApart, bracket_guard, successor_of, successors_of, all_successors_of, entry_of, entries_of, SpellsEntries}

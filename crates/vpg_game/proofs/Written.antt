@@ -7,14 +7,14 @@ use Rattle.std.specs.Int.{IsInRange}
 use Rattle.std.specs.Str.Parse.{AllDigits}
 use Rattle.std.proofs.lemmas.Bool.{cases_lt}
 use Rattle.std.proofs.lemmas.Bool.Decides.{nat_tests}
-use Rattle.vpg_guards.proofs.Held.{both_true}
+use Rattle.vpg_features.proofs.Held.{both_true}
 use Rattle.std.proofs.lemmas.Fmt.{decimal_is_IsNumeral}
 use Rattle.std.proofs.lemmas.Str.Parse.{digit_from_value}
 use Rattle.std.proofs.lemmas.List.{append-nil, length-map, get_or-map, get_or_append_left, get_or_push, length-append}
 use Rattle.std.proofs.lemmas.List.Folds.{list_all-append}
 use Rattle.std.proofs.lemmas.Option.{slice_get-get_or}
 use Rattle.vpg_guards.specs.Formula.{Formula, Parts, always, never, feature, negation, all, any, no_parts, part, is_any}
-use Rattle.vpg_guards.specs.Names.{AreNames, EachIsName, is_name_byte}
+use Rattle.vpg_features.specs.Names.{AreNames, EachIsName, is_name_byte}
 use Rattle.vpg_guards.specs.Grammar.{AreBlank}
 use Rattle.vpg_guards.specs.Writing.{guard_text, all_text, any_text, more_all_text, more_any_text, enclosed_if, is_group, IsReadable}
 use Rattle.vpg_guards.proofs.LawProofs.{writings_spell_the_guard}

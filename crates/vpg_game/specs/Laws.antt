@@ -1,7 +1,7 @@
 -- Laws of the definitions.
 use Rattle.std.specs.Prelude.{◌≡◌, ℕ, ◌≤◌, ◌^◌, ◌⊎◌, ◌↔◌, Bool, true, List, [], ◌∷◌, length}
 use Rattle.vpg_guards.specs.Formula.{Formula, IsBelow, truth}
-use Rattle.vpg_guards.specs.Names.{AreNames}
+use Rattle.vpg_features.specs.Names.{AreNames}
 use Rattle.vpg_guards.specs.Writing.{IsReadable}
 use Rattle.vpg_game.specs.Guarded.{GuardedEdge, GuardedGame, IsClosedGuarded, AllGuards, guarded_priorities, dual}
 use Rattle.vpg_game.specs.Levels.{levels_of, top_of}

@@ -4,7 +4,7 @@ ghost use Rattle.std.specs.List.{prefix_len, list_all};
 ghost use Rattle.std.specs.Char.{is_ascii_digit, digit_value};
 ghost use Rattle.std.specs.Str.Parse.{digits_value};
 ghost use Rattle.vpg_guards.specs.Grammar.{is_blank};
-ghost use Rattle.vpg_guards.specs.Names.{AreNames};
+ghost use Rattle.vpg_features.specs.Names.{AreNames};
 ghost use Rattle.vpg_guards.specs.View.{formula_of};
 ghost use Rattle.vpg_guards.specs.Reading.{after_blanks, after_byte, after_sign, guard_at};
 ghost use Rattle.vpg_game.specs.Grammar.{player_of};

@@ -4,7 +4,6 @@ pub mod Turns
 pub mod Kleene
 pub mod Named
 pub mod Full
-pub mod Held
 pub mod Blanks
 pub mod Joined
 pub mod Found
@@ -15,4 +14,3 @@ pub mod Written
 pub mod Readable
 pub mod Form
 pub mod LawProofs
-pub mod Noted

@@ -4,7 +4,7 @@ use Rattle.vpg_guards.specs.declared.tri.Tri.{Tri}
 use Rattle.vpg_guards.specs.declared.tri.Tri.TheVariants.{No, Unknown, Yes}
 use Rattle.vpg_guards.specs.Formula.{Formula, Parts, all, any, no_parts, part, truth, named, IsBelow}
 use Rattle.vpg_guards.specs.Known.{kleene, tri_and, tri_or, Agrees, IsCompletion, IsFinerValue, IsFiner, AreAllKnown}
-use Rattle.vpg_guards.specs.Names.{AreNames}
+use Rattle.vpg_features.specs.Names.{AreNames}
 use Rattle.vpg_guards.specs.Grammar.{Spells, both, either}
 use Rattle.vpg_guards.specs.Writing.{guard_text, IsReadable}
 

@@ -8,7 +8,7 @@ use Rattle.vpg_guards.specs.declared.tri.Tri.TheVariants.{No, Unknown, Yes}
 use Rattle.vpg_guards.specs.Formula.{Formula, named}
 use Rattle.vpg_guards.specs.Known.{kleene}
 use Rattle.vpg_guards.proofs.Named.{values_rest_on_named_features}
-use Rattle.vpg_guards.proofs.Noted.{Contains-none, Contains-one}
+use Rattle.vpg_features.proofs.Noted.{Contains-none, Contains-one}
 use Rattle.vpg_game.specs.declared.player.Player.{Player}
 use Rattle.vpg_game.specs.Players.{opponent}
 use Rattle.vpg_game.specs.Guarded.{GuardedEdge, GuardedGame, dual}

@@ -3,7 +3,7 @@ use Rattle.std.proofs.Common.{◌≡◌, ℕ, zero, suc, ◌≤◌, ◌⊎◌, i
 use Rattle.std.proofs.lemmas.Bool.{cases_Bool}
 use Rattle.std.proofs.lemmas.List.{length-map}
 use Rattle.vpg_guards.specs.Formula.{Formula, truth, always}
-use Rattle.vpg_guards.specs.Names.{AreNames}
+use Rattle.vpg_features.specs.Names.{AreNames}
 use Rattle.vpg_guards.specs.Writing.{IsReadable}
 use Rattle.vpg_game.specs.Guarded.{GuardedEdge}
 use Rattle.vpg_game.specs.Game.{NamedVertex, NamedGame, IsGame, AreEdges, AreVertices, AreDistinct, IsNarrow, Lacks, edges_in, vertex_ids, priorities_of, unnamed}

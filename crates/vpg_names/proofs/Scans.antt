@@ -6,7 +6,7 @@ use Rattle.std.specs.Char.{is_ascii_digit, digit_value}
 use Rattle.std.specs.Str.Parse.{digits_value, digits_value_after}
 use Rattle.std.proofs.lemmas.Bool.Decides.{nat_tests}
 use Rattle.vpg_guards.specs.Grammar.{is_blank, AreBlank}
-use Rattle.vpg_guards.proofs.Held.{both_true}
+use Rattle.vpg_features.proofs.Held.{both_true}
 use Rattle.vpg_game.proofs.Steps.{capped}
 use Rattle.vpg_game.specs.Grammar.{Number, Bracket, Successor, Successors, one, comma, Name, Entry, Heading, File, number_text, bracket_text, successor_text, successors_text, all_successors_text, name_text, entry_text, heading_text, entries_text, file_text, IsNumber, IsBracket, IsSuccessor, AreSuccessors, AreAllSuccessors, AreOther, IsName, IsEntry, AreEntries, IsHeading, IsFile, number_value}
 use Rattle.vpg_names.specs.declared.reading.Mode.{Mode}

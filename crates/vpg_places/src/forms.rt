@@ -1,6 +1,6 @@
 //! The forms of the lines of a diagram, and of the commands of scripts.
 use crate::lines::Word;
-use vpg_guards::is_feature_name;
+use vpg_features::is_feature_name;
 
 /// What stands at a place of a line.
 #[derive(Clone, Copy, PartialEq, Eq)]

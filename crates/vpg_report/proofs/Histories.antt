@@ -2,7 +2,7 @@
 use Rattle.std.proofs.Common.{◌≡◌, ℕ, zero, suc, ◌+◌, ◌-◌, Bool, true, false, List, [], ◌∷◌, ◌++◌, length, Option, Some, None, Result, Ok, Err, refl, sym, ap, ◌∙◌, inl, inr, arith, append_assoc, append-nil, length-append, subst}
 use Rattle.std.specs.Prelude.{IfSome, slice_set}
 use Rattle.std.specs.List.{AllByRecursion}
-use Rattle.vpg_guards.specs.Names.{index_of}
+use Rattle.vpg_features.specs.Names.{index_of}
 use Rattle.vpg_trail.specs.Page.{Which, Entry}
 use Rattle.vpg_desk.specs.Book.{Family, Book, Harvest, next, Call, Decide, Retract, Undo, Redo, Keep, Forget, Order, Commit, Settled, Page, Reply, Changed, Undone, Redone, Spent, Ordered, Added, IsSettled, VerdictIs, PageIs, Refused}
 use Rattle.vpg_desk.specs.History.{Event, IsLegalFrom, book_after}

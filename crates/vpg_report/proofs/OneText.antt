@@ -1,7 +1,7 @@
 -- Settled answers are one text.
 use Rattle.std.proofs.Common.{◌≡◌, ℕ, ◌+◌, Bool, true, false, List, [], ◌∷◌, ◌++◌, length, Option, Some, None, Result, Ok, Err, sym, ap, ap₂, ◌∙◌, subst, inl, inr, arith}
 use Rattle.std.specs.Prelude.{IfSome, map, not, if◌then◌else◌, ⊤}
-use Rattle.vpg_guards.specs.Names.{index_of}
+use Rattle.vpg_features.specs.Names.{index_of}
 use Rattle.vpg_guards.specs.Known.{kleene}
 use Rattle.vpg_guards.specs.declared.tri.Tri.{Tri}
 use Rattle.vpg_diagram.proofs.Lists.{All-back}

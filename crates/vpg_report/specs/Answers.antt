@@ -1,6 +1,6 @@
 -- What commands ask of a desk, and how its replies are written: as an engine does it, and what is asked of the page.
 use Rattle.std.specs.Prelude.{◌≡◌, ℕ, ◌+◌, [], Option, Some, None, Result, Ok, Err}
-use Rattle.vpg_guards.specs.Names.{index_of}
+use Rattle.vpg_features.specs.Names.{index_of}
 use Rattle.vpg_desk.specs.Book.{Call, Order, Reply, Ordered}
 use Rattle.vpg_engine.specs.Answers as engine
 use Rattle.vpg_engine.specs.Answers.{Own, NoFeature, NoVertex, Rest, vertex_of}

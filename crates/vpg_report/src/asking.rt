@@ -2,7 +2,7 @@
 ghost use Rattle.std.specs.Prelude.{◌≡◌, ◌<◌, ◌==◌, length, position, IfOk, IfSome};
 ghost use Rattle.vpg_answers.specs.Answers.{IsWithin};
 ghost use Rattle.vpg_game.specs.Game.{vertex_ids};
-ghost use Rattle.vpg_guards.specs.Names.{index_of};
+ghost use Rattle.vpg_features.specs.Names.{index_of};
 ghost use Rattle.vpg_report.specs.Answers.{query_of};
 ghost use Rattle.vpg_report.specs.Engine.{IsQuery};
 ghost use Rattle.vpg_script.specs.View.{inquiry_shown};

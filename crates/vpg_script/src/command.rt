@@ -10,7 +10,7 @@ ghost use Rattle.vpg_script.specs.View.{assertion_shown, command_shown, inquiry_
 
 use std::alloc::{AllocError, Global};
 use thiserror::Error;
-use vpg_guards::is_feature_name;
+use vpg_features::is_feature_name;
 use vpg_verdict::Which;
 
 /// The most bytes of a line before its end.

@@ -7,7 +7,7 @@ use crate::help::put_command;
 use std::alloc::{AllocError, Global};
 use std::cell::Cell;
 use std::mem;
-use vpg_guards::Names;
+use vpg_features::Names;
 use vpg_lint::{explain_line, put_message, put_place, put_unknown};
 use vpg_places::{Line, Word, words_of};
 use vpg_script::{Failed, Next, Sink, Source, next_line};

@@ -1,8 +1,8 @@
 use Rattle.std.proofs.Common.{ℕ, false, List, [], ◌∷◌, map, sym, subst, arith, length, get_or, ◌<◌}
 use Rattle.std.proofs.lemmas.List.{get_or-map, length-map}
 use Rattle.vpg_diagram.specs.declared.clause.Literal.{Literal}
-use Rattle.vpg_guards.specs.Index.{NotesAlso}
-use Rattle.vpg_guards.proofs.Noted.{noted_step}
+use Rattle.vpg_features.specs.Index.{NotesAlso}
+use Rattle.vpg_features.proofs.Noted.{noted_step}
 use Rattle.std.specs.List.{AllByRecursion}
 use Rattle.std.proofs.lemmas.Option.{slice_get-get_or}
 use Rattle.vpg_diagram.proofs.Lists.{All-at}

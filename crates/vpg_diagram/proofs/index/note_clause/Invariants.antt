@@ -1,5 +1,5 @@
 use Rattle.std.proofs.Common.{[], ◌++◌, map, take}
-use Rattle.vpg_guards.specs.Index.{NotesAlso}
+use Rattle.vpg_features.specs.Index.{NotesAlso}
 use Rattle.vpg_diagram.proofs.index.note_clause.Given as goal
 
 -- the features so far are noted

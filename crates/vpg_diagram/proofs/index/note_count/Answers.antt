@@ -1,8 +1,8 @@
 use Rattle.std.proofs.Common.{ℕ, List, [], ◌∷◌, ◌∙◌, subst, arith}
 use Rattle.std.proofs.lemmas.Grind.{common_steps}
 use Rattle.std.proofs.lemmas.List.{take_all}
-use Rattle.vpg_guards.specs.Index.{NotesAlso}
-use Rattle.vpg_guards.proofs.Noted.{noted_step}
+use Rattle.vpg_features.specs.Index.{NotesAlso}
+use Rattle.vpg_features.proofs.Noted.{noted_step}
 use Rattle.vpg_diagram.proofs.index.note_count.Goals as goal
 
 pub loop-member-preserved : goal.loop-member-preserved

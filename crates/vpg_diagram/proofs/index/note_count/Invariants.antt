@@ -1,5 +1,5 @@
 use Rattle.std.proofs.Common.{[], ◌∷◌, ◌++◌, take}
-use Rattle.vpg_guards.specs.Index.{NotesAlso}
+use Rattle.vpg_features.specs.Index.{NotesAlso}
 use Rattle.vpg_diagram.proofs.index.note_count.Given as goal
 
 -- the parent and the members so far are noted

@@ -1,4 +1,5 @@
-use Rattle.std.proofs.Common.{length, vec_len, sym, ap, ◌∙◌}
+use Rattle.std.proofs.lemmas.Grind.{common_steps}
+use Rattle.std.proofs.Common.{length, vec_len, sym, ap, ◌∙◌, arith}
 use Rattle.std.specs.List.{list_all}
 use Rattle.vpg_diagram.specs.DiagramReading.{is_feature_name}
 use Rattle.vpg_diagram.specs.FormView.{texts}
@@ -11,3 +12,9 @@ returns-then-same c =
     (some_items (vec_len c.args.members) (length c.args.members.items) c.args.members.ok.0 c.is_empty.result c.is_empty.ensures c.if-is_empty.false)
     (sym c.same.ensures ∙ c.if-same.true) (sym c.is_name.ensures ∙ c.if-not-is_name.false)
     (ap (λ ws. list_all is_feature_name (texts ws)) (sym c.deref.ensures.value) ∙ (sym c.are_names.ensures ∙ c.if-not-are_names.false))
+
+pub returns-then-is_empty : goal.returns-then-is_empty
+returns-then-is_empty c = grind (arith, common_steps)
+
+pub returns-then-same-2 : goal.returns-then-same-2
+returns-then-same-2 c = grind (arith, common_steps)

@@ -1,4 +1,5 @@
-use Rattle.std.proofs.Common.{length, vec_len, sym, ap, ◌∙◌}
+use Rattle.std.proofs.lemmas.Grind.{common_steps}
+use Rattle.std.proofs.Common.{length, vec_len, sym, ap, ◌∙◌, arith}
 use Rattle.std.specs.List.{list_all}
 use Rattle.vpg_diagram.specs.DiagramReading.{is_feature_name}
 use Rattle.vpg_diagram.specs.FormView.{texts}
@@ -12,3 +13,6 @@ returns-then-is_numeral-2 c =
     (sym c.same.ensures ∙ c.if-same.true) (sym c.is_numeral.ensures ∙ c.if-is_numeral.true) (sym c.is_numeral-then-is_numeral.ensures ∙ c.if-is_numeral-2.true)
     (sym c.is_name.ensures ∙ c.if-not-is_name.false)
     (ap (λ ws. list_all is_feature_name (texts ws)) (sym c.deref.ensures.value) ∙ (sym c.are_names.ensures ∙ c.if-not-are_names.false))
+
+pub returns-then-is_empty : goal.returns-then-is_empty
+returns-then-is_empty c = grind (arith, common_steps)

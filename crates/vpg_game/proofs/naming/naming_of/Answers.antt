@@ -1,6 +1,6 @@
 use Rattle.std.proofs.Common.{◌≡◌, ℕ, List, ◌++◌, get_or, ap, ap₂, ◌∙◌}
 use Rattle.vpg_guards.specs.Formula.{Formula}
-use Rattle.vpg_guards.proofs.Noted.{any_default}
+use Rattle.vpg_features.proofs.Noted.{any_default}
 use Rattle.vpg_edges.specs.Edges.{GuardedEdge}
 use Rattle.vpg_game.specs.Game.{NamedVertex, no_vertex}
 use Rattle.vpg_game.specs.Naming.{features_named}

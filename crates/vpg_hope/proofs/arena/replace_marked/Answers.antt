@@ -1,7 +1,7 @@
 use Rattle.std.proofs.lemmas.Grind.{common_steps}
 use Rattle.std.proofs.Common.{◌≡◌, ◌+◌, ◌<◌, ◌≤◌, false, length, refl, sym, ap, subst, ◌∙◌, arith}
 use Rattle.std.specs.Arc.{arc_slice_items}
-use Rattle.vpg_guards.proofs.Noted.{any_default}
+use Rattle.vpg_features.proofs.Noted.{any_default}
 use Rattle.vpg_game.specs.Game.{graph_of}
 use Rattle.vpg_hope.specs.Arena.{row_vertices}
 use Rattle.vpg_hope.proofs.Selected.{room_at}

@@ -1,7 +1,7 @@
 use Rattle.std.proofs.lemmas.Grind.{common_steps}
 use Rattle.std.proofs.Common.{arith, ◌∙◌}
 use Rattle.vpg_guards.specs.declared.tri.Tri.TheVariants.{Unknown}
-use Rattle.vpg_guards.proofs.Noted.{any_default}
+use Rattle.vpg_features.proofs.Noted.{any_default}
 use Rattle.vpg_game.specs.Game.{graph_of}
 use Rattle.vpg_hope.proofs.ChangeSteps.{marked_next, unmarked_still}
 use Rattle.vpg_hope.proofs.changes.mark_all.Goals as goal

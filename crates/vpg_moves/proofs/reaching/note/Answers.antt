@@ -1,5 +1,5 @@
 use Rattle.std.proofs.Common.{◌≡◌, ◌∙◌, List, ℕ, sym, subst, true, false, slice_set}
-use Rattle.vpg_guards.proofs.Noted.{any_default}
+use Rattle.vpg_features.proofs.Noted.{any_default}
 use Rattle.vpg_moves.specs.Searched.{AreNoted}
 use Rattle.vpg_moves.proofs.Searching.{noted_new}
 use Rattle.vpg_moves.proofs.reaching.note.Goals as goal

@@ -1,5 +1,5 @@
 use Rattle.std.proofs.Common.{List, Option, ℕ, ◌+◌, false, arith, sym, subst, ◌∙◌, ap}
-use Rattle.vpg_guards.proofs.Noted.{any_default}
+use Rattle.vpg_features.proofs.Noted.{any_default}
 use Rattle.vpg_hope.specs.Games.{owner_of}
 use Rattle.vpg_moves.specs.Played.{move_if}
 use Rattle.vpg_measure.specs.Views.{strategy_of}

@@ -1,5 +1,5 @@
 use Rattle.std.proofs.Common.{◌<◌, ℕ, length, sym, subst, arith, ◌∙◌}
-use Rattle.vpg_guards.proofs.Noted.{any_default}
+use Rattle.vpg_features.proofs.Noted.{any_default}
 use Rattle.vpg_hope.specs.Strategies.{AllowsMove}
 use Rattle.vpg_game.specs.declared.player.Player.{Player}
 use Rattle.vpg_moves.specs.Searched.{AreNoted}

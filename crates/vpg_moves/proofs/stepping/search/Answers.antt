@@ -1,5 +1,5 @@
 use Rattle.std.proofs.Common.{◌<◌, ℕ, length, sym, subst, arith, ◌∙◌}
-use Rattle.vpg_guards.proofs.Noted.{any_default}
+use Rattle.vpg_features.proofs.Noted.{any_default}
 use Rattle.vpg_moves.specs.Reachable.{MayStep}
 use Rattle.vpg_game.specs.Game.{graph_of}
 use Rattle.vpg_game.proofs.Graphs.{same_count}
