@@ -15,12 +15,13 @@ ghost use Rattle.vpg_desk.specs.Setting.{IsSetting};
 ghost use Rattle.vpg_desk.specs.State.{IsOpened, IsReached, Replies, setting_of};
 
 use crate::cuts::Cut;
-use crate::fault::{OpenFault, OpenRefused};
+use crate::fault::OpenRefused;
 use crate::opening::first_page;
 use std::alloc::{AllocError, Global};
 use std::marker::Model;
 use std::sync::Arc;
 use vpg_diagram::Diagram;
+use vpg_faults::OpenFault;
 use vpg_game::{GuardedGame, Player};
 use vpg_measure::{Order, PageGames, is_progress};
 use vpg_trail::{Decisions, Entries, Page, Trail, decisions_among};

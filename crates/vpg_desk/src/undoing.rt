@@ -2,11 +2,12 @@
 ghost use Rattle.std.specs.Prelude.{◌≡◌, ◌<◌, ℕ, IfOk, IfErr, OnOk, OnErr, IfSome};
 
 use crate::desk::Desk;
-use crate::fault::{RedoFault, RedoRefused, UndoFault, UndoRefused};
+use crate::fault::{RedoRefused, UndoRefused};
 use crate::redo_token::Redo;
 use crate::swing::{games_over, redo_fault, swing, undo_fault};
 use crate::undo_token::Undo;
 use std::alloc::Global;
+use vpg_faults::{RedoFault, UndoFault};
 
 impl Desk {
     ghost use Rattle.vpg_desk.specs.Book.{Undo as AsksUndo, Redo as AsksRedo, Undone, Redone, Refused};

@@ -11,7 +11,7 @@ use Rattle.vpg_desk.specs.Book.{Retract, Changed, Refused, UnknownFeature, NotDe
 use Rattle.vpg_desk.specs.DeskFields.{desk_of}
 use Rattle.vpg_desk.specs.Setting.{HasConflict}
 use Rattle.vpg_desk.specs.State.{DeskState, Replies, IsStep, setting_between}
-use Rattle.vpg_desk.specs.declared.fault.RetractFault.TheVariants.{Memory}
+use Rattle.vpg_faults.specs.declared.fault.RetractFault.TheVariants.{Memory}
 use Rattle.vpg_desk.specs.Cuts.{cuts_of, notes_of, cut_book, SuffixesBelow}
 use Rattle.vpg_desk.specs.Trail.{book_of}
 use Rattle.vpg_desk.specs.declared.cuts.Cut.{Cut}

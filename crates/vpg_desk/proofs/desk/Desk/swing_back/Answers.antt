@@ -11,7 +11,7 @@ use Rattle.vpg_desk.specs.Setting.{HasConflict}
 use Rattle.vpg_desk.specs.State.{DeskState, IsStep, Replies, setting_between}
 use Rattle.vpg_desk.specs.Trail.{Cut as Saved, spliced}
 use Rattle.vpg_desk.specs.declared.cuts.Cut.{Cut}
-use Rattle.vpg_desk.specs.declared.fault.UndoFault.TheVariants.{Memory}
+use Rattle.vpg_faults.specs.declared.fault.UndoFault.TheVariants.{Memory}
 use Rattle.vpg_desk.proofs.Unchanged.{still_desk}
 use Rattle.vpg_desk.proofs.Shared.{held_at, features_at, limit_at}
 use Rattle.vpg_desk.proofs.Nearest.{some_past}
