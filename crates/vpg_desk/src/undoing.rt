@@ -73,14 +73,16 @@ impl Desk {
         if let Some(fault) = undo_fault(&self.past, serial) {
             return Err(fault);
         }
-        let games = games_over(
+        let Ok(games) = games_over(
             alloc,
             &self.game,
             &self.diagram,
             &self.trail,
             &self.past,
             &self.games,
-        )?;
+        ) else {
+            return Err(UndoFault::Memory);
+        };
         let was = self.is_noted;
         let is_noted = swing(&mut self.past, &mut self.trail, &mut self.future, was)?;
         self.games = games;
@@ -102,14 +104,16 @@ impl Desk {
         if let Some(fault) = redo_fault(&self.future, serial) {
             return Err(fault);
         }
-        let games = games_over(
+        let Ok(games) = games_over(
             alloc,
             &self.game,
             &self.diagram,
             &self.trail,
             &self.future,
             &self.games,
-        )?;
+        ) else {
+            return Err(RedoFault::Memory);
+        };
         let was = self.is_noted;
         let is_noted = swing(&mut self.future, &mut self.trail, &mut self.past, was)?;
         self.games = games;
