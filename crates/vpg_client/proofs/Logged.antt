@@ -11,7 +11,7 @@ use Rattle.vpg_desk.specs.Book as book
 use Rattle.vpg_trail.specs.Page.{Entry as Step}
 use Rattle.vpg_desk.specs.Book.{Family, Call, Reply, Refusal, Commit, Page, PageIs, opened}
 use Rattle.vpg_desk.specs.Commit.{IsOrderOf, commit_refusal, handed_in}
-use Rattle.vpg_desk.specs.declared.fault.CommitFault.{CommitFault}
+use Rattle.vpg_faults.specs.declared.fault.CommitFault.{CommitFault}
 use Rattle.vpg_desk.specs.History.{Event, IsLegal, book_after, page_after}
 use Rattle.vpg_desk.proofs.UndoRedo.{legal_parts}
 use Rattle.vpg_office.specs.Faults.{Tells as OfficeTells, CommitTells as OfficeCommitTells}

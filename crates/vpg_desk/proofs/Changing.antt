@@ -3,13 +3,16 @@ use Rattle.std.proofs.Common.{◌≡◌, ℕ, ◌+◌, List, [], ◌∷◌, ◌+
 use Rattle.std.proofs.lemmas.List.{drop_all, reverse-append}
 use Rattle.vpg_trail.specs.Page.{Entry as Step}
 use Rattle.vpg_desk.specs.Book.{changed}
-use Rattle.vpg_desk.specs.Cuts.{cut_of, cuts_of, cut_book}
+use Rattle.vpg_desk.specs.Cuts.{cut_of, cuts_of, notes_of, cut_book}
 use Rattle.vpg_desk.specs.Trail.{Cut as Saved, FitOver, StandsFor, book_of, cut_at}
 use Rattle.vpg_desk.specs.declared.cuts.Cut.{Cut}
 use Rattle.vpg_desk.proofs.Trail.{cut_is_change, decide_cuts_at_end}
 
 pub cuts_of-push : (cuts : List Cut) (cut : Cut) → cuts_of (cuts ++ cut ∷ []) ≡ cut_of cut ∷ cuts_of cuts
 cuts_of-push cuts cut = ap (λ (l : List Cut). map cut_of l) (reverse-append cuts (cut ∷ []))
+
+pub notes_of-push : (cuts : List Cut) (cut : Cut) → notes_of (cuts ++ cut ∷ []) ≡ cut.is_noted ∷ notes_of cuts
+notes_of-push cuts cut = ap (map (λ (c : Cut). c.is_noted)) (reverse-append cuts (cut ∷ []))
 
 -- the cut that a decision leaves
 abbrev pub end_cut : ℕ → List Step → Saved

@@ -1,5 +1,5 @@
 -- What a desk answers to a commit, and what an accepted one leaves.
-use Rattle.std.proofs.Common.{◌≡◌, ℕ, ◌<◌, ◌≤◌, max, Bool, true, false, IsTrue, ◌⊎◌, inl, inr, get_or, slice_index, le_antisymm, List, ◌++◌, length, map, Option, Some, None, IfSome, IfErr, Result, Ok, Err, refl, sym, ap, ◌∙◌, subst, arith, append-nil}
+use Rattle.std.proofs.Common.{◌≡◌, ℕ, ◌<◌, ◌≤◌, max, Bool, true, false, IsTrue, ◌⊎◌, inl, inr, get_or, slice_index, le_antisymm, List, ◌++◌, length, map, Option, Some, None, IfSome, IfErr, OnOk, Result, Ok, Err, refl, sym, ap, ◌∙◌, subst, arith, append-nil}
 use Rattle.std.proofs.lemmas.Bool.{false≢true}
 use Rattle.std.proofs.lemmas.List.{same_lists, get_or_default}
 use Rattle.std.specs.Arc.{arc_value}
@@ -22,8 +22,8 @@ use Rattle.vpg_trail.proofs.Lifting.{well_formed_lifts_stand}
 use Rattle.vpg_trail.proofs.PageLemmas.{choices_of-append, value_at-append, length-table_of, table_of-at}
 use Rattle.vpg_desk.specs.Book.{Book, Commit, Added, Refused, OtherGame, Outdated, IsSettledPage, committed, raises_of, first_missing, outdated_at, refuses_commit, Refusal}
 use Rattle.vpg_desk.specs.Commit.{IsOrderOf, handed_in, raised_by, commit_refusal}
-use Rattle.vpg_desk.specs.declared.fault.CommitFault.{CommitFault}
-use Rattle.vpg_desk.specs.declared.fault.CommitFault.TheVariants.{Memory}
+use Rattle.vpg_faults.specs.declared.fault.CommitFault.{CommitFault}
+use Rattle.vpg_faults.specs.declared.fault.CommitFault.TheVariants.{Memory}
 use Rattle.vpg_desk.specs.Cuts.{notes_of, cut_book, SuffixesBelow}
 use Rattle.vpg_desk.specs.Desk.{family_of, IsProgressUnder}
 use Rattle.vpg_desk.specs.DeskFields.{setting_in, book_in, desk_of, IsDesk}
@@ -66,21 +66,25 @@ pub own_outdated : (d : Inside) (harvest : HarvestView) (f : ℕ) → first_miss
 own_outdated d harvest f m = (Some (Outdated f), (ap outdated_at (sym m), refl))
 
 -- what is told of a harvest of the desk's own holds of one that was compared
-module _ {T : Type 0} (state : DeskState) (harvest : HarvestView) (ours : IsOrderOf state harvest.order) where
-  pub own_told : (r : Result T CommitFault) → IfErr r (λ fault. IfSome (commit_refusal fault) (λ refusal. Replies state (Commit (handed_in true harvest)) (Refused refusal))) →
-      IfErr r (λ fault. IfSome (commit_refusal fault) (λ refusal. (x : Bool) × (Decides x (IsOrderOf state harvest.order) × Replies state (Commit (handed_in x harvest)) (Refused refusal))))
+module _ {T E : Type 0} (state : DeskState) (harvest : HarvestView) (fault_of : E → CommitFault) (ours : IsOrderOf state harvest.order) where
+  pub own_same : (r : Result T E) → OnOk r (IsOrderOf state harvest.order)
+  own_same (Ok n) = ours
+  own_same (Err e) = tt
+
+  pub own_told : (r : Result T E) → IfErr r (λ e. IfSome (commit_refusal (fault_of e)) (λ refusal. Replies state (Commit (handed_in true harvest)) (Refused refusal))) →
+      IfErr r (λ e. IfSome (commit_refusal (fault_of e)) (λ refusal. (x : Bool) × (Decides x (IsOrderOf state harvest.order) × Replies state (Commit (handed_in x harvest)) (Refused refusal))))
   own_told (Ok n) h = tt
-  own_told (Err fault) h = by (commit_refusal fault) h
+  own_told (Err e) h = by (commit_refusal (fault_of e)) h
     where
       by : (r : Option Refusal) → IfSome r (λ refusal. Replies state (Commit (handed_in true harvest)) (Refused refusal)) →
           IfSome r (λ refusal. (x : Bool) × (Decides x (IsOrderOf state harvest.order) × Replies state (Commit (handed_in x harvest)) (Refused refusal)))
       by None h = tt
       by (Some refusal) h = (true, (((λ _. ours), (λ _. refl)), h))
 
-  pub own_last : (r : Result T CommitFault) → IfErr r (λ fault. fault ≡ Memory → refuses_commit state.book (handed_in true harvest) ≡ None) →
-      IfErr r (λ fault. fault ≡ Memory → IsOrderOf state harvest.order × (refuses_commit state.book (handed_in true harvest) ≡ None))
+  pub own_last : (r : Result T E) → IfErr r (λ e. fault_of e ≡ Memory → refuses_commit state.book (handed_in true harvest) ≡ None) →
+      IfErr r (λ e. fault_of e ≡ Memory → IsOrderOf state harvest.order × (refuses_commit state.book (handed_in true harvest) ≡ None))
   own_last (Ok n) h = tt
-  own_last (Err fault) h = λ m. (ours, h m)
+  own_last (Err e) h = λ m. (ours, h m)
 
 -- ---- what an accepted commit leaves
 

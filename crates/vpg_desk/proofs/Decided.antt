@@ -26,8 +26,8 @@ use Rattle.vpg_desk.specs.Notes.{NotesHold}
 use Rattle.vpg_desk.specs.Setting.{HasConflict}
 use Rattle.vpg_desk.specs.State.{Replies, IsStep, IsReached}
 use Rattle.vpg_desk.specs.declared.desk.Desk.TheInside.{Inside}
-use Rattle.vpg_desk.specs.declared.fault.DecideFault.{DecideFault}
-use Rattle.vpg_desk.specs.declared.fault.DecideFault.TheVariants.{UnknownFeature as IsUnknown, AlreadyDecided as IsDecided, Conflict as InConflict, TooManyChanges as IsTooMany, Memory}
+use Rattle.vpg_faults.specs.declared.fault.DecideFault.{DecideFault}
+use Rattle.vpg_faults.specs.declared.fault.DecideFault.TheVariants.{UnknownFeature as IsUnknown, AlreadyDecided as IsDecided, Conflict as InConflict, TooManyChanges as IsTooMany, Memory}
 use Rattle.vpg_desk.proofs.Answering.{tells}
 use Rattle.vpg_desk.proofs.Deciding.{choices_inside, not_outside, one_more_inside, known_no_conflict, named_has_conflict, against_known, as_known}
 use Rattle.vpg_desk.proofs.Noted.{noted_with}

@@ -7,8 +7,8 @@ use Rattle.vpg_desk.proofs.Deciding.{setting_stands, known_is_consistent}
 use Rattle.vpg_diagram.specs.DiagramText.{NamedDiagram}
 use Rattle.vpg_game.specs.Game.{NamedGame, IsAtLimit}
 use Rattle.vpg_partial.specs.KnownLaws.{HasConflictOf}
-use Rattle.vpg_desk.specs.declared.fault.OpenFault.{OpenFault}
-use Rattle.vpg_desk.specs.declared.fault.OpenFault.TheVariants.{AtLimit, Conflict}
+use Rattle.vpg_faults.specs.declared.fault.OpenFault.{OpenFault}
+use Rattle.vpg_faults.specs.declared.fault.OpenFault.TheVariants.{AtLimit, Conflict}
 
 err_is : {T : Type 0} (a b : OpenFault) → ◌≡◌ {A = Result T OpenFault} (Err a) (Err b) → a ≡ b
 err_is a b e = cc

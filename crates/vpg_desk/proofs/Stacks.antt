@@ -12,9 +12,9 @@ use Rattle.vpg_trail.specs.WellFormed.{IsWellFormed, LiftsStandAfter}
 use Rattle.vpg_trail.proofs.Lifting.{well_formed_lifts_stand}
 use Rattle.vpg_desk.specs.Book.{Kept, Refusal, Sealed, NotNewest, Overtaken, NotNext, refuses_undo, refuses_redo, has_serial}
 use Rattle.vpg_desk.specs.Cuts.{cut_of, cuts_of, notes_of, serials_from_top, pages_of, SuffixesBelow}
-use Rattle.vpg_desk.specs.Trail.{Cut as Saved, cuts_in_front_of, pages_over, spliced}
+use Rattle.vpg_desk.specs.Trail.{Cut as Saved, FitOver, cuts_in_front_of, pages_over, spliced}
 use Rattle.vpg_desk.specs.declared.cuts.Cut.{Cut}
-use Rattle.vpg_desk.proofs.Changing.{cuts_of-push}
+use Rattle.vpg_desk.proofs.Changing.{cuts_of-push, notes_of-push}
 
 last_split_at : {X : Type 0} (xs : List X) (x : X) (n : ℕ) → length xs ≡ suc n → slice_get xs n ≡ Some x → xs ≡ take n xs ++ x ∷ []
 last_split_at [] x n l e = absurd (omega arith)
@@ -34,6 +34,9 @@ pub cuts_of-last : (cuts : List Cut) (cut : Cut) → slice_get cuts (length cuts
 cuts_of-last cuts cut e = ap cuts_of (last_split cuts cut e) ∙ cuts_of-push (take (length cuts - 1) cuts) cut
 
 module _ (entries : List Step) (cuts : List Cut) (cut : Cut) (further : List Saved) (top : cuts_of cuts ≡ cut_of cut ∷ further) where
+  pub nearest_fits : FitOver entries (cuts_of cuts) → cut.place ≤ length entries
+  nearest_fits fits = let f : FitOver entries (cut_of cut ∷ further) = subst (FitOver entries) top fits in f.0
+
   -- the nearest page, by the top of the stack
   pub nearest_page : (P : List Step → Type 0) → AllByRecursion (λ k. P k.page) (pages_of entries cuts) → P (spliced entries cut.place (map entry_of cut.suffix.items))
   nearest_page P a = at (subst (λ (l : List Saved). AllByRecursion (λ (k : Kept). P k.page) (pages_over entries l)) top a)
@@ -50,6 +53,43 @@ module _ (entries : List Step) (cuts : List Cut) (cut : Cut) (further : List Sav
   -- the first cut is the top
   pub nearest_cut : (first : Saved) (others : List Saved) → cuts_of cuts ≡ first ∷ others → cut_of cut ≡ first
   nearest_cut first others e = let both : cut_of cut ∷ further ≡ first ∷ others = sym top ∙ e in cc
+
+-- what is so of a stack whose top is taken off
+module _ (cuts older : List Cut) (r : Option Cut) (cut : Cut) (pops : cuts ≡ older ++ option_to_list r) (is : r ≡ Some cut) where
+  popped : cuts ≡ older ++ cut ∷ []
+  popped = pops ∙ ap (λ (o : Option Cut). older ++ option_to_list o) is
+
+  pub popped_cuts : cuts_of cuts ≡ cut_of cut ∷ cuts_of older
+  popped_cuts = ap cuts_of popped ∙ cuts_of-push older cut
+
+  pub popped_notes : notes_of cuts ≡ cut.is_noted ∷ notes_of older
+  popped_notes = ap notes_of popped ∙ notes_of-push older cut
+
+  pub popped_fits : (entries : List Step) → FitOver entries (cuts_of cuts) → cut.place ≤ length entries
+  popped_fits entries fits = nearest_fits entries cuts cut (cuts_of older) popped_cuts fits
+
+  module _ (n : ℕ) (below : SuffixesBelow n cuts) where
+    both : All (λ (c : Cut). All (λ e. VertexBelow n (entry_of e)) c.suffix.items) older × IfSome r (λ (c : Cut). All (λ e. VertexBelow n (entry_of e)) c.suffix.items)
+    both = All-pop (λ (c : Cut). All (λ e. VertexBelow n (entry_of e)) c.suffix.items) cuts older r pops below
+
+    pub popped_below : SuffixesBelow n older
+    popped_below = both.0
+
+    pub popped_suffix : All (λ e. VertexBelow n (entry_of e)) cut.suffix.items
+    popped_suffix = subst (λ (o : Option Cut). IfSome o (λ (c : Cut). All (λ e. VertexBelow n (entry_of e)) c.suffix.items)) is both.1
+
+-- what is so of one that has one cut more
+module _ (cuts after : List Cut) (cut : Cut) (pushes : after ≡ cuts ++ cut ∷ []) where
+  pub pushed_cuts : cuts_of after ≡ cut_of cut ∷ cuts_of cuts
+  pushed_cuts = ap cuts_of pushes ∙ cuts_of-push cuts cut
+
+  pub pushed_notes : notes_of after ≡ cut.is_noted ∷ notes_of cuts
+  pushed_notes = ap notes_of pushes ∙ notes_of-push cuts cut
+
+  pub pushed_below : (n : ℕ) → All (λ e. VertexBelow n (entry_of e)) cut.suffix.items → SuffixesBelow n cuts → SuffixesBelow n after
+  pushed_below n suffix below =
+      All-same (λ (c : Cut). All (λ e. VertexBelow n (entry_of e)) c.suffix.items) after (cuts ++ cut ∷ []) pushes
+      (All-push (λ (c : Cut). All (λ e. VertexBelow n (entry_of e)) c.suffix.items) cuts cut below suffix)
 
 -- a cut is taken off, and one of the same entries is put back
 pub put_back_below : (n : ℕ) (cuts older after : List Cut) (r : Option Cut) (cut back : Cut) → cuts ≡ older ++ option_to_list r → r ≡ Some cut → after ≡ older ++ back ∷ [] → back.suffix.items ≡ cut.suffix.items → SuffixesBelow n cuts → SuffixesBelow n after

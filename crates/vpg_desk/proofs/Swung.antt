@@ -20,10 +20,10 @@ use Rattle.vpg_desk.specs.State.{Replies, IsStep, IsReached}
 use Rattle.vpg_desk.specs.Trail.{Cut as Saved, Trail as CutBook, StandsFor, pages_over, spliced, swung_back, swung_forth}
 use Rattle.vpg_desk.specs.declared.cuts.Cut.{Cut}
 use Rattle.vpg_desk.specs.declared.desk.Desk.TheInside.{Inside}
-use Rattle.vpg_desk.specs.declared.fault.RedoFault.{RedoFault}
-use Rattle.vpg_desk.specs.declared.fault.RedoFault.TheVariants.{Overtaken, NotNext, Memory as RedoMemory}
-use Rattle.vpg_desk.specs.declared.fault.UndoFault.{UndoFault}
-use Rattle.vpg_desk.specs.declared.fault.UndoFault.TheVariants.{Sealed, NotNewest, Memory as UndoMemory}
+use Rattle.vpg_faults.specs.declared.fault.RedoFault.{RedoFault}
+use Rattle.vpg_faults.specs.declared.fault.RedoFault.TheVariants.{Overtaken, NotNext, Memory as RedoMemory}
+use Rattle.vpg_faults.specs.declared.fault.UndoFault.{UndoFault}
+use Rattle.vpg_faults.specs.declared.fault.UndoFault.TheVariants.{Sealed, NotNewest, Memory as UndoMemory}
 use Rattle.vpg_desk.proofs.Noted.{noted_undone, noted_redone}
 use Rattle.vpg_desk.proofs.Reaching.{reached_step, reached_tells, reached_well_formed}
 use Rattle.vpg_desk.proofs.Refusals.{not_newest_tells, not_next_tells}

@@ -5,8 +5,8 @@ use Rattle.vpg_trail.specs.Page.{Hopeful, Dual, Entry, literal_of, raises}
 use Rattle.vpg_trail.specs.Shown.{Track}
 use Rattle.vpg_desk.specs.Book.{Harvest, Refusal, OtherGame, Outdated}
 use Rattle.vpg_desk.specs.State.{DeskState}
-use Rattle.vpg_desk.specs.declared.fault.CommitFault.{CommitFault}
-use Rattle.vpg_desk.specs.declared.fault.CommitFault.TheVariants.{OtherGame as IsOther, Outdated as IsOutdated, Memory}
+use Rattle.vpg_faults.specs.declared.fault.CommitFault.{CommitFault}
+use Rattle.vpg_faults.specs.declared.fault.CommitFault.TheVariants.{OtherGame as IsOther, Outdated as IsOutdated, Memory}
 
 -- the order's game and diagram are the desk's
 abbrev pub IsOrderOf : DeskState → OrderView → Type 0

@@ -6,18 +6,18 @@ use Rattle.vpg_diagram.specs.declared.clause.Literal.{Literal}
 use Rattle.vpg_partial.specs.Known.{NamesConflict}
 use Rattle.vpg_partial.specs.KnownLaws.{HasConflictOf, IsKnownOf}
 use Rattle.vpg_trail.specs.Page.{choices_of}
-use Rattle.vpg_desk.specs.declared.fault.OpenFault.{OpenFault}
-use Rattle.vpg_desk.specs.declared.fault.OpenFault.TheVariants.{AtLimit, Conflict as OpensInConflict, Memory as NoMemory}
+use Rattle.vpg_faults.specs.declared.fault.OpenFault.{OpenFault}
+use Rattle.vpg_faults.specs.declared.fault.OpenFault.TheVariants.{AtLimit, Conflict as OpensInConflict, Memory as NoMemory}
 use Rattle.vpg_desk.specs.Book.{Refusal, UnknownFeature, AlreadyDecided, Conflict, TooManyChanges, NotDecided, Sealed, NotNewest, Overtaken, NotNext, most_changes}
 use Rattle.vpg_desk.specs.State.{DeskState}
-use Rattle.vpg_desk.specs.declared.fault.DecideFault.{DecideFault}
-use Rattle.vpg_desk.specs.declared.fault.DecideFault.TheVariants.{UnknownFeature as IsUnknown, AlreadyDecided as IsDecided, Conflict as HasConflict, TooManyChanges as IsTooMany, Memory}
-use Rattle.vpg_desk.specs.declared.fault.RetractFault.{RetractFault}
-use Rattle.vpg_desk.specs.declared.fault.RetractFault.TheVariants.{UnknownFeature as RetractUnknown, NotDecided as IsUndecided, TooManyChanges as RetractTooMany, Memory as RetractMemory}
-use Rattle.vpg_desk.specs.declared.fault.UndoFault.{UndoFault}
-use Rattle.vpg_desk.specs.declared.fault.UndoFault.TheVariants.{Sealed as IsSealed, NotNewest as IsNotNewest, Memory as UndoMemory}
-use Rattle.vpg_desk.specs.declared.fault.RedoFault.{RedoFault}
-use Rattle.vpg_desk.specs.declared.fault.RedoFault.TheVariants.{Overtaken as IsOvertaken, NotNext as IsNotNext, Memory as RedoMemory}
+use Rattle.vpg_faults.specs.declared.fault.DecideFault.{DecideFault}
+use Rattle.vpg_faults.specs.declared.fault.DecideFault.TheVariants.{UnknownFeature as IsUnknown, AlreadyDecided as IsDecided, Conflict as HasConflict, TooManyChanges as IsTooMany, Memory}
+use Rattle.vpg_faults.specs.declared.fault.RetractFault.{RetractFault}
+use Rattle.vpg_faults.specs.declared.fault.RetractFault.TheVariants.{UnknownFeature as RetractUnknown, NotDecided as IsUndecided, TooManyChanges as RetractTooMany, Memory as RetractMemory}
+use Rattle.vpg_faults.specs.declared.fault.UndoFault.{UndoFault}
+use Rattle.vpg_faults.specs.declared.fault.UndoFault.TheVariants.{Sealed as IsSealed, NotNewest as IsNotNewest, Memory as UndoMemory}
+use Rattle.vpg_faults.specs.declared.fault.RedoFault.{RedoFault}
+use Rattle.vpg_faults.specs.declared.fault.RedoFault.TheVariants.{Overtaken as IsOvertaken, NotNext as IsNotNext, Memory as RedoMemory}
 
 -- the book's refusal that a fault stands for; out of memory is none
 abbrev pub decide_refusal : DecideFault → Option Refusal

@@ -9,10 +9,11 @@ ghost use Rattle.vpg_desk.specs.Book.{first_missing as missing_among};
 ghost use Rattle.vpg_desk.specs.Commit.{raised_by};
 
 use crate::desk::Desk;
-use crate::fault::{CommitFault, CommitRefused};
+use crate::fault::CommitRefused;
 use std::alloc::{AllocError, Global};
 use std::sync::Arc;
 use vpg_diagram::{Diagram, Literal};
+use vpg_faults::CommitFault;
 use vpg_game::GuardedGame;
 use vpg_guards::Tri;
 use vpg_measure::{Harvest, Order, PageGames};
@@ -149,10 +150,13 @@ impl Desk {
         ensures err { OnErr result (self.new ≡ self.old) }
         ensures back { IfErr result (λ r. r.harvest ≡ harvest) }
     {
-        match self.take_in(alloc, &harvest) {
-            Ok(added) => Ok(added),
-            Err(fault) => Err(CommitRefused { fault, harvest }),
+        if !is_order_of(harvest.order(), &self.game, &self.diagram) {
+            return Err(CommitRefused {
+                fault: CommitFault::OtherGame,
+                harvest,
+            });
         }
+        self.commit_own(alloc, harvest)
     }
 
     /// As `commit`, of a harvest whose order has this desk's game and diagram: the two are not compared.
@@ -173,27 +177,6 @@ impl Desk {
             Ok(added) => Ok(added),
             Err(fault) => Err(CommitRefused { fault, harvest }),
         }
-    }
-
-    fn take_in(&mut self, alloc: Global, harvest: &Harvest) -> Result<u32, CommitFault>
-        ensures accepted { IfOk result
-            (λ added. (session : ℕ) →
-            IsStep self.old session (Commit (handed_in true harvest.now)) (Added added) self.new) }
-        ensures same { OnOk result (IsOrderOf self.old harvest.now.order) }
-        ensures refused { IfErr result
-            (λ fault. IfSome (commit_refusal fault)
-            (λ refusal. (b : Bool) ×
-            (Decides b (IsOrderOf self.old harvest.now.order) ×
-            Replies self.old (Commit (handed_in b harvest.now)) (Refused refusal)))) }
-        ensures last { IfErr result
-            (λ fault. fault ≡ CommitFault.Memory → IsOrderOf self.old harvest.now.order ×
-            (refuses_commit self.old.book (handed_in true harvest.now) ≡ None)) }
-        ensures err { OnErr result (self.new ≡ self.old) }
-    {
-        if !is_order_of(harvest.order(), &self.game, &self.diagram) {
-            return Err(CommitFault::OtherGame);
-        }
-        self.take_own(alloc, harvest)
     }
 
     fn take_own(&mut self, alloc: Global, harvest: &Harvest) -> Result<u32, CommitFault>

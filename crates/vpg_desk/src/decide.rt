@@ -15,11 +15,11 @@ ghost use Rattle.vpg_desk.specs.Faults.{ClosesWith};
 
 use crate::cuts::Cut;
 use crate::desk::{Desk, MOST_CHANGES};
-use crate::fault::DecideFault;
 use crate::undo_token::Undo;
 use std::alloc::{AllocError, Global};
 use std::sync::Arc;
 use vpg_diagram::Diagram;
+use vpg_faults::DecideFault;
 use vpg_game::GuardedGame;
 use vpg_guards::Tri;
 use vpg_measure::{OrderFault, PageGames};

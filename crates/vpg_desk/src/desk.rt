@@ -15,14 +15,16 @@ ghost use Rattle.vpg_desk.specs.Setting.{IsSetting};
 ghost use Rattle.vpg_desk.specs.State.{IsOpened, IsReached, Replies, setting_of};
 
 use crate::cuts::Cut;
-use crate::fault::{OpenFault, OpenRefused};
+use crate::fault::OpenRefused;
 use crate::opening::first_page;
 use std::alloc::{AllocError, Global};
 use std::marker::Model;
 use std::sync::Arc;
 use vpg_diagram::Diagram;
+use vpg_faults::OpenFault;
 use vpg_game::{GuardedGame, Player};
-use vpg_measure::{Order, PageGames, is_progress};
+use vpg_measure::{Order, PageGames, Table, is_progress};
+use vpg_partial::Decision;
 use vpg_trail::{Decisions, Entries, Page, Trail, decisions_among};
 use vpg_verdict::{Verdict, Which};
 
@@ -35,6 +37,36 @@ fn with_note(order: Order, is_settled: bool) -> Order
     ensures { result ≡ order }
 {
     if is_settled { order.noted() } else { order }
+}
+
+/// A page's decisions and both its tables.
+fn copies(alloc: Global, trail: &Trail) -> Result<(Vec<Decision>, Table, Table), AllocError>
+    ensures decisions { IfOk result (λ made. made.0.items ≡ decisions_of trail.now.entries) }
+    ensures hopeful { IfOk result (λ made. made.1 ≡ table_of Hopeful trail.now.entries trail.now.vertices) }
+    ensures dual { IfOk result (λ made. made.2 ≡ table_of Dual trail.now.entries trail.now.vertices) }
+{
+    let decisions = decisions_among(alloc, trail.entries())?;
+    let hopeful = trail.hopeful().copy(alloc)?;
+    let dual = trail.dual().copy(alloc)?;
+    Ok((decisions, hopeful, dual))
+}
+
+/// What an order shares with the desk.
+type Shares = (Arc<GuardedGame>, Arc<Diagram>, Arc<PageGames>);
+
+fn shares(
+    game: &Arc<GuardedGame>,
+    diagram: &Arc<Diagram>,
+    games: &Arc<PageGames>,
+) -> Result<Shares, AllocError>
+    ensures game { IfOk result (λ made. arc_value made.0 ≡ arc_value game.now) }
+    ensures diagram { IfOk result (λ made. arc_value made.1 ≡ arc_value diagram.now) }
+    ensures games { IfOk result (λ made. arc_value made.2 ≡ arc_value games.now) }
+{
+    let game = game.clone()?;
+    let diagram = diagram.clone()?;
+    let games = games.clone()?;
+    Ok((game, diagram, games))
 }
 
 /// A game and a diagram with the book of the pages that decisions and lifts made of them.
@@ -211,12 +243,8 @@ impl Desk {
             (λ order. order.dual ≡ table_of Dual self.now.book.present (length (graph_of self.now.game))) }
         ensures order { IfOk result IsOrder }
     {
-        let decisions = decisions_among(alloc, self.trail.entries())?;
-        let hopeful = self.trail.hopeful().copy(alloc)?;
-        let dual = self.trail.dual().copy(alloc)?;
-        let game = self.game.clone()?;
-        let diagram = self.diagram.clone()?;
-        let games = self.games.clone()?;
+        let (decisions, hopeful, dual) = copies(alloc, &self.trail)?;
+        let (game, diagram, games) = shares(&self.game, &self.diagram, &self.games)?;
         let order = Order::over(alloc, game, diagram, decisions, games, hopeful, dual)?;
         Ok(with_note(order, self.is_noted))
     }
@@ -235,11 +263,13 @@ impl Desk {
         // So what the headline says of every legal history holds of this desk's own.
         ensures reached { IfOk result (λ _. IsReached (setting_of self.now) self.now.book) }
     {
+        let entries = Entries::copy_of(alloc, self.trail.entries())?;
+        let (decisions, hopeful, dual) = copies(alloc, &self.trail)?;
         Ok(Page {
-            decisions: Decisions::new(decisions_among(alloc, self.trail.entries())?),
-            hopeful: self.trail.hopeful().copy(alloc)?,
-            dual: self.trail.dual().copy(alloc)?,
-            entries: Entries::copy_of(alloc, self.trail.entries())?,
+            decisions: Decisions::new(decisions),
+            hopeful,
+            dual,
+            entries,
         })
     }
 }

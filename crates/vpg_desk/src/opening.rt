@@ -7,10 +7,10 @@ ghost use Rattle.vpg_measure.specs.Games.{ArePageGames};
 ghost use Rattle.vpg_partial.specs.KnownLaws.{HasConflictOf};
 ghost use Rattle.vpg_desk.specs.State.{IsOpened};
 
-use crate::fault::OpenFault;
 use std::alloc::Global;
 use std::sync::Arc;
 use vpg_diagram::Diagram;
+use vpg_faults::OpenFault;
 use vpg_game::GuardedGame;
 use vpg_measure::{OrderFault, PageGames};
 use vpg_trail::Trail;

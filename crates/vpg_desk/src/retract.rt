@@ -6,10 +6,10 @@ ghost use Rattle.vpg_desk.specs.Cuts.{cuts_of, notes_of, SuffixesBelow};
 
 use crate::cuts::Cut;
 use crate::desk::{Desk, MOST_CHANGES};
-use crate::fault::RetractFault;
 use crate::games::games_of_page;
 use crate::undo_token::Undo;
 use std::alloc::{AllocError, Global};
+use vpg_faults::RetractFault;
 use vpg_trail::{Entry, Trail, kept_after, place_of};
 
 /// Puts the suffix, whose lifts stand, in place of the entries from a place on, and keeps the page before it, which was

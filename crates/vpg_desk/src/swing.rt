@@ -15,11 +15,11 @@ ghost use Rattle.vpg_desk.specs.State.{setting_between};
 ghost use Rattle.vpg_desk.specs.Trail.{FitOver, spliced, Cut as Saved};
 
 use crate::cuts::Cut;
-use crate::fault::{RedoFault, UndoFault};
 use crate::games::games_of_page;
 use std::alloc::{AllocError, Global};
 use std::sync::Arc;
 use vpg_diagram::Diagram;
+use vpg_faults::{RedoFault, UndoFault};
 use vpg_game::GuardedGame;
 use vpg_measure::PageGames;
 use vpg_trail::Trail;

@@ -2,11 +2,12 @@
 ghost use Rattle.std.specs.Prelude.{◌≡◌, ◌<◌, ℕ, IfOk, IfErr, OnOk, OnErr, IfSome};
 
 use crate::desk::Desk;
-use crate::fault::{RedoFault, RedoRefused, UndoFault, UndoRefused};
+use crate::fault::{RedoRefused, UndoRefused};
 use crate::redo_token::Redo;
 use crate::swing::{games_over, redo_fault, swing, undo_fault};
 use crate::undo_token::Undo;
 use std::alloc::Global;
+use vpg_faults::{RedoFault, UndoFault};
 
 impl Desk {
     ghost use Rattle.vpg_desk.specs.Book.{Undo as AsksUndo, Redo as AsksRedo, Undone, Redone, Refused};
@@ -72,14 +73,16 @@ impl Desk {
         if let Some(fault) = undo_fault(&self.past, serial) {
             return Err(fault);
         }
-        let games = games_over(
+        let Ok(games) = games_over(
             alloc,
             &self.game,
             &self.diagram,
             &self.trail,
             &self.past,
             &self.games,
-        )?;
+        ) else {
+            return Err(UndoFault::Memory);
+        };
         let was = self.is_noted;
         let is_noted = swing(&mut self.past, &mut self.trail, &mut self.future, was)?;
         self.games = games;
@@ -101,14 +104,16 @@ impl Desk {
         if let Some(fault) = redo_fault(&self.future, serial) {
             return Err(fault);
         }
-        let games = games_over(
+        let Ok(games) = games_over(
             alloc,
             &self.game,
             &self.diagram,
             &self.trail,
             &self.future,
             &self.games,
-        )?;
+        ) else {
+            return Err(RedoFault::Memory);
+        };
         let was = self.is_noted;
         let is_noted = swing(&mut self.future, &mut self.trail, &mut self.past, was)?;
         self.games = games;

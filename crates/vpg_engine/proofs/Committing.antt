@@ -10,8 +10,8 @@ use Rattle.vpg_measure.specs.Orders.{OrderView, HarvestView, IsOrder}
 use Rattle.vpg_trail.specs.Page.{Literal, stands, choices_of}
 use Rattle.vpg_desk.specs.Book.{Harvest, Commit, Added, Refused, Refusal, Outdated, first_missing, outdated_at, refuses_commit}
 use Rattle.vpg_desk.specs.Commit.{IsOrderOf, commit_refusal, handed_in}
-use Rattle.vpg_desk.specs.declared.fault.CommitFault.{CommitFault}
-use Rattle.vpg_desk.specs.declared.fault.CommitFault.TheVariants as commits
+use Rattle.vpg_faults.specs.declared.fault.CommitFault.{CommitFault}
+use Rattle.vpg_faults.specs.declared.fault.CommitFault.TheVariants as commits
 use Rattle.vpg_desk.specs.State.{DeskState, Replies}
 use Rattle.vpg_client.specs.Client.{ClientState, IsLogged}
 use Rattle.vpg_client.specs.Faults.{Tells, CommitTells, UnlessStray}

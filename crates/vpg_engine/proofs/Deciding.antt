@@ -5,11 +5,11 @@ use Rattle.std.proofs.lemmas.Option.{slice_get_within}
 use Rattle.vpg_features.specs.Names.{index_of}
 use Rattle.vpg_desk.specs.Book.{Family, Book, Decide, Retract, Changed, Refused, Refusal, Conflict, RefusesDecide, IsReply}
 use Rattle.vpg_desk.specs.Faults.{decide_refusal, retract_refusal}
-use Rattle.vpg_desk.specs.declared.fault.DecideFault.{DecideFault}
-use Rattle.vpg_desk.specs.declared.fault.RetractFault.{RetractFault}
+use Rattle.vpg_faults.specs.declared.fault.DecideFault.{DecideFault}
+use Rattle.vpg_faults.specs.declared.fault.RetractFault.{RetractFault}
 use Rattle.vpg_desk.specs.Desk.{family_of}
 use Rattle.vpg_desk.specs.State.{setting_of}
-use Rattle.vpg_desk.specs.declared.fault.DecideFault.TheVariants as decides
+use Rattle.vpg_faults.specs.declared.fault.DecideFault.TheVariants as decides
 use Rattle.vpg_client.specs.Client.{ClientState, IsLogged}
 use Rattle.vpg_client.specs.Faults.{Tells, UnlessStray}
 use Rattle.vpg_client.specs.declared.fault.ClientFault.{ClientFault}

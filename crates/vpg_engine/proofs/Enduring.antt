@@ -7,7 +7,7 @@ use Rattle.vpg_game.specs.Game.{NamedGame}
 use Rattle.vpg_measure.specs.Orders.{HarvestView}
 use Rattle.vpg_desk.specs.Book.{Call, Refusal, Reply}
 use Rattle.vpg_desk.specs.State.{DeskState}
-use Rattle.vpg_desk.specs.declared.fault.CommitFault.{CommitFault}
+use Rattle.vpg_faults.specs.declared.fault.CommitFault.{CommitFault}
 use Rattle.vpg_client.specs.Client.{ClientState, IsLogged}
 use Rattle.vpg_client.specs.Faults.{Tells, CommitTells, UnlessStray}
 use Rattle.vpg_client.specs.declared.fault.ClientFault.{ClientFault}

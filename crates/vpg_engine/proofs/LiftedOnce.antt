@@ -15,7 +15,7 @@ use Rattle.vpg_measure.proofs.OrderLemmas.{IsLawfulTable, own_lawful, raised_law
 use Rattle.vpg_measure.proofs.TwoGames.{arena_length}
 use Rattle.vpg_desk.specs.Book.{Order, Ordered, Commit, Added}
 use Rattle.vpg_desk.specs.Commit.{IsOrderOf, commit_refusal, handed_in}
-use Rattle.vpg_desk.specs.declared.fault.CommitFault.{CommitFault}
+use Rattle.vpg_faults.specs.declared.fault.CommitFault.{CommitFault}
 use Rattle.vpg_desk.specs.Desk.{family_of}
 use Rattle.vpg_desk.specs.Lawful.{harvested}
 use Rattle.vpg_desk.specs.State.{DeskState, setting_between, setting_of}

@@ -29,7 +29,7 @@ use Rattle.vpg_engine.specs.Engine.{EngineState, SweepsTo}
 use Rattle.vpg_engine.specs.Made.{IsMadeBy}
 use Rattle.vpg_engine.proofs.Asked.{settle_full, commit_full, settles, keeps}
 use Rattle.vpg_desk.specs.Commit.{IsOrderOf, commit_refusal, handed_in}
-use Rattle.vpg_desk.specs.declared.fault.CommitFault.{CommitFault}
+use Rattle.vpg_faults.specs.declared.fault.CommitFault.{CommitFault}
 use Rattle.vpg_client.specs.Client.{ClientState, IsLogged}
 use Rattle.vpg_client.specs.Faults.{Tells}
 use Rattle.vpg_client.specs.declared.fault.ClientFault.{ClientFault}

@@ -7,8 +7,8 @@ use Rattle.vpg_client.specs.Client.{ClientState, client_of}
 use Rattle.vpg_client.specs.declared.fault.ClientFault.{ClientFault}
 use Rattle.vpg_client.specs.declared.fault.ClientFault.TheVariants.{LogFull, Refused}
 use Rattle.vpg_desk.specs.Book.{Call, Refusal, Reply}
-use Rattle.vpg_desk.specs.declared.fault.OpenFault.{OpenFault}
-use Rattle.vpg_desk.specs.declared.fault.OpenFault.TheVariants.{AtLimit, Conflict, Memory}
+use Rattle.vpg_faults.specs.declared.fault.OpenFault.{OpenFault}
+use Rattle.vpg_faults.specs.declared.fault.OpenFault.TheVariants.{AtLimit, Conflict, Memory}
 use Rattle.vpg_engine.specs.Answers.{Own, NoFeature, NoVertex, Rest, first_call, Continues, full_line, refused_line, refusal_text}
 use Rattle.vpg_engine.specs.declared.lines.Missing.{Missing}
 use Rattle.vpg_engine.specs.declared.lines.Missing.TheVariants.{Vertex, Feature}

@@ -14,7 +14,7 @@ use Rattle.vpg_desk.specs.State.{DeskState, Replies, setting_of}
 use Rattle.vpg_desk.proofs.Tokens.{counts_are_limited}
 use Rattle.vpg_measure.specs.Orders.{OrderView, HarvestView}
 use Rattle.vpg_desk.specs.Commit.{IsOrderOf}
-use Rattle.vpg_desk.specs.declared.fault.CommitFault.{CommitFault}
+use Rattle.vpg_faults.specs.declared.fault.CommitFault.{CommitFault}
 use Rattle.vpg_office.specs.Faults.{Stops, Tells, CommitTells, Begins}
 use Rattle.vpg_office.specs.Fronts.{IsHistory, Extends, calls_by, event, family_between}
 use Rattle.vpg_office.specs.Kept.{IsChronicle}

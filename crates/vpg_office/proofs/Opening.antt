@@ -7,8 +7,8 @@ use Rattle.vpg_game.specs.Game.{NamedGame}
 use Rattle.vpg_desk.specs.Book.{Book, opened}
 use Rattle.vpg_desk.specs.History.{Event, book_after}
 use Rattle.vpg_desk.specs.State.{DeskState, IsOpened}
-use Rattle.vpg_desk.specs.declared.fault.OpenFault.{OpenFault}
-use Rattle.vpg_desk.specs.declared.fault.OpenFault.TheVariants.{AtLimit, Memory}
+use Rattle.vpg_faults.specs.declared.fault.OpenFault.{OpenFault}
+use Rattle.vpg_faults.specs.declared.fault.OpenFault.TheVariants.{AtLimit, Memory}
 use Rattle.vpg_office.specs.Fronts.{family_between}
 use Rattle.vpg_office.specs.Kept.{AreGiven, IsChronicle, ShowsEach, lines_of}
 use Rattle.vpg_office.specs.Locked.{IsLog}

@@ -7,7 +7,7 @@ use Rattle.vpg_game.specs.Game.{NamedGame}
 use Rattle.vpg_measure.specs.Orders.{HarvestView}
 use Rattle.vpg_desk.specs.Book.{Family, Call, Commit, Refusal, Refused}
 use Rattle.vpg_desk.specs.Commit.{commit_refusal, handed_in}
-use Rattle.vpg_desk.specs.declared.fault.CommitFault.{CommitFault}
+use Rattle.vpg_faults.specs.declared.fault.CommitFault.{CommitFault}
 use Rattle.vpg_desk.specs.History.{Event}
 use Rattle.vpg_office.specs.Fronts.{IsHistory, Extends, Overtakes, calls_by, family_between}
 use Rattle.vpg_office.specs.Story.{IsOf}

@@ -1,7 +1,7 @@
 -- What a run's result says, by that of its script.
 use Rattle.std.proofs.Common.{◌≡◌, ℕ, false, List, Option, Result, Ok, Err, ap}
 use Rattle.std.specs.Prelude.{IsErrOf}
-use Rattle.vpg_desk.specs.declared.fault.OpenFault.{OpenFault}
+use Rattle.vpg_faults.specs.declared.fault.OpenFault.{OpenFault}
 use Rattle.vpg_serving.specs.Output.{Machine}
 use Rattle.vpg_serving.specs.Manners.{MannerOutcome}
 use Rattle.vpg_serving.specs.declared.serving.Manner.{Manner}

@@ -2,8 +2,8 @@
 use Rattle.std.specs.Prelude.{◌≡◌, ℕ, ◌+◌, List, Result, Ok, Err}
 use Rattle.vpg_diagram.specs.DiagramText.{NamedDiagram}
 use Rattle.vpg_game.specs.Game.{NamedGame}
-use Rattle.vpg_desk.specs.declared.fault.OpenFault.{OpenFault}
-use Rattle.vpg_desk.specs.declared.fault.OpenFault.TheVariants.{Memory}
+use Rattle.vpg_faults.specs.declared.fault.OpenFault.{OpenFault}
+use Rattle.vpg_faults.specs.declared.fault.OpenFault.TheVariants.{Memory}
 use Rattle.vpg_answers.specs.declared.query.Query.{Query}
 use Rattle.vpg_engine.specs.Answers.{Own}
 use Rattle.vpg_engine.specs.Engine.{EngineState, IsOpenFault, AnswersBy, own_of, scene_at}

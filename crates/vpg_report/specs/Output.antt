@@ -1,6 +1,6 @@
 -- What is written for what is read, by a run.
 use Rattle.std.specs.Prelude.{◌≡◌, ℕ, List, Option, Result, Ok, Err}
-use Rattle.vpg_desk.specs.declared.fault.OpenFault.{OpenFault}
+use Rattle.vpg_faults.specs.declared.fault.OpenFault.{OpenFault}
 use Rattle.vpg_serving.specs.Output.{Machine, ScriptOutcome}
 use Rattle.vpg_serving.specs.Manners.{MannerOutcome}
 use Rattle.vpg_serving.specs.declared.serving.Manner.{Manner}

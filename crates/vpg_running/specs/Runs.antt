@@ -4,8 +4,8 @@ use Rattle.std.specs.String.{string_bytes}
 use Rattle.vpg_diagram.specs.DiagramText.{NamedDiagram}
 use Rattle.vpg_game.specs.Game.{NamedGame}
 use Rattle.vpg_desk.specs.State.{IsOpened}
-use Rattle.vpg_desk.specs.declared.fault.OpenFault.{OpenFault}
-use Rattle.vpg_desk.specs.declared.fault.OpenFault.TheVariants as opens
+use Rattle.vpg_faults.specs.declared.fault.OpenFault.{OpenFault}
+use Rattle.vpg_faults.specs.declared.fault.OpenFault.TheVariants as opens
 use Rattle.vpg_family.specs.Families.{TellsConflict}
 use Rattle.vpg_report.specs.Engine.{IsOpenRefusal}
 use Rattle.vpg_report.specs.Output.{OutcomeAs}

@@ -1,5 +1,5 @@
-use Rattle.std.proofs.Common.{◌≡◌, ◌∙◌, ◌++◌, ◌-◌, ◌∷◌, IfOk, Result, Ok, Err, Global, List, length, map, take, sym, ap, subst}
-use Rattle.std.proofs.lemmas.List.{take-map}
+use Rattle.std.proofs.Common.{◌≡◌, ◌∙◌, ◌++◌, ◌-◌, ◌∷◌, IfOk, Result, Ok, Err, Global, List, length, map, take, sym, ap, subst, arith}
+use Rattle.std.proofs.lemmas.List.{take-map, length-map, length-take}
 use Rattle.std.specs.Arc.{arc_value}
 use Rattle.std.specs.declared.sync.Arc.{Arc}
 use Rattle.std.specs.Option.{option_copied}
@@ -11,7 +11,7 @@ use Rattle.vpg_desk.specs.Setting.{HasConflict}
 use Rattle.vpg_desk.specs.State.{setting_between}
 use Rattle.vpg_desk.specs.Trail.{Cut as Saved, spliced}
 use Rattle.vpg_desk.specs.declared.cuts.Cut.{Cut}
-use Rattle.vpg_desk.proofs.Stacks.{cuts_of-last, nearest_page, nearest_cut}
+use Rattle.vpg_desk.proofs.Stacks.{cuts_of-last, nearest_fits, nearest_page, nearest_cut}
 use Rattle.vpg_desk.proofs.swing.games_over.Goals as goal
 use Rattle.vpg_desk.proofs.swing.games_over.Goals.{After-deref}
 
@@ -30,6 +30,12 @@ are_if_ok : {E : Type 0} (P : List Step → GamesView → Type 0) (entries : Lis
 are_if_ok P entries cuts cut rest e nearest is (Ok s) p = λ first further f.
     subst (λ (l : List Step). P l (arc_value s)) (sym is ∙ ap (λ (x : Saved). spliced entries x.place x.suffix) (nearest_cut entries cuts cut rest e first further f)) p
 are_if_ok P entries cuts cut rest e nearest is (Err x) p = tt
+
+pub slice_bounds-before-end : goal.slice_bounds-before-end
+slice_bounds-before-end c =
+    let fits = nearest_fits c.args.trail.now.entries c.args.cuts.now c.unwrap-cut.result.now (cuts_of (take (length c.args.cuts.now - 1) c.args.cuts.now))
+    (cuts_of-last c.args.cuts.now c.unwrap-cut.result.now (sym c.last.ensures.value ∙ ap option_copied c.unwrap-cut.ensures)) c.requires.fits in
+    omega (arith, fits, length-map c.entries.result.now entry_of, ap length c.entries.ensures.entries, length-take c.unwrap-cut.result.now.place c.entries.result.now)
 
 pub games_of_page-requires-clause-consistent : goal.games_of_page-requires-clause-consistent
 games_of_page-requires-clause-consistent c =

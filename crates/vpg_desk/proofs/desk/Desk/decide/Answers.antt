@@ -16,7 +16,7 @@ use Rattle.vpg_desk.specs.Desk.{family_of}
 use Rattle.vpg_desk.specs.DeskFields.{desk_of, setting_in}
 use Rattle.vpg_desk.specs.Faults.{decide_refusal, ClosesWith}
 use Rattle.vpg_desk.specs.State.{DeskState, Replies, IsStep}
-use Rattle.vpg_desk.specs.declared.fault.DecideFault.TheVariants.{Memory}
+use Rattle.vpg_faults.specs.declared.fault.DecideFault.TheVariants.{Memory}
 use Rattle.vpg_desk.specs.Cuts.{cuts_of, notes_of, cut_book, SuffixesBelow}
 use Rattle.vpg_desk.specs.Trail.{book_of}
 use Rattle.vpg_desk.specs.declared.cuts.Cut.{Cut}

@@ -1,5 +1,7 @@
 use Rattle.std.proofs.lemmas.Grind.{common_steps}
-use Rattle.std.proofs.Common.{subst, arith}
+use Rattle.std.proofs.Common.{◌∙◌, length, ap, subst, arith}
+use Rattle.vpg_game.specs.Game.{graph_of}
+use Rattle.vpg_trail.specs.Page.{Hopeful, Dual, decisions_of, table_of}
 use Rattle.vpg_desk.specs.Desk.{family_of}
 use Rattle.vpg_desk.specs.Headline.{Tells}
 use Rattle.vpg_desk.specs.Lawful.{PageIsBelow}
@@ -20,8 +22,18 @@ returns-clause-setting c = subst (λ (s : DeskState). IsSetting (setting_of s)) 
 pub returns-clause-reached : goal.returns-clause-reached
 returns-clause-reached c = subst (λ (s : DeskState). IsReached (setting_of s) s.book) c.self.view_is c.self.invariant.reached
 
-pub returns-clause-reply : goal.returns-clause-reply
-returns-clause-reply c = grind (arith, common_steps)
+pub returns-clause-decisions : goal.returns-clause-decisions
+returns-clause-decisions c = c.new.ensures ∙ c.in_ok-decisions.ensures.decisions ∙ ap (λ (s : DeskState). decisions_of s.book.present) c.self.view_is
 
 pub returns-clause-hopeful : goal.returns-clause-hopeful
-returns-clause-hopeful c = grind (arith, common_steps)
+returns-clause-hopeful c =
+    c.in_ok-decisions.ensures.hopeful ∙ ap (table_of Hopeful c.self.inside.trail.entries) c.self.invariant.vertices
+    ∙ ap (λ (s : DeskState). table_of Hopeful s.book.present (length (graph_of s.game))) c.self.view_is
+
+pub returns-clause-dual : goal.returns-clause-dual
+returns-clause-dual c =
+    c.in_ok-decisions.ensures.dual ∙ ap (table_of Dual c.self.inside.trail.entries) c.self.invariant.vertices
+    ∙ ap (λ (s : DeskState). table_of Dual s.book.present (length (graph_of s.game))) c.self.view_is
+
+pub returns-clause-reply : goal.returns-clause-reply
+returns-clause-reply c = grind (arith, common_steps)

@@ -1,4 +1,5 @@
 use Rattle.std.proofs.Common.{◌≡◌, ◌∙◌, ◌<◌, ℕ, Bool, true, not, List, None, IsTrue, sym, ap, subst, slice_index_or}
+use Rattle.std.proofs.lemmas.Bool.{false≢true}
 use Rattle.std.specs.Arc.{arc_value}
 use Rattle.vpg_diagram.specs.FeatureDiagram.{feature_count}
 use Rattle.vpg_guards.specs.declared.tri.Tri.{Tri}
@@ -49,10 +50,10 @@ returns-clause-none c =
     (decide_not_known c.self.inside c.self.invariant c.args.feature c.args.value
     (subst (λ (s : DeskState). c.args.feature < feature_count s.diagram.lines) (sym c.self.view_is) c.requires.feature)
     (subst (λ (s : DeskState). decision_on c.args.feature s.book.present ≡ None) (sym c.self.view_is) c.requires.fresh)
-    (λ k. absurd (cc (c.if-is_known.false, seen c.is_known.result (not c.args.value) c.is_known.ensures k)))
+    (λ k. absurd (false≢true (sym c.if-is_known.false ∙ seen c.is_known.result (not c.args.value) c.is_known.ensures k)))
     (elim c.else-is_known-2.branch [
       | else-is_known-2-via-then-is_known-2+else-self-eq-MOST_CHANGES w ↦ (λ k e. w.if-self-eq-MOST_CHANGES.false e)
-      | else-is_known-2-via-else-is_known-2 w ↦ (λ k e. absurd (cc (w.if-is_known-2.false, seen c.is_known-2.result c.args.value c.is_known-2.ensures k)))
+      | else-is_known-2-via-else-is_known-2 w ↦ (λ k e. absurd (false≢true (sym w.if-is_known-2.false ∙ seen c.is_known-2.result c.args.value c.is_known-2.ensures k)))
     ]))
   where
     seen : (b v : Bool) → b ≡ is_known_as c.value-known.result v → IsTrue (literals_in (arc_value c.self.inside.games).known (record { feature = c.args.feature; value = v })) → b ≡ true

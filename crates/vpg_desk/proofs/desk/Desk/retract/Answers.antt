@@ -1,6 +1,6 @@
 use Rattle.std.proofs.Common.{◌≡◌, IfErr, Result, Ok, Err, ◌∙◌, ◌+◌, ◌<◌, ◌≤◌, ◌++◌, ℕ, List, All, [], length, map, filter, not, take, drop, sym, ap, subst, arith, false, refl}
 use Rattle.std.specs.Arc.{arc_value}
-use Rattle.std.proofs.lemmas.List.{take-map, length-map}
+use Rattle.std.proofs.lemmas.List.{take-map, length-map, length-take}
 use Rattle.vpg_diagram.specs.DiagramText.{NamedDiagram}
 use Rattle.vpg_diagram.specs.FeatureDiagram.{feature_count}
 use Rattle.vpg_measure.specs.Games.{ArePageGames}
@@ -11,7 +11,7 @@ use Rattle.vpg_desk.specs.Book.{Retract, Changed, Refused, UnknownFeature, NotDe
 use Rattle.vpg_desk.specs.DeskFields.{desk_of}
 use Rattle.vpg_desk.specs.Setting.{HasConflict}
 use Rattle.vpg_desk.specs.State.{DeskState, Replies, IsStep, setting_between}
-use Rattle.vpg_desk.specs.declared.fault.RetractFault.TheVariants.{Memory}
+use Rattle.vpg_faults.specs.declared.fault.RetractFault.TheVariants.{Memory}
 use Rattle.vpg_desk.specs.Cuts.{cuts_of, notes_of, cut_book, SuffixesBelow}
 use Rattle.vpg_desk.specs.Trail.{book_of}
 use Rattle.vpg_desk.specs.declared.cuts.Cut.{Cut}
@@ -139,6 +139,12 @@ returns-then-self-eq-MOST_CHANGES-clause-refused c =
     subst (λ (s : DeskState). Replies s (Retract c.args.feature) (Refused TooManyChanges)) c.self.view_is
     (retract_too_many c.self.inside c.args.feature (subst (λ (n : ℕ). c.args.feature < n) (count (goal.at.returns-then-self-eq-MOST_CHANGES-clause-refused c).After-features) c.if-feature-features.false)
     (sym (c.in-Some.ensures.decided ∙ ap (has_decided c.args.feature) c.entries-entries.ensures.entries)) c.if-self-eq-MOST_CHANGES.true)
+
+pub slice_bounds-before-end : goal.slice_bounds-before-end
+slice_bounds-before-end c = omega (arith, c.in-Some.ensures.place, length-take c.in-Some.place c.entries-entries.result.now)
+
+pub kept_after-requires-clause-vertices : goal.kept_after-requires-clause-vertices
+kept_after-requires-clause-vertices c = subst (λ (n : ℕ). All (λ e. VertexBelow n (entry_of e)) c.entries-entries.result.now) (sym c.vertices.ensures) c.entries-entries.ensures.vertices
 
 pub cut_out-requires-clause-vertices : goal.cut_out-requires-clause-vertices
 cut_out-requires-clause-vertices c = subst (λ (n : ℕ). All (λ e. VertexBelow n (entry_of e)) c.in_ok-kept.kept.items) c.vertices.ensures c.in_ok-kept.ensures.vertices

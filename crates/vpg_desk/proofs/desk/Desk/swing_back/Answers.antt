@@ -9,9 +9,9 @@ use Rattle.vpg_desk.specs.DeskFields.{desk_of}
 use Rattle.vpg_desk.specs.Faults.{undo_refusal}
 use Rattle.vpg_desk.specs.Setting.{HasConflict}
 use Rattle.vpg_desk.specs.State.{DeskState, IsStep, Replies, setting_between}
-use Rattle.vpg_desk.specs.Trail.{Cut as Saved, spliced}
+use Rattle.vpg_desk.specs.Trail.{Cut as Saved, FitOver, spliced}
 use Rattle.vpg_desk.specs.declared.cuts.Cut.{Cut}
-use Rattle.vpg_desk.specs.declared.fault.UndoFault.TheVariants.{Memory}
+use Rattle.vpg_faults.specs.declared.fault.UndoFault.TheVariants.{Memory}
 use Rattle.vpg_desk.proofs.Unchanged.{still_desk}
 use Rattle.vpg_desk.proofs.Shared.{held_at, features_at, limit_at}
 use Rattle.vpg_desk.proofs.Nearest.{some_past}
@@ -34,46 +34,54 @@ swing-requires-clause-well_formed c = past_well_formed c.self.inside c.self.inva
 accepted : (c : After-swing) → refuses_undo c.args.serial (serials_from_top c.self.inside.past.items) ≡ None
 accepted c = ap (λ (l : List Cut). refuses_undo c.args.serial (serials_from_top l)) (sym c.deref.ensures.value) ∙ c.in_default.ensures
 
-known : (c : After-swing) (cut : Saved) (further : List Saved) → cuts_of c.self.inside.past.items ≡ cut ∷ further → ArePageGames (arc_value c.self.inside.game) (arc_value c.self.inside.diagram) (choices_of (spliced c.self.inside.trail.entries cut.place cut.suffix)) (arc_value c.in_ok-games.games)
+known : (c : After-swing) (cut : Saved) (further : List Saved) → cuts_of c.self.inside.past.items ≡ cut ∷ further → ArePageGames (arc_value c.self.inside.game) (arc_value c.self.inside.diagram) (choices_of (spliced c.self.inside.trail.entries cut.place cut.suffix)) (arc_value c.in-Ok.games)
 known c cut further e =
-    coe 0 1 (k. ArePageGames (c.deref-2.ensures k) (c.deref-3.ensures k) (choices_of (spliced c.self.inside.trail.entries cut.place cut.suffix)) (arc_value c.in_ok-games.games))
-    (c.in_ok-games.ensures cut further (ap cuts_of c.deref-4.ensures.value ∙ e))
+    coe 0 1 (k. ArePageGames (c.deref-2.ensures k) (c.deref-3.ensures k) (choices_of (spliced c.self.inside.trail.entries cut.place cut.suffix)) (arc_value c.in-Ok.games))
+    (c.in-Ok.ensures cut further (ap cuts_of c.deref-4.ensures.value ∙ e))
 
 pub invariant_of-self-2 : goal.invariant_of-self-2
 invariant_of-self-2 c =
     let at = (goal.at.invariant_of-self-2 c).After-swing in
-    undone_desk c.self.inside c.self.invariant c.args.serial c.in_ok-games.games c.in_ok-is_noted.is_noted c.swing.new.from c.swing.new.to c.swing.new.trail c.swing.ensures.vertices c.swing.ensures.from_below (c.swing.ensures.to_below c.self.invariant.future_below) (accepted at) c.in_ok-is_noted.ensures.swung (known at) c.in_ok-is_noted.ensures.note c.in_ok-is_noted.ensures.left
+    undone_desk c.self.inside c.self.invariant c.args.serial c.in-Ok.games c.in_ok-is_noted.is_noted c.swing.new.from c.swing.new.to c.swing.new.trail c.swing.ensures.vertices c.swing.ensures.from_below (c.swing.ensures.to_below c.self.invariant.future_below) (accepted at) c.in_ok-is_noted.ensures.swung (known at) c.in_ok-is_noted.ensures.note c.in_ok-is_noted.ensures.left
 
 pub returns-clause-accepted : goal.returns-clause-accepted
 returns-clause-accepted c session =
     let at = (goal.at.returns-clause-accepted c).After-swing in
-    subst (λ (s : DeskState). IsStep s session (Undo c.args.serial) (Undone c.args.serial) (desk_of (record c.self.inside { games = c.in_ok-games.games; trail = c.swing.new.trail; past = c.swing.new.from; future = c.swing.new.to; is_noted = c.in_ok-is_noted.is_noted }))) c.self.view_is
-    (undone_step c.self.inside c.self.invariant c.args.serial c.in_ok-games.games c.in_ok-is_noted.is_noted c.swing.new.from c.swing.new.to c.swing.new.trail c.swing.ensures.vertices c.swing.ensures.from_below (c.swing.ensures.to_below c.self.invariant.future_below) (accepted at) c.in_ok-is_noted.ensures.swung (known at) session)
+    subst (λ (s : DeskState). IsStep s session (Undo c.args.serial) (Undone c.args.serial) (desk_of (record c.self.inside { games = c.in-Ok.games; trail = c.swing.new.trail; past = c.swing.new.from; future = c.swing.new.to; is_noted = c.in_ok-is_noted.is_noted }))) c.self.view_is
+    (undone_step c.self.inside c.self.invariant c.args.serial c.in-Ok.games c.in_ok-is_noted.is_noted c.swing.new.from c.swing.new.to c.swing.new.trail c.swing.ensures.vertices c.swing.ensures.from_below (c.swing.ensures.to_below c.self.invariant.future_below) (accepted at) c.in_ok-is_noted.ensures.swung (known at) session)
 
 pub returns-in-Some-clause-last : goal.returns-in-Some-clause-last
 returns-in-Some-clause-last c m =
     subst (λ (s : DeskState). Replies s (Undo c.args.serial) (Undone c.args.serial)) c.self.view_is
     (undo_accepted c.self.inside c.self.invariant c.args.serial (ap (λ (l : List Cut). refuses_undo c.args.serial (serials_from_top l)) (sym c.deref.ensures.value) ∙ c.in-Some.ensures ∙ ap undo_refusal m))
 
+pub returns-in_default-games_over-clause-last : goal.returns-in_default-games_over-clause-last
+returns-in_default-games_over-clause-last c _ =
+    subst (λ (s : DeskState). Replies s (Undo c.args.serial) (Undone c.args.serial)) c.self.view_is
+    (undo_accepted c.self.inside c.self.invariant c.args.serial (ap (λ (l : List Cut). refuses_undo c.args.serial (serials_from_top l)) (sym c.deref.ensures.value) ∙ c.in_default.ensures))
+
 -- where it isn't refused, any fault may come
 unrefused : {T E X : Type 0} (fault : E) (r : Result T E) → X → IfErr r (λ f. f ≡ fault → X)
 unrefused fault (Ok t) x = tt
 unrefused fault (Err f) x = λ _. x
 
-pub returns-in_err-games-clause-last : goal.returns-in_err-games-clause-last
-returns-in_err-games-clause-last c =
-    unrefused Memory c.from_residual.result
-    (subst (λ (s : DeskState). Replies s (Undo c.args.serial) (Undone c.args.serial)) c.self.view_is
-    (undo_accepted c.self.inside c.self.invariant c.args.serial (ap (λ (l : List Cut). refuses_undo c.args.serial (serials_from_top l)) (sym c.deref.ensures.value) ∙ c.in_default.ensures)))
-
 pub returns-in_err-is_noted-clause-last : goal.returns-in_err-is_noted-clause-last
 returns-in_err-is_noted-clause-last c =
-    unrefused Memory c.from_residual-in_err-is_noted.result
+    unrefused Memory c.from_residual.result
     (subst (λ (s : DeskState). Replies s (Undo c.args.serial) (Undone c.args.serial)) c.self.view_is (undo_accepted c.self.inside c.self.invariant c.args.serial (accepted (goal.at.returns-in_err-is_noted-clause-last c).After-swing)))
 
 pub returns-in-Some-clause-newer : goal.returns-in-Some-clause-newer
 returns-in-Some-clause-newer c n e =
     newest_above c.self.inside c.self.invariant c.args.serial n (ap (λ (l : List Cut). refuses_undo c.args.serial (serials_from_top l)) (sym c.deref.ensures.value) ∙ c.in-Some.ensures ∙ ap undo_refusal e)
+
+pub games_over-requires-clause-fits : goal.games_over-requires-clause-fits
+games_over-requires-clause-fits c = subst (λ (l : List Cut). FitOver c.self.inside.trail.entries (cuts_of l)) (sym c.deref-4.ensures.value) c.self.invariant.past_fits
+
+pub swing-requires-clause-fits : goal.swing-requires-clause-fits
+swing-requires-clause-fits c = c.self.invariant.past_fits
+
+pub swing-requires-clause-below : goal.swing-requires-clause-below
+swing-requires-clause-below c = c.self.invariant.past_below
 
 pub games_over-requires-clause-held : goal.games_over-requires-clause-held
 games_over-requires-clause-held c =

@@ -11,7 +11,7 @@ use Rattle.vpg_desk.specs.Book.{Commit, Added, Refused, Outdated, first_missing,
 use Rattle.vpg_desk.specs.Commit.{IsOrderOf, handed_in, raised_by}
 use Rattle.vpg_desk.specs.DeskFields.{desk_of}
 use Rattle.vpg_desk.specs.State.{DeskState, IsStep, Replies}
-use Rattle.vpg_desk.specs.declared.fault.CommitFault.TheVariants.{Memory}
+use Rattle.vpg_faults.specs.declared.fault.CommitFault.TheVariants.{Memory}
 use Rattle.vpg_desk.proofs.Unchanged.{still_desk}
 use Rattle.vpg_desk.proofs.Committed.{own_outdated, few, lifts_stand, committed_step, committed_desk, settled_by}
 use Rattle.vpg_desk.proofs.desk.Desk.take_own.Goals as goal
