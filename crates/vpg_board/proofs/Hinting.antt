@@ -1,5 +1,5 @@
 -- Each move of a lifter's hints keeps every one inside the game.
-use Rattle.std.proofs.Common.{ℕ, zero, suc, ◌<◌, All, List, [], ◌∷◌, ◌++◌, length, subst, Option, Some, None, arith}
+use Rattle.std.proofs.Common.{ℕ, zero, suc, All, List, [], ◌∷◌, ◌++◌, length, subst, Option, Some, None, arith}
 use Rattle.std.specs.Prelude.{MatchOption, IfSome}
 use lib.Seq.{take-append_seam, drop-append_seam}
 use Rattle.std.proofs.lemmas.List.Elements.{All-append, All-take, All-drop}

@@ -1,5 +1,5 @@
 -- An order's games keep no more edges than its game has.
-use Rattle.std.proofs.Common.{◌≡◌, ◌<◌, ◌≤◌, ◌^◌, Bool, List, [], ◌∷◌, length, map, filter, ap, arith}
+use Rattle.std.proofs.Common.{◌≡◌, ◌<◌, ◌≤◌, ◌^◌, Bool, List, [], ◌∷◌, length, map, filter, ap, subst, arith}
 use Rattle.std.proofs.lemmas.List.{length-map}
 use Rattle.std.proofs.lemmas.List.Sums.{length-filter, count_by-le-length}
 use Rattle.vpg_guards.specs.Formula.{Formula}
@@ -14,6 +14,7 @@ use Rattle.vpg_verdict.specs.declared.which.Which.TheVariants.{Hopeful, Dual}
 use Rattle.vpg_measure.specs.Orders.{OrderView, IsOrder, order_arena}
 use Rattle.vpg_measure.specs.TwoGames.{arena_for}
 use Rattle.vpg_hope.specs.Games.{Game}
+use Rattle.vpg_board.specs.Predecessors.{PredecessorsView, ArePredecessors, predecessors_in}
 use Rattle.vpg_board.specs.Chains.{edges_kept}
 
 abbrev E : Type 0
@@ -40,3 +41,9 @@ pub order_edges : (order : OrderView) (which : Which) (game : Game) → IsOrder 
 order_edges order which game is same =
     let count = kept_count (kleene order.known) which order.game.vertices in
     omega (arith, ap edges_kept same, count, is.game.few_edges)
+
+-- both games, from each
+pub both_listed : (order : OrderView) (hopeful dual : Game) (lists : PredecessorsView) → hopeful ≡ order_arena Hopeful order → dual ≡ order_arena Dual order → ArePredecessors hopeful lists.hopeful → ArePredecessors dual lists.dual
+    → (which : Which) → ArePredecessors (order_arena which order) (predecessors_in which lists)
+both_listed order hopeful dual lists is is' here there Hopeful = subst (λ (game : Game). ArePredecessors game lists.hopeful) is here
+both_listed order hopeful dual lists is is' here there Dual = subst (λ (game : Game). ArePredecessors game lists.dual) is' there

@@ -1,5 +1,7 @@
 -- Steps that lifters took, one after another.
-use Rattle.std.proofs.Common.{◌≡◌, ℕ, ◌+◌, ◌-◌, ◌<◌, ◌≤◌, Bool, true, false, true≢false, ◌||◌, List, [], ◌∷◌, ◌++◌, length, map, take, set, get_or, refl, sym, ap, ap₂, ◌∙◌, subst, arith}
+use Rattle.std.proofs.Common.{◌≡◌, ℕ, ◌+◌, ◌-◌, ◌<◌, ◌≤◌, Bool, true, false, true≢false, not, cond, ◌||◌, List, [], ◌∷◌, ◌++◌, length, map, take, set, get_or, Option, Some, None, refl, sym, ap, ap₂, ◌∙◌, subst, arith}
+use Rattle.std.specs.Prelude.{All, IfSome, IfNone, MatchOption, is_some}
+use Rattle.std.proofs.lemmas.Bool.{lt-ltb, le-ltb}
 use Rattle.std.proofs.lemmas.List.{take_more, take_all}
 use mathlib.Core.Option.{some}
 use lib.ListN.{get_elem?}
@@ -9,12 +11,13 @@ use Rattle.vpg_hope.specs.Arena.{vertex_at}
 use Rattle.vpg_verdict.specs.declared.which.Which.{Which}
 use Rattle.vpg_measure.specs.Orders.{OrderView, order_arena}
 use Rattle.vpg_board.specs.declared.lifter.Lifter.{Lifter}
-use Rattle.vpg_board.specs.Places.{places, place_of}
-use Rattle.vpg_board.specs.Lifters.{opener, spent, splits, newcomer, both}
+use Rattle.vpg_board.specs.Places.{vertices, places, place_of}
+use Rattle.vpg_board.specs.Lifters.{opener, spent, claims, splits, newcomer, both}
 use Rattle.vpg_board.specs.Run.{BoardState, Move, load, split, lifter, opened, after, May, Reached}
 use Rattle.vpg_board.specs.Taken.{IsOnBoard, Takes, TakesAll, load_of}
-use Rattle.vpg_board.specs.Seats.{IsSafe, AreSeatClaims, IsSeat}
+use Rattle.vpg_board.specs.Seats.{SeesMore, IsSafe, AreSeatClaims, IsSeat}
 use Rattle.vpg_board.proofs.Totals.{at_get, at_below}
+use Rattle.vpg_board.proofs.Halves.{place_less}
 use Rattle.vpg_board.proofs.Known.{claims_of_splits, claims_of_newcomer}
 
 pub takes_next : (ms : List (ℕ → Move)) (m : ℕ → Move) (u v w : Lifter) → TakesAll ms u v → Takes m v w → TakesAll (ms ++ m ∷ []) u w
@@ -142,4 +145,90 @@ seat_both t t' t'' v w x o o' o'' n n' d d' d'' i j table is safe claims run ope
   opens = ap (λ (y : Lifter). y.opening) is ∙ ap₂ (λ (a b : Bool). a || b) i.opens j.opens ∙ sym opening;
   open_claims = λ f. ap (λ (y : Lifter). y.empty) is ∙ none_empty d d' v.empty w.empty i.open_claims j.open_claims (sym done ∙ f);
   no_more = λ f. subst (λ (y : Lifter). 0 < y.empty) (sym is) (some_empty d d' v.empty w.empty i.no_more j.no_more (sym done ∙ f));
+}
+
+-- ---- the seat of a claim
+
+-- where the claim was a place, and where none was left
+claims_some : (size n : ℕ) (v : Lifter) → n < size → claims size v n ≡ record v { claims = v.claims ++ n ∷ [] }
+claims_some size n v less = ap (λ (b : Bool). record v { claims = cond b (v.claims ++ n ∷ []) v.claims; empty = cond b v.empty (v.empty + 1) }) (lt-ltb n size less)
+
+claims_none : (size n : ℕ) (v : Lifter) → size ≤ n → claims size v n ≡ record v { empty = v.empty + 1 }
+claims_none size n v more = ap (λ (b : Bool). record v { claims = cond b (v.claims ++ n ∷ []) v.claims; empty = cond b v.empty (v.empty + 1) }) (le-ltb n size more)
+
+-- a claim that found this number, and what it gave
+module _ (order : OrderView) (v w : Lifter) (n : ℕ) (found : Option (Which × ℕ)) (at : MatchOption found (places order ≤ n) (λ c. (c.1 < vertices order) × (place_of order c.0 c.1 ≡ n)))
+    (same : v.order ≡ order) (is : w ≡ claims (places v.order) v n) where
+  abbrev At : Option (Which × ℕ) → Type 0
+  At r = MatchOption r (places order ≤ n) (λ c. (c.1 < vertices order) × (place_of order c.0 c.1 ≡ n))
+
+  is_place : (c : Which × ℕ) → At (Some c) → n < places v.order
+  is_place c h = subst (λ x. n < places x) (sym same) (subst (λ p. p < places order) h.1 (place_less order c.0 c.1 h.0))
+
+  is_past : At None → places v.order ≤ n
+  is_past h = subst (λ x. places x ≤ n) (sym same) h
+
+  pub claim_vertex : IfSome found (λ c. c.1 < vertices order)
+  claim_vertex = by found at
+    where
+      by : (r : Option (Which × ℕ)) → At r → IfSome r (λ c. c.1 < vertices order)
+      by None h = tt
+      by (Some c) h = h.0
+
+  pub claim_place : IfSome found (λ c. w ≡ record v { claims = v.claims ++ place_of order c.0 c.1 ∷ [] })
+  claim_place = by found at
+    where
+      by : (r : Option (Which × ℕ)) → At r → IfSome r (λ c. w ≡ record v { claims = v.claims ++ place_of order c.0 c.1 ∷ [] })
+      by None h = tt
+      by (Some c) h = is ∙ claims_some (places v.order) n v (is_place c h) ∙ ap (λ (p : ℕ). record v { claims = v.claims ++ p ∷ [] }) (sym h.1)
+
+  pub claim_later : All (λ m. m < n) v.claims → IfSome found (λ c. All (λ m. m < place_of order c.0 c.1) v.claims)
+  claim_later all = by found at
+    where
+      by : (r : Option (Which × ℕ)) → At r → IfSome r (λ c. All (λ m. m < place_of order c.0 c.1) v.claims)
+      by None h = tt
+      by (Some c) h = subst (λ (p : ℕ). All (λ m. m < p) v.claims) (sym h.1) all
+
+  pub claim_none : IfNone found ((w ≡ record v { empty = w.empty }) × (0 < w.empty))
+  claim_none = by found at
+    where
+      by : (r : Option (Which × ℕ)) → At r → IfNone r ((w ≡ record v { empty = w.empty }) × (0 < w.empty))
+      by None h =
+          let e : w ≡ record v { empty = v.empty + 1 } = is ∙ claims_none (places v.order) n v (is_past h) in
+          (e ∙ ap (λ (k : ℕ). record v { empty = k }) (sym (ap (λ (y : Lifter). y.empty) e)), subst (λ (y : Lifter). 0 < y.empty) (sym e) (omega arith))
+      by (Some c) h = tt
+
+  claim_empty : (done : Bool) → is_some found ≡ not done → v.empty ≡ 0 → (done ≡ false → w.empty ≡ 0) × (done ≡ true → 0 < w.empty)
+  claim_empty done e none = by found at e
+    where
+      by : (r : Option (Which × ℕ)) → At r → is_some r ≡ not done → (done ≡ false → w.empty ≡ 0) × (done ≡ true → 0 < w.empty)
+      by None h e' = (λ f. absurd (true≢false (sym (e' ∙ ap not f))), λ _. subst (λ (y : Lifter). 0 < y.empty) (sym (is ∙ claims_none (places v.order) n v (is_past h))) (omega arith))
+      by (Some c) h e' = (λ _. ap (λ (y : Lifter). y.empty) (is ∙ claims_some (places v.order) n v (is_place c h)) ∙ none, λ t. absurd (true≢false (e' ∙ ap not t)))
+
+  pub seat_claims : (table table' : TableId) (opening : Bool) (count : ℕ) (done : Bool) → IsSeat table v opening count false → table' ≡ table → AreSeatClaims w → IsOnBoard w → is_some found ≡ not done → IsSeat table' w opening count done
+  seat_claims table table' opening count done i table_is kept run given = record {
+    words = ap (λ (k : TableId). k.words) table_is ∙ i.words ∙ ap (λ (y : Lifter). places y.order + 1) (sym is);
+    stands = subst (λ (y : Lifter). 0 < y.stands) (sym is) i.stands;
+    safe = subst IsSafe (sym is) (record { wide = i.safe.wide; over = i.safe.over; under = i.safe.under });
+    claims = kept;
+    run = run;
+    splits = ap (λ (y : Lifter). y.splits) is ∙ i.splits;
+    opens = ap (λ (y : Lifter). y.opening) is ∙ i.opens;
+    open_claims = (claim_empty done given (i.open_claims refl)).0;
+    no_more = (claim_empty done given (i.open_claims refl)).1;
+  }
+
+-- ---- the seat of a lift
+
+pub seat_sees : (table table' : TableId) (v w : Lifter) (opening : Bool) (count : ℕ) (done : Bool) → IsSeat table v opening count done → table' ≡ table → SeesMore v w → IsSafe w → IsOnBoard w → IsSeat table' w opening count done
+seat_sees table table' v w opening count done i table_is more safe run = record {
+  words = ap (λ (k : TableId). k.words) table_is ∙ i.words ∙ ap (λ (y : Lifter). places y.order + 1) (sym more.same);
+  stands = subst (λ (y : Lifter). 0 < y.stands) (sym more.same) i.stands;
+  safe = safe;
+  claims = subst AreSeatClaims (sym more.same) (record { once = i.claims.once; below = i.claims.below; room = i.claims.room; few = i.claims.few; all = i.claims.all });
+  run = run;
+  splits = ap (λ (y : Lifter). y.splits) more.same ∙ i.splits;
+  opens = ap (λ (y : Lifter). y.opening) more.same ∙ i.opens;
+  open_claims = λ f. ap (λ (y : Lifter). y.empty) more.same ∙ i.open_claims f;
+  no_more = λ t. subst (λ (y : Lifter). 0 < y.empty) (sym more.same) (i.no_more t);
 }

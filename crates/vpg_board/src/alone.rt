@@ -53,21 +53,8 @@ fn raise_hinted<J: Vertices, G: Gate>(
     }
 }
 
-// Claims the vertices of one table in file order, and lifts what it claims.
-fn raise_without_hints<G: Gate>(harvest: &mut Harvest, gate: &G, which: Which)
-    ensures rises { Rises harvest.old harvest.new }
-    ensures lifted { AreLifted which harvest.old harvest.new (vertices harvest.old.order) }
-{
-    let count = harvest.order().game().vertices() as u32;
-    'claims: for v in 0..count {
-        gate.before_claim(1);
-        harvest.raise(which, v);
-        gate.after_lift(1);
-    }
-}
-
-// The same, and lifts what it is hinted at.
-fn raise_with_hints<J: Vertices, G: Gate>(
+// Claims the vertices of one table in file order, and lifts what it claims, and what it is hinted at.
+fn raise_table<J: Vertices, G: Gate>(
     harvest: &mut Harvest,
     gate: &G,
     predecessors: &Predecessors,
@@ -85,26 +72,6 @@ fn raise_with_hints<J: Vertices, G: Gate>(
         raise_and_hint(harvest, predecessors, hints, which, v);
         gate.after_lift(1);
         raise_hinted(harvest, gate, predecessors, hints);
-    }
-}
-
-// Either of them, as there are predecessors to hint along or not.
-fn raise_table<J: Vertices, G: Gate>(
-    harvest: &mut Harvest,
-    gate: &G,
-    predecessors: &Predecessors,
-    hints: &mut Hints<J>,
-    which: Which,
-)
-    requires game { J.vertices ≡ vertices harvest.old.order }
-    requires predecessors { predecessors.now.vertices ≡ J.vertices }
-    ensures rises { Rises harvest.old harvest.new }
-    ensures lifted { AreLifted which harvest.old harvest.new (vertices harvest.old.order) }
-{
-    if predecessors.are_none() {
-        raise_without_hints(harvest, gate, which);
-    } else {
-        raise_with_hints(harvest, gate, predecessors, hints, which);
     }
 }
 

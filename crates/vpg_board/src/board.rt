@@ -185,9 +185,7 @@ impl Board {
         }
         let place = self.table.shared.fetch_add::<Claim>(&mut seat.inner, 0, 1);
         let claimed = self.vertex_at(place);
-        if claimed.is_none() {
-            seat.done = true;
-        }
+        seat.done = claimed.is_none();
         claimed
     }
 

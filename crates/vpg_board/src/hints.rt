@@ -54,12 +54,22 @@ pub(crate) type Own<J> = Worker<(Which, u32), Global, (), InGame<J>>;
 pub(crate) type Other<J> = Stealer<(Which, u32), Global, (), InGame<J>>;
 
 /// A lifter's own hints, and those of one other. Where there was no memory for them there are none.
-#[derive(Drop)]
 pub(crate) struct Hints<J: Vertices> {
     own: Option<Own<J>>,
     // how many of its own there are at most
     held: u64,
     other: Option<Other<J>>,
+}
+
+// Not derived, so that letting one go is one call: a derived way would be proved anew at each exit that owns one.
+impl<J: Vertices> Drop for Hints<J> {
+    fn drop(self) {
+        let Hints {
+            own: _,
+            held: _,
+            other: _,
+        } = self;
+    }
 }
 
 // A hint of one's own.
@@ -80,19 +90,26 @@ fn steal<J: Vertices>(other: &Other<J>) -> Option<(Which, u32)>
     }
 }
 
+// What one more lifter needs to take from the last of these.
+fn from_last<J: Vertices>(crew: &[Hints<J>]) -> Option<Other<J>> {
+    match crew.last() {
+        Some(hints) => hints.for_another(),
+        None => None,
+    }
+}
+
 /// Hints for so many lifters, fewer where there is no memory: each takes from the one before it, and the first from the
 /// last.
 pub(crate) fn hints_of<J: Vertices>(alloc: Global, lifters: u32) -> Vec<Hints<J>> {
     let mut crew = Vec::new(alloc);
-    let mut last = None;
     for _ in 0..lifters {
-        let hints = Hints::beside(alloc, last);
-        last = hints.for_another();
-        if crew.push(hints).is_err() {
+        let other = from_last(&crew);
+        if crew.push(Hints::beside(alloc, other)).is_err() {
             return crew;
         }
     }
     if lifters > 1 {
+        let last = from_last(&crew);
         if let Some(first) = crew.first_mut() {
             first.take_from(last);
         }

@@ -15,13 +15,19 @@ use vpg_measure::Order;
 use vpg_verdict::Which;
 
 /// The kept edges to each vertex of a game, as chains: the last edge to a vertex first.
-#[derive(Drop)]
 pub(crate) struct Chains {
     // of each vertex one more than the place of the last edge to it, or 0
     last: Vec<u32>,
     // where an edge comes from, and one more than the place of the edge before it that leads to the same vertex, or 0
     edges: Vec<(u32, u32)>,
     ghost linked: { AreLinked last.items edges.items },
+}
+
+// Not derived, so that letting one go is one call: a derived way would be proved anew at each exit that owns one.
+impl Drop for Chains {
+    fn drop(self) {
+        let Chains { last: _, edges: _ } = self;
+    }
 }
 
 // The edges of one vertex.

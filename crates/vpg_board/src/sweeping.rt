@@ -119,16 +119,20 @@ fn work<J: Vertices, G: Gate, R: Wait>(
     unreachable!()
 }
 
-// A seat for one more lifter, where there may be one.
+// A seat for one more lifter, where more are asked for and there may be one.
 #[tactic(auto, using(crate::proofs::Working::works_split, crate::proofs::Working::works_newcomer))]
-fn split_off(board: &Board, seat: &mut Seat) -> Option<Seat>
+fn split_off(board: &Board, seat: &mut Seat, lifters: u32) -> Option<Seat>
     requires { Works board.now seat.old }
+    ensures more { IfSome result (λ _. 1 < lifters) }
     ensures works { IfSome result (λ _. Works board.now seat.new) }
     ensures other { IfSome result (Works board.now) }
     ensures split { IfSome result
         (λ other. (seat.new.lifter ≡ splits seat.old.lifter) × (other.lifter ≡ newcomer seat.old.lifter)) }
     ensures same { IfNone result (seat.new ≡ seat.old) }
 {
+    if lifters <= 1 {
+        return None;
+    }
     board.split(seat).ok()
 }
 
@@ -150,10 +154,7 @@ fn work_together<J: Vertices + Send + Sync, G: Gate + Sync, R: Threads + Wait + 
     let mut seat = seat;
     let mut crew = crew;
     let hints = next_hints(&mut crew);
-    if lifters <= 1 {
-        return work(rt, board, gate, 1, seat, predecessors, hints);
-    }
-    let Some(other) = split_off(board, &mut seat) else {
+    let Some(other) = split_off(board, &mut seat, lifters) else {
         return work(rt, board, gate, 1, seat, predecessors, hints);
     };
     let rest = lifters - 1;

@@ -28,3 +28,9 @@ raise_table-requires-clause-game g c = c.requires.game ∙ sym (ap (λ (g : Name
 pub raise_table-requires-2-clause-game : goal.raise_table-requires-2-clause-game
 raise_table-requires-2-clause-game g c =
     c.requires.game ∙ sym (ap (λ (g : NamedGame). length g.vertices) (c.raise_table.ensures.rises.order.game ∙ c.alone-harvest.ensures.order.game))
+
+pub raise_table-requires-clause-predecessors : goal.raise_table-requires-clause-predecessors
+raise_table-requires-clause-predecessors g c = c.requires.predecessors
+
+pub raise_table-requires-2-clause-predecessors : goal.raise_table-requires-2-clause-predecessors
+raise_table-requires-2-clause-predecessors g c = c.requires.predecessors

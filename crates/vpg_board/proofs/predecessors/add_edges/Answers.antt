@@ -29,3 +29,9 @@ pub index_mut-requires : goal.index_mut-requires
 index_mut-requires c =
     let w = get_or c.args.kept.now c.loop-w.w-index 0 in
     omega (arith, subst (λ (n : ℕ). w < n) (sym c.loop-w.invariant.wide) (c.requires.closed c.loop-w.w-index 0 c.loop-w-test.true), c.loop-w.last.ok.0)
+
+pub returns-clause-linked : goal.returns-clause-linked
+returns-clause-linked c = c.loop-w.invariant.linked
+
+pub returns-clause-inside : goal.returns-clause-inside
+returns-clause-inside c = c.loop-w.invariant.inside

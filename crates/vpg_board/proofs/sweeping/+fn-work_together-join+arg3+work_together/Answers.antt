@@ -1,4 +1,4 @@
-use Rattle.std.proofs.Common.{rules, sym, subst}
+use Rattle.std.proofs.Common.{rules, sym, subst, arith}
 use denote.Param.{param}
 use denote.Param.Send.{IsSync, sendable}
 use Rattle.std.proofs.Crossing.{crosses}
@@ -33,9 +33,33 @@ returns g t c =
     (subst (λ (v : Lifter). HasWorked c.args.board.now v c.join-other.result.0) split.1 both.first)
     j.board j.both j.safe j.all
 
-pub work-requires-in_default-clause-works : goal.work-requires-in_default-clause-works
-work-requires-in_default-clause-works g t c = subst (Works c.args.board.now) (sym c.in_default.ensures.same) c.requires.works
+pub work-requires-clause-works : goal.work-requires-clause-works
+work-requires-clause-works g t c = subst (Works c.args.board.now) (sym c.in_default.ensures.same) c.requires.works
 
 pub returns-in_default : goal.returns-in_default
 returns-in_default g t c =
-    subst (λ (s : SeatView). HasWorked c.args.board.now s.lifter c.work-in_default.result) c.in_default.ensures.same c.work-in_default.ensures
+    subst (λ (s : SeatView). HasWorked c.args.board.now s.lifter c.work.result) c.in_default.ensures.same c.work.ensures
+
+-- the same, and that the measure falls
+pub join-other-requires-after_bounds : goal.join-other-requires-after_bounds
+join-other-requires-after_bounds g t c κs within =
+    let r : IsSync g.row.R = search rules parts 8 in
+    let q : IsSync g.row.G = search rules parts 8 in
+    let w = c.requires in
+    let s = c.in-Some.ensures in
+    ((search rules, search rules, s.other, w.game, w.predecessors), (search rules, (λ a m. m, (λ a m. m, (λ a m. m, ((search rules, search rules, s.works, w.game, w.predecessors), (search rules, search rules, search rules, search rules)))))))
+
+pub work-requires-clause-game : goal.work-requires-clause-game
+work-requires-clause-game g t c = c.requires.game
+
+pub work-requires-clause-predecessors : goal.work-requires-clause-predecessors
+work-requires-clause-predecessors g t c = c.requires.predecessors
+
+pub join-requires-clause-board : goal.join-requires-clause-board
+join-requires-clause-board g t c = c.join-other.ensures.second.works.board_is
+
+pub join-requires-clause-other : goal.join-requires-clause-other
+join-requires-clause-other g t c = c.join-other.ensures.first.works.board_is
+
+pub overflow_sub-rest : goal.overflow_sub-rest
+overflow_sub-rest g t c = let more = c.in-Some.ensures.more in omega arith

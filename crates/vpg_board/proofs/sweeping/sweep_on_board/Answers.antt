@@ -1,8 +1,9 @@
 use Rattle.vpg_board.proofs.Swept as swept
 use Rattle.vpg_board.proofs.Working.{works_open}
-use Rattle.std.proofs.Common.{◌≡◌, subst}
-use Rattle.std.specs.Prelude.{IfErr}
-use Rattle.vpg_measure.specs.Orders.{OrderView}
+use Rattle.std.proofs.Common.{◌≡◌, ◌∙◌, sym, ap, subst}
+use Rattle.std.specs.Prelude.{IfErr, IfOk}
+use Rattle.vpg_measure.specs.Orders.{OrderView, HarvestView, IsSameOrder}
+use Rattle.vpg_board.specs.Places.{vertices}
 use Rattle.vpg_board.proofs.sweeping.sweep_on_board.Goals as goal
 
 pub work_with_hints-seat-requires-clause-works : goal.work_with_hints-seat-requires-clause-works
@@ -27,3 +28,10 @@ returns-clause-moved g c =
 pub returns-clause-back : goal.returns-clause-back
 returns-clause-back g c =
     subst (λ (o : OrderView). IfErr c.close.result (λ (back : OrderView). back ≡ o)) c.in_ok-board.ensures.order c.close.ensures.back
+
+pub returns-clause-order : goal.returns-clause-order
+returns-clause-order g c =
+    subst (λ (o : OrderView). IfOk c.close.result (λ (h : HarvestView). IsSameOrder h.order o)) c.in_ok-board.ensures.order c.close.ensures.order
+
+pub work_with_hints-seat-requires-clause-predecessors : goal.work_with_hints-seat-requires-clause-predecessors
+work_with_hints-seat-requires-clause-predecessors g c κs within = c.requires ∙ sym (ap (λ (o : OrderView). vertices o) c.in_ok-board.ensures.order)

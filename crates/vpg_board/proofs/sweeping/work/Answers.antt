@@ -26,3 +26,18 @@ claims-preserved g c =
 
 pub lift_and_hint-requires-clause-board : goal.lift_and_hint-requires-clause-board
 lift_and_hint-requires-clause-board g c = c.in-Some-claim.ensures.board ∙ c.claims.invariant.works.board_is
+
+pub claim-requires : goal.claim-requires
+claim-requires g c = c.claims.invariant.works.board_is
+
+pub lift_and_hint-requires-clause-vertex : goal.lift_and_hint-requires-clause-vertex
+lift_and_hint-requires-clause-vertex g c = c.in-Some-claim.ensures.vertex
+
+pub lift_and_hint-requires-clause-predecessors : goal.lift_and_hint-requires-clause-predecessors
+lift_and_hint-requires-clause-predecessors g c = c.requires.predecessors
+
+pub lift_hinted-requires-clause-game : goal.lift_hinted-requires-clause-game
+lift_hinted-requires-clause-game g c = c.requires.game
+
+pub lift_hinted-requires-clause-predecessors : goal.lift_hinted-requires-clause-predecessors
+lift_hinted-requires-clause-predecessors g c = c.requires.predecessors

@@ -1,4 +1,4 @@
-use Rattle.std.proofs.Common.{◌≡◌, ℕ, ◌+◌, ◌-◌, ◌<◌, ◌≤◌, true, false, List, sym, ap, ◌∙◌, subst, arith}
+use Rattle.std.proofs.Common.{◌≡◌, ℕ, ◌+◌, ◌-◌, ◌<◌, ◌≤◌, true, false, true≢false, List, sym, ap, ◌∙◌, subst, arith}
 use Rattle.std.proofs.lemmas.Bool.{ltb-true}
 use Rattle.std.specs.Prelude.{slice_index}
 use Rattle.vpg_measure.specs.Orders.{IsOrder}
@@ -146,3 +146,6 @@ returns-then-lifted-before-clause-safe c = c.loaded_lift-lifted.ensures.safe
 
 pub returns-clause-safe : goal.returns-clause-safe
 returns-clause-safe c = c.fetch_max-found.ensures.2.2
+
+pub returns-then-lifted-before-clause-raised : goal.returns-then-lifted-before-clause-raised
+returns-then-lifted-before-clause-raised c = λ rose. absurd (true≢false (sym rose))

@@ -1,5 +1,5 @@
 use Rattle.vpg_board.specs.Alone.{Rises, AreLifted}
-use Rattle.vpg_board.proofs.alone.raise_with_hints.Given as goal
+use Rattle.vpg_board.proofs.alone.raise_table.Given as goal
 
 abbrev pub invariant-claims : goal.invariant-claims
 invariant-claims g l = record {
