@@ -97,9 +97,11 @@ def interface(text):
         at += 1
         if not found or kept[-1].endswith((";", "}")):
             continue
-        ends = (f"{found[1]}{{", f"{found[1]}{{}}")
+        ends, heads = (f"{found[1]}{{", f"{found[1]}{{}}"), (f"{found[1]})", found[0])
         # (a body begins on a line of its own where clauses stand before it)
-        while not (kept[-1].endswith(" {") and kept[-1].startswith((f"{found[1]})", found[0]))) and at < len(lines) and lines[at] not in ends:
+        while at < len(lines) and lines[at] not in ends:
+            if kept[-1].endswith(" {") and kept[-1].startswith(heads):
+                break
             kept.append(lines[at])
             at += 1
             if kept[-1].endswith(";"):
