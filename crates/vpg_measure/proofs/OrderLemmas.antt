@@ -234,6 +234,14 @@ pub one_made : (order : OrderView) (which : Which) (v : ℕ) → IsOrder order �
 one_made order Hopeful v is less = harvest_made order _ order.dual is (raised_lawful order is Hopeful v less) (own_lawful order is Dual)
 one_made order Dual v is less = harvest_made order order.hopeful _ is (own_lawful order is Hopeful) (raised_lawful order is Dual v less)
 
+pub one_same : (order : OrderView) (which : Which) (table : List ℕ) → IsSameOrder (harvest_of (with_room which table (filled order))).order order
+one_same order Hopeful table = record { game = refl; diagram = refl; decisions = refl; known = refl; hopeful = refl; dual = refl }
+one_same order Dual table = record { game = refl; diagram = refl; decisions = refl; known = refl; hopeful = refl; dual = refl }
+
+pub one_other : (order : OrderView) (which : Which) (table : List ℕ) → harvest_table (other_table which) (harvest_of (with_room which table (filled order))) ≡ order_table (other_table which) order
+one_other order Hopeful table = refl
+one_other order Dual table = refl
+
 -- a harvest's table raised at a vertex
 pub raised_made : (order : OrderView) (which : Which) (v : ℕ) → IsHarvest (harvest_of order) → v < length order.game.vertices →
     IsHarvest (harvest_of (with_room which (raised (order_levels which order) (order_arena which order) (order_room which order) v) order))

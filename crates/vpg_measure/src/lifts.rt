@@ -50,7 +50,7 @@ fn greatest_value(table: &Table, kept: &[u32]) -> u64
     requires { All (λ w. w < length table.now) kept.now }
     ensures { result ≡ greatest_of (map (λ w. slice_index table.now w) kept.now) }
 {
-    let mut greatest = 0;
+    let mut greatest = 0u64;
     for w in kept {
         greatest = greatest.max(table.get(*w));
     }

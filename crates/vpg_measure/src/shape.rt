@@ -64,23 +64,30 @@ impl Shape {
     pub fn of(alloc: Global, game: &GuardedGame) -> Result<Shape, AllocError>
         ensures { IfOk result (λ shape. shape ≡ levels_for Which.Hopeful (graph_of game.now)) }
     {
-        let priorities = priorities(alloc, game, 0)?;
-        Shape::over(alloc, &priorities)
+        Shape::raised(alloc, game, 0)
     }
 
     /// The shape of the measures of its dual, which is not built.
     pub fn of_dual(alloc: Global, game: &GuardedGame) -> Result<Shape, AllocError>
         ensures { IfOk result (λ shape. shape ≡ levels_for Which.Dual (graph_of game.now)) }
     {
-        let priorities = priorities(alloc, game, 1)?;
-        Shape::over(alloc, &priorities)
+        Shape::raised(alloc, game, 1)
     }
 
     /// The shape of the measures of the dual's dual: the game's with each priority two greater, so with the game's top.
     pub fn of_dual_of_dual(alloc: Global, game: &GuardedGame) -> Result<Shape, AllocError>
         ensures { IfOk result (λ shape. shape ≡ levels_of (guarded_priorities (dual (dual (graph_of game.now))))) }
     {
-        let priorities = priorities(alloc, game, 2)?;
+        Shape::raised(alloc, game, 2)
+    }
+
+    // The shape of a game whose priorities are each raised by the same number.
+    fn raised(alloc: Global, game: &GuardedGame, raise: u32) -> Result<Shape, AllocError>
+        requires { raise ≤ 2 }
+        ensures { IfOk result
+            (λ shape. shape ≡ levels_of (map (λ p. p + raise) (guarded_priorities (graph_of game.now)))) }
+    {
+        let priorities = priorities(alloc, game, raise)?;
         Shape::over(alloc, &priorities)
     }
 

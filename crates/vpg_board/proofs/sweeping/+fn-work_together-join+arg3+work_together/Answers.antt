@@ -40,15 +40,6 @@ pub returns-in_default : goal.returns-in_default
 returns-in_default g t c =
     subst (λ (s : SeatView). HasWorked c.args.board.now s.lifter c.work.result) c.in_default.ensures.same c.work.ensures
 
--- the same, and that the measure falls
-pub join-other-requires-after_bounds : goal.join-other-requires-after_bounds
-join-other-requires-after_bounds g t c κs within =
-    let r : IsSync g.row.R = search rules parts 8 in
-    let q : IsSync g.row.G = search rules parts 8 in
-    let w = c.requires in
-    let s = c.in-Some.ensures in
-    ((search rules, search rules, s.other, w.game, w.predecessors), (search rules, (λ a m. m, (λ a m. m, (λ a m. m, ((search rules, search rules, s.works, w.game, w.predecessors), (search rules, search rules, search rules, search rules)))))))
-
 pub work-requires-clause-game : goal.work-requires-clause-game
 work-requires-clause-game g t c = c.requires.game
 

@@ -1,5 +1,4 @@
 use Rattle.std.proofs.Common.{◌<◌, length, All, refl, arith, slice_index, below_more}
-use Rattle.std.proofs.lemmas.Grind.{common_steps}
 use Rattle.std.proofs.lemmas.List.Elements.{All-from_get_or}
 use Rattle.vpg_hope.specs.Arena.{Vertex, vertex_at, IsClosed}
 use Rattle.vpg_hope.specs.Games.{isolated}
@@ -24,7 +23,7 @@ returns-clause-wins c = λ v less below.
     choices_win c.args.shape.now c.args.arena.now c.args.table.now c.loop-v.choices.items c.requires (c.if-not-is_progress.ensures.0 refl) (all_chosen c) (all_closed c) v less below
 
 pub returns-clause-settled : goal.returns-clause-settled
-returns-clause-settled c = grind (arith, common_steps)
+returns-clause-settled c = c.if-not-is_progress.ensures.0 refl
 
 pub loop-v-preserved : goal.loop-v-preserved
 loop-v-preserved c =

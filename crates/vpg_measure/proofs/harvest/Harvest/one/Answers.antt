@@ -2,8 +2,8 @@ use Rattle.std.proofs.Common.{◌≡◌, ℕ, List, ap, sym, subst, ◌∙◌, a
 use Rattle.std.proofs.lemmas.Grind.{common_steps}
 use Rattle.std.proofs.lemmas.Bool.{false≢true}
 use Rattle.vpg_measure.specs.Lifts.{IsTableOf, raised}
-use Rattle.vpg_measure.specs.Orders.{OrderView, harvest_of, harvest_table, order_levels, order_arena, order_room, order_table, with_room, IsHarvest}
-use Rattle.vpg_measure.proofs.OrderLemmas.{filled, filled_room, one_made, with_room_at}
+use Rattle.vpg_measure.specs.Orders.{OrderView, harvest_of, harvest_table, order_levels, order_arena, order_room, order_table, other_table, with_room, IsSameOrder, IsHarvest}
+use Rattle.vpg_measure.proofs.OrderLemmas.{filled, filled_room, one_made, one_same, one_other, with_room_at}
 use Rattle.vpg_measure.proofs.harvest.Harvest.one.Goals as goal
 
 pub raise_room-requires-clause-table : goal.raise_room-requires-clause-table
@@ -32,10 +32,12 @@ returns-clause-raised c =
     ap (λ (o : OrderView). harvest_table c.args.which (harvest_of o)) (lifted c) ∙ with_room_at (filled c.args.order) c.args.which _
 
 pub returns-clause-order : goal.returns-clause-order
-returns-clause-order c = grind (arith, common_steps)
+returns-clause-order c =
+    subst (λ (o : OrderView). IsSameOrder (harvest_of o).order c.args.order) (sym (lifted c)) (one_same c.args.order c.args.which _)
 
 pub returns-clause-other : goal.returns-clause-other
-returns-clause-other c = grind (arith, common_steps)
+returns-clause-other c =
+    ap (λ (o : OrderView). harvest_table (other_table c.args.which) (harvest_of o)) (lifted c) ∙ one_other c.args.order c.args.which _
 
 pub raise_room-requires-clause-vertex : goal.raise_room-requires-clause-vertex
 raise_room-requires-clause-vertex c = grind (arith, common_steps)

@@ -1,15 +1,8 @@
-use Rattle.std.proofs.Common.{◌≡◌, ◌∙◌, List, ap, subst, IfOk}
+use Rattle.std.proofs.Common.{◌≡◌, List, subst, IfOk}
 use Rattle.vpg_game.specs.declared.levels.Level.{Level}
 use Rattle.vpg_game.specs.Game.{graph_of}
-use Rattle.vpg_game.specs.Levels.{levels_of}
 use Rattle.vpg_measure.proofs.Priorities.{dual_of_dual_levels}
 use Rattle.vpg_measure.proofs.shape.Shape.of_dual_of_dual.Goals as goal
 
-pub over-requires : goal.over-requires
-over-requires c = rw c.deref.ensures.value c.in_ok-priorities.ensures.limit
-
 pub returns : goal.returns
-returns c =
-    subst (λ (levels : List Level). IfOk c.over.result (λ shape. shape ≡ levels))
-    (ap levels_of (c.deref.ensures.value ∙ c.in_ok-priorities.ensures.priorities) ∙ dual_of_dual_levels (graph_of c.args.game.now))
-    c.over.ensures
+returns c = subst (λ (levels : List Level). IfOk c.raised.result (λ shape. shape ≡ levels)) (dual_of_dual_levels (graph_of c.args.game.now)) c.raised.ensures
