@@ -108,6 +108,25 @@ or_false : (b : Bool) → (b || false) ≡ b
 or_false true = refl
 or_false false = refl
 
+or_true : (b : Bool) → (b || true) ≡ true
+or_true true = refl
+or_true false = refl
+
+-- a cut of the serial stands among the cuts
+pub serial_found : (s : ℕ) (cuts : List Cut) (i : ℕ) (x : Cut) → i < length cuts → x ≡ get_or cuts i x → x.serial ≡ s → list_any (λ c. c.serial == s) cuts ≡ true
+serial_found s [] i x lt is e = absurd (omega arith)
+serial_found s (c ∷ cuts) zero x lt is e = ap (λ (b : Bool). b || list_any (λ c. c.serial == s) cuts) (eq-eqb c.serial s (ap (λ (y : Cut). y.serial) (sym is) ∙ e))
+serial_found s (c ∷ cuts) (suc i) x lt is e = ap (λ (b : Bool). (c.serial == s) || b) (serial_found s cuts i x (omega arith) is e) ∙ or_true (c.serial == s)
+
+-- none of one cut more has it
+pub serial_not_yet : (s : ℕ) (cuts : List Cut) (i : ℕ) (x : Cut) → i < length cuts → x ≡ get_or cuts i x → list_any (λ c. c.serial == s) (take i cuts) ≡ false → (x.serial ≡ s → ⊥) → list_any (λ c. c.serial == s) (take (i + 1) cuts) ≡ false
+serial_not_yet s cuts i x lt is none n =
+    ap (list_any (λ c. c.serial == s)) (take_more cuts i x lt)
+    ∙ any-append (λ c. c.serial == s) (take i cuts) (get_or cuts i x ∷ [])
+    ∙ ap (λ (b : Bool). b || ((get_or cuts i x).serial == s || false)) none
+    ∙ or_false ((get_or cuts i x).serial == s)
+    ∙ ne_eqb (get_or cuts i x).serial s (λ e. n (ap (λ (y : Cut). y.serial) is ∙ e))
+
 any_serial : (s : ℕ) (cuts : List Cut) → has_serial s (map (λ c. c.serial) cuts) ≡ list_any (λ c. c.serial == s) cuts
 any_serial s [] = refl
 any_serial s (c ∷ cuts) = ap (λ (b : Bool). (c.serial == s) || b) (any_serial s cuts)

@@ -27,7 +27,12 @@ use vpg_trail::Trail;
 fn has_serial(cuts: &[Cut], serial: u64) -> bool
     ensures { result ≡ list_any (λ c. c.serial == serial) cuts.now }
 {
-    cuts.iter().any(|c| c.serial == serial)
+    for cut in cuts {
+        if cut.serial == serial {
+            return true;
+        }
+    }
+    false
 }
 
 /// Why the newest past page isn't that of the serial.
