@@ -1,6 +1,6 @@
 -- What a call of the desk means for the log.
-use Rattle.std.proofs.Common.{◌≡◌, ℕ, ◌<◌, ◌≤◌, List, [], ◌∷◌, ◌++◌, length, drop, Option, Some, None, IfSome, refl, sym, ap, ◌∙◌, subst, arith, append_assoc, append-nil, option_map}
-use Rattle.std.specs.Prelude.{IfNone}
+use Rattle.std.proofs.Common.{Result, Ok, Err, IfOk, IfErr, ◌≡◌, ℕ, ◌<◌, ◌≤◌, List, [], ◌∷◌, ◌++◌, length, drop, Option, Some, None, IfSome, refl, sym, ap, ◌∙◌, subst, arith, append_assoc, append-nil, option_map}
+use Rattle.std.specs.Prelude.{IfNone, OnOk}
 use mathlib.Core.List.{IsPrefix}
 use Rattle.boxcar.specs.Table.{Shelves}
 use Rattle.vpg_diagram.specs.DiagramText.{NamedDiagram}
@@ -10,27 +10,44 @@ use Rattle.vpg_desk.specs.Book as book
 use Rattle.vpg_desk.specs.Book.{Family, Book, Call, Reply, Refusal, Page, PageIs, opened, next, IsReply}
 use Rattle.vpg_desk.specs.Desk.{family_of}
 use Rattle.vpg_desk.specs.History.{Event, book_after}
-use Rattle.vpg_desk.specs.State.{DeskState, Replies, setting_of}
+use Rattle.vpg_desk.specs.Lawful.{HandsIn, IsLawful}
+use Rattle.vpg_desk.specs.State.{DeskState, IsStep, Replies, setting_of}
 use Rattle.vpg_desk.proofs.Tokens.{counts_are_limited}
-use Rattle.vpg_measure.specs.Orders.{OrderView, HarvestView}
-use Rattle.vpg_desk.specs.Commit.{IsOrderOf}
+use Rattle.vpg_measure.specs.Orders.{HarvestView}
 use Rattle.vpg_faults.specs.declared.fault.CommitFault.{CommitFault}
 use Rattle.vpg_office.specs.Faults.{Stops, Tells, CommitTells, Begins}
 use Rattle.vpg_office.specs.Fronts.{IsHistory, Extends, calls_by, event, family_between}
 use Rattle.vpg_office.specs.Kept.{IsChronicle}
 use Rattle.vpg_office.specs.Locked.{IsLog}
-use Rattle.vpg_office.specs.Story.{IsOf, call_of, refusal_of}
-use Rattle.vpg_office.specs.declared.asked.Answer.TheVariants.{Refused}
+use Rattle.vpg_office.specs.Made.{IsEntered, IsRefused, Leaves}
+use Rattle.vpg_office.specs.Story.{IsNamed, call_of, refusal_of, reply_of}
+use Rattle.vpg_office.specs.Token.{EndsWith}
+use Rattle.vpg_office.specs.declared.asked.Answer.{Answer}
+use Rattle.vpg_office.specs.declared.asked.Answer.TheVariants.{Refused, PageIs as Paged}
 use Rattle.vpg_office.specs.declared.asked.Asked.{Asked}
+use Rattle.vpg_office.specs.declared.asked.Asked.TheVariants as ask
 use Rattle.vpg_office.specs.declared.asked.Cause.{Cause}
+use Rattle.vpg_office.specs.declared.calls.Because.{Because}
 use Rattle.vpg_office.specs.declared.chronicle.Chronicle.{Chronicle}
 use Rattle.vpg_office.specs.declared.fault.Fault.{Fault}
 use Rattle.vpg_office.specs.declared.fault.Fault.TheVariants.{LogFull, Doubled, Refused as DeskRefuses, Memory}
 use Rattle.vpg_office.proofs.Stories.{book_more}
 
-pub some_all : {A : Type 0} (P : A → Type 0) → ((a : A) → P a) → (o : Option A) → IfSome o P
-some_all P all None = tt
-some_all P all (Some a) = all a
+pub then_some : {A : Type 0} (o : Option A) (P Q : A → Type 0) → ((a : A) → P a → Q a) → IfSome o P → IfSome o Q
+then_some (Some a) P Q so h = so a h
+then_some None P Q so h = tt
+
+pub ok_all : {T E : Type 0} (r : Result T E) (P : Type 0) → P → OnOk r P
+ok_all (Ok x) P p = p
+ok_all (Err e) P p = tt
+
+pub ok_both : {T E : Type 0} (r : Result T E) (P Q S : T → Type 0) → ((x : T) → P x → Q x → S x) → IfOk r P → IfOk r Q → IfOk r S
+ok_both (Ok x) P Q S so p q = so x p q
+ok_both (Err e) P Q S so p q = tt
+
+pub err_then : {T E : Type 0} (r : Result T E) (P S : E → Type 0) → ((e : E) → P e → S e) → IfErr r P → IfErr r S
+err_then (Ok x) P S so p = tt
+err_then (Err e) P S so p = so e p
 
 pub some_is : {A : Type 0} (o : Option A) (a : A) (P : A → Type 0) → o ≡ Some a → P a → IfSome o P
 some_is {A} o a P is p = subst (λ (x : Option A). IfSome x P) (sym is) p
@@ -69,13 +86,30 @@ prefix_shorter (x ∷ xs) (y ∷ ys) (z ∷ zs) p q le =
 pub kept_history : (row : Shelves) (game : NamedGame) (diagram : NamedDiagram) (c : Chronicle) (newest : List Event) → IsChronicle row game diagram c newest → IsHistory (family_between game diagram) newest
 kept_history row game diagram c newest kept = subst (IsHistory (family_between game diagram)) (sym kept.newest_is) kept.is_story.history
 
-pub extends : {row : Shelves} {game : NamedGame} {diagram : NamedDiagram} {c : Chronicle} {new : List Event} (front newest : List Event) (session : ℕ) (call : Call) (reply : Reply) → IsPrefix front newest →
-    calls_by session (drop (length front) newest) ≡ 0 → new ≡ newest ++ event session call reply ∷ [] → IsChronicle row game diagram c new → Extends (family_between game diagram) front session call reply new
-extends {row} {game} {diagram} {c} {new} front newest session call reply p none is kept = record {
+-- a call that was made extends the front
+pub entered_extends : {game : NamedGame} {diagram : NamedDiagram} {log front : List Event} {session : ℕ} {asked : Asked} {answer : Answer} {new : List Event} → IsPrefix front log → IsEntered game diagram log front session asked answer new →
+    Extends (family_between game diagram) front session (call_of asked answer) (reply_of (family_between game diagram) (book_after (family_between game diagram) opened log).present answer) new
+entered_extends {game} {diagram} {log} {front} {session} {asked} {answer} p e = record {
   between = p.0;
-  is = is ∙ ap (λ (l : List Event). l ++ event session call reply ∷ []) (sym p.1);
-  none = ap (calls_by session) (sym (rest_of front newest p)) ∙ none;
-  history = kept_history row game diagram c new kept;
+  is = e.is ∙ ap (λ (l : List Event). l ++ event session (call_of asked answer) (reply_of (family_between game diagram) (book_after (family_between game diagram) opened log).present answer) ∷ []) (sym p.1);
+  none = ap (calls_by session) (sym (rest_of front log p)) ∙ e.none;
+  history = e.history;
+}
+
+-- a page leaves the book
+pub page_leaves : {game : NamedGame} {diagram : NamedDiagram} {log front : List Event} {session : ℕ} {new : List Event} → IsEntered game diagram log front session ask.Page Paged new →
+    book_after (family_between game diagram) opened new ≡ book_after (family_between game diagram) opened log
+page_leaves {game} {diagram} {log} {front} {session} e =
+    ap (book_after (family_between game diagram) opened) e.is ∙ book_more (family_between game diagram) log (event session book.Page (book.PageIs (book_after (family_between game diagram) opened log).present))
+
+-- and ends with it
+pub entered_ends : {game : NamedGame} {diagram : NamedDiagram} {log front : List Event} {session : ℕ} {asked : Asked} {answer : Answer} {new : List Event} (gives : Reply → Type 0) → IsEntered game diagram log front session asked answer new →
+    gives (reply_of (family_between game diagram) (book_after (family_between game diagram) opened log).present answer) → EndsWith gives new
+entered_ends {game} {diagram} {log} {front} {session} {asked} {answer} gives e gave = record {
+  before = log;
+  own = event session (call_of asked answer) (reply_of (family_between game diagram) (book_after (family_between game diagram) opened log).present answer);
+  is = e.is;
+  gave = gave;
 }
 
 pub stops_tell : {L F : Type 0} (family : Family) (limit : ℕ) (refusal : F → Option Refusal) (call : Call) (session : ℕ) (front newest : List Event) (f : Fault L F) → IsPrefix front newest → IsHistory family newest →
@@ -95,6 +129,11 @@ module _ {row : Shelves} {game : NamedGame} {diagram : NamedDiagram} {limit : �
   -- the desk's reply is that of the log's book
   pub told_here : (call : Call) (reply : Reply) → Replies desk call reply → IsReply F (book_after F opened newest) call reply
   told_here call reply r = coe 0 1 (k. IsReply (family_between (i.replay.of_game k) (i.replay.of_diagram k)) (i.replay.book k) call reply) r
+
+  pub reply_here : (asked : Asked) (answer : Answer) → Replies desk (call_of asked answer) (reply_of (family_of (setting_of desk)) desk.book.present answer) →
+      IsReply F (book_after F opened newest) (call_of asked answer) (reply_of F (book_after F opened newest).present answer)
+  reply_here asked answer r =
+      coe 0 1 (k. IsReply (family_between (i.replay.of_game k) (i.replay.of_diagram k)) (i.replay.book k) (call_of asked answer) (reply_of (family_between (i.replay.of_game k) (i.replay.of_diagram k)) (i.replay.book k).present answer)) r
 
   pub leaves : (session : ℕ) (call : Call) (reply : Reply) → next (family_of (setting_of desk)) desk.book session call reply ≡ book_after F opened (newest ++ event session call reply ∷ [])
   leaves session call reply = (λ k. next (family_between (i.replay.of_game k) (i.replay.of_diagram k)) (i.replay.book k) session call reply) ∙ sym (book_more F newest (event session call reply))
@@ -145,31 +184,28 @@ module _ {row : Shelves} {game : NamedGame} {diagram : NamedDiagram} {limit : �
     joined = i.joined;
   }
 
-  -- the desk's refusal is that of the log's book
-  pub refused_here : (call : Call) (cause : Option Cause) (o : Option Refusal) → option_map refusal_of cause ≡ o → IfSome o (λ r. Replies desk call (book.Refused r)) →
-      IfSome cause (λ r. IsReply F (book_after F opened newest) call (book.Refused (refusal_of r)))
-  refused_here call None o is refused = tt
-  refused_here call (Some r) o is refused =
-      told_here call (book.Refused (refusal_of r)) (subst (λ (x : Option Refusal). IfSome x (λ r. Replies desk call (book.Refused r))) (sym is) refused)
+  -- after a call that the desk made
+  pub log_made : (after : Chronicle) (new : List Event) (room_after : ℕ) (desk_after : DeskState) (total_after session : ℕ) (asked : Asked) (answer : Answer) → IsChronicle row game diagram after new →
+      new ≡ newest ++ event session (call_of asked answer) (reply_of F (book_after F opened newest).present answer) ∷ [] → room_after ≡ room →
+      IsStep desk session (call_of asked answer) (reply_of (family_of (setting_of desk)) desk.book.present answer) desk_after → total_after ≡ desk_after.book.tokens →
+      IsLog row game diagram limit after new desk_after room_after total_after shown sessions
+  log_made after new room_after desk_after total_after session asked answer kept is fits step t =
+      let same : reply_of (family_of (setting_of desk)) desk.book.present answer ≡ reply_of F (book_after F opened newest).present answer = λ k. reply_of (family_between (i.replay.of_game k) (i.replay.of_diagram k)) (i.replay.book k).present answer in
+      log_after after new room_after desk_after total_after session (call_of asked answer) (reply_of F (book_after F opened newest).present answer) kept is fits step.game step.diagram
+      (step.step.1 ∙ ap (next (family_of (setting_of desk)) desk.book session (call_of asked answer)) same) t
 
   -- after the desk's refusal, or where the desk was out of memory
-  pub log_refused : {L F : Type 0} (cause : Option Cause) (session : ℕ) (asked : Asked) (fault : F) (told : Fault L F) (front front_after : List Event) (after : Chronicle) (new : List Event) (room_after : ℕ) (desk_after : DeskState) (total_after : ℕ) →
-      desk_after ≡ desk → total_after ≡ total → room_after ≡ room → IsChronicle row game diagram after new →
-      IfNone cause ((told ≡ Memory) × (front_after ≡ front) × (new ≡ newest)) →
-      IfSome cause (λ r. (told ≡ DeskRefuses fault) × (front_after ≡ new) × (new ≡ newest ++ event session (call_of asked (Refused r)) (book.Refused (refusal_of r)) ∷ [])) →
+  pub log_refused : {L F : Type 0} (why : Option (Because F)) (session : ℕ) (asked : Asked) (told : Fault L F) (front front_after : List Event) (after : Chronicle) (new : List Event) (room_after : ℕ) (desk_after : DeskState) (total_after : ℕ) →
+      desk_after ≡ desk → total_after ≡ desk_after.book.tokens → room_after ≡ room → IsChronicle row game diagram after new →
+      IfNone why ((told ≡ Memory) × (front_after ≡ front) × (new ≡ newest)) →
+      IfSome why (λ w. (told ≡ DeskRefuses w.fault) × (front_after ≡ new) × (new ≡ newest ++ event session (call_of asked (Refused w.cause)) (book.Refused (refusal_of w.cause)) ∷ [])) →
       IsLog row game diagram limit after new desk_after room_after total_after shown sessions
-  log_refused None session asked fault told front front_after after new room_after desk_after total_after same t fits kept none some =
-      coe 0 1 (k. IsLog row game diagram limit after new ((sym same) k) room_after ((sym t) k) shown sessions) (admitted none.2 fits kept)
-  log_refused (Some r) session asked fault told front front_after after new room_after desk_after total_after same t fits kept none some =
-      log_after after new room_after desk_after total_after session (call_of asked (Refused r)) (book.Refused (refusal_of r)) kept some.2 fits
-      (λ k. (same k).game) (λ k. (same k).diagram) (λ k. (same k).book) (t ∙ i.counted ∙ (λ k. ((sym same) k).book.tokens))
-
-  -- an order of the desk is of the office's game and diagram
-  pub of_here : (order : OrderView) → IsOrderOf desk order → IsOf game diagram order
-  of_here order ours = (ours.0 ∙ i.replay.of_game, ours.1 ∙ i.replay.of_diagram)
-
-  pub to_desk : (order : OrderView) → IsOf game diagram order → IsOrderOf desk order
-  to_desk order ours = (ours.0 ∙ sym i.replay.of_game, ours.1 ∙ sym i.replay.of_diagram)
+  log_refused None session asked told front front_after after new room_after desk_after total_after same t fits kept none some =
+      let count : total_after ≡ total = t ∙ (λ k. (same k).book.tokens) ∙ sym i.counted in
+      coe 0 1 (k. IsLog row game diagram limit after new ((sym same) k) room_after ((sym count) k) shown sessions) (admitted none.2 fits kept)
+  log_refused (Some w) session asked told front front_after after new room_after desk_after total_after same t fits kept none some =
+      log_after after new room_after desk_after total_after session (call_of asked (Refused w.cause)) (book.Refused (refusal_of w.cause)) kept some.2 fits
+      (λ k. (same k).game) (λ k. (same k).diagram) (λ k. (same k).book) t
 
 -- a page has the entries of the desk's present page
 pub page_is : (state : DeskState) (entries : List Step) → Replies state Page (PageIs entries) → entries ≡ state.book.present
@@ -185,38 +221,69 @@ commit_stops game diagram limit harvest session front newest (Doubled g) p h s =
 commit_stops game diagram limit harvest session front newest (DeskRefuses fault) p h s = absurd s
 commit_stops game diagram limit harvest session front newest Memory p h s = refl
 
-module _ {L F : Type 0} {row : Shelves} {game : NamedGame} {diagram : NamedDiagram} {chronicle : Chronicle} (asked : Asked) (session : ℕ) (front front_after newest new : List Event) (fault : F) (told : Fault L F)
-    (kept : IsChronicle row game diagram chronicle new) where
-  -- what the desk's refusal tells
-  pub refused_tells : (cause : Option Cause) (limit : ℕ) (refusal : F → Option Refusal) (call : Call) → ((r : Cause) → call_of asked (Refused r) ≡ call) → option_map refusal_of cause ≡ refusal fault →
-      IsPrefix front newest → calls_by session (drop (length front) newest) ≡ 0 →
-      IfNone cause ((told ≡ Memory) × (front_after ≡ front) × (new ≡ newest)) →
-      IfSome cause (λ r. (told ≡ DeskRefuses fault) × (front_after ≡ new) × (new ≡ newest ++ event session (call_of asked (Refused r)) (book.Refused (refusal_of r)) ∷ [])) →
-      Tells (family_between game diagram) limit refusal call session front front_after told
-  refused_tells None limit refusal call of is p alone none some =
-      subst (λ (f : Fault L F). Tells (family_between game diagram) limit refusal call session front front_after f) (sym none.0) none.1
-  refused_tells (Some r) limit refusal call of is p alone none some =
-      subst (λ (f : Fault L F). Tells (family_between game diagram) limit refusal call session front front_after f) (sym some.0) (
-        refusal_of r,
+-- what the desk's refusal leaves
+pub refused_leaves : {L F : Type 0} {row : Shelves} {game : NamedGame} {diagram : NamedDiagram} {chronicle : Chronicle} {new : List Event} (kept : IsChronicle row game diagram chronicle new)
+    (asked : Asked) (session : ℕ) (front front_after newest : List Event) (desk : DeskState) (limit : ℕ) (refusal : F → Option Refusal) (told : Fault L F) (why : Option (Because F)) → IsHistory (family_between game diagram) newest →
+    calls_by session (drop (length front) newest) ≡ 0 → IfSome why (λ w. IsRefused game diagram (refusal w.fault) desk asked w.cause) →
+    IfNone why ((told ≡ Memory) × (front_after ≡ front) × (new ≡ newest)) →
+    IfSome why (λ w. (told ≡ DeskRefuses w.fault) × (front_after ≡ new) × (new ≡ newest ++ event session (call_of asked (Refused w.cause)) (book.Refused (refusal_of w.cause)) ∷ [])) →
+    Leaves game diagram limit refusal newest front session asked front_after told
+refused_leaves {L} {F} {row} {game} {diagram} {chronicle} {new} kept asked session front front_after newest desk limit refusal told None h alone refused none some =
+    subst (λ (f : Fault L F). Leaves game diagram limit refusal newest front session asked front_after f) (sym none.0) (none.1, (h, tt))
+refused_leaves {L} {F} {row} {game} {diagram} {chronicle} {new} kept asked session front front_after newest desk limit refusal told (Some w) h alone refused none some =
+    subst (λ (f : Fault L F). Leaves game diagram limit refusal newest front session asked front_after f) (sym some.0) (
+      w.cause,
+      (
+        refused.why,
         (
-          sym is,
-          coe 0 1 (k. Extends (family_between game diagram) front session (of r k) (book.Refused (refusal_of r)) ((sym some.1) k))
-              (extends front newest session (call_of asked (Refused r)) (book.Refused (refusal_of r)) p alone some.2 kept),
+          refused.named,
+          record { is = some.1 ∙ some.2; none = alone; history = subst (IsHistory (family_between game diagram)) (sym some.1) (kept_history row game diagram chronicle new kept) },
         ),
-      )
+      ),
+    )
 
-  pub refused_begins : (cause : Option Cause) (history : List Event) → IsPrefix history newest →
-      IfNone cause ((told ≡ Memory) × (front_after ≡ front) × (new ≡ newest)) →
-      IfSome cause (λ r. (told ≡ DeskRefuses fault) × (front_after ≡ new) × (new ≡ newest ++ event session (call_of asked (Refused r)) (book.Refused (refusal_of r)) ∷ [])) →
-      Begins history front_after told
-  refused_begins None history p none some = subst (λ (f : Fault L F). Begins history front_after f) (sym none.0) tt
-  refused_begins (Some r) history p none some =
-      subst (λ (f : Fault L F). Begins history front_after f) (sym some.0)
-      (prefix_more history newest front_after (event session (call_of asked (Refused r)) (book.Refused (refusal_of r))) p (some.1 ∙ some.2))
+-- what is left where a call isn't taken in
+pub stops_leave : {L F : Type 0} (game : NamedGame) (diagram : NamedDiagram) (limit : ℕ) (refusal : F → Option Refusal) (log front : List Event) (session : ℕ) (asked : Asked) (f : Fault L F) → IsHistory (family_between game diagram) log →
+    Stops limit front session log f → Leaves game diagram limit refusal log front session asked front f
+stops_leave game diagram limit refusal log front session asked (LogFull g) h s = (refl, (h, s))
+stops_leave game diagram limit refusal log front session asked (Doubled g) h s = (refl, (h, s))
+stops_leave game diagram limit refusal log front session asked (DeskRefuses fault) h s = absurd s
+stops_leave game diagram limit refusal log front session asked Memory h s = (refl, (h, s))
 
--- a call that isn't made says nothing of a token's history
-pub stops_begin : {L F : Type 0} (limit session : ℕ) (front newest history new : List Event) (f : Fault L F) → Stops limit front session newest f → Begins history new f
-stops_begin limit session front newest history new (LogFull g) s = tt
-stops_begin limit session front newest history new (Doubled g) s = tt
-stops_begin limit session front newest history new (DeskRefuses fault) s = absurd s
-stops_begin limit session front newest history new Memory s = tt
+-- what a call that gives nothing tells, of calls that the desk's answer doesn't change
+pub leaves_tells : {L F : Type 0} (game : NamedGame) (diagram : NamedDiagram) (limit : ℕ) (refusal : F → Option Refusal) (log front : List Event) (session : ℕ) (asked : Asked) (new : List Event) (call : Call) (f : Fault L F) →
+    ((r : Cause) → call_of asked (Refused r) ≡ call) → IsPrefix front log → Leaves game diagram limit refusal log front session asked new f → Tells (family_between game diagram) limit refusal call session front new f
+leaves_tells {L} {F} game diagram limit refusal log front session asked new call (LogFull g) of p l =
+    subst (λ (n : List Event). Tells {L = L} (family_between game diagram) limit refusal call session front n (LogFull g)) (sym l.0) (stops_tell {L = L} (family_between game diagram) limit refusal call session front log (LogFull g) p l.1.0 l.1.1)
+leaves_tells {L} {F} game diagram limit refusal log front session asked new call (Doubled g) of p l =
+    subst (λ (n : List Event). Tells {L = L} (family_between game diagram) limit refusal call session front n (Doubled g)) (sym l.0) (stops_tell {L = L} (family_between game diagram) limit refusal call session front log (Doubled g) p l.1.0 l.1.1)
+leaves_tells game diagram limit refusal log front session asked new call (DeskRefuses fault) of p (cause, (why, (named, entered))) =
+    (refusal_of cause, (why, coe 0 1 (k. Extends (family_between game diagram) front session (of cause k) (book.Refused (refusal_of cause)) new) (entered_extends p entered)))
+leaves_tells game diagram limit refusal log front session asked new call Memory of p l = l.0
+
+-- and of a token's history
+pub leaves_begins : {L F : Type 0} (game : NamedGame) (diagram : NamedDiagram) (limit : ℕ) (refusal : F → Option Refusal) (log front : List Event) (session : ℕ) (asked : Asked) (new history : List Event) (f : Fault L F) → IsPrefix history log →
+    Leaves game diagram limit refusal log front session asked new f → Begins history new f
+leaves_begins game diagram limit refusal log front session asked new history (LogFull g) p l = tt
+leaves_begins game diagram limit refusal log front session asked new history (Doubled g) p l = tt
+leaves_begins game diagram limit refusal log front session asked new history (DeskRefuses fault) p (cause, (why, (named, entered))) =
+    prefix_more history log new (event session (call_of asked (Refused cause)) (book.Refused (refusal_of cause))) p entered.is
+leaves_begins game diagram limit refusal log front session asked new history Memory p l = tt
+
+-- a fault's refusal is that of its cause
+pub why_is : {F : Type 0} (refusal : F → Option Refusal) (cause : Option Cause) (fault : F) (w : Because F) → option_map refusal_of cause ≡ refusal fault → (cause ≡ Some w.cause) × (w.fault ≡ fault) → refusal fault ≡ Some (refusal_of w.cause)
+why_is refusal cause fault w mapped is = sym mapped ∙ ap (option_map refusal_of) is.0
+
+-- the desk's refusal of a call that its answer doesn't change
+pub refused_is : {F : Type 0} (game : NamedGame) (diagram : NamedDiagram) (desk : DeskState) (asked : Asked) (call : Call) (refusal : F → Option Refusal) (cause : Option Cause) (fault : F) (why : Option (Because F)) →
+    ((r : Cause) → call_of asked (Refused r) ≡ call) → ((r : Cause) → HandsIn (IsLawful (family_between game diagram)) (call_of asked (Refused r)) × IsNamed game diagram asked (Refused r)) → option_map refusal_of cause ≡ refusal fault →
+    IfSome why (λ w. (cause ≡ Some w.cause) × (w.fault ≡ fault)) → IfSome (refusal fault) (λ r. Replies desk call (book.Refused r)) → IfSome why (λ w. IsRefused game diagram (refusal w.fault) desk asked w.cause)
+refused_is game diagram desk asked call refusal cause fault None of free mapped is replies = tt
+refused_is game diagram desk asked call refusal cause fault (Some w) of free mapped is replies =
+    let same = why_is refusal cause fault w mapped is in
+    record {
+      why = ap refusal is.1 ∙ same;
+      told = coe 0 1 (k. Replies desk ((sym (of w.cause)) k) (book.Refused (refusal_of w.cause))) (subst (λ (o : Option Refusal). IfSome o (λ r. Replies desk call (book.Refused r))) same replies);
+      hands = (free w.cause).0;
+      named = (free w.cause).1;
+    }

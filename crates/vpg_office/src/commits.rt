@@ -1,23 +1,17 @@
 //! Committing what lifters bring back.
-ghost use Rattle.std.specs.Prelude.{◌≡◌, ◌<◌, ℕ, Bool, true, Some, None, length, IfOk, IfErr, OnOk, OnErr, IfSome, option_map};
+ghost use Rattle.std.specs.Prelude.{◌≡◌, ℕ, Bool, true, IfOk, IfErr, OnOk, OnErr, IfSome, option_map};
 ghost use Rattle.std.specs.Bool.{Decides};
-ghost use mathlib.Core.List.{IsPrefix};
 ghost use Rattle.vpg_desk.specs.Book as book;
-ghost use Rattle.vpg_office.specs.Fronts.{Extends, family_between};
 ghost use Rattle.vpg_desk.specs.Commit.{IsOrderOf, commit_refusal, handed_in};
 ghost use Rattle.vpg_desk.specs.State.{IsStep, Replies};
-ghost use Rattle.vpg_office.specs.Faults.{CommitTells};
-ghost use Rattle.vpg_office.specs.Story.{IsOf, refusal_of};
+ghost use Rattle.vpg_office.specs.Story.{refusal_of};
 
-use crate::asked::{Answer, Asked, Cause};
-use crate::chronicle::Row;
-use crate::fault::{Fault, Returned};
-use crate::front::Front;
-use crate::log::{Log, Request};
+use crate::asked::{Answer, Cause};
+use crate::calls::{Call, Made, Unmade, reason};
+use crate::purse::Purse;
 use crate::terms::Terms;
 use std::alloc::Global;
 use std::snapshot::Snapshot;
-use std::sync::Wait;
 use vpg_desk::{CommitFault, CommitRefused, Desk};
 use vpg_measure::Harvest;
 
@@ -58,59 +52,64 @@ fn hand_in(
     desk.commit(alloc, harvest)
 }
 
-impl<L: Terms> Log<L> {
-    /// Session `session` commits a harvest; `own` where it is known to be of the log's game and diagram.
-    pub(crate) fn commit<R: Wait>(
-        &mut self,
-        rt: &R,
-        alloc: Global,
-        row: &Row,
-        session: u32,
-        front: &mut Front<L>,
-        harvest: Harvest,
-        own: bool,
-    ) -> Result<u32, Returned<L, CommitFault, Harvest>>
-        requires row { row.now ≡ L.shelves }
-        requires seen { IsPrefix front.old self.old }
-        requires own { own ≡ true → IsOf L.game L.diagram harvest.order }
-        ensures done { IfOk result
-            (λ added. Extends (family_between L.game L.diagram) front.old session
-            (book.Commit (handed_in true harvest)) (book.Added added) front.new) }
-        ensures same { OnOk result (IsOf L.game L.diagram harvest.order) }
-        ensures fault { IfErr result
-            (λ b. CommitTells L.game L.diagram L.limit harvest session front.old front.new b.fault) }
-        ensures back { IfErr result (λ b. b.value ≡ harvest) }
-    {
+/// Hands a harvest in; `own` where it is known to be of the desk's game and diagram.
+#[derive(Drop)]
+pub struct CommitCall {
+    pub(crate) alloc: Global,
+    pub(crate) harvest: Harvest,
+    pub(crate) shown: Snapshot<Harvest>,
+    pub(crate) own: bool,
+}
+
+impl<L: Terms> Call<L> for CommitCall {
+    ghost use Rattle.std.specs.Prelude.{◌≡◌, true};
+    ghost use Rattle.vpg_desk.specs.Commit.{commit_refusal};
+    ghost use Rattle.vpg_office.specs.Story.{IsOf};
+    ghost use Rattle.vpg_office.specs.declared.asked.Answer.TheVariants as answer;
+    ghost use Rattle.vpg_office.specs.declared.asked.Asked.TheVariants as ask;
+
+    type Given = u32;
+
+    type Refused = CommitFault;
+
+    ghost asks = { λ c. ask.Commit c.shown };
+
+    ghost answers = { λ entries. answer.Added entries };
+
+    ghost refusal = { commit_refusal };
+
+    ghost Takes = { λ c. (c.shown.value ≡ c.harvest) × (c.own ≡ true → IsOf L.game L.diagram c.harvest.order) };
+
+    ghost Gives = { λ c b entries. IsOf L.game L.diagram c.harvest.order };
+
+    fn carry_out(
+        self,
+        desk: &mut Desk,
+        _purse: &mut Purse<L>,
+        _session: u32,
+    ) -> Result<Made<u32>, Unmade<CommitFault, CommitCall>> {
+        let CommitCall {
+            alloc,
+            harvest,
+            shown,
+            own,
+        } = self;
         let _ = harvest.order();
-        let request = Request {
-            row,
-            session,
-            asked: Asked::Commit {
-                harvest: Snapshot::of(&harvest),
-            },
-        };
-        let place = match self.calls.admit(rt, &request, front) {
-            Ok(place) => place,
-            Err(fault) => {
-                return Err(Returned {
-                    fault,
-                    value: harvest,
-                });
-            }
-        };
-        match hand_in(&mut self.desk, alloc, harvest, own) {
-            Ok(entries) => {
-                let answer = Answer::Added { entries };
-                self.calls.enter(&request, front, place, answer);
-                Ok(entries)
-            }
+        match hand_in(desk, alloc, harvest, own) {
+            Ok(entries) => Ok(Made {
+                given: entries,
+                answer: Answer::Added { entries },
+            }),
             Err(refused) => {
                 let CommitRefused { fault, harvest } = refused;
-                let cause = commit_cause(fault);
-                let fault = self.calls.refuse(&request, front, place, cause, fault);
-                Err(Returned {
-                    fault,
-                    value: harvest,
+                Err(Unmade {
+                    refused: reason(commit_cause(fault), fault),
+                    call: CommitCall {
+                        alloc,
+                        harvest,
+                        shown,
+                        own,
+                    },
                 })
             }
         }

@@ -1,4 +1,6 @@
 //! Why calls of sessions are not made, and what comes back.
+ghost use Rattle.std.specs.Prelude.{◌≡◌};
+
 use crate::front::Front;
 use crate::terms::Terms;
 use std::convert::Infallible;
@@ -20,10 +22,10 @@ pub enum Fault<L: Terms, F> {
 impl<L: Terms, F: fmt::Display> fmt::Display for Fault<L, F> {
     fn fmt<W: fmt::Write>(&self, f: &mut fmt::Formatter<W>) -> fmt::Result {
         match self {
-            Fault::LogFull { .. } => write!(f, "LogFull"),
-            Fault::Doubled { .. } => write!(f, "Doubled"),
+            Fault::LogFull { .. } => f.write_str("LogFull"),
+            Fault::Doubled { .. } => f.write_str("Doubled"),
             Fault::Refused { fault } => write!(f, "{fault}"),
-            Fault::Memory => write!(f, "Memory"),
+            Fault::Memory => f.write_str("Memory"),
         }
     }
 }
@@ -43,4 +45,14 @@ pub type Never = Infallible;
 pub struct Returned<L: Terms, F, T> {
     pub fault: Fault<L, F>,
     pub value: T,
+}
+
+impl<L: Terms, F, T: Drop> Returned<L, F, T> {
+    /// The fault alone.
+    pub(crate) fn into_fault(self) -> Fault<L, F>
+        ensures { result ≡ self.fault }
+    {
+        let Returned { fault, value: _ } = self;
+        fault
+    }
 }

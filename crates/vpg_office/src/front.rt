@@ -144,3 +144,19 @@ impl<L: Terms> Front<L> {
         let _ = &self.count;
     }
 }
+
+/// A token's front. With a serial the log's last call that gave a token of it has to be at the end of the front.
+pub struct Own<L: Terms> {
+    pub(crate) front: Front<L>,
+    pub(crate) serial: Option<u64>,
+}
+
+// Not derived, so that letting it go is one call.
+impl<L: Terms> Drop for Own<L> {
+    fn drop(self) {
+        let Own {
+            front: _,
+            serial: _,
+        } = self;
+    }
+}

@@ -10,6 +10,8 @@
 #![tactic(auto)]
 
 mod asked;
+mod calls;
+mod changes;
 mod chronicle;
 mod closing;
 mod commits;
@@ -21,7 +23,6 @@ mod office;
 mod publishing;
 mod purse;
 mod redo_token;
-mod retract;
 mod session;
 mod sharing;
 mod site;

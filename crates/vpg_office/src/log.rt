@@ -5,25 +5,25 @@ ghost use mathlib.Core.List.{IsPrefix};
 ghost use Rattle.boxcar.specs.Table.{Shows};
 ghost use Rattle.vpg_desk.specs.Book as book;
 ghost use Rattle.vpg_desk.specs.Book.{opened, IsReply};
-ghost use Rattle.vpg_desk.specs.Faults.{decide_refusal};
 ghost use Rattle.vpg_desk.specs.History.{book_after};
 ghost use Rattle.vpg_desk.specs.Lawful.{HandsIn, IsLawful};
-ghost use Rattle.vpg_office.specs.Faults.{Stops, Tells};
-ghost use Rattle.vpg_office.specs.Fronts.{Extends, IsHistory, calls_by, event, family_between};
+ghost use Rattle.vpg_office.specs.Faults.{Stops};
+ghost use Rattle.vpg_office.specs.Fronts.{IsHistory, calls_by, event, family_between};
 ghost use Rattle.vpg_office.specs.Kept.{HasRoom, IsChronicle, IsEntryOf, lines_of};
+ghost use Rattle.vpg_office.specs.Made.{IsEntered, Leaves};
 ghost use Rattle.vpg_office.specs.Story.{IsNamed, call_of, refusal_of, reply_of};
 
-use crate::asked::{Answer, Asked, Cause};
+use crate::asked::{Answer, Asked};
+use crate::calls::{Because, Call, Made, Unmade};
 use crate::chronicle::{Chronicle, Row, has_call_since};
-use crate::fault::Fault;
+use crate::fault::{Fault, Returned};
 use crate::front::{Front, Place};
 use crate::purse::Purse;
 use crate::terms::Terms;
-use crate::undo_token::Undo;
 use std::alloc::Global;
 use std::marker::Model;
 use std::sync::Wait;
-use vpg_desk::{DecideFault, Desk};
+use vpg_desk::Desk;
 use vpg_watch::Press;
 
 /// The calls that were made, and the history that they are.
@@ -182,14 +182,13 @@ impl<L: Terms> Calls<L> {
         *front = self.newest.copy();
     }
 
-    /// Enters the desk's refusal, where there is a cause; else the desk was out of memory.
+    /// Enters the desk's refusal, where there is one; else the desk was out of memory.
     pub(crate) fn refuse<F: Drop>(
         &mut self,
         request: &Request<'_>,
         front: &mut Front<L>,
         place: Place,
-        cause: Option<Cause>,
-        fault: F,
+        refused: Option<Because<F>>,
     ) -> Fault<L, F>
         requires kept { IsChronicle L.shelves L.game L.diagram self.old.chronicle self.old.newest }
         requires room { HasRoom self.old.chronicle }
@@ -197,41 +196,30 @@ impl<L: Terms> Calls<L> {
             IsEntryOf (lines_of self.old.chronicle.told.items) request.now.session request.now.asked place.value }
         requires fits { length self.old.newest < L.limit }
         requires few { length self.old.newest < 1048576 }
-        requires reply { IfSome cause (λ r.
+        requires reply { IfSome refused (λ w.
             IsReply (family_between L.game L.diagram)
             (book_after (family_between L.game L.diagram) opened self.old.newest)
-            (call_of request.now.asked (Answer.Refused r)) (book.Refused (refusal_of r))) }
-        requires hands { IfSome cause (λ r.
-            HandsIn (IsLawful (family_between L.game L.diagram)) (call_of request.now.asked (Answer.Refused r))) }
-        requires named { IfSome cause (λ r. IsNamed L.game L.diagram request.now.asked (Answer.Refused r)) }
+            (call_of request.now.asked (Answer.Refused w.cause)) (book.Refused (refusal_of w.cause))) }
+        requires hands { IfSome refused (λ w.
+            HandsIn (IsLawful (family_between L.game L.diagram))
+            (call_of request.now.asked (Answer.Refused w.cause))) }
+        requires named { IfSome refused (λ w. IsNamed L.game L.diagram request.now.asked (Answer.Refused w.cause)) }
         ensures kept { IsChronicle L.shelves L.game L.diagram self.new.chronicle self.new.newest }
         ensures limit { self.new.room ≡ self.old.room }
-        ensures memory { IfNone cause
+        ensures memory { IfNone refused
             ((result ≡ Fault.Memory) × (front.new ≡ front.old) × (self.new.newest ≡ self.old.newest)) }
-        ensures refused { IfSome cause (λ r.
-            (result ≡ Fault.Refused fault) × (front.new ≡ self.new.newest) ×
+        ensures refused { IfSome refused (λ w.
+            (result ≡ Fault.Refused w.fault) × (front.new ≡ self.new.newest) ×
             (self.new.newest ≡ self.old.newest
-            ++ event request.now.session (call_of request.now.asked (Answer.Refused r))
-            (book.Refused (refusal_of r)) ∷ [])) }
+            ++ event request.now.session (call_of request.now.asked (Answer.Refused w.cause))
+            (book.Refused (refusal_of w.cause)) ∷ [])) }
     {
-        let Some(cause) = cause else {
+        let Some(because) = refused else {
             return Fault::Memory;
         };
+        let Because { cause, fault } = because;
         self.enter(request, front, place, Answer::Refused { cause });
         Fault::Refused { fault }
-    }
-}
-
-/// Why the desk refuses to decide, where it isn't out of memory.
-fn decide_cause(fault: DecideFault) -> Option<Cause>
-    ensures { option_map refusal_of result ≡ decide_refusal fault }
-{
-    match fault {
-        DecideFault::UnknownFeature => Some(Cause::UnknownFeature),
-        DecideFault::AlreadyDecided { serial } => Some(Cause::AlreadyDecided { serial }),
-        DecideFault::Conflict { feature } => Some(Cause::Conflict { feature }),
-        DecideFault::TooManyChanges => Some(Cause::TooManyChanges),
-        DecideFault::Memory => None,
     }
 }
 
@@ -271,24 +259,17 @@ impl<L: Terms> Log<L> {
         }
     }
 
-    /// The number of a further session.
-    pub(crate) fn number(&mut self) -> Option<u32>
+    /// The number of a further session, and the log so far.
+    pub(crate) fn joined(&mut self) -> Option<(u32, Front<L>)>
         ensures same { self.new ≡ self.old }
-        ensures number { IfSome result (λ n. (1 ≤ n) × (n ≤ 1024)) }
+        ensures number { IfSome result (λ r. (1 ≤ r.0) × (r.0 ≤ 1024)) }
+        ensures history { IfSome result (λ r. IsHistory (family_between L.game L.diagram) r.1) }
     {
         if self.sessions == MOST_SESSIONS {
             return None;
         }
         self.sessions += 1;
-        Some(self.sessions)
-    }
-
-    /// The log so far.
-    pub(crate) fn front(&self) -> Front<L>
-        ensures front { result ≡ self.now }
-        ensures history { IsHistory (family_between L.game L.diagram) result }
-    {
-        self.calls.newest.copy()
+        Some((self.sessions, self.calls.newest.copy()))
     }
 
     /// Whether the front is a beginning of the log.
@@ -299,81 +280,64 @@ impl<L: Terms> Log<L> {
         self.calls.has(row, front)
     }
 
-    /// Returns where the log has the front.
-    pub(crate) fn awaits<R: Wait>(&self, rt: &R, row: &Row, front: &Front<L>)
+    /// Returns where the log has the front, which becomes the whole log.
+    pub(crate) fn catches_up<R: Wait>(&self, rt: &R, row: &Row, front: &mut Front<L>)
         requires { row.now ≡ L.shelves }
-        ensures { IsPrefix front.now self.now }
+        ensures begins { IsPrefix front.old front.new }
+        ensures whole { front.new ≡ self.now }
+        ensures history { IsHistory (family_between L.game L.diagram) front.new }
     {
         'again: for _ in rt.forever() {
             if self.has(row, front) {
+                *front = self.calls.newest.copy();
                 return;
             }
         }
         unreachable!()
     }
 
-    /// Makes the first the longer of both, where the log has both.
-    pub(crate) fn meets(&self, row: &Row, front: &mut Front<L>, other: &Front<L>) -> bool
-        requires { row.now ≡ L.shelves }
-        ensures yes { result ≡ true → IsPrefix front.old front.new × IsPrefix other.now front.new ×
-            ((front.new ≡ front.old) ⊎ (front.new ≡ other.now)) ×
-            IsHistory (family_between L.game L.diagram) front.new }
-        ensures no { result ≡ false → front.new ≡ front.old }
-    {
-        if !self.has(row, front) || !self.has(row, other) {
-            return false;
-        }
-        if front.len() < other.len() {
-            *front = other.copy();
-        }
-        true
-    }
-
-    /// Session `session` decides.
-    pub(crate) fn decide<R: Wait>(
+    /// Makes a call of the session: it is taken in, the desk carries it out, and its answer is entered.
+    pub(crate) fn make<C: Call<L>, R: Wait>(
         &mut self,
         rt: &R,
-        alloc: Global,
         row: &Row,
         session: u32,
         front: &mut Front<L>,
-        feature: u16,
-        value: bool,
-    ) -> Result<Undo<L>, Fault<L, DecideFault>>
+        asked: Asked,
+        call: C,
+    ) -> Result<C::Given, Returned<L, C::Refused, C>>
         requires row { row.now ≡ L.shelves }
         requires seen { IsPrefix front.old self.old }
+        requires asked { asked ≡ C.asks call }
+        requires takes { C.Takes call }
         ensures done { IfOk result
-            (λ t. Extends (family_between L.game L.diagram) front.old session (book.Decide feature value)
-            (book.Changed t.serial) front.new × (t.history ≡ front.new)) }
-        ensures fault { IfErr result
-            (Tells (family_between L.game L.diagram) L.limit decide_refusal
-            (book.Decide feature value) session front.old front.new) }
+            (λ g. IsEntered L.game L.diagram self.old front.old session (C.asks call) (C.answers g) front.new) }
+        ensures gives { IfOk result
+            (C.Gives call (book_after (family_between L.game L.diagram) opened self.old)) }
+        ensures leaves { IfErr result
+            (λ b. Leaves L.game L.diagram L.limit C.refusal self.old front.old session (C.asks call) front.new
+            b.fault) }
+        ensures back { IfErr result (λ b. b.value ≡ call) }
     {
         let request = Request {
             row,
             session,
-            asked: Asked::Decide { feature, value },
+            asked,
         };
         let place = match self.calls.admit(rt, &request, front) {
             Ok(place) => place,
-            Err(fault) => return Err(fault),
+            Err(fault) => return Err(Returned { fault, value: call }),
         };
-        match self.desk.decide(alloc, session, feature, value) {
-            Ok(token) => {
-                let answer = Answer::Changed {
-                    serial: token.serial(),
-                };
+        match call.carry_out(&mut self.desk, &mut self.purse, session) {
+            Ok(made) => {
+                let Made { given, answer } = made;
                 self.calls.enter(&request, front, place, answer);
-                let share = self.purse.issue();
-                Ok(Undo {
-                    token,
-                    place: front.copy(),
-                    share,
-                })
+                Ok(given)
             }
-            Err(fault) => {
-                let cause = decide_cause(fault);
-                Err(self.calls.refuse(&request, front, place, cause, fault))
+            Err(unmade) => {
+                let Unmade { refused, call } = unmade;
+                let fault = self.calls.refuse(&request, front, place, refused);
+                Err(Returned { fault, value: call })
             }
         }
     }

@@ -1,227 +1,199 @@
 //! Calls that look, and leave the desk.
-ghost use Rattle.std.specs.Arc.{arc_value};
-ghost use Rattle.std.specs.Prelude.{◌≡◌, ◌<◌, Bool, true, Some, None, length, IfOk, IfErr, OnOk, option_map};
-ghost use Rattle.std.specs.Bool.{Decides};
-ghost use mathlib.Core.List.{IsPrefix};
-ghost use Rattle.vpg_game.specs.Game.{graph_of};
-ghost use Rattle.vpg_measure.specs.Games.{ArePageGames};
-ghost use Rattle.vpg_trail.specs.Page.{Hopeful, Dual, choices_of, decisions_of, table_of};
-ghost use Rattle.vpg_desk.specs.Headline.{Tells as PageTells};
-ghost use Rattle.vpg_desk.specs.History.{book_after};
-ghost use Rattle.vpg_desk.specs.Lawful.{PageIsBelow};
-ghost use Rattle.vpg_desk.specs.Setting.{IsSetting};
-ghost use Rattle.vpg_desk.specs.State.{IsReached, setting_between};
-ghost use Rattle.vpg_desk.specs.Book as book;
-ghost use Rattle.vpg_office.specs.Fronts.{Extends, family_between};
-ghost use Rattle.vpg_office.specs.Faults.{Tells, never_refused};
-ghost use Rattle.vpg_office.specs.Story.{IsOf};
-
-use crate::asked::{Answer, Asked};
-use crate::chronicle::Row;
-use crate::fault::{Fault, Never};
-use crate::front::Front;
-use crate::log::{Log, Request};
+use crate::asked::Answer;
+use crate::calls::{Call, Made, Unmade};
+use crate::fault::Never;
+use crate::purse::Purse;
 use crate::terms::Terms;
-use std::alloc::{AllocError, Global};
-use std::sync::{Arc, Wait};
+use std::alloc::Global;
+use std::sync::Arc;
+use vpg_desk::Desk;
 use vpg_measure::{Order, PageGames};
 use vpg_trail::Page;
 use vpg_verdict::Verdict;
 
-impl<L: Terms> Log<L> {
-    /// Whether both tables of the present page are progress tables.
-    pub(crate) fn settled<R: Wait>(
-        &mut self,
-        rt: &R,
-        row: &Row,
-        session: u32,
-        front: &mut Front<L>,
-    ) -> Result<bool, Fault<L, Never>>
-        requires row { row.now ≡ L.shelves }
-        requires seen { IsPrefix front.old self.old }
-        ensures done { IfOk result
-            (λ r. Extends (family_between L.game L.diagram) front.old session book.Settled
-            (book.IsSettled r) front.new) }
-        ensures fault { IfErr result
-            (Tells (family_between L.game L.diagram) L.limit never_refused book.Settled session front.old front.new) }
-    {
-        let request = Request {
-            row,
-            session,
-            asked: Asked::Settled,
-        };
-        let place = match self.calls.admit(rt, &request, front) {
-            Ok(place) => place,
-            Err(fault) => return Err(fault),
-        };
-        let r = self.desk.settled();
-        let answer = Answer::IsSettled { settled: r };
-        self.calls.enter(&request, front, place, answer);
-        Ok(r)
-    }
+/// Whether both tables of the present page are progress tables.
+#[derive(Drop)]
+pub struct SettledCall;
 
-    /// What the present tables say of a vertex.
-    pub(crate) fn verdict<R: Wait>(
-        &mut self,
-        rt: &R,
-        row: &Row,
-        session: u32,
-        front: &mut Front<L>,
-        vertex: u32,
-    ) -> Result<Verdict, Fault<L, Never>>
-        requires row { row.now ≡ L.shelves }
-        requires seen { IsPrefix front.old self.old }
-        requires vertex { vertex < length L.game.vertices }
-        ensures done { IfOk result
-            (λ r. Extends (family_between L.game L.diagram) front.old session (book.Verdict vertex)
-            (book.VerdictIs r.hopeless r.sure) front.new) }
-        ensures fault { IfErr result
-            (Tells (family_between L.game L.diagram) L.limit never_refused
-            (book.Verdict vertex) session front.old front.new) }
-    {
-        let request = Request {
-            row,
-            session,
-            asked: Asked::Verdict { vertex },
-        };
-        let place = match self.calls.admit(rt, &request, front) {
-            Ok(place) => place,
-            Err(fault) => return Err(fault),
-        };
-        let r = self.desk.verdict(vertex);
-        self.calls.enter(
-            &request,
-            front,
-            place,
-            Answer::VerdictIs {
-                hopeless: r.hopeless,
-                sure: r.sure,
-            },
-        );
-        Ok(r)
-    }
+impl<L: Terms> Call<L> for SettledCall {
+    ghost use Rattle.std.specs.Prelude.{⊤};
+    ghost use Rattle.vpg_office.specs.Faults.{never_refused};
+    ghost use Rattle.vpg_office.specs.declared.asked.Answer.TheVariants as answer;
+    ghost use Rattle.vpg_office.specs.declared.asked.Asked.TheVariants as ask;
 
-    /// The present page.
-    pub(crate) fn page<R: Wait>(
-        &mut self,
-        rt: &R,
-        alloc: Global,
-        row: &Row,
-        session: u32,
-        front: &mut Front<L>,
-    ) -> Result<Page, Fault<L, Never>>
-        requires row { row.now ≡ L.shelves }
-        requires seen { IsPrefix front.old self.old }
-        ensures done { IfOk result
-            (λ r. Extends (family_between L.game L.diagram) front.old session book.Page
-            (book.PageIs r.entries) front.new) }
-        ensures entries { IfOk result
-            (λ r. r.entries ≡ (book_after (family_between L.game L.diagram) book.opened self.old).present) }
-        ensures decisions { IfOk result (λ r. r.decisions ≡ decisions_of r.entries) }
-        ensures hopeful { IfOk result (λ r. r.hopeful ≡ table_of Hopeful r.entries (length (graph_of L.game))) }
-        ensures dual { IfOk result (λ r. r.dual ≡ table_of Dual r.entries (length (graph_of L.game))) }
-        ensures below { IfOk result (λ r. PageIsBelow (family_between L.game L.diagram) r.entries) }
-        ensures tells { IfOk result (λ r. PageTells (setting_between L.game L.diagram) r.entries) }
-        ensures setting { OnOk result (IsSetting (setting_between L.game L.diagram)) }
-        ensures reached { OnOk result
-            (IsReached (setting_between L.game L.diagram)
-            (book_after (family_between L.game L.diagram) book.opened front.new)) }
-        ensures fault { IfErr result
-            (Tells (family_between L.game L.diagram) L.limit never_refused book.Page session front.old front.new) }
-    {
-        let request = Request {
-            row,
-            session,
-            asked: Asked::Page,
-        };
-        let place = match self.calls.admit(rt, &request, front) {
-            Ok(place) => place,
-            Err(fault) => return Err(fault),
-        };
-        let Ok(page) = self.desk.page(alloc) else {
-            return Err(Fault::Memory);
-        };
-        self.calls.enter(&request, front, place, Answer::PageIs);
-        Ok(page)
-    }
+    type Given = bool;
 
-    /// What the decisions of the present page make of the game: the desk holds it, so nothing of it is made anew.
-    fn games(&self) -> Result<Arc<PageGames>, AllocError>
-        ensures { IfOk result (λ games.
-            ArePageGames L.game L.diagram
-            (choices_of (book_after (family_between L.game L.diagram) book.opened self.now).present)
-            (arc_value games)) }
-    {
-        self.desk.games().clone()
-    }
+    type Refused = Never;
 
-    /// The present page, with what its decisions make of the game.
-    pub(crate) fn page_with_games<R: Wait>(
-        &mut self,
-        rt: &R,
-        alloc: Global,
-        row: &Row,
-        session: u32,
-        front: &mut Front<L>,
-    ) -> Result<(Page, Arc<PageGames>), Fault<L, Never>>
-        requires row { row.now ≡ L.shelves }
-        requires seen { IsPrefix front.old self.old }
-        ensures done { IfOk result
-            (λ r. Extends (family_between L.game L.diagram) front.old session book.Page
-            (book.PageIs r.0.entries) front.new) }
-        ensures decisions { IfOk result (λ r. r.0.decisions ≡ decisions_of r.0.entries) }
-        ensures hopeful { IfOk result (λ r. r.0.hopeful ≡ table_of Hopeful r.0.entries (length (graph_of L.game))) }
-        ensures dual { IfOk result (λ r. r.0.dual ≡ table_of Dual r.0.entries (length (graph_of L.game))) }
-        ensures games { IfOk result (λ r. ArePageGames L.game L.diagram (choices_of r.0.entries) (arc_value r.1)) }
-        ensures below { IfOk result (λ r. PageIsBelow (family_between L.game L.diagram) r.0.entries) }
-        ensures tells { IfOk result (λ r. PageTells (setting_between L.game L.diagram) r.0.entries) }
-        ensures setting { OnOk result (IsSetting (setting_between L.game L.diagram)) }
-        ensures reached { OnOk result
-            (IsReached (setting_between L.game L.diagram)
-            (book_after (family_between L.game L.diagram) book.opened front.new)) }
-        ensures fault { IfErr result
-            (Tells (family_between L.game L.diagram) L.limit never_refused book.Page session front.old front.new) }
-    {
-        let Ok(games) = self.games() else {
-            return Err(Fault::Memory);
+    ghost asks = { λ c. ask.Settled };
+
+    ghost answers = { λ r. answer.IsSettled r };
+
+    ghost refusal = { never_refused };
+
+    ghost Takes = { λ c. ⊤ };
+
+    ghost Gives = { λ c b r. ⊤ };
+
+    fn carry_out(
+        self,
+        desk: &mut Desk,
+        _purse: &mut Purse<L>,
+        _session: u32,
+    ) -> Result<Made<bool>, Unmade<Never, SettledCall>> {
+        let settled = desk.settled();
+        Ok(Made {
+            given: settled,
+            answer: Answer::IsSettled { settled },
+        })
+    }
+}
+
+/// What the present tables say of a vertex.
+#[derive(Drop)]
+pub struct VerdictCall {
+    pub(crate) vertex: u32,
+}
+
+impl<L: Terms> Call<L> for VerdictCall {
+    ghost use Rattle.std.specs.Prelude.{◌<◌, ⊤, length};
+    ghost use Rattle.vpg_office.specs.Faults.{never_refused};
+    ghost use Rattle.vpg_office.specs.declared.asked.Answer.TheVariants as answer;
+    ghost use Rattle.vpg_office.specs.declared.asked.Asked.TheVariants as ask;
+
+    type Given = Verdict;
+
+    type Refused = Never;
+
+    ghost asks = { λ c. ask.Verdict c.vertex };
+
+    ghost answers = { λ r. answer.VerdictIs r.hopeless r.sure };
+
+    ghost refusal = { never_refused };
+
+    ghost Takes = { λ c. c.vertex < length L.game.vertices };
+
+    ghost Gives = { λ c b r. ⊤ };
+
+    fn carry_out(
+        self,
+        desk: &mut Desk,
+        _purse: &mut Purse<L>,
+        _session: u32,
+    ) -> Result<Made<Verdict>, Unmade<Never, VerdictCall>> {
+        let verdict = desk.verdict(self.vertex);
+        let answer = Answer::VerdictIs {
+            hopeless: verdict.hopeless,
+            sure: verdict.sure,
         };
-        match self.page(rt, alloc, row, session, front) {
-            Ok(present) => Ok((present, games)),
-            Err(fault) => Err(fault),
+        Ok(Made {
+            given: verdict,
+            answer,
+        })
+    }
+}
+
+/// The present page, with what its decisions make of the game: the desk holds that, so nothing of it is made anew.
+#[derive(Drop)]
+pub struct PageCall {
+    pub(crate) alloc: Global,
+}
+
+impl<L: Terms> Call<L> for PageCall {
+    ghost use Rattle.std.specs.Arc.{arc_value};
+    ghost use Rattle.std.specs.Prelude.{⊤};
+    ghost use Rattle.vpg_office.specs.Faults.{never_refused};
+    ghost use Rattle.vpg_office.specs.Made.{IsPage};
+    ghost use Rattle.vpg_office.specs.declared.asked.Answer.TheVariants as answer;
+    ghost use Rattle.vpg_office.specs.declared.asked.Asked.TheVariants as ask;
+
+    type Given = (Page, Arc<PageGames>);
+
+    type Refused = Never;
+
+    ghost asks = { λ c. ask.Page };
+
+    ghost answers = { λ r. answer.PageIs };
+
+    ghost refusal = { never_refused };
+
+    ghost Takes = { λ c. ⊤ };
+
+    ghost Gives = { λ c b r.
+        IsPage L.game L.diagram b r.0.entries r.0.decisions r.0.hopeful r.0.dual (arc_value r.1) };
+
+    fn carry_out(
+        self,
+        desk: &mut Desk,
+        _purse: &mut Purse<L>,
+        _session: u32,
+    ) -> Result<Made<(Page, Arc<PageGames>)>, Unmade<Never, PageCall>> {
+        let Ok(games) = desk.games().clone() else {
+            return Err(Unmade {
+                refused: None,
+                call: self,
+            });
+        };
+        match desk.page(self.alloc) {
+            Ok(page) => Ok(Made {
+                given: (page, games),
+                answer: Answer::PageIs,
+            }),
+            Err(_) => Err(Unmade {
+                refused: None,
+                call: self,
+            }),
         }
     }
+}
 
-    /// What lifters take along.
-    pub(crate) fn order<R: Wait>(
-        &mut self,
-        rt: &R,
-        alloc: Global,
-        row: &Row,
-        session: u32,
-        front: &mut Front<L>,
-    ) -> Result<Order, Fault<L, Never>>
-        requires row { row.now ≡ L.shelves }
-        requires seen { IsPrefix front.old self.old }
-        ensures done { IfOk result
-            (λ r. Extends (family_between L.game L.diagram) front.old session book.Order
-            (book.Ordered r.decisions r.hopeful r.dual) front.new) }
-        ensures ours { IfOk result (λ r. IsOf L.game L.diagram r) }
-        ensures fault { IfErr result
-            (Tells (family_between L.game L.diagram) L.limit never_refused book.Order session front.old front.new) }
-    {
-        let request = Request {
-            row,
-            session,
-            asked: Asked::Order,
-        };
-        let place = match self.calls.admit(rt, &request, front) {
-            Ok(place) => place,
-            Err(fault) => return Err(fault),
-        };
-        let Ok(r) = self.desk.order(alloc) else {
-            return Err(Fault::Memory);
-        };
-        self.calls.enter(&request, front, place, Answer::Ordered);
-        Ok(r)
+/// What lifters take along.
+#[derive(Drop)]
+pub struct OrderCall {
+    pub(crate) alloc: Global,
+}
+
+impl<L: Terms> Call<L> for OrderCall {
+    ghost use Rattle.std.specs.Prelude.{◌≡◌, ⊤, length};
+    ghost use Rattle.vpg_game.specs.Game.{graph_of};
+    ghost use Rattle.vpg_trail.specs.Page.{Hopeful, Dual, decisions_of, table_of};
+    ghost use Rattle.vpg_office.specs.Faults.{never_refused};
+    ghost use Rattle.vpg_office.specs.Story.{IsOf};
+    ghost use Rattle.vpg_office.specs.declared.asked.Answer.TheVariants as answer;
+    ghost use Rattle.vpg_office.specs.declared.asked.Asked.TheVariants as ask;
+
+    type Given = Order;
+
+    type Refused = Never;
+
+    ghost asks = { λ c. ask.Order };
+
+    ghost answers = { λ r. answer.Ordered };
+
+    ghost refusal = { never_refused };
+
+    ghost Takes = { λ c. ⊤ };
+
+    ghost Gives = { λ c b r. IsOf L.game L.diagram r ×
+        ((r.decisions ≡ decisions_of b.present) ×
+        ((r.hopeful ≡ table_of Hopeful b.present (length (graph_of L.game))) ×
+        (r.dual ≡ table_of Dual b.present (length (graph_of L.game))))) };
+
+    fn carry_out(
+        self,
+        desk: &mut Desk,
+        _purse: &mut Purse<L>,
+        _session: u32,
+    ) -> Result<Made<Order>, Unmade<Never, OrderCall>> {
+        match desk.order(self.alloc) {
+            Ok(order) => Ok(Made {
+                given: order,
+                answer: Answer::Ordered,
+            }),
+            Err(_) => Err(Unmade {
+                refused: None,
+                call: self,
+            }),
+        }
     }
 }

@@ -1,6 +1,6 @@
 //! The office: the row of calls, and the log under a lock.
 ghost use Rattle.std.specs.Arc.{arc_value};
-ghost use Rattle.std.specs.Prelude.{◌≡◌, ◌⊎◌, ◌+◌, ◌<◌, ◌≤◌, ◌↔◌, ℕ, List, [], length, IfOk, IfErr, OnOk};
+ghost use Rattle.std.specs.Prelude.{◌≡◌, ◌⊎◌, ◌+◌, ◌<◌, ◌≤◌, ◌↔◌, ℕ, List, [], length, IfOk, IfErr, IfSome, OnOk};
 ghost use Rattle.std.specs.Sync.Mutex.{mutex_guard_value};
 ghost use mathlib.Core.List.{IsPrefix};
 ghost use Rattle.vpg_diagram.specs.FeatureDiagram.{feature_count};
@@ -10,10 +10,10 @@ ghost use Rattle.vpg_desk.specs.Book.{opened};
 ghost use Rattle.vpg_desk.specs.History.{book_after};
 ghost use Rattle.vpg_desk.specs.State.{IsOpened};
 ghost use Rattle.vpg_office.specs.Fronts.{IsHistory, family_between};
-ghost use Rattle.vpg_office.specs.Kept.{IsLastGiven};
+ghost use Rattle.vpg_office.specs.Kept.{HasOwn};
 
 use crate::chronicle::Row;
-use crate::front::Front;
+use crate::front::{Front, Own};
 use crate::log::Log;
 use crate::publishing::opening_press;
 use crate::purse::Purse;
@@ -102,6 +102,17 @@ pub(crate) fn again(
     Ok((game.clone()?, diagram.clone()?))
 }
 
+/// Why no office is opened where there is no memory: a game at the limit is told first.
+pub(crate) fn memory_fault(game: &Arc<GuardedGame>) -> OpenFault
+    ensures at_limit { (result ≡ OpenFault.AtLimit) ↔ IsAtLimit (arc_value game.now) }
+    ensures conflict { (f : ℕ) → ¬ (result ≡ OpenFault.Conflict f) }
+{
+    if game.is_at_limit() {
+        return OpenFault::AtLimit;
+    }
+    OpenFault::Memory
+}
+
 /// A desk on a game and a diagram, and a press that shows its sheet.
 fn opened_desk<L: Terms, R: Wait>(
     rt: &R,
@@ -154,13 +165,8 @@ impl<L: Terms> Shared<Row, L, Log<L>> {
         ensures site_back { IfErr result (λ refused. refused.site ≡ site) }
     {
         let Ok((same_game, same_diagram)) = again(&game, &diagram) else {
-            let fault = if game.is_at_limit() {
-                OpenFault::AtLimit
-            } else {
-                OpenFault::Memory
-            };
             return Err(NotOpened {
-                fault,
+                fault: memory_fault(&game),
                 game,
                 diagram,
                 site,
@@ -193,11 +199,10 @@ impl<L: Terms> Shared<Row, L, Log<L>> {
         ensures number { IfOk result (λ r. (1 ≤ r.0) × (r.0 ≤ 1024)) }
     {
         let mut log = self.log.lock(rt);
-        let number = log.number();
-        let front = log.front();
+        let joined = log.joined();
         MutexGuard::unlock(log);
-        match number {
-            Some(number) => Ok((Session::numbered(number), front)),
+        match joined {
+            Some((number, front)) => Ok((Session::numbered(number), front)),
             None => Err(TooManySessions),
         }
     }
@@ -216,55 +221,19 @@ impl<L: Terms> Shared<Row, L, Log<L>> {
         watch
     }
 
-    /// The log, locked where it has the front.
-    pub(crate) fn log_with<R: Wait>(&self, rt: &R, front: &Front<L>) -> MutexGuard<'_, Log<L>>
-        ensures { IsPrefix front.now (mutex_guard_value result) }
+    /// The log, locked where it has the front and a token's.
+    pub(crate) fn log_with<R: Wait>(
+        &self,
+        rt: &R,
+        front: &Front<L>,
+        own: &Option<Own<L>>,
+    ) -> MutexGuard<'_, Log<L>>
+        ensures front { IsPrefix front.now (mutex_guard_value result) }
+        ensures own { IfSome own.now (HasOwn (mutex_guard_value result)) }
     {
         'again: for _ in rt.forever() {
             let log = self.log.lock(rt);
-            if log.has(&self.row, front) {
-                return log;
-            }
-            MutexGuard::unlock(log);
-        }
-        unreachable!()
-    }
-
-    /// The log, locked where it has both fronts.
-    pub(crate) fn log_with_both<R: Wait>(
-        &self,
-        rt: &R,
-        front: &Front<L>,
-        other: &Front<L>,
-    ) -> MutexGuard<'_, Log<L>>
-        ensures front { IsPrefix front.now (mutex_guard_value result) }
-        ensures other { IsPrefix other.now (mutex_guard_value result) }
-    {
-        'again: for _ in rt.forever() {
-            let log = self.log_with(rt, front);
-            if log.has(&self.row, other) {
-                return log;
-            }
-            MutexGuard::unlock(log);
-        }
-        unreachable!()
-    }
-
-    /// The log, locked where it has the front, and a token's front with its last call that gave a token of the serial
-    /// at the end.
-    pub(crate) fn log_holding<R: Wait>(
-        &self,
-        rt: &R,
-        front: &Front<L>,
-        serial: u64,
-        own: &Front<L>,
-    ) -> MutexGuard<'_, Log<L>>
-        ensures front { IsPrefix front.now (mutex_guard_value result) }
-        ensures own { IsLastGiven (mutex_guard_value result) serial own.now }
-    {
-        'again: for _ in rt.forever() {
-            let log = self.log_with(rt, front);
-            if log.holds(&self.row, serial, own) {
+            if log.has_both(&self.row, front, own) {
                 return log;
             }
             MutexGuard::unlock(log);
@@ -279,15 +248,15 @@ impl<L: Terms> Shared<Row, L, Log<L>> {
         ensures one { (front.new ≡ front.old) ⊎ (front.new ≡ other.now) }
         ensures history { IsHistory (family_between L.game L.diagram) front.new }
     {
-        'again: for _ in rt.forever() {
-            let log = self.log.lock(rt);
-            let met = log.meets(&self.row, front, other);
-            MutexGuard::unlock(log);
-            if met {
-                return;
-            }
+        let own = Some(Own {
+            front: other.copy(),
+            serial: None,
+        });
+        let log = self.log_with(rt, front, &own);
+        MutexGuard::unlock(log);
+        if front.len() < other.len() {
+            *front = other.copy();
         }
-        unreachable!()
     }
 
     /// Ends the office, where no token of it is out; else it comes back, with their exact number. The front grows to
@@ -302,8 +271,7 @@ impl<L: Terms> Shared<Row, L, Log<L>> {
     {
         let Shared { row, log, of: _ } = self;
         let log = log.into_inner();
-        log.awaits(rt, &row, front);
-        *front = log.front();
+        log.catches_up(rt, &row, front);
         let tokens = log.tokens();
         if tokens == 0 {
             log.dissolve(rt, row);
@@ -335,8 +303,7 @@ impl<L: Terms> Shared<Row, L, Log<L>> {
     {
         let Shared { row, log, of: _ } = self;
         let log = log.into_inner();
-        log.awaits(rt, &row, front);
-        *front = log.front();
+        log.catches_up(rt, &row, front);
         log.end(rt, row, undos, redos)
     }
 }

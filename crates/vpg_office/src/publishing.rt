@@ -100,13 +100,15 @@ impl<L: Terms> Log<L> {
         publish(rt, alloc, &mut self.press, &self.desk, &self.calls.newest)
     }
 
-    /// Publishes the sheet of the log, where the call just made changed the page and there was a watch. One that finds
-    /// no memory is left out.
-    pub(crate) fn publish<R: Wait>(&mut self, rt: &R, alloc: Global, changed: bool)
+    /// Publishes the sheet of the log, where the call just made changed the page, which gives the allocator, and there
+    /// was a watch. One that finds no memory is left out.
+    pub(crate) fn publish<R: Wait>(&mut self, rt: &R, sheet: Option<Global>, made: bool)
         ensures { self.new ≡ self.old }
     {
-        if changed && self.watched {
-            let _left_out = self.show(rt, alloc);
+        if let Some(alloc) = sheet {
+            if made && self.watched {
+                let _left_out = self.show(rt, alloc);
+            }
         }
     }
 

@@ -1,6 +1,6 @@
 //! Sessions and their calls.
 ghost use Rattle.std.specs.Arc.{arc_value};
-ghost use Rattle.std.specs.Prelude.{◌≡◌, ◌<◌, ◌≤◌, true, length, IfOk, IfErr, OnOk};
+ghost use Rattle.std.specs.Prelude.{◌≡◌, ◌<◌, ◌≤◌, List, true, length, IfOk, IfErr, IfSome, OnOk};
 ghost use mathlib.Core.List.{IsPrefix};
 ghost use Rattle.vpg_desk.specs.Book as book;
 ghost use Rattle.vpg_desk.specs.Commit.{handed_in};
@@ -8,23 +8,32 @@ ghost use Rattle.vpg_game.specs.Game.{graph_of};
 ghost use Rattle.vpg_measure.specs.Games.{ArePageGames};
 ghost use Rattle.vpg_trail.specs.Page.{Hopeful, Dual, choices_of, decisions_of, table_of};
 ghost use Rattle.vpg_desk.specs.Headline.{Tells as PageTells};
-ghost use Rattle.vpg_desk.specs.History.{book_after};
+ghost use Rattle.vpg_desk.specs.History.{Event, book_after};
 ghost use Rattle.vpg_desk.specs.Lawful.{PageIsBelow};
 ghost use Rattle.vpg_desk.specs.Setting.{IsSetting};
 ghost use Rattle.vpg_desk.specs.State.{IsReached, setting_between};
 ghost use Rattle.vpg_desk.specs.Faults.{decide_refusal, redo_refusal, retract_refusal, undo_refusal};
 ghost use Rattle.vpg_office.specs.Faults.{Begins, CommitTells, Tells, never_refused};
 ghost use Rattle.vpg_office.specs.Fronts.{Extends, GoesBackTo, family_between};
+ghost use Rattle.vpg_office.specs.Kept.{HasOwn};
+ghost use Rattle.vpg_office.specs.Made.{IsEntered, Leaves};
 ghost use Rattle.vpg_office.specs.Story.{IsOf};
 
+use crate::asked::Asked;
+use crate::calls::Call;
+use crate::changes::{DecideCall, RetractCall};
+use crate::commits::CommitCall;
 use crate::fault::{Fault, Never, Returned};
-use crate::front::Front;
+use crate::front::{Front, Own};
+use crate::looks::{OrderCall, PageCall, SettledCall, VerdictCall};
 use crate::office::Office;
 use crate::redo_token::Redo;
 use crate::terms::Terms;
+use crate::tokens::{ForgetCall, KeepCall, RedoCall, UndoCall};
 use crate::undo_token::Undo;
 use std::alloc::Global;
 use std::marker::{Model, PhantomData};
+use std::snapshot::Snapshot;
 use std::sync::{Arc, MutexGuard, Wait};
 use vpg_desk::{CommitFault, DecideFault, RedoFault, RetractFault, UndoFault};
 use vpg_measure::{Harvest, Order, PageGames};
@@ -87,11 +96,16 @@ impl<L: Terms> Session<L> {
             (book.Decide feature value) self.old front.old front.new) }
         ensures same { self.new ≡ self.old }
     {
-        let mut log = office.log_with(rt, front);
-        let answer = log.decide(rt, alloc, &office.row, self.number, front, feature, value);
-        log.publish(rt, alloc, answer.is_ok());
-        MutexGuard::unlock(log);
-        answer
+        let asked = Asked::Decide { feature, value };
+        let call = DecideCall {
+            alloc,
+            feature,
+            value,
+        };
+        match self.make(rt, office, front, None, asked, call, Some(alloc)) {
+            Ok(issued) => Ok(Undo::of(issued, front)),
+            Err(back) => Err(back.into_fault()),
+        }
     }
 
     /// Takes the decision on a feature back, as `Desk::retract`.
@@ -111,11 +125,12 @@ impl<L: Terms> Session<L> {
             (book.Retract feature) self.old front.old front.new) }
         ensures same { self.new ≡ self.old }
     {
-        let mut log = office.log_with(rt, front);
-        let answer = log.retract(rt, alloc, &office.row, self.number, front, feature);
-        log.publish(rt, alloc, answer.is_ok());
-        MutexGuard::unlock(log);
-        answer
+        let asked = Asked::Retract { feature };
+        let call = RetractCall { alloc, feature };
+        match self.make(rt, office, front, None, asked, call, Some(alloc)) {
+            Ok(issued) => Ok(Undo::of(issued, front)),
+            Err(back) => Err(back.into_fault()),
+        }
     }
 
     /// Takes the token's change back, as `Desk::undo`: the present page is the one just before the call that gave the
@@ -140,11 +155,24 @@ impl<L: Terms> Session<L> {
         ensures back { IfErr result (λ b. b.value ≡ token) }
         ensures same { self.new ≡ self.old }
     {
-        let mut log = office.log_holding(rt, front, token.serial(), &token.place);
-        let answer = log.undo(rt, alloc, &office.row, self.number, front, token);
-        log.publish(rt, alloc, answer.is_ok());
-        MutexGuard::unlock(log);
-        answer
+        let serial = token.serial();
+        let own = Own {
+            front: token.place.copy(),
+            serial: Some(serial),
+        };
+        let asked = Asked::Undo { serial };
+        let call = UndoCall { alloc, token };
+        match self.make(rt, office, front, Some(own), asked, call, Some(alloc)) {
+            Ok(issued) => Ok(Redo::of(issued, front)),
+            Err(back) => {
+                let Returned { fault, value } = back;
+                let UndoCall { alloc: _, token } = value;
+                Err(Returned {
+                    fault,
+                    value: token,
+                })
+            }
+        }
     }
 
     /// Makes the token's change again, as `Desk::redo`: the present page is the one just before the call that gave the
@@ -169,11 +197,24 @@ impl<L: Terms> Session<L> {
         ensures back { IfErr result (λ b. b.value ≡ token) }
         ensures same { self.new ≡ self.old }
     {
-        let mut log = office.log_holding(rt, front, token.serial(), &token.place);
-        let answer = log.redo(rt, alloc, &office.row, self.number, front, token);
-        log.publish(rt, alloc, answer.is_ok());
-        MutexGuard::unlock(log);
-        answer
+        let serial = token.serial();
+        let own = Own {
+            front: token.place.copy(),
+            serial: Some(serial),
+        };
+        let asked = Asked::Redo { serial };
+        let call = RedoCall { alloc, token };
+        match self.make(rt, office, front, Some(own), asked, call, Some(alloc)) {
+            Ok(issued) => Ok(Undo::of(issued, front)),
+            Err(back) => {
+                let Returned { fault, value } = back;
+                let RedoCall { alloc: _, token } = value;
+                Err(Returned {
+                    fault,
+                    value: token,
+                })
+            }
+        }
     }
 
     /// Spends a token, as `Desk::keep`.
@@ -194,10 +235,25 @@ impl<L: Terms> Session<L> {
         ensures back { IfErr result (λ b. b.value ≡ token) }
         ensures same { self.new ≡ self.old }
     {
-        let mut log = office.log_with_both(rt, front, &token.place);
-        let answer = log.keep(rt, &office.row, self.number, front, token);
-        MutexGuard::unlock(log);
-        answer
+        let own = Own {
+            front: token.place.copy(),
+            serial: None,
+        };
+        let asked = Asked::Keep {
+            serial: token.serial(),
+        };
+        let call = KeepCall { token };
+        match self.make(rt, office, front, Some(own), asked, call, None) {
+            Ok(()) => Ok(()),
+            Err(back) => {
+                let Returned { fault, value } = back;
+                let KeepCall { token } = value;
+                Err(Returned {
+                    fault,
+                    value: token,
+                })
+            }
+        }
     }
 
     /// Spends a token, as `Desk::forget`.
@@ -218,10 +274,25 @@ impl<L: Terms> Session<L> {
         ensures back { IfErr result (λ b. b.value ≡ token) }
         ensures same { self.new ≡ self.old }
     {
-        let mut log = office.log_with_both(rt, front, &token.place);
-        let answer = log.forget(rt, &office.row, self.number, front, token);
-        MutexGuard::unlock(log);
-        answer
+        let own = Own {
+            front: token.place.copy(),
+            serial: None,
+        };
+        let asked = Asked::Forget {
+            serial: token.serial(),
+        };
+        let call = ForgetCall { token };
+        match self.make(rt, office, front, Some(own), asked, call, None) {
+            Ok(()) => Ok(()),
+            Err(back) => {
+                let Returned { fault, value } = back;
+                let ForgetCall { token } = value;
+                Err(Returned {
+                    fault,
+                    value: token,
+                })
+            }
+        }
     }
 
     /// Whether both tables of the present page are progress tables.
@@ -238,10 +309,11 @@ impl<L: Terms> Session<L> {
             (Tells (family_between L.game L.diagram) L.limit never_refused book.Settled self.old front.old front.new) }
         ensures same { self.new ≡ self.old }
     {
-        let mut log = office.log_with(rt, front);
-        let answer = log.settled(rt, &office.row, self.number, front);
-        MutexGuard::unlock(log);
-        answer
+        let asked = Asked::Settled;
+        match self.make(rt, office, front, None, asked, SettledCall, None) {
+            Ok(settled) => Ok(settled),
+            Err(back) => Err(back.into_fault()),
+        }
     }
 
     /// What the present tables say of a vertex.
@@ -261,10 +333,11 @@ impl<L: Terms> Session<L> {
             (book.Verdict vertex) self.old front.old front.new) }
         ensures same { self.new ≡ self.old }
     {
-        let mut log = office.log_with(rt, front);
-        let answer = log.verdict(rt, &office.row, self.number, front, vertex);
-        MutexGuard::unlock(log);
-        answer
+        let asked = Asked::Verdict { vertex };
+        match self.make(rt, office, front, None, asked, VerdictCall { vertex }, None) {
+            Ok(verdict) => Ok(verdict),
+            Err(back) => Err(back.into_fault()),
+        }
     }
 
     /// The present page, as `Desk::page`.
@@ -291,10 +364,18 @@ impl<L: Terms> Session<L> {
             (Tells (family_between L.game L.diagram) L.limit never_refused book.Page self.old front.old front.new) }
         ensures same { self.new ≡ self.old }
     {
-        let mut log = office.log_with(rt, front);
-        let answer = log.page(rt, alloc, &office.row, self.number, front);
-        MutexGuard::unlock(log);
-        answer
+        match self.make(
+            rt,
+            office,
+            front,
+            None,
+            Asked::Page,
+            PageCall { alloc },
+            None,
+        ) {
+            Ok((page, _games)) => Ok(page),
+            Err(back) => Err(back.into_fault()),
+        }
     }
 
     /// The present page, as `Desk::page`, with what its decisions make of the game, as `Desk::games`: one call, so the
@@ -323,10 +404,18 @@ impl<L: Terms> Session<L> {
             (Tells (family_between L.game L.diagram) L.limit never_refused book.Page self.old front.old front.new) }
         ensures same { self.new ≡ self.old }
     {
-        let mut log = office.log_with(rt, front);
-        let answer = log.page_with_games(rt, alloc, &office.row, self.number, front);
-        MutexGuard::unlock(log);
-        answer
+        match self.make(
+            rt,
+            office,
+            front,
+            None,
+            Asked::Page,
+            PageCall { alloc },
+            None,
+        ) {
+            Ok(both) => Ok(both),
+            Err(back) => Err(back.into_fault()),
+        }
     }
 
     /// What lifters take along.
@@ -345,10 +434,18 @@ impl<L: Terms> Session<L> {
             (Tells (family_between L.game L.diagram) L.limit never_refused book.Order self.old front.old front.new) }
         ensures same { self.new ≡ self.old }
     {
-        let mut log = office.log_with(rt, front);
-        let answer = log.order(rt, alloc, &office.row, self.number, front);
-        MutexGuard::unlock(log);
-        answer
+        match self.make(
+            rt,
+            office,
+            front,
+            None,
+            Asked::Order,
+            OrderCall { alloc },
+            None,
+        ) {
+            Ok(order) => Ok(order),
+            Err(back) => Err(back.into_fault()),
+        }
     }
 
     /// Raises the present tables to the harvest's, as `Desk::commit`.
@@ -369,11 +466,7 @@ impl<L: Terms> Session<L> {
         ensures back { IfErr result (λ b. b.value ≡ harvest) }
         ensures same { self.new ≡ self.old }
     {
-        let mut log = office.log_with(rt, front);
-        let answer = log.commit(rt, alloc, &office.row, self.number, front, harvest, false);
-        log.publish(rt, alloc, answer.is_ok());
-        MutexGuard::unlock(log);
-        answer
+        self.hand_in(rt, alloc, office, front, harvest, false)
     }
 
     /// As `commit`, of a harvest whose order has the office's game and diagram, as those of `order` have: the two are
@@ -395,9 +488,86 @@ impl<L: Terms> Session<L> {
         ensures back { IfErr result (λ b. b.value ≡ harvest) }
         ensures same { self.new ≡ self.old }
     {
-        let mut log = office.log_with(rt, front);
-        let answer = log.commit(rt, alloc, &office.row, self.number, front, harvest, true);
-        log.publish(rt, alloc, answer.is_ok());
+        self.hand_in(rt, alloc, office, front, harvest, true)
+    }
+
+    /// Commits a harvest; `own` where it is known to be of the office's game and diagram.
+    fn hand_in<R: Wait>(
+        &self,
+        rt: &R,
+        alloc: Global,
+        office: &Office<L>,
+        front: &mut Front<L>,
+        harvest: Harvest,
+        own: bool,
+    ) -> Result<u32, Returned<L, CommitFault, Harvest>>
+        requires { own ≡ true → IsOf L.game L.diagram harvest.order }
+        ensures done { IfOk result
+            (λ added. Extends (family_between L.game L.diagram) front.old self.now
+            (book.Commit (handed_in true harvest)) (book.Added added) front.new) }
+        ensures ours { OnOk result (IsOf L.game L.diagram harvest.order) }
+        ensures fault { IfErr result
+            (λ b. CommitTells L.game L.diagram L.limit harvest self.now front.old front.new b.fault) }
+        ensures back { IfErr result (λ b. b.value ≡ harvest) }
+    {
+        let asked = Asked::Commit {
+            harvest: Snapshot::of(&harvest),
+        };
+        let shown = Snapshot::of(&harvest);
+        let call = CommitCall {
+            alloc,
+            harvest,
+            shown,
+            own,
+        };
+        match self.make(rt, office, front, None, asked, call, Some(alloc)) {
+            Ok(entries) => Ok(entries),
+            Err(back) => {
+                let Returned { fault, value } = back;
+                let CommitCall {
+                    alloc: _,
+                    harvest,
+                    shown: _,
+                    own: _,
+                } = value;
+                Err(Returned {
+                    fault,
+                    value: harvest,
+                })
+            }
+        }
+    }
+
+    /// Makes a call on a log that has the front and a token's. With an allocator the sheet of a call that is made is
+    /// published.
+    fn make<C: Call<L>, R: Wait>(
+        &self,
+        rt: &R,
+        office: &Office<L>,
+        front: &mut Front<L>,
+        own: Option<Own<L>>,
+        asked: Asked,
+        call: C,
+        sheet: Option<Global>,
+    ) -> Result<C::Given, Returned<L, C::Refused, C>>
+        requires asked { asked ≡ C.asks call }
+        requires takes { C.Takes call }
+        ensures made { IfOk result
+            (λ g. (log : List Event) ×
+            (IsPrefix front.old log ×
+            (IfSome own (HasOwn log) ×
+            (IsEntered L.game L.diagram log front.old self.now (C.asks call) (C.answers g) front.new ×
+            C.Gives call (book_after (family_between L.game L.diagram) book.opened log) g)))) }
+        ensures leaves { IfErr result
+            (λ b. (log : List Event) ×
+            (IsPrefix front.old log ×
+            (IfSome own (HasOwn log) ×
+            Leaves L.game L.diagram L.limit C.refusal log front.old self.now (C.asks call) front.new b.fault))) }
+        ensures back { IfErr result (λ b. b.value ≡ call) }
+    {
+        let mut log = office.log_with(rt, front, &own);
+        let answer = log.make(rt, &office.row, self.number, front, asked, call);
+        log.publish(rt, sheet, answer.is_ok());
         MutexGuard::unlock(log);
         answer
     }

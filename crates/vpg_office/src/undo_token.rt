@@ -1,6 +1,7 @@
 //! Tokens of changes that sessions can undo.
 ghost use Rattle.std.specs.Prelude.{◌≡◌};
 
+use crate::calls::Issued;
 use crate::front::Front;
 use crate::terms::Terms;
 use std::marker::Model;
@@ -34,6 +35,24 @@ impl<L: Terms> Model for Undo<L> {
 }
 
 impl<L: Terms> Undo<L> {
+    ghost use Rattle.std.specs.Prelude.{IsTrue};
+    ghost use Rattle.vpg_desk.specs.History.{gives_undo};
+    ghost use Rattle.vpg_office.specs.Token.{EndsWith};
+
+    /// The token that the last call of the front gave.
+    pub(crate) fn of(issued: Issued<L, vpg_desk::Undo>, front: &Front<L>) -> Undo<L>
+        requires share { (issued.share.amount ≡ 1) × (issued.share.parts ≡ 1) }
+        requires ends { EndsWith (λ reply. IsTrue (gives_undo issued.token reply)) front.now }
+        ensures { result ≡ record { serial = issued.token; history = front.now } }
+    {
+        let Issued { token, share } = issued;
+        Undo {
+            token,
+            place: front.copy(),
+            share,
+        }
+    }
+
     /// The serial of the change.
     pub fn serial(&self) -> u64
         ensures { result ≡ self.now.serial }

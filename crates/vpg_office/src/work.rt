@@ -1,15 +1,15 @@
 //! Opening an office without picking what ties its parts together.
 ghost use Rattle.std.specs.Arc.{arc_value};
-ghost use Rattle.std.specs.Prelude.{◌≡◌, ◌≤◌, ◌↔◌, ℕ, [], IfErr};
+ghost use Rattle.std.specs.Prelude.{◌≡◌, ◌≤◌, ◌↔◌, ℕ, [], IfOk, IfErr};
 ghost use Rattle.vpg_diagram.specs.FeatureDiagram.{feature_count};
 ghost use Rattle.vpg_game.specs.Game.{IsAtLimit};
 ghost use Rattle.vpg_partial.specs.KnownLaws.{HasConflictOf};
 
 use crate::front::Front;
-use crate::office::{NotOpened, Office, again};
+use crate::office::{NotOpened, Office, again, memory_fault};
 use crate::site::Site;
 use crate::terms::Terms;
-use std::alloc::Global;
+use std::alloc::{AllocError, Global};
 use std::marker::Brand;
 use std::sync::{Arc, Wait};
 use vpg_desk::OpenFault;
@@ -65,20 +65,30 @@ pub fn with_office<R: Wait, W: Work<R>>(
     ensures diagram_back { IfErr result (λ refused. arc_value refused.diagram ≡ arc_value diagram) }
     ensures work_back { IfErr result (λ refused. refused.work ≡ work) }
 {
-    let Ok(site) = Site::new(alloc) else {
-        let fault = if game.is_at_limit() {
-            OpenFault::AtLimit
-        } else {
-            OpenFault::Memory
-        };
-        return Err(NotBegun {
-            fault,
+    match site_for(alloc, &game, &diagram) {
+        Ok((site, owners)) => {
+            with_site::<Brand, R, W>(rt, alloc, site, game, diagram, owners, room, work)
+        }
+        Err(_) => Err(NotBegun {
+            fault: memory_fault(&game),
             game,
             diagram,
             work,
-        });
-    };
-    with_site::<Brand, R, W>(rt, alloc, site, game, diagram, room, work)
+        }),
+    }
+}
+
+/// A site, and further owners of both.
+fn site_for(
+    alloc: Global,
+    game: &Arc<GuardedGame>,
+    diagram: &Arc<Diagram>,
+) -> Result<(Site, (Arc<GuardedGame>, Arc<Diagram>)), AllocError>
+    ensures game { IfOk result (λ r. arc_value r.1.0 ≡ arc_value game.now) }
+    ensures diagram { IfOk result (λ r. arc_value r.1.1 ≡ arc_value diagram.now) }
+{
+    let site = Site::new(alloc)?;
+    Ok((site, again(game, diagram)?))
 }
 
 fn with_site<L: Terms + Send + Sync, R: Wait, W: Work<R>>(
@@ -87,12 +97,14 @@ fn with_site<L: Terms + Send + Sync, R: Wait, W: Work<R>>(
     site: Site,
     game: Arc<GuardedGame>,
     diagram: Arc<Diagram>,
+    owners: (Arc<GuardedGame>, Arc<Diagram>),
     room: u32,
     work: W,
 ) -> Result<W::Answer, NotBegun<W>>
     requires features { (arc_value game).features ≡ feature_count (arc_value diagram).lines }
     requires site { (site.row ≡ L.shelves) × (site.name ≡ L.name) × (site.parts ≡ L.parts) }
     requires of { (arc_value game ≡ L.game) × (arc_value diagram ≡ L.diagram) }
+    requires owners { (arc_value owners.0 ≡ L.game) × (arc_value owners.1 ≡ L.diagram) }
     requires room { (room ≡ L.limit) × (1 ≤ room) × (room ≤ 1048576) }
     ensures at_limit { IfErr result (λ refused. (refused.fault ≡ OpenFault.AtLimit) ↔ IsAtLimit (arc_value game)) }
     ensures conflict { IfErr result
@@ -102,21 +114,8 @@ fn with_site<L: Terms + Send + Sync, R: Wait, W: Work<R>>(
     ensures diagram_back { IfErr result (λ refused. arc_value refused.diagram ≡ arc_value diagram) }
     ensures work_back { IfErr result (λ refused. refused.work ≡ work) }
 {
-    let Ok((same_game, same_diagram)) = again(&game, &diagram) else {
-        let fault = if game.is_at_limit() {
-            OpenFault::AtLimit
-        } else {
-            OpenFault::Memory
-        };
-        return Err(NotBegun {
-            fault,
-            game,
-            diagram,
-            work,
-        });
-    };
     match Office::<L>::open(rt, alloc, site, game, diagram, room) {
-        Ok(office) => Ok(work.work(rt, office, Front::empty(), same_game, same_diagram)),
+        Ok(office) => Ok(work.work(rt, office, Front::empty(), owners.0, owners.1)),
         Err(refused) => {
             let NotOpened {
                 fault,

@@ -3,6 +3,7 @@ use Rattle.std.specs.Bool.{Decides}
 use Rattle.vpg_desk.specs.Book as book
 use Rattle.vpg_desk.specs.Commit.{IsOrderOf, commit_refusal, handed_in}
 use Rattle.vpg_desk.specs.State.{Replies}
+use Rattle.vpg_office.proofs.Calling.{ok_all}
 use Rattle.vpg_office.proofs.Committing.{refused_then}
 use Rattle.vpg_office.proofs.commits.hand_in.Goals as goal
 
@@ -13,3 +14,6 @@ returns-then-own-clause-refused c =
     refused_then c.commit_own.result (λ r. commit_refusal r.fault) (λ refusal. Replies state (book.Commit (handed_in true harvest)) (book.Refused refusal))
     (λ refusal. (b : Bool) × (Decides b (IsOrderOf state harvest.order) × Replies state (book.Commit (handed_in b harvest)) (book.Refused refusal)))
     (λ refusal replies. (true, (((λ _. c.requires.own c.if-own.true), (λ _. refl)), replies))) c.commit_own.ensures.refused
+
+pub returns-then-own-clause-same : goal.returns-then-own-clause-same
+returns-then-own-clause-same c = ok_all c.commit_own.result (IsOrderOf c.args.desk.now c.args.harvest.order) (c.requires.own c.if-own.true)

@@ -31,3 +31,6 @@ returns-in-Err-clause-kept g c = same_kept c.prepare.new.self c.prepare.ensures.
 
 pub returns-in-Ok-clause-place : goal.returns-in-Ok-clause-place
 returns-in-Ok-clause-place g c = (subst (λ (s : Shelves). Shows s c.in-Ok.place) c.requires.row c.in-Ok.ensures.place.0, c.in-Ok.ensures.place.1)
+
+pub returns-then-len-self-clause-err : goal.returns-then-len-self-clause-err
+returns-then-len-self-clause-err g c = (c.copy.ensures.same, omega (arith, c.if-len-self.true, c.len.ensures.length, c.requires.limit), omega (arith, c.len.ensures.length, c.len.ensures.fits))

@@ -1,7 +1,4 @@
-use Rattle.std.proofs.Common.{List, sym, subst}
-use mathlib.Core.List.{IsPrefix}
-use Rattle.vpg_desk.specs.History.{Event}
 use Rattle.vpg_office.proofs.office.Shared+Row+L+Log+L.end.Goals as goal
 
 pub returns-clause-begins : goal.returns-clause-begins
-returns-clause-begins g c = subst (λ (l : List Event). IsPrefix c.args.front.now l) (sym c.front.ensures.front) c.awaits.ensures
+returns-clause-begins g c = c.catches_up.ensures.begins

@@ -1,25 +1,26 @@
-use Rattle.std.proofs.Common.{IfErr, sym}
+use Rattle.std.proofs.Common.{refl, ap, ◌∙◌}
 use mathlib.Core.List.{IsPrefix}
-use Rattle.std.specs.Prelude.{OnOk}
 use Rattle.vpg_desk.specs.Book as book
-use Rattle.vpg_office.specs.Faults.{Tells, never_refused}
-use Rattle.vpg_office.specs.Fronts.{Extends, family_between}
+use Rattle.vpg_office.specs.Faults.{never_refused}
+use Rattle.vpg_office.specs.Fronts.{event}
+use Rattle.vpg_office.specs.declared.asked.Asked.TheVariants as ask
+use Rattle.vpg_office.proofs.Calling.{entered_extends, leaves_tells, prefix_more}
 use Rattle.vpg_office.proofs.session.Session.forget.Goals as goal
 
-pub returns-clause-done : goal.returns-clause-done
-returns-clause-done g c =
-    let F = family_between g.L.Terms.game g.L.Terms.diagram in
-    let n = c.self.view_is in
-    coe 0 1 (k. OnOk c.forget-answer.result (Extends F c.args.front.now (n k) (book.Forget c.args.token.serial) book.Spent c.forget-answer.new.front)) c.forget-answer.ensures.done
+pub make-requires-clause-asked : goal.make-requires-clause-asked
+make-requires-clause-asked g c = λ k. ask.Forget (c.serial.ensures k)
 
-pub returns-clause-fault : goal.returns-clause-fault
-returns-clause-fault g c =
-    let F = family_between g.L.Terms.game g.L.Terms.diagram in
-    let n = c.self.view_is in
-    coe 0 1 (k. IfErr c.forget-answer.result (λ b. Tells F g.L.Terms.limit never_refused (book.Forget c.args.token.serial) (n k) c.args.front.now c.forget-answer.new.front b.fault)) c.forget-answer.ensures.fault
+pub returns-in-Ok-clause-done : goal.returns-in-Ok-clause-done
+returns-in-Ok-clause-done g c = entered_extends c.in-Ok.ensures.made.1.0 c.in-Ok.ensures.made.1.1.1.0
 
-pub forget-answer-requires-clause-seen : goal.forget-answer-requires-clause-seen
-forget-answer-requires-clause-seen g c = coe 0 1 (k. IsPrefix c.args.front.now ((sym c.deref_mut.ensures.value) k)) c.log_with_both-log.ensures.front
+pub returns-in-Ok-clause-begins : goal.returns-in-Ok-clause-begins
+returns-in-Ok-clause-begins g c = prefix_more c.args.token.history c.in-Ok.ensures.made.0 c.make.new.front (event c.args.self.now (book.Forget c.args.token.serial) book.Spent)
+    (coe 0 1 (k. IsPrefix ((c.copy.ensures.same ∙ (λ j. (c.token.view_is j).history)) k) c.in-Ok.ensures.made.0) c.in-Ok.ensures.made.1.1.0.0) c.in-Ok.ensures.made.1.1.1.0.is
 
-pub forget-answer-requires-clause-held : goal.forget-answer-requires-clause-held
-forget-answer-requires-clause-held g c = coe 0 1 (k. IsPrefix (c.token.view_is k).history ((sym c.deref_mut.ensures.value) k)) c.log_with_both-log.ensures.other
+pub returns-in-Err-clause-fault : goal.returns-in-Err-clause-fault
+returns-in-Err-clause-fault g c =
+    leaves_tells g.L.Terms.game g.L.Terms.diagram g.L.Terms.limit never_refused c.in-Err.ensures.leaves.0 c.args.front.now c.args.self.now (ask.Forget c.args.token.serial) c.make.new.front (book.Forget c.args.token.serial) c.in-Err.back.fault
+    (λ r. refl) c.in-Err.ensures.leaves.1.0 c.in-Err.ensures.leaves.1.1.1
+
+pub returns-in-Err-clause-back : goal.returns-in-Err-clause-back
+returns-in-Err-clause-back g c = ap (λ t. t.token) c.in-Err.ensures.back

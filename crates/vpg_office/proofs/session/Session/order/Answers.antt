@@ -1,21 +1,20 @@
-use Rattle.std.proofs.Common.{IfOk, IfErr, sym}
-use mathlib.Core.List.{IsPrefix}
+use Rattle.std.proofs.Common.{refl, sym}
 use Rattle.vpg_desk.specs.Book as book
 use Rattle.vpg_office.specs.Faults.{Tells, never_refused}
 use Rattle.vpg_office.specs.Fronts.{Extends, family_between}
+use Rattle.vpg_office.specs.declared.asked.Asked.TheVariants as ask
+use Rattle.vpg_office.proofs.Calling.{entered_extends, leaves_tells}
 use Rattle.vpg_office.proofs.session.Session.order.Goals as goal
 
-pub returns-clause-done : goal.returns-clause-done
-returns-clause-done g c =
-    let F = family_between g.L.Terms.game g.L.Terms.diagram in
-    let n = c.self.view_is in
-    coe 0 1 (k. IfOk c.order-answer.result (λ r. Extends F c.args.front.now (n k) book.Order (book.Ordered r.decisions r.hopeful r.dual) c.order-answer.new.front)) c.order-answer.ensures.done
+pub returns-in-Ok-clause-done : goal.returns-in-Ok-clause-done
+returns-in-Ok-clause-done g c =
+    let is = c.in-Ok.ensures.made.1.1.1.1.1 in
+    coe 0 1 (k. Extends (family_between g.L.Terms.game g.L.Terms.diagram) c.args.front.now c.args.self.now book.Order (book.Ordered ((sym is.0) k) ((sym is.1.0) k) ((sym is.1.1) k)) c.make.new.front) (entered_extends c.in-Ok.ensures.made.1.0 c.in-Ok.ensures.made.1.1.1.0)
 
-pub returns-clause-fault : goal.returns-clause-fault
-returns-clause-fault g c =
-    let F = family_between g.L.Terms.game g.L.Terms.diagram in
-    let n = c.self.view_is in
-    coe 0 1 (k. IfErr c.order-answer.result (Tells F g.L.Terms.limit never_refused book.Order (n k) c.args.front.now c.order-answer.new.front)) c.order-answer.ensures.fault
+pub returns-in-Err-clause-fault : goal.returns-in-Err-clause-fault
+returns-in-Err-clause-fault g c =
+    coe 0 1 (k. Tells (family_between g.L.Terms.game g.L.Terms.diagram) g.L.Terms.limit never_refused (book.Order) c.args.self.now c.args.front.now c.make.new.front ((sym c.into_fault.ensures) k))
+    (leaves_tells g.L.Terms.game g.L.Terms.diagram g.L.Terms.limit never_refused c.in-Err.ensures.leaves.0 c.args.front.now c.args.self.now (ask.Order) c.make.new.front (book.Order) c.in-Err.back.fault (λ r. refl) c.in-Err.ensures.leaves.1.0 c.in-Err.ensures.leaves.1.1.1)
 
-pub order-answer-requires-clause-seen : goal.order-answer-requires-clause-seen
-order-answer-requires-clause-seen g c = coe 0 1 (k. IsPrefix c.args.front.now ((sym c.deref_mut.ensures.value) k)) c.log_with-log.ensures
+pub returns-in-Ok-clause-ours : goal.returns-in-Ok-clause-ours
+returns-in-Ok-clause-ours g c = c.in-Ok.ensures.made.1.1.1.1.0

@@ -1,22 +1,27 @@
-use Rattle.std.proofs.Common.{◌≡◌, IfOk, IfErr, sym}
-use mathlib.Core.List.{IsPrefix}
+use Rattle.std.proofs.Common.{refl, sym, ap, eq-eqb}
+use Rattle.std.specs.Prelude.{IsTrue}
 use Rattle.vpg_desk.specs.Book as book
 use Rattle.vpg_desk.specs.Faults.{retract_refusal}
+use Rattle.vpg_desk.specs.History.{gives_undo}
 use Rattle.vpg_office.specs.Faults.{Tells}
 use Rattle.vpg_office.specs.Fronts.{Extends, family_between}
+use Rattle.vpg_office.specs.Token.{Held}
+use Rattle.vpg_office.specs.declared.asked.Asked.TheVariants as ask
+use Rattle.vpg_office.proofs.Calling.{entered_ends, entered_extends, leaves_tells}
 use Rattle.vpg_office.proofs.session.Session.retract.Goals as goal
 
-pub returns-clause-done : goal.returns-clause-done
-returns-clause-done g c =
-    let F = family_between g.L.Terms.game g.L.Terms.diagram in
-    let n = c.self.view_is in
-    coe 0 1 (k. IfOk c.retract-answer.result (λ t. Extends F c.args.front.now (n k) (book.Retract c.args.feature) (book.Changed t.serial) c.retract-answer.new.front × (t.history ≡ c.retract-answer.new.front))) c.retract-answer.ensures.done
+pub of-requires-clause-share : goal.of-requires-clause-share
+of-requires-clause-share g c = c.in-Ok.ensures.made.1.1.1.1
 
-pub returns-clause-fault : goal.returns-clause-fault
-returns-clause-fault g c =
-    let F = family_between g.L.Terms.game g.L.Terms.diagram in
-    let n = c.self.view_is in
-    coe 0 1 (k. IfErr c.retract-answer.result (Tells F g.L.Terms.limit retract_refusal (book.Retract c.args.feature) (n k) c.args.front.now c.retract-answer.new.front)) c.retract-answer.ensures.fault
+pub of-requires-clause-ends : goal.of-requires-clause-ends
+of-requires-clause-ends g c = entered_ends (λ reply. IsTrue (gives_undo c.in-Ok.issued.token reply)) c.in-Ok.ensures.made.1.1.1.0 (eq-eqb _ _ refl)
 
-pub retract-answer-requires-clause-seen : goal.retract-answer-requires-clause-seen
-retract-answer-requires-clause-seen g c = coe 0 1 (k. IsPrefix c.args.front.now ((sym c.deref_mut.ensures.value) k)) c.log_with-log.ensures
+pub returns-in-Ok-clause-done : goal.returns-in-Ok-clause-done
+returns-in-Ok-clause-done g c =
+    let F = family_between g.L.Terms.game g.L.Terms.diagram in
+    (coe 0 1 (k. Extends F c.args.front.now c.args.self.now (book.Retract c.args.feature) (book.Changed ((sym c.of.ensures) k).serial) c.make.new.front) (entered_extends c.in-Ok.ensures.made.1.0 c.in-Ok.ensures.made.1.1.1.0), ap (λ (t : Held). t.history) c.of.ensures)
+
+pub returns-in-Err-clause-fault : goal.returns-in-Err-clause-fault
+returns-in-Err-clause-fault g c =
+    coe 0 1 (k. Tells (family_between g.L.Terms.game g.L.Terms.diagram) g.L.Terms.limit retract_refusal (book.Retract c.args.feature) c.args.self.now c.args.front.now c.make.new.front ((sym c.into_fault.ensures) k))
+    (leaves_tells g.L.Terms.game g.L.Terms.diagram g.L.Terms.limit retract_refusal c.in-Err.ensures.leaves.0 c.args.front.now c.args.self.now (ask.Retract c.args.feature) c.make.new.front (book.Retract c.args.feature) c.in-Err.back.fault (λ r. refl) c.in-Err.ensures.leaves.1.0 c.in-Err.ensures.leaves.1.1.1)

@@ -1,24 +1,50 @@
-use Rattle.std.proofs.lemmas.Grind.{common_steps}
-use Rattle.std.proofs.Common.{◌≡◌, IfOk, IfErr, sym, arith}
+use Rattle.std.proofs.Common.{refl, sym, ap, ◌∙◌, eq-eqb}
+use Rattle.std.specs.Prelude.{IsTrue}
 use mathlib.Core.List.{IsPrefix}
 use Rattle.vpg_desk.specs.Book as book
 use Rattle.vpg_desk.specs.Faults.{undo_refusal}
-use Rattle.vpg_office.specs.Faults.{Tells}
-use Rattle.vpg_office.specs.Fronts.{Extends, family_between}
+use Rattle.vpg_desk.specs.History.{gives_redo}
+use Rattle.vpg_office.specs.Fronts.{Extends, event, family_between}
+use Rattle.vpg_office.specs.Kept.{IsLastGiven}
+use Rattle.vpg_office.specs.Token.{Held}
+use Rattle.vpg_office.specs.declared.asked.Asked.TheVariants as ask
+use Rattle.vpg_office.proofs.Calling.{entered_ends, entered_extends, leaves_begins, leaves_tells, prefix_more}
+use Rattle.vpg_office.proofs.Swinging.{undone_back}
 use Rattle.vpg_office.proofs.session.Session.undo.Goals as goal
 
-pub returns-clause-done : goal.returns-clause-done
-returns-clause-done g c =
+pub make-requires-clause-asked : goal.make-requires-clause-asked
+make-requires-clause-asked g c = λ k. ask.Undo (c.serial-serial.ensures k)
+
+pub of-requires-clause-share : goal.of-requires-clause-share
+of-requires-clause-share g c = (c.in-Ok.ensures.made.1.1.1.1.0, c.in-Ok.ensures.made.1.1.1.1.1.0)
+
+pub of-requires-clause-ends : goal.of-requires-clause-ends
+of-requires-clause-ends g c = entered_ends (λ reply. IsTrue (gives_redo c.in-Ok.issued.token reply)) c.in-Ok.ensures.made.1.1.1.0 (eq-eqb _ _ refl)
+
+pub returns-in-Ok-clause-done : goal.returns-in-Ok-clause-done
+returns-in-Ok-clause-done g c =
     let F = family_between g.L.Terms.game g.L.Terms.diagram in
-    coe 0 1 (k. IfOk c.undo-answer.result (λ t. Extends F c.args.front.now (c.self.view_is k) (book.Undo c.args.token.serial) (book.Undone t.serial) c.undo-answer.new.front × (t.history ≡ c.undo-answer.new.front))) c.undo-answer.ensures.done
+    (coe 0 1 (k. Extends F c.args.front.now c.args.self.now (book.Undo c.args.token.serial) (book.Undone ((sym c.of.ensures) k).serial) c.make.new.front) (entered_extends c.in-Ok.ensures.made.1.0 c.in-Ok.ensures.made.1.1.1.0), ap (λ (t : Held). t.history) c.of.ensures)
 
-pub returns-clause-fault : goal.returns-clause-fault
-returns-clause-fault g c =
-    let F = family_between g.L.Terms.game g.L.Terms.diagram in
-    coe 0 1 (k. IfErr c.undo-answer.result (λ b. Tells F g.L.Terms.limit undo_refusal (book.Undo c.args.token.serial) (c.self.view_is k) c.args.front.now c.undo-answer.new.front b.fault)) c.undo-answer.ensures.fault
+pub returns-in-Ok-clause-goes_back : goal.returns-in-Ok-clause-goes_back
+returns-in-Ok-clause-goes_back g c =
+    let held = coe 0 1 (k. IsLastGiven c.in-Ok.ensures.made.0 (c.serial-serial.ensures k) ((c.copy.ensures.same ∙ (λ j. (c.token.view_is j).history)) k)) c.in-Ok.ensures.made.1.1.0.1 in
+    undone_back (family_between g.L.Terms.game g.L.Terms.diagram) c.in-Ok.ensures.made.0 c.make.new.front c.args.token.history c.args.self.now c.args.token.serial c.in-Ok.issued.token c.in-Ok.ensures.made.1.1.1.1.1.1.0
+    held c.in-Ok.ensures.made.1.1.1.1.1.1.1 c.in-Ok.ensures.made.1.1.1.0.is c.in-Ok.ensures.made.1.1.1.0.history.legal
 
-pub undo-answer-requires-clause-seen : goal.undo-answer-requires-clause-seen
-undo-answer-requires-clause-seen g c = coe 0 1 (k. IsPrefix c.args.front.now ((sym c.deref_mut.ensures.value) k)) c.log_holding-log.ensures.front
+pub returns-in-Ok-clause-begins : goal.returns-in-Ok-clause-begins
+returns-in-Ok-clause-begins g c = prefix_more c.args.token.history c.in-Ok.ensures.made.0 c.make.new.front (event c.args.self.now (book.Undo c.args.token.serial) (book.Undone c.in-Ok.issued.token))
+    (coe 0 1 (k. IsPrefix ((c.copy.ensures.same ∙ (λ j. (c.token.view_is j).history)) k) c.in-Ok.ensures.made.0) c.in-Ok.ensures.made.1.1.0.0) c.in-Ok.ensures.made.1.1.1.0.is
 
-pub undo-answer-requires-clause-held : goal.undo-answer-requires-clause-held
-undo-answer-requires-clause-held g c = grind (arith, common_steps)
+pub returns-in-Err-clause-fault : goal.returns-in-Err-clause-fault
+returns-in-Err-clause-fault g c =
+    leaves_tells g.L.Terms.game g.L.Terms.diagram g.L.Terms.limit undo_refusal c.in-Err.ensures.leaves.0 c.args.front.now c.args.self.now (ask.Undo c.args.token.serial) c.make.new.front (book.Undo c.args.token.serial) c.in-Err.back.fault
+    (λ r. refl) c.in-Err.ensures.leaves.1.0 c.in-Err.ensures.leaves.1.1.1
+
+pub returns-in-Err-clause-refused : goal.returns-in-Err-clause-refused
+returns-in-Err-clause-refused g c =
+    leaves_begins g.L.Terms.game g.L.Terms.diagram g.L.Terms.limit undo_refusal c.in-Err.ensures.leaves.0 c.args.front.now c.args.self.now (ask.Undo c.args.token.serial) c.make.new.front c.args.token.history c.in-Err.back.fault
+    (coe 0 1 (k. IsPrefix ((c.copy.ensures.same ∙ (λ j. (c.token.view_is j).history)) k) c.in-Err.ensures.leaves.0) c.in-Err.ensures.leaves.1.1.0.0) c.in-Err.ensures.leaves.1.1.1
+
+pub returns-in-Err-clause-back : goal.returns-in-Err-clause-back
+returns-in-Err-clause-back g c = ap (λ t. t.token) c.in-Err.ensures.back

@@ -1,0 +1,151 @@
+use Rattle.std.proofs.Common.{arith, IfSome, sym, ap, ◌∙◌}
+use Rattle.vpg_desk.specs.Book as book
+use Rattle.vpg_desk.specs.Book.{Book, opened, IsReply}
+use Rattle.vpg_desk.specs.History.{book_after}
+use Rattle.vpg_desk.specs.Lawful.{HandsIn, IsLawful}
+use Rattle.vpg_office.specs.Fronts.{family_between}
+use Rattle.vpg_office.specs.Made.{IsEntered, IsMade, IsRefused, Leaves}
+use Rattle.vpg_office.specs.Story.{IsNamed, call_of, refusal_of}
+use Rattle.vpg_office.specs.declared.asked.Answer.TheVariants.{Refused}
+use Rattle.vpg_office.proofs.Calling.{admitted, few_tokens, log_history, log_made, log_refused, refused_leaves, reply_here, seen_here, stops_leave, then_some, told_here}
+use Rattle.vpg_office.proofs.log.Log.make.Goals as goal
+
+pub admit-requires-clause-row : goal.admit-requires-clause-row
+admit-requires-clause-row g c = c.requires.row
+
+pub admit-requires-clause-kept : goal.admit-requires-clause-kept
+admit-requires-clause-kept g c = c.self.invariant.replay.kept
+
+pub admit-requires-clause-seen : goal.admit-requires-clause-seen
+admit-requires-clause-seen g c = seen_here c.self.invariant c.args.front.now c.self.view_is c.requires.seen
+
+pub admit-requires-clause-limit : goal.admit-requires-clause-limit
+admit-requires-clause-limit g c = c.self.invariant.replay.most
+
+pub carry_out-requires-clause-of : goal.carry_out-requires-clause-of
+carry_out-requires-clause-of g c = (c.self.invariant.replay.of_game, c.self.invariant.replay.of_diagram)
+
+pub carry_out-requires-clause-opens : goal.carry_out-requires-clause-opens
+carry_out-requires-clause-opens g c = c.self.invariant.replay.kept.is_story.opens
+
+pub carry_out-requires-clause-counted : goal.carry_out-requires-clause-counted
+carry_out-requires-clause-counted g c = c.self.invariant.counted
+
+pub carry_out-requires-clause-few : goal.carry_out-requires-clause-few
+carry_out-requires-clause-few g c = few_tokens c.self.invariant
+
+pub carry_out-requires-clause-takes : goal.carry_out-requires-clause-takes
+carry_out-requires-clause-takes g c = c.requires.takes
+
+pub enter-requires-clause-kept : goal.enter-requires-clause-kept
+enter-requires-clause-kept g c = c.admit.ensures.kept
+
+pub enter-requires-clause-room : goal.enter-requires-clause-room
+enter-requires-clause-room g c = c.in-Ok.ensures.room
+
+pub enter-requires-clause-place : goal.enter-requires-clause-place
+enter-requires-clause-place g c = c.in-Ok.ensures.place
+
+pub enter-requires-clause-fits : goal.enter-requires-clause-fits
+enter-requires-clause-fits g c = c.in-Ok.ensures.fits
+
+pub enter-requires-clause-few : goal.enter-requires-clause-few
+enter-requires-clause-few g c = omega (arith, c.in-Ok.ensures.fits, c.self.invariant.replay.most, c.self.invariant.replay.few)
+
+pub refuse-fault-requires-clause-kept : goal.refuse-fault-requires-clause-kept
+refuse-fault-requires-clause-kept g c = c.admit.ensures.kept
+
+pub refuse-fault-requires-clause-room : goal.refuse-fault-requires-clause-room
+refuse-fault-requires-clause-room g c = c.in-Ok.ensures.room
+
+pub refuse-fault-requires-clause-place : goal.refuse-fault-requires-clause-place
+refuse-fault-requires-clause-place g c = c.in-Ok.ensures.place
+
+pub refuse-fault-requires-clause-fits : goal.refuse-fault-requires-clause-fits
+refuse-fault-requires-clause-fits g c = c.in-Ok.ensures.fits
+
+pub refuse-fault-requires-clause-few : goal.refuse-fault-requires-clause-few
+refuse-fault-requires-clause-few g c = omega (arith, c.in-Ok.ensures.fits, c.self.invariant.replay.most, c.self.invariant.replay.few)
+
+pub enter-requires-clause-reply : goal.enter-requires-clause-reply
+enter-requires-clause-reply g c =
+    let i = admitted c.self.invariant c.admit.ensures.newest c.admit.ensures.limit c.admit.ensures.kept in
+    let made = coe 0 1 (k. IsMade g.L.Terms.game g.L.Terms.diagram c.self.inside.desk c.args.session ((sym c.requires.asked) k) c.in-Ok-carry_out.made.answer c.carry_out.new.desk) c.in-Ok-carry_out.ensures.made in
+    reply_here i c.args.asked c.in-Ok-carry_out.made.answer made.step.step.0
+
+pub enter-requires-clause-hands : goal.enter-requires-clause-hands
+enter-requires-clause-hands g c =
+    let made = coe 0 1 (k. IsMade g.L.Terms.game g.L.Terms.diagram c.self.inside.desk c.args.session ((sym c.requires.asked) k) c.in-Ok-carry_out.made.answer c.carry_out.new.desk) c.in-Ok-carry_out.ensures.made in
+    made.hands
+
+pub enter-requires-clause-named : goal.enter-requires-clause-named
+enter-requires-clause-named g c =
+    let made = coe 0 1 (k. IsMade g.L.Terms.game g.L.Terms.diagram c.self.inside.desk c.args.session ((sym c.requires.asked) k) c.in-Ok-carry_out.made.answer c.carry_out.new.desk) c.in-Ok-carry_out.ensures.made in
+    made.named
+
+pub invariant_of-self-in-Ok-carry_out : goal.invariant_of-self-in-Ok-carry_out
+invariant_of-self-in-Ok-carry_out g c =
+    let i = admitted c.self.invariant c.admit.ensures.newest c.admit.ensures.limit c.admit.ensures.kept in
+    let made = coe 0 1 (k. IsMade g.L.Terms.game g.L.Terms.diagram c.self.inside.desk c.args.session ((sym c.requires.asked) k) c.in-Ok-carry_out.made.answer c.carry_out.new.desk) c.in-Ok-carry_out.ensures.made in
+    log_made i c.enter.new.self.chronicle c.enter.new.self.newest c.enter.new.self.room c.carry_out.new.desk c.carry_out.new.purse c.args.session c.args.asked c.in-Ok-carry_out.made.answer
+    c.enter.ensures.kept c.enter.ensures.newest c.enter.ensures.limit made.step c.carry_out.ensures.counted
+
+pub returns-in-Ok-carry_out-clause-done : goal.returns-in-Ok-carry_out-clause-done
+returns-in-Ok-carry_out-clause-done g c =
+    let log = c.admit.ensures.newest ∙ c.self.view_is in
+    coe 0 1 (k. IsEntered g.L.Terms.game g.L.Terms.diagram (log k) c.args.front.now c.args.session (c.requires.asked k) (c.in-Ok-carry_out.ensures.answer k) c.enter.new.front)
+    (record { is = c.enter.ensures.front ∙ c.enter.ensures.newest; none = c.in-Ok.ensures.none; history = c.enter.ensures.history })
+
+pub returns-in-Ok-carry_out-clause-gives : goal.returns-in-Ok-carry_out-clause-gives
+returns-in-Ok-carry_out-clause-gives g c =
+    let now = c.self.invariant.replay.book ∙ ap (book_after (family_between g.L.Terms.game g.L.Terms.diagram) opened) c.self.view_is in
+    coe 0 1 (k. g.C.Call.Gives c.args.call (now k) c.in-Ok-carry_out.made.given) c.in-Ok-carry_out.ensures.gives
+
+pub returns-in-Err-clause-leaves : goal.returns-in-Err-clause-leaves
+returns-in-Err-clause-leaves g c =
+    let i = admitted c.self.invariant c.admit.ensures.newest c.admit.ensures.limit c.admit.ensures.kept in
+    let log = c.admit.ensures.newest ∙ c.self.view_is in
+    coe 0 1 (k. Leaves g.L.Terms.game g.L.Terms.diagram g.L.Terms.limit g.C.Call.refusal (log k) c.args.front.now c.args.session (c.requires.asked k) c.args.front.now c.in-Err.fault)
+    (stops_leave g.L.Terms.game g.L.Terms.diagram g.L.Terms.limit g.C.Call.refusal c.admit.new.self.newest c.args.front.now c.args.session c.args.asked c.in-Err.fault (log_history i) c.in-Err.ensures.err)
+
+pub refuse-fault-requires-clause-reply : goal.refuse-fault-requires-clause-reply
+refuse-fault-requires-clause-reply g c =
+    let i = admitted c.self.invariant c.admit.ensures.newest c.admit.ensures.limit c.admit.ensures.kept in
+    let refused = coe 0 1 (k. IfSome c.in-Err-carry_out.unmade.refused (λ w. IsRefused g.L.Terms.game g.L.Terms.diagram (g.C.Call.refusal w.fault) c.self.inside.desk ((sym c.requires.asked) k) w.cause)) c.in-Err-carry_out.ensures.refused in
+    let F = family_between g.L.Terms.game g.L.Terms.diagram in
+    then_some c.in-Err-carry_out.unmade.refused (λ w. IsRefused g.L.Terms.game g.L.Terms.diagram (g.C.Call.refusal w.fault) c.self.inside.desk c.args.asked w.cause)
+    (λ w. IsReply F (book_after F opened c.admit.new.self.newest) (call_of c.args.asked (Refused w.cause)) (book.Refused (refusal_of w.cause)))
+    (λ w is. told_here i (call_of c.args.asked (Refused w.cause)) (book.Refused (refusal_of w.cause)) is.told) refused
+
+pub refuse-fault-requires-clause-hands : goal.refuse-fault-requires-clause-hands
+refuse-fault-requires-clause-hands g c =
+    let refused = coe 0 1 (k. IfSome c.in-Err-carry_out.unmade.refused (λ w. IsRefused g.L.Terms.game g.L.Terms.diagram (g.C.Call.refusal w.fault) c.self.inside.desk ((sym c.requires.asked) k) w.cause)) c.in-Err-carry_out.ensures.refused in
+    then_some c.in-Err-carry_out.unmade.refused (λ w. IsRefused g.L.Terms.game g.L.Terms.diagram (g.C.Call.refusal w.fault) c.self.inside.desk c.args.asked w.cause)
+    (λ w. HandsIn (IsLawful (family_between g.L.Terms.game g.L.Terms.diagram)) (call_of c.args.asked (Refused w.cause))) (λ w is. is.hands) refused
+
+pub refuse-fault-requires-clause-named : goal.refuse-fault-requires-clause-named
+refuse-fault-requires-clause-named g c =
+    let refused = coe 0 1 (k. IfSome c.in-Err-carry_out.unmade.refused (λ w. IsRefused g.L.Terms.game g.L.Terms.diagram (g.C.Call.refusal w.fault) c.self.inside.desk ((sym c.requires.asked) k) w.cause)) c.in-Err-carry_out.ensures.refused in
+    then_some c.in-Err-carry_out.unmade.refused (λ w. IsRefused g.L.Terms.game g.L.Terms.diagram (g.C.Call.refusal w.fault) c.self.inside.desk c.args.asked w.cause)
+    (λ w. IsNamed g.L.Terms.game g.L.Terms.diagram c.args.asked (Refused w.cause)) (λ w is. is.named) refused
+
+pub invariant_of-self-in-Err-carry_out : goal.invariant_of-self-in-Err-carry_out
+invariant_of-self-in-Err-carry_out g c =
+    let i = admitted c.self.invariant c.admit.ensures.newest c.admit.ensures.limit c.admit.ensures.kept in
+    log_refused i c.in-Err-carry_out.unmade.refused c.args.session c.args.asked c.refuse-fault.result c.args.front.now c.refuse-fault.new.front c.refuse-fault.new.self.chronicle c.refuse-fault.new.self.newest c.refuse-fault.new.self.room c.carry_out.new.desk c.carry_out.new.purse
+    c.in-Err-carry_out.ensures.same c.carry_out.ensures.counted c.refuse-fault.ensures.limit c.refuse-fault.ensures.kept c.refuse-fault.ensures.memory c.refuse-fault.ensures.refused
+
+pub returns-clause-leaves : goal.returns-clause-leaves
+returns-clause-leaves g c =
+    let i = admitted c.self.invariant c.admit.ensures.newest c.admit.ensures.limit c.admit.ensures.kept in
+    let refused = coe 0 1 (k. IfSome c.in-Err-carry_out.unmade.refused (λ w. IsRefused g.L.Terms.game g.L.Terms.diagram (g.C.Call.refusal w.fault) c.self.inside.desk ((sym c.requires.asked) k) w.cause)) c.in-Err-carry_out.ensures.refused in
+    let log = c.admit.ensures.newest ∙ c.self.view_is in
+    coe 0 1 (k. Leaves g.L.Terms.game g.L.Terms.diagram g.L.Terms.limit g.C.Call.refusal (log k) c.args.front.now c.args.session (c.requires.asked k) c.refuse-fault.new.front c.refuse-fault.result)
+    (refused_leaves c.refuse-fault.ensures.kept c.args.asked c.args.session c.args.front.now c.refuse-fault.new.front c.admit.new.self.newest c.self.inside.desk g.L.Terms.limit g.C.Call.refusal c.refuse-fault.result c.in-Err-carry_out.unmade.refused
+    (log_history i) c.in-Ok.ensures.none refused c.refuse-fault.ensures.memory c.refuse-fault.ensures.refused)
+
+pub returns-clause-back : goal.returns-clause-back
+returns-clause-back g c = c.in-Err-carry_out.ensures.back
+
+pub invariant_of-self : goal.invariant_of-self
+invariant_of-self g c = admitted c.self.invariant c.admit.ensures.newest c.admit.ensures.limit c.admit.ensures.kept

@@ -1,0 +1,60 @@
+use Rattle.std.proofs.Common.{◌≡◌, IfSome, refl, sym, ap, ◌∙◌, arith, subst}
+use Rattle.std.specs.Prelude.{IsTrue}
+use Rattle.vpg_desk.specs.Book as book
+use Rattle.vpg_desk.specs.Book.{Book}
+use Rattle.vpg_desk.specs.Desk.{family_of}
+use Rattle.vpg_desk.specs.History.{gives_undo}
+use Rattle.vpg_desk.specs.Faults.{undo_refusal}
+use Rattle.vpg_desk.specs.State.{IsStep, Replies, setting_of}
+use Rattle.vpg_office.specs.Token.{EndsWith, Held}
+use Rattle.vpg_office.specs.declared.asked.Asked.TheVariants as ask
+use Rattle.vpg_office.proofs.Calling.{refused_is}
+use Rattle.vpg_office.proofs.Swinging.{undone_same, undone_tokens}
+use Rattle.vpg_office.proofs.tokens.UndoCallCall.carry_out.Goals as goal
+
+pub returns-in-Ok-clause-made : goal.returns-in-Ok-clause-made
+returns-in-Ok-clause-made g c = record {
+  step = coe 0 1 (k. IsStep c.args.desk.now c.args._session (book.Undo (c.token.view_is k).serial) (book.Undone ((sym c.serial.ensures) k)) c.undo.new.self) (c.in-Ok.ensures.accepted c.args._session);
+  hands = tt;
+  named = tt;
+}
+
+pub returns-in-Ok-clause-gives : goal.returns-in-Ok-clause-gives
+returns-in-Ok-clause-gives g c = (
+  c.audit.ensures.amount ∙ c.token.invariant.0,
+  (
+    c.audit.ensures.parts ∙ c.token.invariant.1,
+    (
+      undone_same (family_of (setting_of c.args.desk.now)) c.args.desk.now.book c.token.inside.token c.in-Ok.token (c.in-Ok.ensures.accepted 0).step.0 ∙ (λ k. (c.token.view_is k).serial),
+      coe 0 1 (k. EndsWith (λ reply. IsTrue (gives_undo (c.token.view_is k).serial reply)) (c.token.view_is k).history) c.token.invariant.2,
+    ),
+  ),
+)
+
+pub returns-in-Ok-clause-counted : goal.returns-in-Ok-clause-counted
+returns-in-Ok-clause-counted g c =
+    let tokens : c.undo.new.self.book.tokens ≡ c.args.desk.now.book.tokens = ap (λ (b : Book). b.tokens) (c.in-Ok.ensures.accepted 0).step.1 ∙ undone_tokens c.args.desk.now.book c.args.desk.now.book.past in
+    c.audit.ensures.same ∙ c.requires.counted ∙ sym tokens
+
+pub undo-requires : goal.undo-requires
+undo-requires g c = omega (arith, c.audit.ensures.bound, c.token.invariant.0, c.requires.counted)
+
+pub invariant_of-token : goal.invariant_of-token
+invariant_of-token g c = (
+  c.audit.ensures.amount ∙ c.token.invariant.0,
+  c.audit.ensures.parts ∙ c.token.invariant.1,
+  coe 0 1 (k. EndsWith (λ reply. IsTrue (gives_undo ((sym c.in-Err.ensures.back) k) reply)) c.token.inside.place) c.token.invariant.2,
+)
+
+pub returns-in-Err-clause-refused : goal.returns-in-Err-clause-refused
+returns-in-Err-clause-refused g c =
+    refused_is g.L.Terms.game g.L.Terms.diagram c.args.desk.now (ask.Undo c.args.self.token.serial) (book.Undo c.args.self.token.serial) undo_refusal c.undo_cause.result c.in-Err.refused.fault c.reason.result (λ r. refl) (λ r. (tt, tt)) c.undo_cause.ensures c.reason.ensures.some
+    (subst (λ (t : Held). IfSome (undo_refusal c.in-Err.refused.fault) (λ r. Replies c.args.desk.now (book.Undo t.serial) (book.Refused r))) c.token.view_is c.in-Err.ensures.refused)
+
+pub returns-in-Err-clause-counted : goal.returns-in-Err-clause-counted
+returns-in-Err-clause-counted g c = c.audit.ensures.same ∙ c.requires.counted ∙ (λ k. ((sym c.in-Err.ensures.err) k).book.tokens)
+
+pub returns-in-Err-clause-back : goal.returns-in-Err-clause-back
+returns-in-Err-clause-back g c =
+    let same : ◌≡◌ {A = Held} (record { serial = c.in-Err.refused.token; history = c.token.inside.place }) c.args.self.token = (λ k. record { serial = c.in-Err.ensures.back k; history = c.token.inside.place }) ∙ c.token.view_is in
+    λ k. record { alloc = c.args.self.alloc; token = same k }

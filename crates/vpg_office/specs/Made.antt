@@ -1,0 +1,78 @@
+-- What a session's call means for the desk and for the log.
+use Rattle.std.specs.Prelude.{◌≡◌, ℕ, List, [], ◌∷◌, ◌++◌, length, drop, Option, Some}
+use Rattle.vpg_diagram.specs.DiagramText.{NamedDiagram}
+use Rattle.vpg_game.specs.Game.{NamedGame, graph_of}
+use Rattle.vpg_measure.specs.Games.{ArePageGames, GamesView}
+use Rattle.vpg_trail.specs.Page.{Decision, Entry, Hopeful, Dual, choices_of, decisions_of, table_of}
+use Rattle.vpg_desk.specs.Book.{Book, Refusal, Refused, opened}
+use Rattle.vpg_desk.specs.Desk.{family_of}
+use Rattle.vpg_desk.specs.Headline.{Tells}
+use Rattle.vpg_desk.specs.History.{Event, book_after}
+use Rattle.vpg_desk.specs.Lawful.{HandsIn, IsLawful, PageIsBelow}
+use Rattle.vpg_desk.specs.Setting.{IsSetting}
+use Rattle.vpg_desk.specs.State.{DeskState, IsReached, IsStep, Replies, setting_between, setting_of}
+use Rattle.vpg_office.specs.Faults.{Stops}
+use Rattle.vpg_office.specs.Fronts.{IsHistory, calls_by, event, family_between}
+use Rattle.vpg_office.specs.Story.{IsNamed, call_of, refusal_of, reply_of}
+use Rattle.vpg_office.specs.declared.asked.Answer.{Answer}
+use Rattle.vpg_office.specs.declared.asked.Answer.TheVariants.{Refused as Answered}
+use Rattle.vpg_office.specs.declared.asked.Asked.{Asked}
+use Rattle.vpg_office.specs.declared.asked.Cause.{Cause}
+use Rattle.vpg_office.specs.declared.fault.Fault.{Fault}
+use Rattle.vpg_office.specs.declared.fault.Fault.TheVariants.{LogFull, Doubled, Refused as DeskRefuses, Memory}
+
+-- the desk made the call
+pub record IsMade (game : NamedGame) (diagram : NamedDiagram) (desk : DeskState) (session : ℕ) (asked : Asked)
+    (answer : Answer) (new : DeskState) : Type 0 where
+  pub step : IsStep desk session (call_of asked answer)
+      (reply_of (family_of (setting_of desk)) desk.book.present answer) new
+  pub hands : HandsIn (IsLawful (family_between game diagram)) (call_of asked answer)
+  pub named : IsNamed game diagram asked answer
+
+-- the desk refused the call for this cause
+pub record IsRefused (game : NamedGame) (diagram : NamedDiagram) (refusal : Option Refusal) (desk : DeskState)
+    (asked : Asked) (cause : Cause) : Type 0 where
+  pub why : refusal ≡ Some (refusal_of cause)
+  pub told : Replies desk (call_of asked (Answered cause)) (Refused (refusal_of cause))
+  pub hands : HandsIn (IsLawful (family_between game diagram)) (call_of asked (Answered cause))
+  pub named : IsNamed game diagram asked (Answered cause)
+
+-- the log goes on with the call, and has no other one of the session since the front
+pub record IsEntered (game : NamedGame) (diagram : NamedDiagram) (log front : List Event) (session : ℕ) (asked : Asked)
+    (answer : Answer) (new : List Event) : Type 0 where
+  pub is : new ≡ log ++ event session (call_of asked answer)
+      (reply_of (family_between game diagram)
+      (book_after (family_between game diagram) opened log).present answer) ∷ []
+  pub none : calls_by session (drop (length front) log) ≡ 0
+  pub history : IsHistory (family_between game diagram) new
+
+-- The call gives nothing: the log goes on with the desk's refusal, or stays.
+abbrev pub Leaves : {L F : Type 0} → NamedGame → NamedDiagram → ℕ → (F → Option Refusal) → List Event → List Event → ℕ →
+    Asked → List Event → Fault L F → Type 0
+Leaves game diagram limit refusal log front session asked new (DeskRefuses fault) =
+    (cause : Cause) ×
+    ((refusal fault ≡ Some (refusal_of cause)) ×
+    (IsNamed game diagram asked (Answered cause) ×
+    IsEntered game diagram log front session asked (Answered cause) new))
+Leaves {L} {F} game diagram limit refusal log front session asked new (LogFull f) =
+    (new ≡ front) ×
+    (IsHistory (family_between game diagram) log × Stops {L = L} {F = F} limit front session log (LogFull f))
+Leaves {L} {F} game diagram limit refusal log front session asked new (Doubled f) =
+    (new ≡ front) ×
+    (IsHistory (family_between game diagram) log × Stops {L = L} {F = F} limit front session log (Doubled f))
+Leaves {L} {F} game diagram limit refusal log front session asked new Memory =
+    (new ≡ front) ×
+    (IsHistory (family_between game diagram) log × Stops {L = L} {F = F} limit front session log Memory)
+
+-- a page of the book's present entries, with what its decisions make of the game
+pub record IsPage (game : NamedGame) (diagram : NamedDiagram) (book : Book) (entries : List Entry)
+    (decisions : List Decision) (hopeful dual : List ℕ) (games : GamesView) : Type 0 where
+  pub present : entries ≡ book.present
+  pub decided : decisions ≡ decisions_of book.present
+  pub hopeful_is : hopeful ≡ table_of Hopeful book.present (length (graph_of game))
+  pub dual_is : dual ≡ table_of Dual book.present (length (graph_of game))
+  pub are_games : ArePageGames game diagram (choices_of book.present) games
+  pub below : PageIsBelow (family_between game diagram) book.present
+  pub tells : Tells (setting_between game diagram) book.present
+  pub is_setting : IsSetting (setting_between game diagram)
+  pub reached : IsReached (setting_between game diagram) book
