@@ -326,18 +326,6 @@ fn join_all<L: Terms, R: Wait + Abort>(rt: &R, office: &Office<L>) -> bool {
     office.join(rt).is_err()
 }
 
-/// How many calls a front has once it met another.
-pub fn met<L: Terms, R: Wait>(
-    rt: &R,
-    office: &Office<L>,
-    front: &mut Front<L>,
-    other: &Front<L>,
-) -> Answer {
-    office.meet(rt, front, other);
-    front.headline();
-    Answer::Has(front.len())
-}
-
 /// Makes a call that is not logged.
 fn looked<L: Terms, R: Wait + Abort + AllocGlobal>(
     rt: &R,
@@ -349,7 +337,8 @@ fn looked<L: Terms, R: Wait + Abort + AllocGlobal>(
     match call {
         Call::Watch => {
             kept.earlier = kept.watch.take();
-            kept.watch = Some(watched(rt, office));
+            kept.watch = watched(rt, office);
+            assert!(rt; kept.watch.is_some());
             Answer::Done
         }
         Call::Sees => told(rt, &mut kept.watch),

@@ -2,7 +2,7 @@
 ghost use Rattle.std.specs.Prelude.{◌≡◌, length};
 
 use crate::calls::{
-    Answer, At, Call, Held, Kept, Seat, asked, is_nothing, joined, made, met, none_kept, serial_of,
+    Answer, At, Call, Held, Kept, Seat, asked, is_nothing, joined, made, none_kept, serial_of,
 };
 use crate::watchers::told;
 use std::mem;
@@ -79,7 +79,11 @@ fn answered<L: Terms, R: Wait + Abort + AllocGlobal>(
 {
     let Some(at) = place_of(call) else {
         return match call {
-            Call::Meet => met(rt, office, &mut seat.front, other),
+            Call::Meet => {
+                office.meet(rt, &mut seat.front, other);
+                seat.front.headline();
+                Answer::Has(seat.front.len())
+            }
             _ => asked(rt, office, seat, kept, call),
         };
     };
@@ -129,16 +133,6 @@ fn refused<L: Terms, R: Wait + Abort>(
             office
         }
     }
-}
-
-/// The office, which can't be closed, whether a front of no calls is lent or one of all.
-fn still_open<L: Terms, R: Wait + Abort>(
-    rt: &R,
-    office: Office<L>,
-    early: &mut Front<L>,
-    front: &mut Front<L>,
-) -> Office<L> {
-    refused(rt, refused(rt, office, early), front)
 }
 
 /// Ends an office with no token out.
@@ -230,10 +224,12 @@ pub fn spend<L: Terms, R: Wait + Abort + AllocGlobal>(rt: &R, office: Office<L>,
         day.name,
         day.before,
     );
+    // it can't be closed, whether a front of no calls is lent or one of all
     let office = if day.before.is_empty() {
         office
     } else {
-        still_open(rt, office, &mut kept.early, &mut one.front)
+        let office = refused(rt, office, &mut kept.early);
+        refused(rt, office, &mut one.front)
     };
     carry_out(
         rt,

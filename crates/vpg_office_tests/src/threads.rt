@@ -120,27 +120,13 @@ impl Places {
     }
 }
 
-/// A feature is decided and retracted: four calls.
-fn round<L: Terms, R: Wait + Abort + AllocGlobal>(
-    rt: &R,
-    office: &Office<L>,
-    seat: &mut Seat<L>,
-    feature: u16,
-    places: &mut Places,
-) {
-    let mut held = Held::Nothing;
-    for call in [
-        Call::Decide(At::First, feature, true),
-        Call::Keep(At::First),
-        Call::Retract(At::First, feature),
-        Call::Keep(At::First),
-    ] {
-        let (next, answer) = made(rt, office, seat, held, call);
-        held = next;
-        assert!(rt; matches!(answer, Answer::Token(_) | Answer::Done));
-        places.note(rt, seat.front.len());
+/// The call of a session in rounds that comes behind so many: a feature is decided and retracted, in four calls.
+fn call_of(feature: u16, before: u32) -> Call {
+    match before % 4 {
+        0 => Call::Decide(At::First, feature, true),
+        2 => Call::Retract(At::First, feature),
+        _ => Call::Keep(At::First),
     }
-    is_nothing(rt, held);
 }
 
 /// So many rounds, and the sum of the places of their calls, from 1.
@@ -152,9 +138,14 @@ fn rounds<L: Terms, R: Wait + Abort + AllocGlobal>(
     count: u32,
 ) -> u64 {
     let mut places = Places { last: 0, sum: 0 };
-    for _ in 0..count {
-        round(rt, office, seat, feature, &mut places);
+    let mut held = Held::Nothing;
+    for before in 0..count.saturating_mul(4) {
+        let (next, answer) = made(rt, office, seat, held, call_of(feature, before));
+        held = next;
+        assert!(rt; matches!(answer, Answer::Token(_) | Answer::Done));
+        places.note(rt, seat.front.len());
     }
+    is_nothing(rt, held);
     places.sum
 }
 
@@ -250,7 +241,7 @@ fn jobs_of<L: Terms, R: Wait + Abort + AllocGlobal>(
     let mut jobs = Vec::new(rt.alloc());
     for task in tasks {
         let watch = match task {
-            Task::Read => Some(watched(rt, office)),
+            Task::Read => watched(rt, office),
             _ => None,
         };
         let job = Job {
@@ -352,9 +343,8 @@ const TWO: &Rush = &Rush {
 };
 
 #[test]
-fn two_threads_decide_and_retract(rt: HostRuntime) -> Result<(), Fail> {
+fn two_threads_decide_and_retract(rt: HostRuntime) {
     on_shared_office(&rt, DIAGRAM, 1000, Run::AtOnce(TWO));
-    Ok(())
 }
 
 const EIGHT: &Rush = &Rush {
@@ -376,9 +366,8 @@ const EIGHT: &Rush = &Rush {
 };
 
 #[test]
-fn eight_threads_keep_order(rt: HostRuntime) -> Result<(), Fail> {
+fn eight_threads_keep_order(rt: HostRuntime) {
     on_shared_office(&rt, WIDE, 8001, Run::AtOnce(EIGHT));
-    Ok(())
 }
 
 const SECOND: Answer = Answer::NotDecided(DecideFault::AlreadyDecided { serial: 1 });
@@ -394,11 +383,10 @@ const RACE: &Rush = &Rush {
 };
 
 #[test]
-fn two_threads_decide_one_feature(rt: HostRuntime) -> Result<(), Fail> {
+fn two_threads_decide_one_feature(rt: HostRuntime) {
     for _ in 0..20 {
         on_shared_office(&rt, DIAGRAM, 10, Run::AtOnce(RACE));
     }
-    Ok(())
 }
 
 const LAST_SHEET: Answer = Answer::Sheet(1999, false);
@@ -434,9 +422,8 @@ const WATCHED: &Rush = &Rush {
 };
 
 #[test]
-fn eight_watches_never_go_back(rt: HostRuntime) -> Result<(), Fail> {
+fn eight_watches_never_go_back(rt: HostRuntime) {
     on_shared_office(&rt, DIAGRAM, 2000, Run::AtOnce(WATCHED));
-    Ok(())
 }
 
 /// Holds the lifter in its first claim until a session was answered.
@@ -554,7 +541,6 @@ fn commit_late<L: Terms + Send + Sync, R: Threads + Wait + Abort + AllocGlobal +
 }
 
 #[test]
-fn a_harvest_comes_late(rt: HostRuntime) -> Result<(), Fail> {
+fn a_harvest_comes_late(rt: HostRuntime) {
     on_shared_office(&rt, DIAGRAM, 10, Run::Late);
-    Ok(())
 }
