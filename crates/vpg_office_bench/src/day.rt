@@ -1,15 +1,16 @@
 //! A day of two sessions of one office, each in a thread of its own: one lifts while the other decides. Then the page
 //! is settled, and the decision is taken back by its token.
 
+use crate::calls::{Call, Held, Seat, end_of, joined, made};
 use crate::watcher::is_read;
-use crate::working::{Call, Held, Seat, joined, made, taken_back};
 use crate::{Done, Left, Stopped};
 use std::alloc::Global;
 use std::sync::Wait;
 use std::sync::atomic::AtomicU64;
 use std::thread::{Threads, join};
 use vpg_measure::Harvest;
-use vpg_office::{Office, Terms};
+use vpg_office::{Office, Returned, Terms};
+use vpg_scarce::End;
 
 /// The feature that is decided.
 const FEATURE: u16 = 1;
@@ -31,8 +32,9 @@ fn lifts<L: Terms, R: Wait>(
         .commit(rt, alloc, office, &mut seat.front, harvest)
     {
         Ok(added) => Some(added),
-        Err(returned) => {
-            let_go(taken_back(returned));
+        Err(Returned { fault, value }) => {
+            end_of(fault);
+            let_go(value);
             None
         }
     }
@@ -49,14 +51,14 @@ fn lifts_once<L: Terms, R: Wait>(
 }
 
 /// One session lifts while the other decides the feature out: how many lifts that added, what is held of the decision,
-/// and whether that was made.
+/// and how that ended.
 fn works<L: Terms + Send + Sync, R: Threads + Wait + Sync>(
     rt: &R,
     alloc: Global,
     office: &Office<L>,
     lifter: Seat<L>,
     decider: &mut Seat<L>,
-) -> (Option<u32>, (Held<L>, bool)) {
+) -> (Option<u32>, (Held<L>, End)) {
     let (lifted, decided) = join(
         rt,
         || lifts_once(rt, alloc, office, lifter),
@@ -66,9 +68,8 @@ fn works<L: Terms + Send + Sync, R: Threads + Wait + Sync>(
                 alloc,
                 office,
                 decider,
-                FEATURE,
                 Held::Nothing,
-                Call::Decide(false),
+                Call::Decide(FEATURE, false),
             )
         },
     );
@@ -91,7 +92,7 @@ fn settles_and_undoes<L: Terms, R: Wait>(
     if !is_read(seen, seat.front.len()) {
         return (held, Some(Stopped::Unseen));
     }
-    let (held, _) = made(rt, alloc, office, seat, FEATURE, held, Call::Undo);
+    let (held, _) = made(rt, alloc, office, seat, held, Call::Undo);
     let stopped = if !is_undone(&held) {
         Some(Stopped::Refused)
     } else if !is_read(seen, seat.front.len()) {
@@ -129,8 +130,8 @@ fn work_of<L: Terms + Send + Sync, R: Threads + Wait + Sync>(
     decider: &mut Seat<L>,
     seen: &AtomicU64,
 ) -> Left<L> {
-    let (added, (held, is_decided)) = works(rt, alloc, office, lifter, decider);
-    let (held, stopped) = if is_decided {
+    let (added, (held, end)) = works(rt, alloc, office, lifter, decider);
+    let (held, stopped) = if end == End::Done {
         settles_and_undoes(rt, alloc, office, decider, held, seen)
     } else {
         (held, Some(Stopped::Refused))

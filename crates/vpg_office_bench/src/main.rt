@@ -1,8 +1,9 @@
-//! Offices at work, to be measured from outside.
+//! Offices at work, to be measured from outside, and calls of offices that are refused memory.
 //!
 //!     vpg_office_bench two-sessions
 //!     vpg_office_bench calls SESSIONS CALLS
 //!     vpg_office_bench changes GAME DIAGRAM FEATURE ROUNDS HOW READERS
+//!     vpg_office_bench marked
 //!
 //! `two-sessions`: on an office that is built in one session lifts while the other decides. Then the page is settled,
 //! the decision is taken back by its token, and the office is ended. Meanwhile a watcher in a third thread prints what
@@ -18,7 +19,11 @@
 //! pause what the session puts behind a mutex after each change: the same sheet). It prints how many calls the log has,
 //! how many reads there were, and how many tokens `end` misses.
 //!
-//! A log takes 1,048,576 calls. Without words it does a little of each, and prints no count of reads.
+//! `marked`: makes each call that can want for memory, on offices that are built in, and marks it for
+//! `bench/refused.py`. A line says what came of each.
+//!
+//! A log takes 1,048,576 calls. Without words it makes these calls with little memory, a line each (`refusals`), and
+//! then does a little of all else, and prints no count of reads.
 //!
 //! A call that is refused, and a sheet that is left out where the watcher has to read it, end a task: all threads come
 //! to their end, all tokens are handed in as the office is ended, and the program ends with status 1 and a word on
@@ -26,8 +31,10 @@
 //! `bench/offices.py` runs it, and measures what it takes.
 #![tactic(auto)]
 
+mod calls;
 mod day;
 mod reading;
+mod refusals;
 mod watcher;
 mod words;
 mod working;
@@ -36,10 +43,12 @@ ghost use Rattle.std.specs.Arc.{arc_value};
 ghost use Rattle.std.specs.Prelude.{◌≡◌, ◌≤◌, IfOk};
 ghost use Rattle.vpg_diagram.specs.FeatureDiagram.{feature_count};
 
+use crate::calls::{Call, Held, joined, made};
 use crate::day::work_in_two;
+use crate::refusals::report_within;
 use crate::watcher::follow;
 use crate::words::task_of;
-use crate::working::{Call, Held, joined, made, work_at_once};
+use crate::working::work_at_once;
 use anyhow::{Context, Result, bail};
 use std::alloc::Global;
 use std::marker::Brand;
@@ -50,6 +59,7 @@ use std::{env, fs};
 use vpg_diagram::Diagram;
 use vpg_game::GuardedGame;
 use vpg_office::{Front, Office, Site, Terms};
+use vpg_scarce::End;
 
 /// A feature for each of eight sessions.
 const DIAGRAM: &[u8] = b"root r\noptional r a\noptional r b\noptional r c\noptional r d
@@ -118,8 +128,8 @@ struct Told {
 /// What came of some work, and the token that is left.
 pub(crate) type Left<L> = (Result<Done, Stopped>, Held<L>);
 
-/// What one more session holds that decides the feature 1, and whether that was done.
-fn decided<L: Terms, R: Wait>(rt: &R, alloc: Global, office: &Office<L>) -> (Held<L>, bool) {
+/// What one more session holds that decides the feature 1, and how that ended.
+fn decided<L: Terms, R: Wait>(rt: &R, alloc: Global, office: &Office<L>) -> (Held<L>, End) {
     match joined(rt, office) {
         Some(mut seat) => {
             made(
@@ -127,12 +137,11 @@ fn decided<L: Terms, R: Wait>(rt: &R, alloc: Global, office: &Office<L>) -> (Hel
                 alloc,
                 office,
                 &mut seat,
-                1,
                 Held::Nothing,
-                Call::Decide(true),
+                Call::Decide(1, true),
             )
         }
-        None => (Held::Nothing, false),
+        None => (Held::Nothing, End::Otherwise),
     }
 }
 
@@ -148,9 +157,9 @@ fn carry_out<L: Terms + Send + Sync, R: Threads + Wait + Sync>(
         return work_in_two(rt, alloc, office, seen);
     }
     let done = work_at_once(rt, alloc, office, task);
-    let (held, is_decided) = decided(rt, alloc, office);
+    let (held, end) = decided(rt, alloc, office);
     match done {
-        Some(done) if is_decided => (Ok(done), held),
+        Some(done) if end == End::Done => (Ok(done), held),
         _ => (Err(Stopped::Refused), held),
     }
 }
@@ -261,13 +270,13 @@ fn open_and_work<L: Terms + Send + Sync, R: Threads + Wait + Sync + Print>(
 }
 
 /// The diagram that a text spells.
-fn diagram_of(alloc: Global, text: &[u8]) -> Result<Arc<Diagram>> {
+pub(crate) fn diagram_of(alloc: Global, text: &[u8]) -> Result<Arc<Diagram>> {
     let diagram = Diagram::read(alloc, text)?;
     Ok(Arc::new(alloc, diagram)?)
 }
 
 /// The game that a text spells, by the names of a diagram.
-fn game_of(alloc: Global, text: &[u8], diagram: &Diagram) -> Result<Arc<GuardedGame>>
+pub(crate) fn game_of(alloc: Global, text: &[u8], diagram: &Diagram) -> Result<Arc<GuardedGame>>
     ensures { IfOk result (λ game. (arc_value game).features ≡ feature_count diagram.now.lines) }
 {
     let game = GuardedGame::read(alloc, text, diagram.names())?;
@@ -301,14 +310,20 @@ fn told_of<R: Threads + Wait + Sync + Print>(
     told_on(rt, alloc, game, diagram, task).context("no office, no watch or no room for tokens")
 }
 
+/// Why some work was not done to its end, in words.
+fn word_of(stopped: Stopped) -> &'static str {
+    match stopped {
+        Stopped::Refused => "a call was refused",
+        Stopped::Unseen => "the sheet of a change was not read",
+        Stopped::Unprinted => "the watcher could not print",
+    }
+}
+
 /// What was done to its end.
 fn done_of(told: Told) -> Result<Done> {
-    let further = told.further;
     match told.done {
         Ok(done) => Ok(done),
-        Err(Stopped::Refused) => bail!("a call was refused, further {further}"),
-        Err(Stopped::Unseen) => bail!("the sheet of a change was not read, further {further}"),
-        Err(Stopped::Unprinted) => bail!("the watcher could not print, further {further}"),
+        Err(stopped) => bail!("{}, further {}", word_of(stopped), told.further),
     }
 }
 
@@ -368,8 +383,9 @@ const A_LITTLE: [Task; 6] = [
     },
 ];
 
-/// Does a little of each, on what is built in.
+/// Makes calls with little memory, while there is no thread yet, and does a little of each task on what is built in.
 fn work_on_each<T: Threads + Wait + Sync + Print>(rt: &HostRuntime, threads: &T) -> Result<()> {
+    report_within(threads, rt.alloc(), 1)?;
     for task in A_LITTLE {
         work_built_in(rt, threads, task)?;
     }
@@ -405,6 +421,9 @@ fn obey<T: Threads + Wait + Sync + Print>(
 ) -> Result<()> {
     if words.len() < 2 {
         return work_on_each(rt, threads);
+    }
+    if words.len() == 2 && words[1].as_str() == "marked" {
+        return report_within(threads, rt.alloc(), words.len());
     }
     let task = task_of(words)?;
     if words.len() > 3 && matches!(task, Task::Changes { .. }) {

@@ -63,7 +63,7 @@ pub(crate) fn task_of(words: &[String]) -> Result<Task> {
         return calls_of(words[2].as_str(), words[3].as_str());
     }
     if words.len() < 8 {
-        bail!("there is `two-sessions`, `calls` with two words, and `changes` with six");
+        bail!("there is `marked`, `two-sessions`, `calls` with two words, and `changes` with six");
     }
     changes_of(
         words[4].as_str(),

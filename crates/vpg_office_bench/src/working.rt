@@ -1,40 +1,19 @@
 //! Sessions at work.
+use crate::calls::{Call, Held, Seat, joined, made, spent};
 use crate::reading::{Shown, read_on, show};
 use crate::{Done, How, Task};
 use std::alloc::Global;
 use std::sync::atomic::{AtomicU64, Ordering};
 use std::sync::{Mutex, Wait};
 use std::thread::{Threads, for_each_mut};
-use vpg_office::{Front, Office, Redo, Returned, Session, Terms, Undo};
+use vpg_office::{Front, Office, Terms};
+use vpg_scarce::End;
 use vpg_watch::Watch;
 
-/// A session with its front.
-pub struct Seat<L: Terms> {
-    pub session: Session<L>,
-    pub front: Front<L>,
-}
-
-// Not derived, so that letting one go is one call.
-impl<L: Terms> Drop for Seat<L> {
-    fn drop(self) {
-        let Seat {
-            session: _,
-            front: _,
-        } = self;
-    }
-}
-
-/// The token of a change that was made or undone, until it is spent.
-pub enum Held<L: Terms> {
-    Nothing,
-    Undo(Undo<L>),
-    Redo(Redo<L>),
-}
-
-/// A call about a feature.
+/// A step of a round about a feature.
 #[derive(Clone, Copy)]
-pub enum Call {
-    Decide(bool),
+pub enum Step {
+    Decide,
     Retract,
     Undo,
     /// Spends the token that is held.
@@ -43,81 +22,22 @@ pub enum Call {
     Show,
 }
 
-/// A further session.
-pub fn joined<L: Terms, R: Wait>(rt: &R, office: &Office<L>) -> Option<Seat<L>> {
-    match office.join(rt) {
-        Ok((session, front)) => Some(Seat { session, front }),
-        Err(_) => None,
-    }
-}
-
-/// What a refused call gives back. Whoever lets a fault go himself takes the prover seconds.
-pub fn taken_back<L: Terms, F: Drop, T>(returned: Returned<L, F, T>) -> T {
-    let Returned {
-        fault: _fault,
-        value,
-    } = returned;
-    value
-}
-
-/// What is held of a change, and whether it was made.
-fn held_of<L: Terms>(token: Option<Undo<L>>) -> (Held<L>, bool) {
-    match token {
-        Some(token) => (Held::Undo(token), true),
-        None => (Held::Nothing, false),
-    }
-}
-
 /// Spends a token. It can't be let go, so a call that is refused is made again: the log has to have room for it.
-fn spend<L: Terms, R: Wait>(rt: &R, office: &Office<L>, seat: &mut Seat<L>, held: Held<L>) {
-    let mut held = held;
-    for _ in rt.forever() {
-        held = match held {
-            Held::Nothing => return,
-            Held::Undo(token) => match seat.session.keep(rt, office, &mut seat.front, token) {
-                Ok(()) => Held::Nothing,
-                Err(returned) => Held::Undo(taken_back(returned)),
-            },
-            Held::Redo(token) => match seat.session.forget(rt, office, &mut seat.front, token) {
-                Ok(()) => Held::Nothing,
-                Err(returned) => Held::Redo(taken_back(returned)),
-            },
-        };
-    }
-    unreachable!()
-}
-
-/// Makes a call: what is held then, and whether it was made. A change needs that nothing is held, and an undo the
-/// token of a change.
-pub fn made<L: Terms, R: Wait>(
+fn spend<L: Terms, R: Wait>(
     rt: &R,
     alloc: Global,
     office: &Office<L>,
     seat: &mut Seat<L>,
-    feature: u16,
     held: Held<L>,
-    call: Call,
-) -> (Held<L>, bool) {
-    let Seat { session, front } = seat;
-    match held {
-        Held::Nothing => match call {
-            Call::Decide(value) => held_of(
-                session
-                    .decide(rt, alloc, office, front, feature, value)
-                    .ok(),
-            ),
-            Call::Retract => held_of(session.retract(rt, alloc, office, front, feature).ok()),
-            _ => (Held::Nothing, false),
-        },
-        Held::Undo(token) => match call {
-            Call::Undo => match session.undo(rt, alloc, office, front, token) {
-                Ok(token) => (Held::Redo(token), true),
-                Err(returned) => (Held::Undo(taken_back(returned)), false),
-            },
-            _ => (Held::Undo(token), false),
-        },
-        held => (held, false),
+) {
+    let mut held = held;
+    for _ in rt.forever() {
+        held = match held {
+            Held::Nothing => return,
+            held => spent(rt, alloc, office, seat, held),
+        };
     }
+    unreachable!()
 }
 
 /// Where the calls of a session stand in the log, from 1.
@@ -142,9 +62,9 @@ impl Places {
 /// What is done in a thread of its own.
 #[derive(Clone, Copy)]
 pub enum Part {
-    /// Makes these calls so often, about this feature or that of the session's number.
+    /// Makes these steps so often, about this feature or that of the session's number.
     Call {
-        calls: &'static [Call],
+        steps: &'static [Step],
         feature: Option<u16>,
         rounds: u32,
     },
@@ -168,38 +88,48 @@ pub struct Job<L: Terms> {
     is_done: bool,
 }
 
-/// A feature's calls in their order, each noted.
+/// The call of a step.
+fn call_of(step: Step, feature: u16) -> Call {
+    match step {
+        Step::Decide => Call::Decide(feature, true),
+        Step::Retract => Call::Retract(feature),
+        _ => Call::Undo,
+    }
+}
+
+/// A feature's steps in their order, each call noted.
 fn round<L: Terms, R: Wait>(
     rt: &R,
     alloc: Global,
     office: &Office<L>,
     seat: &mut Seat<L>,
     job: &mut Job<L>,
-    calls: &[Call],
+    steps: &[Step],
     feature: u16,
     shown: &Shown<L>,
 ) {
     let mut held = Held::Nothing;
-    for call in calls {
-        held = match call {
-            Call::Show => {
+    for step in steps {
+        held = match step {
+            Step::Show => {
                 show(rt, &mut job.watch, shown);
                 held
             }
-            Call::Spend => {
-                spend(rt, office, seat, held);
+            Step::Spend => {
+                spend(rt, alloc, office, seat, held);
                 job.places.note(seat.front.len());
                 Held::Nothing
             }
             _ => {
-                let (held, is_made) = made(rt, alloc, office, seat, feature, held, *call);
+                let call = call_of(*step, feature);
+                let (held, end) = made(rt, alloc, office, seat, held, call);
                 job.places.note(seat.front.len());
-                job.is_done = job.is_done && is_made;
+                job.is_done = job.is_done && end == End::Done;
                 held
             }
         };
     }
-    spend(rt, office, seat, held);
+    spend(rt, alloc, office, seat, held);
 }
 
 /// So many rounds, unless a call is refused, on this feature or that of the session's number.
@@ -209,7 +139,7 @@ fn rounds<L: Terms, R: Wait>(
     office: &Office<L>,
     seat: &mut Seat<L>,
     job: &mut Job<L>,
-    calls: &[Call],
+    steps: &[Step],
     feature: Option<u16>,
     count: u32,
     shown: &Shown<L>,
@@ -217,7 +147,7 @@ fn rounds<L: Terms, R: Wait>(
     let feature = feature.unwrap_or(seat.session.number() as u16);
     for _ in 0..count {
         if job.is_done {
-            round(rt, alloc, office, seat, job, calls, feature, shown);
+            round(rt, alloc, office, seat, job, steps, feature, shown);
         }
     }
 }
@@ -233,14 +163,14 @@ fn work<L: Terms, R: Wait>(
 ) {
     match job.part {
         Part::Call {
-            calls,
+            steps,
             feature,
             rounds: count,
         } => {
             match joined(rt, office) {
                 Some(mut seat) => {
                     rounds(
-                        rt, alloc, office, &mut seat, job, calls, feature, count, shown,
+                        rt, alloc, office, &mut seat, job, steps, feature, count, shown,
                     )
                 }
                 None => job.is_done = false,
@@ -305,16 +235,16 @@ fn add_job<L: Terms, R: Wait>(
 }
 
 /// A round of four calls, and a change with its undo: three calls.
-const ROUND: &[Call] = &[Call::Decide(true), Call::Spend, Call::Retract, Call::Spend];
+const ROUND: &[Step] = &[Step::Decide, Step::Spend, Step::Retract, Step::Spend];
 
-const CHANGE: &[Call] = &[Call::Decide(true), Call::Undo, Call::Spend];
+const CHANGE: &[Step] = &[Step::Decide, Step::Undo, Step::Spend];
 
-const SHOWN_CHANGE: &[Call] = &[
-    Call::Decide(true),
-    Call::Show,
-    Call::Undo,
-    Call::Show,
-    Call::Spend,
+const SHOWN_CHANGE: &[Step] = &[
+    Step::Decide,
+    Step::Show,
+    Step::Undo,
+    Step::Show,
+    Step::Spend,
 ];
 
 /// Who is at work: so many who read or look on, and then so many who call.
@@ -342,7 +272,7 @@ fn plan_of(task: Task) -> Plan {
             reader: Part::Idle,
             callers: sessions,
             caller: Part::Call {
-                calls: ROUND,
+                steps: ROUND,
                 feature: None,
                 rounds,
             },
@@ -368,7 +298,7 @@ fn plan_of(task: Task) -> Plan {
                 },
                 callers: 1,
                 caller: Part::Call {
-                    calls: if shows { SHOWN_CHANGE } else { CHANGE },
+                    steps: if shows { SHOWN_CHANGE } else { CHANGE },
                     feature: Some(feature),
                     rounds,
                 },

@@ -4,6 +4,7 @@ ghost use Rattle.std.specs.Prelude.{◌≡◌, length};
 
 use crate::pages::is_text;
 use crate::watchers::{are_all, told, watched};
+use std::mem;
 use std::process::Abort;
 use std::sync::Wait;
 use std::test::*;
@@ -189,17 +190,17 @@ fn redo_of<L: Terms>(token: Redo<L>) -> (Held<L>, Answer) {
     (Held::Redo(token), Answer::Token(serial))
 }
 
-/// Makes a call that gives a token or spends one: what is held then, and what it gave.
+/// Makes a call that gives a token, which is held then, or spends the one that is held: what it gave.
 pub fn made<L: Terms, R: Wait + Abort + AllocGlobal>(
     rt: &R,
     office: &Office<L>,
     seat: &mut Seat<L>,
-    held: Held<L>,
+    held: &mut Held<L>,
     call: Call,
-) -> (Held<L>, Answer) {
+) -> Answer {
     let alloc = rt.alloc();
     let Seat { session, front } = seat;
-    match held {
+    let (now, answer) = match mem::replace(held, Held::Nothing) {
         Held::Nothing => match call {
             Call::Decide(_, feature, value) => {
                 match session.decide(rt, alloc, office, front, feature, value) {
@@ -241,7 +242,9 @@ pub fn made<L: Terms, R: Wait + Abort + AllocGlobal>(
             },
             _ => panic!(rt; "the token of an undone change is held"),
         },
-    }
+    };
+    is_nothing(rt, mem::replace(held, now));
+    answer
 }
 
 /// Holds a harvest. Whoever lets one go himself takes the prover seconds.
@@ -326,18 +329,6 @@ fn join_all<L: Terms, R: Wait + Abort>(rt: &R, office: &Office<L>) -> bool {
     office.join(rt).is_err()
 }
 
-/// How many calls a front has once it met another.
-pub fn met<L: Terms, R: Wait>(
-    rt: &R,
-    office: &Office<L>,
-    front: &mut Front<L>,
-    other: &Front<L>,
-) -> Answer {
-    office.meet(rt, front, other);
-    front.headline();
-    Answer::Has(front.len())
-}
-
 /// Makes a call that is not logged.
 fn looked<L: Terms, R: Wait + Abort + AllocGlobal>(
     rt: &R,
@@ -349,7 +340,8 @@ fn looked<L: Terms, R: Wait + Abort + AllocGlobal>(
     match call {
         Call::Watch => {
             kept.earlier = kept.watch.take();
-            kept.watch = Some(watched(rt, office));
+            kept.watch = watched(rt, office);
+            assert!(rt; kept.watch.is_some());
             Answer::Done
         }
         Call::Sees => told(rt, &mut kept.watch),

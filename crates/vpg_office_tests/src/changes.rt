@@ -10,7 +10,6 @@ use crate::calls::Call::{
 use crate::offices::{F, G, on_each};
 use crate::steps::By::{One, Two};
 use crate::steps::{Day, Step};
-use std::test::Fail;
 use vpg_desk::{CommitFault, DecideFault, RedoFault, RetractFault, UndoFault};
 
 /// One session lifts an opened office's page and looks at it.
@@ -246,7 +245,6 @@ const DAYS: &[Day] = &[
 ];
 
 #[test]
-fn sessions_change_pages(rt: HostRuntime) -> Result<(), Fail> {
+fn sessions_change_pages(rt: HostRuntime) {
     on_each(&rt, DAYS);
-    Ok(())
 }

@@ -1,6 +1,6 @@
 //! Pages as texts.
 use std::alloc::Global;
-use std::fmt::Write;
+use std::fmt::{Display, Write};
 use vpg_measure::Table;
 use vpg_trail::{Assumed, Entry, Page};
 use vpg_verdict::Which;
@@ -10,6 +10,13 @@ use vpg_verdict::Which;
 struct Line {
     text: String,
     lacks: bool,
+}
+
+impl Line {
+    /// Writes a word or a number, and a space behind it.
+    fn put<T: Display + Copy>(&mut self, word: T) {
+        self.lacks |= write!(self.text, "{word} ").is_err();
+    }
 }
 
 /// The feature's name in the diagram of the tests.
@@ -22,20 +29,33 @@ fn name(feature: u16) -> &'static str {
     }
 }
 
+/// The feature's name behind its sign.
+fn signed(feature: u16, value: bool) -> &'static str {
+    match (feature, value) {
+        (0, true) => "+r",
+        (0, false) => "-r",
+        (1, true) => "+f",
+        (1, false) => "-f",
+        (2, true) => "+g",
+        (2, false) => "-g",
+        _ => "other",
+    }
+}
+
 fn put_assumed(line: &mut Line, under: &Assumed) {
     for literal in under.literals() {
-        let sign = if literal.value { "+" } else { "-" };
-        line.lacks |= write!(line.text, "{sign}{} ", name(literal.feature)).is_err();
+        line.put(signed(literal.feature, literal.value));
     }
 }
 
 fn put_entry(line: &mut Line, entry: &Entry) {
     match entry {
         Entry::Decide(decision) => {
-            let how = if decision.value { "select" } else { "exclude" };
-            let (feature, serial) = (name(decision.feature), decision.serial);
-            let session = decision.session;
-            line.lacks |= write!(line.text, "{how} {feature} {serial} by {session} ").is_err();
+            line.put(if decision.value { "select" } else { "exclude" });
+            line.put(name(decision.feature));
+            line.put(decision.serial);
+            line.put("by");
+            line.put(decision.session);
         }
         Entry::Lift {
             table,
@@ -44,11 +64,13 @@ fn put_entry(line: &mut Line, entry: &Entry) {
             new,
             under,
         } => {
-            let which = match table {
+            line.put(match table {
                 Which::Hopeful => "hopeful",
                 Which::Dual => "dual",
-            };
-            line.lacks |= write!(line.text, "{which} {vertex} {old} {new} ").is_err();
+            });
+            line.put(*vertex);
+            line.put(*old);
+            line.put(*new);
             put_assumed(line, under);
         }
     }
@@ -57,15 +79,15 @@ fn put_entry(line: &mut Line, entry: &Entry) {
 fn put_entries(line: &mut Line, entries: &[Entry]) {
     for entry in entries {
         put_entry(line, entry);
-        line.lacks |= line.text.push_str("/ ").is_err();
+        line.put("/");
     }
 }
 
 fn put_table(line: &mut Line, table: &Table) {
     for value in table.values() {
-        line.lacks |= write!(line.text, "{value} ").is_err();
+        line.put(*value);
     }
-    line.lacks |= line.text.push_str("/ ").is_err();
+    line.put("/");
 }
 
 /// Whether a page is this text: its decisions, its entries, and its two tables.
@@ -74,8 +96,8 @@ pub fn is_text(alloc: Global, page: &Page, text: &str) -> bool {
         text: String::new(alloc),
         lacks: false,
     };
-    let decided = page.decisions.as_slice().len();
-    line.lacks |= write!(line.text, "{decided} decided / ").is_err();
+    line.put(page.decisions.as_slice().len());
+    line.put("decided /");
     put_entries(&mut line, page.entries.as_slice());
     put_table(&mut line, &page.hopeful);
     put_table(&mut line, &page.dual);

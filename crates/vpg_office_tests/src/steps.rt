@@ -2,15 +2,13 @@
 ghost use Rattle.std.specs.Prelude.{◌≡◌, length};
 
 use crate::calls::{
-    Answer, At, Call, Held, Kept, Seat, asked, is_nothing, joined, made, met, none_kept, serial_of,
+    Answer, At, Call, Held, Kept, Seat, asked, is_nothing, joined, made, none_kept, serial_of,
 };
 use crate::watchers::told;
-use std::mem;
 use std::process::Abort;
 use std::sync::Wait;
 use std::test::*;
 use vpg_office::{Front, Office, Terms, TokensOut};
-use vpg_watch::Watch;
 
 /// Which of the two sessions makes a call.
 #[derive(Clone, Copy)]
@@ -56,6 +54,24 @@ impl<L: Terms> Tokens<L> {
     }
 }
 
+/// Two sessions at work, and what their calls gave.
+struct Both<L: Terms> {
+    one: Seat<L>,
+    two: Seat<L>,
+    kept: Kept<L>,
+}
+
+// Not derived, so that letting both go is one call.
+impl<L: Terms> Drop for Both<L> {
+    fn drop(self) {
+        let Both {
+            one: _,
+            two: _,
+            kept: _,
+        } = self;
+    }
+}
+
 /// Where the token is held that a call gives or spends, if it does.
 fn place_of(call: Call) -> Option<At> {
     match call {
@@ -79,17 +95,19 @@ fn answered<L: Terms, R: Wait + Abort + AllocGlobal>(
 {
     let Some(at) = place_of(call) else {
         return match call {
-            Call::Meet => met(rt, office, &mut seat.front, other),
+            Call::Meet => {
+                office.meet(rt, &mut seat.front, other);
+                seat.front.headline();
+                Answer::Has(seat.front.len())
+            }
             _ => asked(rt, office, seat, kept, call),
         };
     };
     let held = tokens.at(at);
-    let token = mem::replace(held, Held::Nothing);
-    let before = serial_of(&token);
-    let (token, answer) = made(rt, office, seat, token, call);
-    let now = serial_of(&token);
+    let before = serial_of(held);
+    let answer = made(rt, office, seat, held, call);
+    let now = serial_of(held);
     assert!(rt; now == before || !matches!(call, Call::Undo(_) | Call::Redo(_)));
-    is_nothing(rt, mem::replace(held, token));
     answer
 }
 
@@ -97,15 +115,14 @@ fn answered<L: Terms, R: Wait + Abort + AllocGlobal>(
 fn carry_out<L: Terms, R: Wait + Abort + AllocGlobal>(
     rt: &R,
     office: &Office<L>,
-    one: &mut Seat<L>,
-    two: &mut Seat<L>,
-    kept: &mut Kept<L>,
+    both: &mut Both<L>,
     tokens: &mut Tokens<L>,
     name: &str,
     steps: &[Step],
 )
     requires { length L.game.vertices ≡ 2 }
 {
+    let Both { one, two, kept } = both;
     for k in 0..steps.len() {
         let (by, call, gives) = steps[k];
         let answer = match by {
@@ -129,16 +146,6 @@ fn refused<L: Terms, R: Wait + Abort>(
             office
         }
     }
-}
-
-/// The office, which can't be closed, whether a front of no calls is lent or one of all.
-fn still_open<L: Terms, R: Wait + Abort>(
-    rt: &R,
-    office: Office<L>,
-    early: &mut Front<L>,
-    front: &mut Front<L>,
-) -> Office<L> {
-    refused(rt, refused(rt, office, early), front)
 }
 
 /// Ends an office with no token out.
@@ -174,8 +181,7 @@ fn end_with<L: Terms, R: Wait + Abort + AllocGlobal>(
 fn end<L: Terms, R: Wait + Abort + AllocGlobal>(
     rt: &R,
     office: Office<L>,
-    one: &mut Front<L>,
-    two: &mut Front<L>,
+    both: &mut Both<L>,
     tokens: Tokens<L>,
     closes: bool,
 ) {
@@ -188,22 +194,21 @@ fn end<L: Terms, R: Wait + Abort + AllocGlobal>(
     is_nothing(rt, third);
     if closes {
         is_nothing(rt, first);
-        close(rt, office, one);
+        close(rt, office, &mut both.one.front);
     } else {
-        end_with(rt, office, two, first);
+        end_with(rt, office, &mut both.two.front, first);
     }
 }
 
 /// Whether the front that was lent as a day ended has all calls, and a watch reads nothing.
-fn is_over<L: Terms>(
-    rt: &impl Abort,
-    one: &Front<L>,
-    two: &Front<L>,
-    watch: &mut Option<Watch<Front<L>>>,
-    day: Day,
-) -> bool {
-    let front = if day.closes { one } else { two };
-    front.len() == day.calls && (watch.is_none() || told(rt, watch) == Answer::NoSheet)
+fn is_over<L: Terms>(rt: &impl Abort, both: &mut Both<L>, day: Day) -> bool {
+    let front = if day.closes {
+        &both.one.front
+    } else {
+        &both.two.front
+    };
+    front.len() == day.calls
+        && (both.kept.watch.is_none() || told(rt, &mut both.kept.watch) == Answer::NoSheet)
 }
 
 /// Two sessions make a day's calls on an office, which is ended then: the front has all calls, and a watch reads
@@ -211,51 +216,28 @@ fn is_over<L: Terms>(
 pub fn spend<L: Terms, R: Wait + Abort + AllocGlobal>(rt: &R, office: Office<L>, day: Day)
     requires { length L.game.vertices ≡ 2 }
 {
-    let mut one = joined(rt, &office);
-    let mut two = joined(rt, &office);
-    let mut kept = none_kept(&one);
+    let one = joined(rt, &office);
+    let kept = none_kept(&one);
+    let mut both = Both {
+        one,
+        two: joined(rt, &office),
+        kept,
+    };
     let mut tokens = Tokens {
         first: Held::Nothing,
         second: Held::Nothing,
         third: Held::Nothing,
     };
-    assert!(rt; one.session.number() == 1 && two.session.number() == 2);
-    carry_out(
-        rt,
-        &office,
-        &mut one,
-        &mut two,
-        &mut kept,
-        &mut tokens,
-        day.name,
-        day.before,
-    );
+    assert!(rt; both.one.session.number() == 1 && both.two.session.number() == 2);
+    carry_out(rt, &office, &mut both, &mut tokens, day.name, day.before);
+    // it can't be closed, whether a front of no calls is lent or one of all
     let office = if day.before.is_empty() {
         office
     } else {
-        still_open(rt, office, &mut kept.early, &mut one.front)
+        let office = refused(rt, office, &mut both.kept.early);
+        refused(rt, office, &mut both.one.front)
     };
-    carry_out(
-        rt,
-        &office,
-        &mut one,
-        &mut two,
-        &mut kept,
-        &mut tokens,
-        day.name,
-        day.steps,
-    );
-    end(
-        rt,
-        office,
-        &mut one.front,
-        &mut two.front,
-        tokens,
-        day.closes,
-    );
-    assert!(rt;
-        is_over(rt, &one.front, &two.front, &mut kept.watch, day),
-        "{}",
-        day.name
-    );
+    carry_out(rt, &office, &mut both, &mut tokens, day.name, day.steps);
+    end(rt, office, &mut both, tokens, day.closes);
+    assert!(rt; is_over(rt, &mut both, day), "{}", day.name);
 }

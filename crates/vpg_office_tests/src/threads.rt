@@ -7,7 +7,7 @@ ghost use Rattle.std.specs.Prelude.{◌≡◌, ◌≤◌, length};
 ghost use Rattle.vpg_diagram.specs.FeatureDiagram.{feature_count};
 
 use crate::calls::{
-    Answer, At, Call, Held, Kept, Seat, asked, is_nothing, joined, made, none_kept,
+    Answer, At, Call, Held, Seat, asked, is_nothing, joined, made, none_kept, serial_of,
 };
 use crate::offices::{DIAGRAM, F, GAME, family};
 use crate::steps::close;
@@ -18,13 +18,12 @@ use std::sync::atomic::{AtomicU64, Ordering};
 use std::sync::{Arc, Wait};
 use std::test::*;
 use std::thread;
-use std::thread::{Threads, join};
+use std::thread::Threads;
 use vpg_board::{Gate, sweep};
 use vpg_desk::DecideFault;
 use vpg_diagram::Diagram;
 use vpg_game::GuardedGame;
-use vpg_measure::{Harvest, Order};
-use vpg_office::{Front, Office, Site, Terms, Undo, may_be_shared};
+use vpg_office::{Front, Office, Site, Terms, may_be_shared};
 use vpg_watch::Watch;
 
 /// A diagram with a feature for each of eight sessions.
@@ -36,8 +35,10 @@ optional r c\noptional r d\noptional r e\noptional r h\n";
 enum Task {
     /// Decides this feature and retracts it so often: four calls each time.
     Rounds(u16, u32),
-    /// Decides the feature f so.
+    /// Decides the feature f so. Where another commits late, that is between its order and its commit.
     Decide(bool),
+    /// Takes an order, which is swept while another session decides, and commits the harvest.
+    CommitLate,
     /// Reads by a watch until another session has made its rounds.
     Read,
 }
@@ -52,26 +53,20 @@ struct Rush {
     sum: u64,
     /// How many calls the log has at the end.
     calls: usize,
-    /// Whether the page is empty at the end.
-    is_empty: bool,
+    /// The page at the end, where it is looked at.
+    page: Option<&'static str>,
+    /// Whether a session commits late.
+    is_late: bool,
 }
 
-/// What is done on an office.
-#[derive(Clone, Copy)]
-enum Run {
-    AtOnce(&'static Rush),
-    /// A harvest comes after another session decided.
-    Late,
-}
-
-/// Opens an office, and does it.
+/// Opens an office, on which sessions work at once, and closes it then.
 fn open_and_run<L: Terms + Send + Sync, R: Threads + Wait + Abort + AllocGlobal + Sync>(
     rt: &R,
     site: Site,
     game: Arc<GuardedGame>,
     diagram: Arc<Diagram>,
     room: u32,
-    run: Run,
+    rush: &Rush,
 )
     requires features { (arc_value game).features ≡ feature_count (arc_value diagram).lines }
     requires site { (site.row ≡ L.shelves) × (site.name ≡ L.name) × (site.parts ≡ L.parts) }
@@ -82,18 +77,18 @@ fn open_and_run<L: Terms + Send + Sync, R: Threads + Wait + Abort + AllocGlobal 
     let Ok(office) = Office::<L>::open(rt, rt.alloc(), site, game, diagram, room) else {
         panic!(rt; "no office")
     };
-    match run {
-        Run::AtOnce(rush) => run_at_once(rt, office, rush),
-        Run::Late => commit_late(rt, office),
-    }
+    make_rush(rt, &office, rush);
+    let mut last = joined(rt, &office);
+    assert!(rt; is_left(rt, &office, &mut last, rush));
+    close(rt, office, &mut last.front);
 }
 
-/// Does it on an office on this diagram, whose log takes so many calls.
+/// Sessions work at once on an office on this diagram, whose log takes so many calls.
 fn on_shared_office<R: Threads + Wait + Abort + AllocGlobal + Sync>(
     rt: &R,
     diagram: &[u8],
     room: u32,
-    run: Run,
+    rush: &Rush,
 )
     requires { (1 ≤ room) × (room ≤ 1048576) }
 {
@@ -101,7 +96,7 @@ fn on_shared_office<R: Threads + Wait + Abort + AllocGlobal + Sync>(
     let Ok(site) = Site::new(rt.alloc()) else {
         panic!(rt; "no memory")
     };
-    open_and_run::<Brand, R>(rt, site, game, diagram, room, run);
+    open_and_run::<Brand, R>(rt, site, game, diagram, room, rush);
 }
 
 /// Where the calls of a session stand in the log.
@@ -120,27 +115,13 @@ impl Places {
     }
 }
 
-/// A feature is decided and retracted: four calls.
-fn round<L: Terms, R: Wait + Abort + AllocGlobal>(
-    rt: &R,
-    office: &Office<L>,
-    seat: &mut Seat<L>,
-    feature: u16,
-    places: &mut Places,
-) {
-    let mut held = Held::Nothing;
-    for call in [
-        Call::Decide(At::First, feature, true),
-        Call::Keep(At::First),
-        Call::Retract(At::First, feature),
-        Call::Keep(At::First),
-    ] {
-        let (next, answer) = made(rt, office, seat, held, call);
-        held = next;
-        assert!(rt; matches!(answer, Answer::Token(_) | Answer::Done));
-        places.note(rt, seat.front.len());
+/// The call of a session in rounds that comes behind so many: a feature is decided and retracted, in four calls.
+fn call_of(feature: u16, before: u32) -> Call {
+    match before % 4 {
+        0 => Call::Decide(At::First, feature, true),
+        2 => Call::Retract(At::First, feature),
+        _ => Call::Keep(At::First),
     }
-    is_nothing(rt, held);
 }
 
 /// So many rounds, and the sum of the places of their calls, from 1.
@@ -152,32 +133,14 @@ fn rounds<L: Terms, R: Wait + Abort + AllocGlobal>(
     count: u32,
 ) -> u64 {
     let mut places = Places { last: 0, sum: 0 };
-    for _ in 0..count {
-        round(rt, office, seat, feature, &mut places);
+    let mut held = Held::Nothing;
+    for before in 0..count.saturating_mul(4) {
+        let answer = made(rt, office, seat, &mut held, call_of(feature, before));
+        assert!(rt; matches!(answer, Answer::Token(_) | Answer::Done));
+        places.note(rt, seat.front.len());
     }
-    places.sum
-}
-
-/// Decides, unless another was first: the serial of the change, or why there is none.
-fn try_first<L: Terms, R: Wait + Abort + AllocGlobal>(
-    rt: &R,
-    office: &Office<L>,
-    seat: &mut Seat<L>,
-    value: bool,
-) -> Answer {
-    let (held, answer) = made(
-        rt,
-        office,
-        seat,
-        Held::Nothing,
-        Call::Decide(At::First, F, value),
-    );
-    let held = match held {
-        Held::Nothing => Held::Nothing,
-        held => made(rt, office, seat, held, Call::Keep(At::First)).0,
-    };
     is_nothing(rt, held);
-    answer
+    places.sum
 }
 
 /// What sessions in threads of their own share.
@@ -187,6 +150,86 @@ struct Shared {
     ended: AtomicU64,
     /// The sum of the places of their calls.
     places: AtomicU64,
+    /// Whether an order was taken that is committed late, and whether that was done. From the beginning where none is.
+    ordered: AtomicU64,
+    committed: AtomicU64,
+    /// Whether a session was answered that decided.
+    decided: AtomicU64,
+    /// Whether the lifter went on then.
+    passed: AtomicU64,
+}
+
+/// Waits until this is set, but not for ever: whether it was.
+fn is_set(flag: &AtomicU64) -> bool {
+    for _ in 0..1_000_000u32 {
+        if flag.load(Ordering::SeqCst) != 0 {
+            return true;
+        }
+        thread::yield_now();
+    }
+    false
+}
+
+/// Holds the lifter in its first claim until a session was answered.
+impl Gate for Shared {
+    fn before_claim(&self, _lifter: u32) {
+        if self.passed.load(Ordering::SeqCst) == 0 && is_set(&self.decided) {
+            self.passed.store(1, Ordering::SeqCst);
+        }
+    }
+
+    fn after_lift(&self, _lifter: u32) {}
+}
+
+/// Decides, unless another was first: the serial of the change, or why there is none. Where another commits late, that
+/// is between its order and its commit.
+fn decide<L: Terms, R: Wait + Abort + AllocGlobal>(
+    rt: &R,
+    office: &Office<L>,
+    seat: &mut Seat<L>,
+    value: bool,
+    shared: &Shared,
+) -> Answer {
+    let mut held = Held::Nothing;
+    assert!(rt; is_set(&shared.ordered));
+    let answer = made(
+        rt,
+        office,
+        seat,
+        &mut held,
+        Call::Decide(At::First, F, value),
+    );
+    shared.decided.store(1, Ordering::SeqCst);
+    assert!(rt; is_set(&shared.committed));
+    if serial_of(&held) != 0 {
+        made(rt, office, seat, &mut held, Call::Keep(At::First));
+    }
+    is_nothing(rt, held);
+    answer
+}
+
+/// Takes an order, which is swept while another session decides, and commits the harvest: how many entries that added.
+fn commit_late<L: Terms, R: Threads + Wait + Abort + AllocGlobal + Sync>(
+    rt: &R,
+    office: &Office<L>,
+    seat: &mut Seat<L>,
+    shared: &Shared,
+) -> Answer {
+    let Seat { session, front } = seat;
+    let order = match session.order(rt, rt.alloc(), office, front) {
+        Ok(order) => order,
+        Err(_) => panic!(rt; "no order"),
+    };
+    shared.ordered.store(1, Ordering::SeqCst);
+    let harvest = sweep(rt, rt.alloc(), order, 1, shared);
+    assert!(rt; shared.passed.load(Ordering::SeqCst) == 1);
+    let added = match session.commit(rt, rt.alloc(), office, front, harvest) {
+        Ok(added) => added,
+        Err(_) => panic!(rt; "not taken"),
+    };
+    assert!(rt; front.len() == 3);
+    shared.committed.store(1, Ordering::SeqCst);
+    Answer::Added(added)
 }
 
 /// Reads until the rounds have ended, and then once more: what is read last. No sheet is of fewer calls than the one
@@ -222,7 +265,7 @@ struct Job<L: Terms> {
 }
 
 /// What comes of a job.
-fn work<L: Terms, R: Wait + Abort + AllocGlobal>(
+fn work<L: Terms, R: Threads + Wait + Abort + AllocGlobal + Sync>(
     rt: &R,
     office: &Office<L>,
     job: Job<L>,
@@ -236,7 +279,8 @@ fn work<L: Terms, R: Wait + Abort + AllocGlobal>(
             shared.ended.store(1, Ordering::SeqCst);
             Answer::Done
         }
-        Task::Decide(value) => try_first(rt, office, &mut job.seat, value),
+        Task::Decide(value) => decide(rt, office, &mut job.seat, value, shared),
+        Task::CommitLate => commit_late(rt, office, &mut job.seat, shared),
         Task::Read => read_on(rt, &mut job.watch, shared),
     }
 }
@@ -250,7 +294,7 @@ fn jobs_of<L: Terms, R: Wait + Abort + AllocGlobal>(
     let mut jobs = Vec::new(rt.alloc());
     for task in tasks {
         let watch = match task {
-            Task::Read => Some(watched(rt, office)),
+            Task::Read => watched(rt, office),
             _ => None,
         };
         let job = Job {
@@ -279,21 +323,6 @@ fn at_once<L: Terms + Send + Sync, R: Threads + Wait + Abort + AllocGlobal + Syn
     }
 }
 
-/// Whether the page is this text, which is one further call.
-fn page_is<L: Terms, R: Wait + Abort + AllocGlobal>(
-    rt: &R,
-    office: &Office<L>,
-    seat: &mut Seat<L>,
-    kept: &mut Kept<L>,
-    text: &'static str,
-) -> bool
-    requires { length L.game.vertices ≡ 2 }
-{
-    let calls = seat.front.len();
-    asked(rt, office, seat, kept, Call::Page(text)) == Answer::Is(true)
-        && seat.front.len() == calls.saturating_add(1)
-}
-
 /// Sessions work at once: each call in rounds stands at a place of its own, behind those that its session made before.
 fn make_rush<L: Terms + Send + Sync, R: Threads + Wait + Abort + AllocGlobal + Sync>(
     rt: &R,
@@ -301,9 +330,14 @@ fn make_rush<L: Terms + Send + Sync, R: Threads + Wait + Abort + AllocGlobal + S
     rush: &Rush,
 ) {
     may_be_shared(office);
+    let passes = !rush.is_late as u64;
     let shared = Shared {
         ended: AtomicU64::new(0),
         places: AtomicU64::new(0),
+        ordered: AtomicU64::new(passes),
+        committed: AtomicU64::new(passes),
+        decided: AtomicU64::new(0),
+        passed: AtomicU64::new(0),
     };
     let jobs = jobs_of(rt, office, rush.tasks);
     let answers = at_once(rt, office, jobs, &shared);
@@ -321,23 +355,16 @@ fn is_left<L: Terms, R: Wait + Abort + AllocGlobal>(
 ) -> bool
     requires { length L.game.vertices ≡ 2 }
 {
-    let mut kept = none_kept(seat);
-    seat.front.len() == rush.calls
-        && (!rush.is_empty || page_is(rt, office, seat, &mut kept, EMPTY))
-}
-
-/// Sessions work at once, and the office is closed then.
-fn run_at_once<L: Terms + Send + Sync, R: Threads + Wait + Abort + AllocGlobal + Sync>(
-    rt: &R,
-    office: Office<L>,
-    rush: &Rush,
-)
-    requires { length L.game.vertices ≡ 2 }
-{
-    make_rush(rt, &office, rush);
-    let mut last = joined(rt, &office);
-    assert!(rt; is_left(rt, &office, &mut last, rush));
-    close(rt, office, &mut last.front);
+    if seat.front.len() != rush.calls {
+        return false;
+    }
+    match rush.page {
+        Some(text) => {
+            let mut kept = none_kept(seat);
+            asked(rt, office, seat, &mut kept, Call::Page(text)) == Answer::Is(true)
+        }
+        None => true,
+    }
 }
 
 const EMPTY: &str = "0 decided / 0 0 / 0 0 / ";
@@ -348,13 +375,13 @@ const TWO: &Rush = &Rush {
     or: &[],
     sum: 320_400,
     calls: 800,
-    is_empty: true,
+    page: Some(EMPTY),
+    is_late: false,
 };
 
 #[test]
-fn two_threads_decide_and_retract(rt: HostRuntime) -> Result<(), Fail> {
-    on_shared_office(&rt, DIAGRAM, 1000, Run::AtOnce(TWO));
-    Ok(())
+fn two_threads_decide_and_retract(rt: HostRuntime) {
+    on_shared_office(&rt, DIAGRAM, 1000, TWO);
 }
 
 const EIGHT: &Rush = &Rush {
@@ -372,13 +399,13 @@ const EIGHT: &Rush = &Rush {
     or: &[],
     sum: 32_004_000,
     calls: 8000,
-    is_empty: true,
+    page: Some(EMPTY),
+    is_late: false,
 };
 
 #[test]
-fn eight_threads_keep_order(rt: HostRuntime) -> Result<(), Fail> {
-    on_shared_office(&rt, WIDE, 8001, Run::AtOnce(EIGHT));
-    Ok(())
+fn eight_threads_keep_order(rt: HostRuntime) {
+    on_shared_office(&rt, WIDE, 8001, EIGHT);
 }
 
 const SECOND: Answer = Answer::NotDecided(DecideFault::AlreadyDecided { serial: 1 });
@@ -390,15 +417,15 @@ const RACE: &Rush = &Rush {
     or: &[SECOND, Answer::Token(1)],
     sum: 0,
     calls: 3,
-    is_empty: false,
+    page: None,
+    is_late: false,
 };
 
 #[test]
-fn two_threads_decide_one_feature(rt: HostRuntime) -> Result<(), Fail> {
+fn two_threads_decide_one_feature(rt: HostRuntime) {
     for _ in 0..20 {
-        on_shared_office(&rt, DIAGRAM, 10, Run::AtOnce(RACE));
+        on_shared_office(&rt, DIAGRAM, 10, RACE);
     }
-    Ok(())
 }
 
 const LAST_SHEET: Answer = Answer::Sheet(1999, false);
@@ -430,131 +457,27 @@ const WATCHED: &Rush = &Rush {
     or: &[],
     sum: 2_001_000,
     calls: 2000,
-    is_empty: false,
+    page: None,
+    is_late: false,
 };
 
 #[test]
-fn eight_watches_never_go_back(rt: HostRuntime) -> Result<(), Fail> {
-    on_shared_office(&rt, DIAGRAM, 2000, Run::AtOnce(WATCHED));
-    Ok(())
-}
-
-/// Holds the lifter in its first claim until a session was answered.
-#[derive(Drop)]
-struct Waiting {
-    answered: AtomicU64,
-    passed: AtomicU64,
-}
-
-impl Gate for Waiting {
-    fn before_claim(&self, _lifter: u32) {
-        if self.passed.load(Ordering::SeqCst) != 0 {
-            return;
-        }
-        for _ in 0..1_000_000u32 {
-            if self.answered.load(Ordering::SeqCst) != 0 {
-                self.passed.store(1, Ordering::SeqCst);
-                return;
-            }
-            thread::yield_now();
-        }
-    }
-
-    fn after_lift(&self, _lifter: u32) {}
-}
-
-/// Decides, and lets the lifter go on.
-fn decide_at_gate<L: Terms, R: Wait + Abort + AllocGlobal>(
-    rt: &R,
-    office: &Office<L>,
-    seat: Seat<L>,
-    gate: &Waiting,
-) -> Undo<L> {
-    let mut seat = seat;
-    let call = Call::Decide(At::First, F, false);
-    let (held, _) = made(rt, office, &mut seat, Held::Nothing, call);
-    gate.answered.store(1, Ordering::SeqCst);
-    match held {
-        Held::Undo(token) => token,
-        _ => panic!(rt; "not decided"),
-    }
-}
-
-fn sweep_at_gate<R: Threads + Wait + AllocGlobal + Sync>(
-    rt: &R,
-    order: Order,
-    gate: &Waiting,
-) -> Harvest {
-    sweep(rt, rt.alloc(), order, 1, gate)
-}
-
-/// A session decides while another's order is swept, which waits for it.
-fn decide_and_sweep<L: Terms + Send + Sync, R: Threads + Wait + Abort + AllocGlobal + Sync>(
-    rt: &R,
-    office: &Office<L>,
-    seat: Seat<L>,
-    order: Order,
-    gate: &Waiting,
-) -> (Undo<L>, Harvest) {
-    let (token, harvest) = join(
-        rt,
-        || decide_at_gate(rt, office, seat, gate),
-        || sweep_at_gate(rt, order, gate),
-    );
-    (token, harvest)
-}
-
-/// The page on which a harvest comes after another session decided.
-const LATE: &str = "1 decided / exclude f 1 by 2 / hopeful 0 0 1 / dual 1 0 1 / 1 0 / 0 1 / ";
-
-/// Another session decides while a session's order is swept: the token.
-fn sweep_late<L: Terms + Send + Sync, R: Threads + Wait + Abort + AllocGlobal + Sync>(
-    rt: &R,
-    office: &Office<L>,
-    seat: &mut Seat<L>,
-    kept: &mut Kept<L>,
-) -> Undo<L> {
-    let two = joined(rt, office);
-    let order = match seat.session.order(rt, rt.alloc(), office, &mut seat.front) {
-        Ok(order) => order,
-        Err(_) => panic!(rt; "no order"),
-    };
-    let gate = Waiting {
-        answered: AtomicU64::new(0),
-        passed: AtomicU64::new(0),
-    };
-    let (token, harvest) = decide_and_sweep(rt, office, two, order, &gate);
-    assert!(rt; gate.passed.load(Ordering::SeqCst) == 1);
-    kept.harvest = Some(harvest);
-    token
+fn eight_watches_never_go_back(rt: HostRuntime) {
+    on_shared_office(&rt, DIAGRAM, 2000, WATCHED);
 }
 
 /// A harvest comes after another session decided: it is taken, and the page has both.
-fn commit_late<L: Terms + Send + Sync, R: Threads + Wait + Abort + AllocGlobal + Sync>(
-    rt: &R,
-    office: Office<L>,
-)
-    requires { length L.game.vertices ≡ 2 }
-{
-    let mut one = joined(rt, &office);
-    let mut kept = none_kept(&one);
-    let token = sweep_late(rt, &office, &mut one, &mut kept);
-    assert!(rt; asked(rt, &office, &mut one, &mut kept, Call::Commit) == Answer::Added(2));
-    assert!(rt; one.front.len() == 3);
-    assert!(rt; page_is(rt, &office, &mut one, &mut kept, LATE));
-    let (held, _) = made(
-        rt,
-        &office,
-        &mut one,
-        Held::Undo(token),
-        Call::Keep(At::First),
-    );
-    is_nothing(rt, held);
-    close(rt, office, &mut one.front);
-}
+const LATE: &Rush = &Rush {
+    tasks: &[Task::CommitLate, Task::Decide(false)],
+    gives: &[Answer::Added(2), Answer::Token(1)],
+    or: &[],
+    sum: 0,
+    calls: 4,
+    page: Some("1 decided / exclude f 1 by 2 / hopeful 0 0 1 / dual 1 0 1 / 1 0 / 0 1 / "),
+    is_late: true,
+};
 
 #[test]
-fn a_harvest_comes_late(rt: HostRuntime) -> Result<(), Fail> {
-    on_shared_office(&rt, DIAGRAM, 10, Run::Late);
-    Ok(())
+fn a_harvest_comes_late(rt: HostRuntime) {
+    on_shared_office(&rt, DIAGRAM, 10, LATE);
 }

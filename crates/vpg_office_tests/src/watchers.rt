@@ -21,21 +21,11 @@ use vpg_office::{Front, Office, Terms, read};
 use vpg_watch::{Watch, WatchFault};
 
 /// A watch, where there is a place.
-fn try_watch<L: Terms, R: Wait + AllocGlobal>(
+pub fn watched<L: Terms, R: Wait + AllocGlobal>(
     rt: &R,
     office: &Office<L>,
 ) -> Option<Watch<Front<L>>> {
     office.watch(rt, rt.alloc()).ok()
-}
-
-pub fn watched<L: Terms, R: Wait + Abort + AllocGlobal>(
-    rt: &R,
-    office: &Office<L>,
-) -> Watch<Front<L>> {
-    match try_watch(rt, office) {
-        Some(watch) => watch,
-        None => panic!(rt; "no watch"),
-    }
 }
 
 /// What a watch reads.
@@ -53,14 +43,17 @@ pub fn told<L: Terms>(rt: &impl Abort, watch: &mut Option<Watch<Front<L>>>) -> A
 pub fn are_all<L: Terms, R: Wait + Abort + AllocGlobal>(rt: &R, office: &Office<L>) -> bool {
     let mut watches = Vec::new(rt.alloc());
     for _ in 0..64 {
-        match watches.push(watched(rt, office)) {
-            Ok(()) => {}
-            Err(_) => panic!(rt; "no memory"),
+        match watched(rt, office) {
+            Some(watch) => match watches.push(watch) {
+                Ok(()) => {}
+                Err(_) => panic!(rt; "no memory"),
+            },
+            None => panic!(rt; "no watch"),
         }
     }
-    let is_last = try_watch(rt, office).is_none();
+    let is_last = watched(rt, office).is_none();
     watches.clear();
-    is_last && try_watch(rt, office).is_some()
+    is_last && watched(rt, office).is_some()
 }
 
 /// One session decides and another takes the page. A watch is at the decision, and so is one that is asked for then.
@@ -169,9 +162,8 @@ const LAST_CHANGE: &[Day] = &[Day {
 }];
 
 #[test]
-fn a_watch_is_at_the_last_change(rt: HostRuntime) -> Result<(), Fail> {
+fn a_watch_is_at_the_last_change(rt: HostRuntime) {
     on_each(&rt, LAST_CHANGE);
-    Ok(())
 }
 
 const CHANGES_ALONE: &[Day] = &[Day {
@@ -184,9 +176,8 @@ const CHANGES_ALONE: &[Day] = &[Day {
 }];
 
 #[test]
-fn a_watch_sees_changes_alone(rt: HostRuntime) -> Result<(), Fail> {
+fn a_watch_sees_changes_alone(rt: HostRuntime) {
     on_each(&rt, CHANGES_ALONE);
-    Ok(())
 }
 
 /// Once an office is closed or has ended there is no sheet. There are 64 watches and no more, until they are let go.
@@ -218,7 +209,6 @@ const ENDS: &[Day] = &[
 ];
 
 #[test]
-fn watches_end(rt: HostRuntime) -> Result<(), Fail> {
+fn watches_end(rt: HostRuntime) {
     on_each(&rt, ENDS);
-    Ok(())
 }

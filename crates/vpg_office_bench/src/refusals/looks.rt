@@ -1,8 +1,8 @@
-//! Calls that need no token and give none.
+//! A session's calls with what they gave, which is looked at once one was refused.
 
 ghost use Rattle.std.specs.Prelude.{◌<◌, length};
 
-use crate::calls::{Call, Seat, end_of};
+use crate::calls::{Call, Held, Seat, end_of, made};
 use std::alloc::Global;
 use std::sync::Wait;
 use vpg_measure::{Harvest, Order};
@@ -10,6 +10,29 @@ use vpg_office::{Fault, Front, NoWatch, Office, Returned, Terms, read};
 use vpg_scarce::{End, is_same_page};
 use vpg_trail::Page;
 use vpg_verdict::Which;
+use vpg_watch::Watch;
+
+/// A session's seat, and what its calls gave.
+pub(crate) struct Caller<L: Terms> {
+    pub(crate) seat: Seat<L>,
+    /// The settled harvest of the order that was given last.
+    pub(crate) harvest: Option<Harvest>,
+    pub(crate) watch: Option<Watch<Front<L>>>,
+    /// The page that was looked at first.
+    pub(crate) page: Option<Page>,
+}
+
+// Not derived, so that letting one go is one call.
+impl<L: Terms> Drop for Caller<L> {
+    fn drop(self) {
+        let Caller {
+            seat: _,
+            harvest: _,
+            watch: _,
+            page: _,
+        } = self;
+    }
+}
 
 /// How a call ended that is done if this holds.
 fn end_if(holds: bool) -> End {
@@ -41,8 +64,8 @@ fn meet_page(kept: &mut Option<Page>, page: Page) -> End {
 }
 
 /// Of how many calls the sheet is that the watch reads, if there is a watch.
-pub(crate) fn shown<L: Terms>(seat: &mut Seat<L>) -> Option<usize> {
-    let watch = seat.watch.as_mut()?;
+pub(crate) fn shown<L: Terms>(caller: &mut Caller<L>) -> Option<usize> {
+    let watch = caller.watch.as_mut()?;
     match read(watch) {
         Ok(sheet) => Some(sheet.at as usize),
         Err(_) => None,
@@ -94,31 +117,31 @@ fn looked<L: Terms, R: Wait>(
     rt: &R,
     alloc: Global,
     office: &Office<L>,
-    seat: &mut Seat<L>,
+    caller: &mut Caller<L>,
     call: Call,
 ) -> End {
     match call {
         Call::Join => match office.join(rt) {
-            Ok((_session, front)) => end_if(front.len() == seat.front.len()),
+            Ok((_session, front)) => end_if(front.len() == caller.seat.front.len()),
             Err(_) => End::Otherwise,
         },
         Call::Meet => {
-            let copy = seat.front.copy();
+            let copy = caller.seat.front.copy();
             let mut early = Front::empty();
             office.meet(rt, &mut early, &copy);
-            end_if(early.len() == seat.front.len())
+            end_if(early.len() == caller.seat.front.len())
         }
         Call::Watch => match office.watch(rt, alloc) {
             Ok(watch) => {
-                seat.watch = Some(watch);
+                caller.watch = Some(watch);
                 End::Done
             }
             Err(NoWatch::Memory) => End::Memory,
             Err(NoWatch::NoPlace) => End::Otherwise,
         },
         // There is something to read as long as the office is not closed.
-        Call::Read => end_if(shown(seat).is_some()),
-        Call::Carry => carry(&mut seat.harvest),
+        Call::Read => end_if(shown(caller).is_some()),
+        Call::Carry => carry(&mut caller.harvest),
         // which is made once all else is done
         Call::Close | Call::End(_) => End::Done,
         _ => End::Otherwise,
@@ -130,38 +153,75 @@ pub(crate) fn asked<L: Terms, R: Wait>(
     rt: &R,
     alloc: Global,
     office: &Office<L>,
-    seat: &mut Seat<L>,
+    caller: &mut Caller<L>,
     call: Call,
 ) -> End
     requires { 0 < length L.game.vertices }
 {
     match call {
-        Call::Order => match seat.session.order(rt, alloc, office, &mut seat.front) {
+        Call::Order => match caller
+            .seat
+            .session
+            .order(rt, alloc, office, &mut caller.seat.front)
+        {
             Ok(order) => {
-                put_harvest(&mut seat.harvest, Harvest::alone(order, 100));
+                put_harvest(&mut caller.harvest, Harvest::alone(order, 100));
                 End::Done
             }
             Err(fault) => end_of(fault),
         },
-        Call::Commit => match seat.harvest.take() {
-            Some(harvest) => match seat
+        Call::Commit => match caller.harvest.take() {
+            Some(harvest) => match caller
+                .seat
                 .session
-                .commit(rt, alloc, office, &mut seat.front, harvest)
+                .commit(rt, alloc, office, &mut caller.seat.front, harvest)
             {
                 Ok(added) => end_if(added == 2),
                 Err(Returned { fault, value }) => {
-                    put_harvest(&mut seat.harvest, value);
+                    put_harvest(&mut caller.harvest, value);
                     end_of(fault)
                 }
             },
             None => End::Otherwise,
         },
-        Call::Settled => ended(seat.session.settled(rt, office, &mut seat.front)),
-        Call::Verdict => ended(seat.session.verdict(rt, office, &mut seat.front, 0)),
-        Call::Page => match seat.session.page(rt, alloc, office, &mut seat.front) {
-            Ok(page) => meet_page(&mut seat.page, page),
+        Call::Settled => ended(
+            caller
+                .seat
+                .session
+                .settled(rt, office, &mut caller.seat.front),
+        ),
+        Call::Verdict => ended(
+            caller
+                .seat
+                .session
+                .verdict(rt, office, &mut caller.seat.front, 0),
+        ),
+        Call::Page => match caller
+            .seat
+            .session
+            .page(rt, alloc, office, &mut caller.seat.front)
+        {
+            Ok(page) => meet_page(&mut caller.page, page),
             Err(fault) => end_of(fault),
         },
-        _ => looked(rt, alloc, office, seat, call),
+        _ => looked(rt, alloc, office, caller, call),
+    }
+}
+
+/// Makes a call: the token that is held then, and how it ended.
+pub(crate) fn called<L: Terms, R: Wait>(
+    rt: &R,
+    alloc: Global,
+    office: &Office<L>,
+    caller: &mut Caller<L>,
+    held: Held<L>,
+    call: Call,
+) -> (Held<L>, End)
+    requires { 0 < length L.game.vertices }
+{
+    if call.is_of_tokens() {
+        made(rt, alloc, office, &mut caller.seat, held, call)
+    } else {
+        (held, asked(rt, alloc, office, caller, call))
     }
 }

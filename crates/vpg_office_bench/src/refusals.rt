@@ -3,21 +3,17 @@
 //! As in `vpg_refusals`, each call is made with no memory at all, and with sixteen bytes more each time, until it is
 //! done, and a line says what came of it. Each try is made on an office of its own, whose log is full up to what its
 //! lists have room for. So the growths of the log are refused too, and all that a refused call has to leave is looked
-//! at behind each try. With a word after its name the program takes no memory from itself, and marks each call for
-//! `bench/refused.py`.
-#![tactic(auto)]
+//! at behind each try. Or no memory is taken from the program, and each call is marked for `bench/refused.py`.
 
-mod calls;
 mod looks;
 mod offices;
 mod presses;
 mod steps;
 
 use crate::calls::Call;
-use crate::offices::{Family, Line, refuse_each};
-use anyhow::{Context, Result};
+use crate::refusals::offices::{Family, Line, refuse_each};
+use anyhow::Result;
 use std::alloc::Global;
-use std::env;
 use std::sync::Wait;
 use vpg_scarce::{Heap, Report};
 
@@ -129,34 +125,23 @@ const LINES: &[Line] = &[
 ];
 
 /// Makes each call with little memory.
-fn refuse<R: Wait>(rt: &R, heap: &mut Heap, report: &mut Report) -> Option<()> {
+fn refuse<R: Wait>(rt: &R, heap: &mut Heap, report: &mut Report) -> Result<()> {
     let family = Family::read(heap.alloc())?;
     refuse_each(rt, heap, report, &family, LINES);
     presses::refuse(rt, heap, report);
-    Some(())
+    Ok(())
 }
 
 /// Makes each call with little memory, and writes what came of each.
 fn report_all<R: Wait + Print>(rt: &R, heap: &mut Heap, report: &mut Report) -> Result<()> {
-    refuse(rt, heap, report).context("no family")?;
+    refuse(rt, heap, report)?;
     report.write(rt, heap)?;
     Ok(())
 }
 
-/// Does so with the memory of the process. Calls are marked where the program was called with a word.
-fn report_within<R: Wait + Print>(rt: &R, alloc: Global, words: usize) -> Result<()> {
+/// Does so with the memory of the process, or marks each call where there is more than one word.
+pub(crate) fn report_within<R: Wait + Print>(rt: &R, alloc: Global, words: usize) -> Result<()> {
     let mut heap = Heap::new(alloc, words)?;
     let mut report = Report::new(alloc)?;
     report_all(rt, &mut heap, &mut report)
-}
-
-/// How many words the program was called with, its name among them.
-fn words_of(rt: &HostRuntime) -> Result<usize> {
-    let words: Vec<String> = env::args(rt)?.collect(rt.alloc())?;
-    Ok(words.len())
-}
-
-fn main(rt: HostRuntime) -> Result<()> {
-    let words = words_of(&rt)?;
-    report_within(&rt, rt.alloc(), words)
 }

@@ -2,8 +2,8 @@
 ghost use Rattle.std.specs.Prelude.{◌≡◌};
 ghost use Rattle.std.specs.Arc.{arc_value};
 
-use crate::offices::{NOT_TRIED, OPENED};
-use crate::steps::{Steps, at, sheet_of};
+use crate::refusals::offices::{NOT_TRIED, OPENED};
+use crate::refusals::steps::{Steps, at, sheet_of};
 use std::sync::{Arc, Wait};
 use vpg_scarce::{Anew, End, Heap, Outcome, Report, tried_anew};
 use vpg_watch::{Press, Sheet};

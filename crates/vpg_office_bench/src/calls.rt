@@ -1,25 +1,13 @@
-//! Calls of sessions without their clauses, each with how it ended.
-
-ghost use Rattle.std.specs.Prelude.{◌<◌, length};
-
-use crate::looks::asked;
+//! Seats of sessions, and calls without their clauses, each with how it ended.
 use std::alloc::Global;
 use std::sync::Wait;
-use vpg_measure::Harvest;
 use vpg_office::{Fault, Front, Office, Redo, Returned, Session, Terms, Undo};
 use vpg_scarce::End;
-use vpg_trail::Page;
-use vpg_watch::Watch;
 
-/// A session with its front, and what its calls gave.
+/// A session with its front.
 pub(crate) struct Seat<L: Terms> {
     pub(crate) session: Session<L>,
     pub(crate) front: Front<L>,
-    /// The settled harvest of the order that was given last.
-    pub(crate) harvest: Option<Harvest>,
-    pub(crate) watch: Option<Watch<Front<L>>>,
-    /// The page that was looked at first.
-    pub(crate) page: Option<Page>,
 }
 
 // Not derived, so that letting one go is one call.
@@ -28,9 +16,6 @@ impl<L: Terms> Drop for Seat<L> {
         let Seat {
             session: _,
             front: _,
-            harvest: _,
-            watch: _,
-            page: _,
         } = self;
     }
 }
@@ -75,7 +60,7 @@ pub(crate) enum Call {
 
 impl Call {
     /// Whether the call gives a token or spends one.
-    fn is_of_tokens(self) -> bool {
+    pub(crate) fn is_of_tokens(self) -> bool {
         matches!(
             self,
             Call::Decide(..)
@@ -105,6 +90,14 @@ impl Call {
     }
 }
 
+/// A further session.
+pub(crate) fn joined<L: Terms, R: Wait>(rt: &R, office: &Office<L>) -> Option<Seat<L>> {
+    match office.join(rt) {
+        Ok((session, front)) => Some(Seat { session, front }),
+        Err(_) => None,
+    }
+}
+
 /// How a refused call ended. Whoever lets a fault go himself takes the prover seconds.
 pub(crate) fn end_of<L: Terms, F: Drop>(fault: Fault<L, F>) -> End {
     match fault {
@@ -122,12 +115,12 @@ pub(crate) fn serial_of<L: Terms>(held: &Held<L>) -> Option<u64> {
     }
 }
 
-/// The call that spends the token that is held. Where there is none, it is no call.
-pub(crate) fn spending<L: Terms>(held: &Held<L>) -> Call {
+/// The call that spends the token that is held.
+fn spending<L: Terms>(held: &Held<L>) -> Option<Call> {
     match held {
-        Held::Nothing => Call::Close,
-        Held::Undo(_) => Call::Keep,
-        Held::Redo(_) => Call::Forget,
+        Held::Nothing => None,
+        Held::Undo(_) => Some(Call::Keep),
+        Held::Redo(_) => Some(Call::Forget),
     }
 }
 
@@ -139,8 +132,8 @@ fn changed<L: Terms, F: Drop>(answer: Result<Undo<L>, Fault<L, F>>) -> (Held<L>,
     }
 }
 
-/// Makes a call: the token that is held then, and how it ended. Undo and keep need the token of a change, redo and
-/// forget that of an undone one, and a change needs that none is held.
+/// Makes a call that gives a token or spends one: what is held then, and how it ended. Undo and keep need the token of
+/// a change, redo and forget that of an undone one, and a change needs that none is held.
 pub(crate) fn made<L: Terms, R: Wait>(
     rt: &R,
     alloc: Global,
@@ -148,13 +141,8 @@ pub(crate) fn made<L: Terms, R: Wait>(
     seat: &mut Seat<L>,
     held: Held<L>,
     call: Call,
-) -> (Held<L>, End)
-    requires { 0 < length L.game.vertices }
-{
-    if !call.is_of_tokens() {
-        return (held, asked(rt, alloc, office, seat, call));
-    }
-    let Seat { session, front, .. } = seat;
+) -> (Held<L>, End) {
+    let Seat { session, front } = seat;
     match held {
         Held::Nothing => match call {
             Call::Decide(feature, value) => {
@@ -185,5 +173,19 @@ pub(crate) fn made<L: Terms, R: Wait>(
             },
             _ => (Held::Redo(token), End::Otherwise),
         },
+    }
+}
+
+/// Spends the token that is held, if one is: what is held then. A call that is refused gives it back.
+pub(crate) fn spent<L: Terms, R: Wait>(
+    rt: &R,
+    alloc: Global,
+    office: &Office<L>,
+    seat: &mut Seat<L>,
+    held: Held<L>,
+) -> Held<L> {
+    match spending(&held) {
+        Some(call) => made(rt, alloc, office, seat, held, call).0,
+        None => held,
     }
 }

@@ -2,8 +2,9 @@
 
 ghost use Rattle.std.specs.Prelude.{◌≡◌, ◌<◌, ◌≤◌, length, vec_len, vec_capacity};
 
-use crate::calls::{Call, Held, Seat, made, serial_of, spending};
-use crate::looks::{asked, shown};
+use crate::calls::{Call, Held, joined, serial_of, spent};
+use crate::refusals::looks::{Caller, asked, called, shown};
+use crate::{diagram_of, game_of};
 use std::alloc::{AllocError, Global};
 use std::sync::{Arc, Wait};
 use vpg_desk::OpenFault;
@@ -36,22 +37,12 @@ pub(crate) struct Family {
     diagram: Arc<Diagram>,
 }
 
-fn diagram_of(alloc: Global) -> Option<Arc<Diagram>> {
-    let diagram = Diagram::read(alloc, DIAGRAM).ok()?;
-    Arc::new(alloc, diagram).ok()
-}
-
-fn game_of(alloc: Global, diagram: &Diagram) -> Option<Arc<GuardedGame>> {
-    let game = GuardedGame::read(alloc, GAME, diagram.names()).ok()?;
-    Arc::new(alloc, game).ok()
-}
-
 impl Family {
     /// The game and the diagram of most examples.
-    pub(crate) fn read(alloc: Global) -> Option<Family> {
-        let diagram = diagram_of(alloc)?;
-        let game = game_of(alloc, &diagram)?;
-        Some(Family { game, diagram })
+    pub(crate) fn read(alloc: Global) -> anyhow::Result<Family> {
+        let diagram = diagram_of(alloc, DIAGRAM)?;
+        let game = game_of(alloc, GAME, &diagram)?;
+        Ok(Family { game, diagram })
     }
 }
 
@@ -87,19 +78,19 @@ struct Try<'t> {
 
 /// Asks whether the page is settled until the log has one call less than its lists have room for. The row of calls
 /// asks ahead for its next part, and does without where that is refused: then the call that needs it asks again.
-fn fill_up<L: Terms, R: Wait>(rt: &R, heap: &mut Heap, office: &Office<L>, seat: &mut Seat<L>)
+fn fill_up<L: Terms, R: Wait>(rt: &R, heap: &mut Heap, office: &Office<L>, caller: &mut Caller<L>)
     requires { 0 < length L.game.vertices }
 {
     let mut asks = !heap.is_marked();
     for _ in 0..FULL {
-        let calls = seat.front.len();
+        let calls = caller.seat.front.len();
         let is_refused = asks && calls == AHEAD;
         if is_refused {
             asks = false;
             heap.leave(0);
         }
         if calls < FULL - 1 {
-            asked(rt, heap.alloc(), office, seat, Call::Settled);
+            asked(rt, heap.alloc(), office, caller, Call::Settled);
         }
         if is_refused {
             heap.relax();
@@ -113,34 +104,34 @@ fn prepare<L: Terms, R: Wait>(
     rt: &R,
     heap: &mut Heap,
     office: &Office<L>,
-    seat: &mut Seat<L>,
+    caller: &mut Caller<L>,
     row: &Row,
 ) -> Held<L>
     requires { 0 < length L.game.vertices }
 {
     let alloc = heap.alloc();
     if row.is_watched {
-        asked(rt, alloc, office, seat, Call::Watch);
+        asked(rt, alloc, office, caller, Call::Watch);
     }
     let mut held = Held::Nothing;
     for call in row.before {
-        let (next, _) = made(rt, alloc, office, seat, held, *call);
+        let (next, _) = called(rt, alloc, office, caller, held, *call);
         held = next;
     }
-    fill_up(rt, heap, office, seat);
-    asked(rt, alloc, office, seat, Call::Page);
+    fill_up(rt, heap, office, caller);
+    asked(rt, alloc, office, caller, Call::Page);
     held
 }
 
-/// What is seen of a seat without a call: the length of the front; of how many calls the sheet is that is shown;
+/// What is seen of a caller without a call: the length of the front; of how many calls the sheet is that is shown;
 /// whether there is a harvest; the serial of the token that is held.
 type Seen = (usize, Option<usize>, bool, Option<u64>);
 
-fn look_at<L: Terms>(seat: &mut Seat<L>, held: &Held<L>) -> Seen {
+fn look_at<L: Terms>(caller: &mut Caller<L>, held: &Held<L>) -> Seen {
     (
-        seat.front.len(),
-        shown(seat),
-        seat.harvest.is_some(),
+        caller.seat.front.len(),
+        shown(caller),
+        caller.harvest.is_some(),
         serial_of(held),
     )
 }
@@ -160,25 +151,25 @@ fn try_at<L: Terms, R: Wait>(
     rt: &R,
     heap: &mut Heap,
     office: &Office<L>,
-    seat: &mut Seat<L>,
+    caller: &mut Caller<L>,
     held: Held<L>,
     row: &Row,
     bytes: usize,
 ) -> (Held<L>, Outcome)
     requires { 0 < length L.game.vertices }
 {
-    let is_looked_at = seat.page.is_some();
-    let before = look_at(seat, &held);
+    let is_looked_at = caller.page.is_some();
+    let before = look_at(caller, &held);
     heap.leave(bytes);
-    let (held, end) = made(rt, heap.alloc(), office, seat, held, row.call);
+    let (held, end) = called(rt, heap.alloc(), office, caller, held, row.call);
     heap.relax();
-    let now = look_at(seat, &held);
+    let now = look_at(caller, &held);
     let holds = match end {
         End::Done => is_done(row, bytes, before, now),
         End::Memory => {
             before == now
-                && asked(rt, heap.alloc(), office, seat, Call::Page) == End::Done
-                && seat.front.len() == before.0.saturating_add(1)
+                && asked(rt, heap.alloc(), office, caller, Call::Page) == End::Done
+                && caller.seat.front.len() == before.0.saturating_add(1)
         }
         End::Otherwise => false,
     };
@@ -197,24 +188,22 @@ fn try_on<L: Terms, R: Wait>(
 ) -> (Held<L>, Outcome)
     requires { 0 < length L.game.vertices }
 {
-    let Ok((session, front)) = office.join(rt) else {
+    let Some(seat) = joined(rt, office) else {
         return (Held::Nothing, NOT_TRIED);
     };
-    let mut seat = Seat {
-        session,
-        front,
+    let mut caller = Caller {
+        seat,
         harvest: None,
         watch: None,
         page: None,
     };
-    let held = prepare(rt, heap, office, &mut seat, row);
-    let (held, tried) = try_at(rt, heap, office, &mut seat, held, row, bytes);
-    let last = if row.call.tokens() > 0 {
-        Call::Close
+    let held = prepare(rt, heap, office, &mut caller, row);
+    let (held, tried) = try_at(rt, heap, office, &mut caller, held, row, bytes);
+    let held = if row.call.tokens() > 0 {
+        held
     } else {
-        spending(&held)
+        spent(rt, heap.alloc(), office, &mut caller.seat, held)
     };
-    let (held, _) = made(rt, heap.alloc(), office, &mut seat, held, last);
     (held, tried)
 }
 
