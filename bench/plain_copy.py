@@ -42,9 +42,8 @@ pub use self::shape::Shape;
 pub use self::table::Table;
 """
 # what is not copied, and from where on a file is not
-LEFT_OUT = {("vpg_guess", "at_once")}
+LEFT_OUT = {("vpg_guess", "at_once"), ("vpg_guess", "harvests")}
 CUT = {
-    ("vpg_guess", "raising"): "/// A raised table, and whether",
     ("vpg_measure", "lifts"): "// The first kept successor",
 }
 

@@ -5,7 +5,7 @@ ghost use Rattle.vpg_measure.specs.Lifts.{IsProgressTable, IsBelowTable, after_r
 ghost use Rattle.vpg_measure.specs.Orders.{IsSameOrder, IsHarvest, IsRaised, order_levels, order_arena, order_table, harvest_table};
 
 use crate::ground::{Groundwork, TableGround, shape_in};
-use crate::raising::{RaisedTable, harvest_of, raised};
+use crate::harvests::{RaisedTable, harvest_of, raised};
 use std::alloc::{AllocError, Global};
 use std::sync::Wait;
 use std::thread::{Threads, join};

@@ -1,5 +1,5 @@
 //! Certificates for guesses: for the top of what Odd is taken to win, and for values cut to a weight.
-ghost use Rattle.std.specs.Prelude.{IfOk, IfSome};
+ghost use Rattle.std.specs.Prelude.{IfOk};
 ghost use Rattle.vpg_measure.specs.Lifts.{IsTableOf};
 
 use crate::ground::{GuessGround, value_in};
@@ -11,7 +11,7 @@ use std::alloc::{AllocError, Global};
 use vpg_game::Player;
 use vpg_hope::Arena;
 use vpg_measure::{Certificate, Shape, Table};
-use vpg_regions::{Budget, Choices, PerVertex, Regions};
+use vpg_regions::{Budget, Choices, Found, PerVertex, Regions};
 
 // Values that a table is to be raised to, and the vertices where they exceed it.
 struct Raises {
@@ -30,6 +30,11 @@ impl Drop for Raises {
 }
 
 impl Raises {
+    fn of(bounds: PerVertex<u64>, exceeding: Found<u32>) -> Result<Raises, AllocError> {
+        let exceeding = exceeding.list()?;
+        Ok(Raises { bounds, exceeding })
+    }
+
     // Its values, shown by these ranks.
     fn with_ranks(self, ranks: PerVertex<u64>) -> RankedBounds {
         let Raises {
@@ -45,8 +50,8 @@ impl Raises {
     }
 }
 
-// Bounds with the ranks that are to show them.
-struct RankedBounds {
+/// Bounds with the ranks that are to show them.
+pub(crate) struct RankedBounds {
     bounds: PerVertex<u64>,
     ranks: PerVertex<u64>,
 }
@@ -86,16 +91,16 @@ fn raises_to_top(
     table: &[u64],
 ) -> Result<Raises, AllocError> {
     let mut bounds = PerVertex::of(alloc, ground.graph.vertices(), 0)?;
-    let mut exceeding = Vec::new(alloc);
+    let mut exceeding = Found::none(alloc);
     for v in 0..ground.graph.vertices() {
         let present = value_in(table, v);
         bounds.set(v, present);
         if regions.winner(v) == Some(Player::Odd) && present < ground.even.top {
             bounds.set(v, ground.even.top);
-            exceeding.push(v)?;
+            exceeding.add(v);
         }
     }
-    Ok(Raises { bounds, exceeding })
+    Raises::of(bounds, exceeding)
 }
 
 // Values cut to a weight, nowhere below the table.
@@ -107,16 +112,16 @@ fn raises_to(
     weight: u64,
 ) -> Result<Raises, AllocError> {
     let mut bounds = PerVertex::of(alloc, ground.graph.vertices(), 0)?;
-    let mut exceeding = Vec::new(alloc);
+    let mut exceeding = Found::none(alloc);
     for v in 0..ground.graph.vertices() {
         let present = value_in(table, v);
         let bound = ground.even.cut(values.get(v), weight).max(present);
         bounds.set(v, bound);
         if present < bound {
-            exceeding.push(v)?;
+            exceeding.add(v);
         }
     }
-    Ok(Raises { bounds, exceeding })
+    Raises::of(bounds, exceeding)
 }
 
 // Whether the bound of v follows from that of w.
@@ -133,38 +138,27 @@ fn solve_raising(
     budget: &mut Budget,
 ) -> Result<Solved, AllocError> {
     let mut game = Subgame::new(alloc, &ground.graph, exceeding)?;
-    write_raising(ground, bounds, &mut game)?;
+    write_raising(ground, bounds, &mut game);
     game.solve(alloc, budget)
 }
 
-fn write_raising(
-    ground: &GuessGround,
-    bounds: &PerVertex<u64>,
-    game: &mut Subgame,
-) -> Result<(), AllocError> {
+fn write_raising(ground: &GuessGround, bounds: &PerVertex<u64>, game: &mut Subgame) {
     for at in 0..game.vertices.len() {
         if let Some(vertex) = game.vertices.get(at) {
             let v = *vertex;
-            raising_edges(ground, bounds, game, v)?;
-            game.vertex(&ground.graph, v)?;
+            raising_edges(ground, bounds, game, v);
+            game.vertex(&ground.graph, v);
         }
     }
-    Ok(())
 }
 
-fn raising_edges(
-    ground: &GuessGround,
-    bounds: &PerVertex<u64>,
-    game: &mut Subgame,
-    v: u32,
-) -> Result<(), AllocError> {
+fn raising_edges(ground: &GuessGround, bounds: &PerVertex<u64>, game: &mut Subgame, v: u32) {
     let even = ground.graph.owner(v) == Player::Even;
     for w in ground.graph.successors(v) {
         if even || follows(ground, bounds, v, *w) {
-            game.edge(*w)?;
+            game.edge(*w);
         }
     }
-    Ok(())
 }
 
 // Odd's move at a vertex of its own: the game's choice, or one that leaves the game and still gives the bound.
@@ -316,13 +310,14 @@ fn ranks_won(
     budget: &mut Budget,
 ) -> Result<PerVertex<u64>, AllocError> {
     let mut choice = Choices::none(alloc, ground.graph.vertices())?;
-    let mut raised = Vec::new(alloc);
+    let mut found = Found::none(alloc);
     for v in solved.vertices() {
         if solved.winner(*v) == Some(Player::Odd) {
             choice.set(*v, move_of(ground, bounds, solved, *v));
-            raised.push(*v)?;
+            found.add(*v);
         }
     }
+    let raised = found.list()?;
     ranks_along(alloc, ground, &choice, &raised, budget)
 }
 
@@ -373,7 +368,8 @@ fn rank_raises(
     }
 }
 
-fn ranked_top(
+/// Bounds and ranks for the top where Odd is taken to win, or nothing where that raises nothing.
+pub(crate) fn ranked_top(
     alloc: Global,
     ground: &GuessGround,
     regions: &Regions,
@@ -388,7 +384,8 @@ fn ranked_top(
     Ok(Some(raises.with_ranks(ranks)))
 }
 
-fn ranked(
+/// Bounds and ranks for values cut to a weight, or nothing where they exceed the table nowhere.
+pub(crate) fn ranked(
     alloc: Global,
     ground: &GuessGround,
     guess: &Guess,
@@ -404,7 +401,8 @@ fn ranked(
     Ok(Some(rank_raises(alloc, ground, guess, raises, table, budget)?))
 }
 
-fn certificate_of(
+/// A certificate of these bounds and ranks, each cut to the top.
+pub(crate) fn certificate_of(
     alloc: Global,
     shape: &Shape,
     dual_shape: &Shape,
@@ -418,28 +416,6 @@ fn certificate_of(
         bounds: table_of(alloc, shape, arena, &ranked.bounds)?,
         ranks: table_of(alloc, dual_shape, arena, &ranked.ranks)?,
     })
-}
-
-/// Bounds and ranks for the top where Odd is taken to win, or nothing where that raises nothing.
-pub(crate) fn top_certificate(
-    alloc: Global,
-    shape: &Shape,
-    dual_shape: &Shape,
-    arena: &Arena,
-    ground: &GuessGround,
-    regions: &Regions,
-    table: &Table,
-    budget: &mut Budget,
-) -> Result<Option<Certificate>, AllocError>
-    ensures bounds { IfOk result
-        (λ found. IfSome found (λ certificate. IsTableOf shape.now arena.now certificate.bounds)) }
-    ensures ranks { IfOk result
-        (λ found. IfSome found (λ certificate. IsTableOf dual_shape.now arena.now certificate.ranks)) }
-{
-    match ranked_top(alloc, ground, regions, table.values(), budget)? {
-        Some(ranked) => Ok(Some(certificate_of(alloc, shape, dual_shape, arena, &ranked)?)),
-        None => Ok(None),
-    }
 }
 
 // Writes numbers of a part's vertices to a table, each cut to the top.
@@ -471,8 +447,8 @@ fn zeros(alloc: Global, shape: &Shape, arena: &Arena) -> Result<Table, AllocErro
     Table::zero(alloc, arena.vertices())
 }
 
-// The bounds and ranks of a part, and the table elsewhere.
-fn certificate_around(
+/// A certificate of the bounds and ranks of a part, and the table elsewhere.
+pub(crate) fn certificate_around(
     alloc: Global,
     shape: &Shape,
     dual_shape: &Shape,
@@ -492,8 +468,8 @@ fn certificate_around(
     Ok(Certificate { bounds, ranks })
 }
 
-// Bounds and ranks for a guess at a part.
-fn ranked_part(
+/// Bounds and ranks for a guess at the part that moves, or nothing where it exceeds the table nowhere.
+pub(crate) fn ranked_part(
     alloc: Global,
     part: &Part,
     budget: &mut Budget,
@@ -502,71 +478,4 @@ fn ranked_part(
     let guess = part.guess(alloc, &mut share)?;
     budget.give_back(share);
     ranked(alloc, &part.ground, &guess, &part.table, 1, budget)
-}
-
-// As `part_certificate`, where the part is known.
-fn certificate_of_part(
-    alloc: Global,
-    shape: &Shape,
-    dual_shape: &Shape,
-    arena: &Arena,
-    part: &Part,
-    table: &Table,
-    budget: &mut Budget,
-) -> Result<Option<Certificate>, AllocError>
-    requires { IsTableOf shape.now arena.now table.now }
-    ensures bounds { IfOk result
-        (λ found. IfSome found (λ certificate. IsTableOf shape.now arena.now certificate.bounds)) }
-    ensures ranks { IfOk result
-        (λ found. IfSome found (λ certificate. IsTableOf dual_shape.now arena.now certificate.ranks)) }
-{
-    match ranked_part(alloc, part, budget)? {
-        Some(ranked) => Ok(Some(certificate_around(
-            alloc, shape, dual_shape, arena, part, &ranked, table,
-        )?)),
-        None => Ok(None),
-    }
-}
-
-/// Bounds and ranks for a guess at the part that moves, or nothing where it exceeds the table nowhere.
-pub(crate) fn part_certificate(
-    alloc: Global,
-    shape: &Shape,
-    dual_shape: &Shape,
-    arena: &Arena,
-    moving: &[u32],
-    table: &Table,
-    budget: &mut Budget,
-) -> Result<Option<Certificate>, AllocError>
-    requires { IsTableOf shape.now arena.now table.now }
-    ensures bounds { IfOk result
-        (λ found. IfSome found (λ certificate. IsTableOf shape.now arena.now certificate.bounds)) }
-    ensures ranks { IfOk result
-        (λ found. IfSome found (λ certificate. IsTableOf dual_shape.now arena.now certificate.ranks)) }
-{
-    let part = Part::of(alloc, shape, dual_shape, arena, table.values(), moving)?;
-    certificate_of_part(alloc, shape, dual_shape, arena, &part, table, budget)
-}
-
-/// Bounds and ranks for values cut to a weight, or nothing where they exceed the table nowhere.
-pub(crate) fn certificate(
-    alloc: Global,
-    shape: &Shape,
-    dual_shape: &Shape,
-    arena: &Arena,
-    ground: &GuessGround,
-    guess: &Guess,
-    table: &Table,
-    weight: u64,
-    budget: &mut Budget,
-) -> Result<Option<Certificate>, AllocError>
-    ensures bounds { IfOk result
-        (λ found. IfSome found (λ certificate. IsTableOf shape.now arena.now certificate.bounds)) }
-    ensures ranks { IfOk result
-        (λ found. IfSome found (λ certificate. IsTableOf dual_shape.now arena.now certificate.ranks)) }
-{
-    match ranked(alloc, ground, guess, table.values(), weight, budget)? {
-        Some(ranked) => Ok(Some(certificate_of(alloc, shape, dual_shape, arena, &ranked)?)),
-        None => Ok(None),
-    }
 }

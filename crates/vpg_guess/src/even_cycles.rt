@@ -4,7 +4,7 @@ use crate::scale::Scale;
 use crate::subgame::{Solved, Subgame};
 use std::alloc::{AllocError, Global};
 use vpg_game::Player;
-use vpg_regions::{Budget, Graph, PerVertex};
+use vpg_regions::{Budget, Found, Graph, PerVertex};
 
 /// The values of a strategy, and the table that they lie above.
 #[derive(Drop)]
@@ -26,16 +26,16 @@ fn one_of_each_even(
     for v in vertices {
         of_priority.set(graph.priority(*v), Some(*v));
     }
-    let mut each = Vec::new(alloc);
+    let mut each = Found::none(alloc);
     for below in 0..=greatest {
         let priority = greatest.saturating_sub(below);
         if let Some(v) = of_priority.get(priority)
             && priority % 2 == 0
         {
-            each.push(v)?;
+            each.add(v);
         }
     }
-    Ok(each)
+    each.list()
 }
 
 impl<'a> Level<'a> {
@@ -50,18 +50,18 @@ impl<'a> Level<'a> {
     fn falling(&self, alloc: Global, region: &[u32], even: u32) -> Result<Vec<u32>, AllocError> {
         let limit = self.graph.priority(even);
         let weight = self.scale.weight(even);
-        let mut falling = Vec::new(alloc);
+        let mut falling = Found::none(alloc);
         let mut attained = false;
         for v in region {
             if self.graph.priority(*v) <= limit && self.may_fall(*v, weight) {
                 attained = attained || self.graph.priority(*v) == limit;
-                falling.push(*v)?;
+                falling.add(*v);
             }
         }
         if !attained {
             falling.clear();
         }
-        Ok(falling)
+        falling.list()
     }
 
     // Solves the game of these vertices over edges to values that are no greater above the even priority.
@@ -73,22 +73,21 @@ impl<'a> Level<'a> {
         budget: &mut Budget,
     ) -> Result<Solved, AllocError> {
         let mut game = Subgame::new(alloc, self.graph, falling)?;
-        self.write_down(&mut game, self.scale.weight(even))?;
+        self.write_down(&mut game, self.scale.weight(even));
         game.solve(alloc, budget)
     }
 
-    fn write_down(&self, game: &mut Subgame, weight: u64) -> Result<(), AllocError> {
+    fn write_down(&self, game: &mut Subgame, weight: u64) {
         for at in 0..game.vertices.len() {
             if let Some(v) = game.vertices.get(at) {
                 let vertex = *v;
-                self.edges(game, vertex, weight)?;
-                game.vertex(self.graph, vertex)?;
+                self.edges(game, vertex, weight);
+                game.vertex(self.graph, vertex);
             }
         }
-        Ok(())
     }
 
-    fn edges(&self, game: &mut Subgame, v: u32, weight: u64) -> Result<(), AllocError> {
+    fn edges(&self, game: &mut Subgame, v: u32, weight: u64) {
         let mine = self.scale.cut(self.values.get(v), weight);
         let even = self.graph.owner(v) == Player::Even;
         for w in self.graph.successors(v) {
@@ -99,10 +98,9 @@ impl<'a> Level<'a> {
                 mine <= value
             };
             if stays {
-                game.edge(*w)?;
+                game.edge(*w);
             }
         }
-        Ok(())
     }
 
     // Even's choices where it wins, or nothing where it wins nowhere.
@@ -111,17 +109,20 @@ impl<'a> Level<'a> {
         alloc: Global,
         solved: &Solved,
     ) -> Result<Option<Vec<(u32, u32)>>, AllocError> {
-        let mut choices = Vec::new(alloc);
+        let mut choices = Found::none(alloc);
         let mut wins = false;
         for v in solved.vertices() {
             if solved.winner(*v) == Some(Player::Even) {
                 wins = true;
                 if let Some(w) = solved.choice(*v) {
-                    choices.push((*v, w))?;
+                    choices.add((*v, w));
                 }
             }
         }
-        Ok(if wins { Some(choices) } else { None })
+        if !wins {
+            return Ok(None);
+        }
+        Ok(Some(choices.list()?))
     }
 
     // Choices of Even in a region that go round cycles of one even priority, where it wins by some.

@@ -4,7 +4,7 @@ use std::alloc::{AllocError, Global};
 use vpg_game::{GuardedGame, Player};
 use vpg_hope::Arena;
 use vpg_measure::Shape;
-use vpg_regions::{Graph, PerVertex, Predecessors};
+use vpg_regions::{Found, Graph, PerVertex, Predecessors};
 
 /// A part with less than one in so many of the vertices is small.
 const SMALL_PART: usize = 4;
@@ -190,13 +190,13 @@ impl GuessGround {
 
     /// The vertices that stand at the top.
     pub(crate) fn lost(&self, alloc: Global, table: &[u64]) -> Result<Vec<u32>, AllocError> {
-        let mut lost = Vec::new(alloc);
+        let mut lost = Found::none(alloc);
         for v in 0..self.graph.vertices() {
             if self.even.top <= value_in(table, v) {
-                lost.push(v)?;
+                lost.add(v);
             }
         }
-        Ok(lost)
+        lost.list()
     }
 
     /// Whether a table has these values, or greater ones.
@@ -211,23 +211,24 @@ impl GuessGround {
 
     /// The weights that values are cut to, stage by stage: the top, and those of the odd priorities, greatest first.
     pub(crate) fn weights(&self, alloc: Global) -> Result<Vec<u64>, AllocError> {
-        let mut all = Vec::new(alloc);
+        let mut odd = Found::none(alloc);
         for v in 0..self.graph.vertices() {
             if self.graph.priority(v) % 2 == 1 {
-                all.push(self.even.weight(v))?;
+                odd.add(self.even.weight(v));
             }
         }
-        all.sort()?;
-        let mut weights = Vec::new(alloc);
+        let mut sorted = odd.list()?;
+        sorted.sort()?;
+        let mut weights = Found::none(alloc);
         let mut last = self.even.top;
-        weights.push(last)?;
-        for weight in all.iter().rev() {
+        weights.add(last);
+        for weight in sorted.iter().rev() {
             if *weight < last {
                 last = *weight;
-                weights.push(last)?;
+                weights.add(last);
             }
         }
-        Ok(weights)
+        weights.list()
     }
 }
 

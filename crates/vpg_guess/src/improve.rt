@@ -8,7 +8,7 @@ use crate::scale::Scale;
 use crate::values::Evaluation;
 use std::alloc::{AllocError, Global};
 use vpg_game::Player;
-use vpg_regions::{Budget, Choices, Graph, PerVertex, Regions};
+use vpg_regions::{Budget, Choices, Found, Graph, PerVertex, Regions};
 
 /// A guess of values, and choices. Odd's are those that win, where its value is the top.
 pub(crate) struct Guess {
@@ -43,12 +43,12 @@ struct Improvement<'a> {
     // whether the value exceeds the table, and may still fall
     open: PerVertex<bool>,
     // those whose value was lowered to the table's since the last evaluation
-    closed: Vec<u32>,
+    closed: Found<u32>,
     mark: PerVertex<u32>,
     stamp: u32,
     // those to be looked at
     waits: PerVertex<bool>,
-    stack: Vec<u32>,
+    stack: Found<u32>,
     evaluation: Evaluation,
 }
 
@@ -93,11 +93,11 @@ impl<'a> Improvement<'a> {
             values,
             before: PerVertex::of(alloc, vertices, 0)?,
             open: PerVertex::of(alloc, vertices, false)?,
-            closed: Vec::new(alloc),
+            closed: Found::none(alloc),
             mark: PerVertex::of(alloc, vertices, 0)?,
             stamp: 0,
             waits: PerVertex::of(alloc, vertices, false)?,
-            stack: Vec::new(alloc),
+            stack: Found::none(alloc),
             evaluation: Evaluation::new(alloc, vertices)?,
         })
     }
@@ -205,16 +205,16 @@ impl<'a> Improvement<'a> {
 
     // Notes which vertices exceed the table, and gives Even's of them.
     fn open_all(&mut self, alloc: Global, region: &[u32]) -> Result<Vec<u32>, AllocError> {
-        let mut own = Vec::new(alloc);
+        let mut own = Found::none(alloc);
         for v in region {
             if self.exceeds(*v) {
                 self.open.set(*v, true);
                 if self.graph.owner(*v) == Player::Even {
-                    own.push(*v)?;
+                    own.add(*v);
                 }
             }
         }
-        Ok(own)
+        own.list()
     }
 
     // Takes better moves from these vertices on, lowers values along, and gives Even's vertices that changed. What is
@@ -226,9 +226,9 @@ impl<'a> Improvement<'a> {
         budget: &mut Budget,
     ) -> Result<Vec<u32>, AllocError> {
         self.stamp = self.stamp.saturating_add(1);
-        let mut changed = Vec::new(alloc);
+        let mut changed = Found::none(alloc);
         for v in look {
-            self.add(*v)?;
+            self.add(*v);
         }
         let mut turn = budget.take(self.graph.size().saturating_mul(LOWERINGS));
         for _ in 0..u64::MAX {
@@ -239,71 +239,66 @@ impl<'a> Improvement<'a> {
                 break;
             };
             self.waits.set(v, false);
-            self.lower_from(v, &mut changed, &mut turn)?;
+            self.lower_from(v, &mut changed, &mut turn);
         }
         budget.give_back(turn);
-        Ok(changed)
+        if self.stack.is_refused() || self.closed.is_refused() {
+            return Err(AllocError);
+        }
+        changed.list()
     }
 
-    fn add(&mut self, v: u32) -> Result<(), AllocError> {
+    fn add(&mut self, v: u32) {
         if !self.waits.get(v) {
             self.waits.set(v, true);
-            self.stack.push(v)?;
+            self.stack.add(v);
         }
-        Ok(())
     }
 
-    fn lower_from(
-        &mut self,
-        v: u32,
-        changed: &mut Vec<u32>,
-        budget: &mut Budget,
-    ) -> Result<(), AllocError> {
+    fn lower_from(&mut self, v: u32, changed: &mut Found<u32>, budget: &mut Budget) {
         budget.spend(self.graph.successors(v).len().saturating_add(1));
-        if self.falls(v, changed)? {
+        if self.falls(v, changed) {
             budget.spend(self.graph.predecessors(v).len());
-            self.wake(v)?;
+            self.wake(v);
         }
-        Ok(())
     }
 
     // Those that move to v, whose value fell, are looked at where that may make theirs fall.
-    fn wake(&mut self, v: u32) -> Result<(), AllocError> {
+    fn wake(&mut self, v: u32) {
         let graph = self.graph;
         let value = self.values.get(v);
         for u in graph.predecessors(v) {
             let limit = self.values.get(*u).saturating_sub(self.scale.step(*u));
             if self.open.get(*u) && value < limit {
-                self.add(*u)?;
+                self.add(*u);
             }
         }
-        Ok(())
     }
 
     // Lowers the value of v where its moves allow that, and says whether they do.
-    fn falls(&mut self, v: u32, changed: &mut Vec<u32>) -> Result<bool, AllocError> {
+    fn falls(&mut self, v: u32, changed: &mut Found<u32>) -> bool {
         let value = if self.graph.owner(v) == Player::Even {
             let Some(w) = self.better(v) else {
-                return Ok(false);
+                return false;
             };
             self.choice.set(v, Some(w));
             if self.mark.get(v) != self.stamp {
                 self.mark.set(v, self.stamp);
-                changed.push(v)?;
+                changed.add(v);
             }
             self.scale.prog(v, self.values.get(w))
         } else {
             self.greatest_over(v)
         };
         if self.values.get(v) <= value {
-            return Ok(false);
+            return false;
         }
         self.values.set(v, value);
         if !self.exceeds(v) {
             self.open.set(v, false);
-            self.closed.push(v)?;
+            self.closed.add(v);
         }
-        Ok(true)
+        true
     }
 
     // The greatest number over a move of Odd's.
@@ -336,12 +331,13 @@ impl<'a> Improvement<'a> {
         region: &[u32],
         budget: &mut Budget,
     ) -> Result<Vec<u32>, AllocError> {
-        let mut open = Vec::new(alloc);
+        let mut found = Found::none(alloc);
         for v in region {
             if self.open.get(*v) {
-                open.push(*v)?;
+                found.add(*v);
             }
         }
+        let open = found.list()?;
         let level = Level {
             graph: self.graph,
             scale: self.scale,
@@ -354,14 +350,14 @@ impl<'a> Improvement<'a> {
 
     // Takes over these choices. Gives Even's vertices that changed.
     fn choose(&mut self, alloc: Global, choices: &[(u32, u32)]) -> Result<Vec<u32>, AllocError> {
-        let mut changed = Vec::new(alloc);
+        let mut changed = Found::none(alloc);
         for (v, w) in choices {
             if self.graph.owner(*v) == Player::Even && self.choice.get(*v) != Some(*w) {
                 self.choice.set(*v, Some(*w));
-                changed.push(*v)?;
+                changed.add(*v);
             }
         }
-        Ok(changed)
+        changed.list()
     }
 
     // The vertices that changed or were closed, and the open ones from where moves lead there.
@@ -370,43 +366,41 @@ impl<'a> Improvement<'a> {
         changed: Vec<u32>,
         budget: &mut Budget,
     ) -> Result<Vec<u32>, AllocError> {
-        let mut leading = self.with_closed(changed)?;
+        let mut leading = self.with_closed(changed);
         for at in 0..self.graph.vertices() as usize {
-            let v = match leading.get(at) {
-                Some(v) => *v,
-                None => break,
+            let Some(v) = leading.get(at) else {
+                break;
             };
             budget.spend(self.graph.predecessors(v).len());
-            self.lead(v, &mut leading)?;
+            self.lead(v, &mut leading);
         }
-        Ok(leading)
+        leading.list()
     }
 
     // Marks the vertices that changed and those that were closed, and gives each once.
-    fn with_closed(&mut self, changed: Vec<u32>) -> Result<Vec<u32>, AllocError> {
+    fn with_closed(&mut self, changed: Vec<u32>) -> Found<u32> {
         self.stamp = self.stamp.saturating_add(1);
-        let mut both = changed;
-        for v in &both {
+        for v in &changed {
             self.mark.set(*v, self.stamp);
         }
-        for v in &self.closed {
+        let mut both = Found::with(changed);
+        for v in self.closed.items() {
             if self.mark.get(*v) != self.stamp {
                 self.mark.set(*v, self.stamp);
-                both.push(*v)?;
+                both.add(*v);
             }
         }
         self.closed.clear();
-        Ok(both)
+        both
     }
 
-    fn lead(&mut self, v: u32, leading: &mut Vec<u32>) -> Result<(), AllocError> {
+    fn lead(&mut self, v: u32, leading: &mut Found<u32>) {
         for u in self.graph.predecessors(v) {
             if self.open.get(*u) && self.mark.get(*u) != self.stamp && self.moves_to(*u, v) {
                 self.mark.set(*u, self.stamp);
-                leading.push(*u)?;
+                leading.add(*u);
             }
         }
-        Ok(())
     }
 
     // Whether the edge from u to v is a move of the strategy's game.
@@ -422,30 +416,29 @@ impl<'a> Improvement<'a> {
         budget: &mut Budget,
     ) -> Result<Vec<u32>, AllocError> {
         self.stamp = self.stamp.saturating_add(1);
-        let mut look = Vec::new(alloc);
+        let mut look = Found::none(alloc);
         for v in affected {
             if self.values.get(*v) != self.before.get(*v) {
                 if !self.exceeds(*v) {
                     self.open.set(*v, false);
                 }
                 budget.spend(self.graph.predecessors(*v).len());
-                self.look_from(*v, &mut look)?;
+                self.look_from(*v, &mut look);
             }
         }
-        Ok(look)
+        look.list()
     }
 
-    fn look_from(&mut self, v: u32, look: &mut Vec<u32>) -> Result<(), AllocError> {
+    fn look_from(&mut self, v: u32, look: &mut Found<u32>) {
         for u in self.graph.predecessors(v) {
             if self.open.get(*u)
                 && self.mark.get(*u) != self.stamp
                 && self.graph.owner(*u) == Player::Even
             {
                 self.mark.set(*u, self.stamp);
-                look.push(*u)?;
+                look.add(*u);
             }
         }
-        Ok(())
     }
 }
 
@@ -457,13 +450,13 @@ fn even_region(
     table: &[u64],
     vertices: &[u32],
 ) -> Result<Vec<u32>, AllocError> {
-    let mut region = Vec::new(alloc);
+    let mut region = Found::none(alloc);
     for v in vertices {
         if regions.winner(*v) == Some(Player::Even) && value_in(table, *v) < ground.even.top {
-            region.push(*v)?;
+            region.add(*v);
         }
     }
-    Ok(region)
+    region.list()
 }
 
 // As `guess_table`, where Even's region is known.

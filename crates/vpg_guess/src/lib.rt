@@ -17,6 +17,7 @@ mod at_once;
 mod certificates;
 mod even_cycles;
 mod ground;
+mod harvests;
 mod improve;
 mod part;
 mod raising;
@@ -27,4 +28,5 @@ mod values;
 
 pub use at_once::harvest_by_bounds_at_once;
 pub use ground::Groundwork;
-pub use raising::{harvest_by_bounds, raise_by_bounds};
+pub use harvests::harvest_by_bounds;
+pub use raising::raise_by_bounds;

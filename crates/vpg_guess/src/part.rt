@@ -6,7 +6,7 @@ use std::alloc::{AllocError, Global};
 use vpg_game::Player;
 use vpg_hope::Arena;
 use vpg_measure::Shape;
-use vpg_regions::{Budget, Choices, Draft, Graph, solve_part};
+use vpg_regions::{Budget, Choices, Draft, Found, Graph, solve_part};
 
 /// Vertices that move, and behind them the others that they move to, which have no moves here.
 pub(crate) struct Part {
@@ -33,7 +33,7 @@ impl Drop for Part {
 
 // The vertices of a part, and the place of each among them.
 struct Numbered {
-    vertices: Vec<u32>,
+    vertices: Found<u32>,
     places: Choices,
     count: u32,
 }
@@ -52,58 +52,57 @@ impl Drop for Numbered {
 impl Numbered {
     fn new(alloc: Global, vertices: u32) -> Result<Numbered, AllocError> {
         Ok(Numbered {
-            vertices: Vec::new(alloc),
+            vertices: Found::none(alloc),
             places: Choices::none(alloc, vertices)?,
             count: 0,
         })
     }
 
-    fn into_vertices(self) -> Vec<u32> {
+    fn into_vertices(self) -> Result<Vec<u32>, AllocError> {
         let Numbered {
             vertices,
             places: _,
             count: _,
         } = self;
-        vertices
+        vertices.list()
     }
 
     // Numbers those of some vertices that have no number.
-    fn add(&mut self, vertices: &[u32]) -> Result<(), AllocError> {
+    fn add(&mut self, vertices: &[u32]) {
         for v in vertices {
             if self.places.get(*v).is_none() {
                 self.places.set(*v, Some(self.count));
                 self.count = self.count.saturating_add(1);
-                self.vertices.push(*v)?;
+                self.vertices.add(*v);
             }
         }
-        Ok(())
     }
 
     // The values that a table of the whole game has there.
     fn values(&self, alloc: Global, table: &[u64]) -> Result<Vec<u64>, AllocError> {
-        let mut values = Vec::with_capacity(alloc, self.vertices.len())?;
-        for v in &self.vertices {
-            values.push(value_in(table, *v))?;
+        let mut values = Found::with(Vec::with_capacity(alloc, self.vertices.len())?);
+        for v in self.vertices.items() {
+            values.add(value_in(table, *v));
         }
-        Ok(values)
+        values.list()
     }
 
     // The places of some of the vertices.
     fn places_of(&self, alloc: Global, vertices: &[u32]) -> Result<Vec<u32>, AllocError> {
-        let mut places = Vec::with_capacity(alloc, vertices.len())?;
+        let mut places = Found::with(Vec::with_capacity(alloc, vertices.len())?);
         for v in vertices {
-            places.push(self.places.get(*v).unwrap_or(0))?;
+            places.add(self.places.get(*v).unwrap_or(0));
         }
-        Ok(places)
+        places.list()
     }
 }
 
 // The moving vertices first, and then those that they move to.
 fn number(alloc: Global, arena: &Arena, moving: &[u32]) -> Result<Numbered, AllocError> {
     let mut numbered = Numbered::new(alloc, arena.vertices())?;
-    numbered.add(moving)?;
+    numbered.add(moving);
     for v in moving {
-        numbered.add(kept_in(arena, *v))?;
+        numbered.add(kept_in(arena, *v));
     }
     Ok(numbered)
 }
@@ -116,37 +115,25 @@ fn graph_of(
     moving: usize,
 ) -> Result<Graph, AllocError> {
     let mut draft = Draft::new(alloc);
-    write_down(arena, numbered, moving, &mut draft)?;
+    write_down(arena, numbered, moving, &mut draft);
     draft.finish(alloc)
 }
 
-fn write_down(
-    arena: &Arena,
-    numbered: &Numbered,
-    moving: usize,
-    draft: &mut Draft,
-) -> Result<(), AllocError> {
+fn write_down(arena: &Arena, numbered: &Numbered, moving: usize, draft: &mut Draft) {
     for at in 0..numbered.vertices.len() {
         if let Some(v) = numbered.vertices.get(at) {
             if at < moving {
-                add_edges(arena, numbered, draft, *v)?;
+                add_edges(arena, numbered, draft, v);
             }
-            draft.vertex(owner_in(arena, *v), priority_in(arena, *v))?;
+            draft.vertex(owner_in(arena, v), priority_in(arena, v));
         }
     }
-    Ok(())
 }
 
-fn add_edges(
-    arena: &Arena,
-    numbered: &Numbered,
-    draft: &mut Draft,
-    v: u32,
-) -> Result<(), AllocError> {
+fn add_edges(arena: &Arena, numbered: &Numbered, draft: &mut Draft, v: u32) {
     for w in kept_in(arena, v) {
-        draft.edge(numbered.places.get(*w).unwrap_or(0))?;
+        draft.edge(numbered.places.get(*w).unwrap_or(0));
     }
-    Ok(())
 }
 
 // The ground of a part.
@@ -158,8 +145,14 @@ fn ground_of(
     numbered: &Numbered,
     moving: usize,
 ) -> Result<GuessGround, AllocError> {
-    let even = Scale::of_part(alloc, arena, shape, Player::Even, &numbered.vertices)?;
-    let odd = Scale::of_part(alloc, arena, dual_shape, Player::Odd, &numbered.vertices)?;
+    let even = Scale::of_part(alloc, arena, shape, Player::Even, numbered.vertices.items())?;
+    let odd = Scale::of_part(
+        alloc,
+        arena,
+        dual_shape,
+        Player::Odd,
+        numbered.vertices.items(),
+    )?;
     let graph = graph_of(alloc, arena, numbered, moving)?;
     Ok(GuessGround { graph, even, odd })
 }
@@ -181,7 +174,7 @@ impl Part {
         Ok(Part {
             ground,
             table: values,
-            vertices: numbered.into_vertices(),
+            vertices: numbered.into_vertices()?,
             moving: own,
         })
     }

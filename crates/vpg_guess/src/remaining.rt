@@ -9,7 +9,7 @@ use std::alloc::{AllocError, Global};
 use vpg_hope::Arena;
 use vpg_measure::lifts::{Outcome, raise, settle_alone};
 use vpg_measure::{Shape, Table};
-use vpg_regions::{Budget, PerVertex, VertexSet};
+use vpg_regions::{Budget, Found, PerVertex, VertexSet};
 
 /// Rounds go on while the number of waiting vertices falls by one in so many.
 const FALL: usize = 16;
@@ -237,25 +237,24 @@ impl Waiting {
         ground: LiftGround<'_>,
     ) -> Result<Vec<u32>, AllocError> {
         self.is_climbing = false;
-        let mut moving = Vec::new(alloc);
+        let mut moving = Found::none(alloc);
         if self.waits.size() == 0 {
-            return Ok(moving);
+            return moving.list();
         }
         for v in 0..ground.vertices() {
             if self.waits.has(v) || self.climbs <= self.raises.get(v) {
                 self.moved.set(v, self.turn);
-                moving.push(v)?;
+                moving.add(v);
             }
         }
         for at in 0..ground.vertices() as usize {
-            let v = match moving.get(at) {
-                Some(v) => *v,
-                None => break,
+            let Some(v) = moving.get(at) else {
+                break;
             };
-            self.add_leading(ground, v, &mut moving)?;
+            self.add_leading(ground, v, &mut moving);
         }
         self.climbs = 1;
-        Ok(moving)
+        moving.list()
     }
 
     /// What a guess at a part is made of: what moves, or of it what goes round, where that is far less.
@@ -279,30 +278,24 @@ impl Waiting {
 
     // Those that wait, or rose since the number of those that wait fell last.
     fn round_of(&self, alloc: Global, moving: &[u32]) -> Result<Vec<u32>, AllocError> {
-        let mut round = Vec::new(alloc);
+        let mut round = Found::none(alloc);
         for v in moving {
             if self.waits.has(*v) || self.rose.get(*v) == self.falls {
-                round.push(*v)?;
+                round.add(*v);
             }
         }
-        Ok(round)
+        round.list()
     }
 
     // Those that move to v and moved when an earlier turn ended.
-    fn add_leading(
-        &mut self,
-        ground: LiftGround<'_>,
-        v: u32,
-        moving: &mut Vec<u32>,
-    ) -> Result<(), AllocError> {
+    fn add_leading(&mut self, ground: LiftGround<'_>, v: u32, moving: &mut Found<u32>) {
         for u in ground.predecessors.before(v) {
             let moved = self.moved.get(*u);
             if moved != 0 && moved != self.turn {
                 self.moved.set(*u, self.turn);
-                moving.push(*u)?;
+                moving.add(*u);
             }
         }
-        Ok(())
     }
 }
 
@@ -361,13 +354,13 @@ pub(crate) fn lift_each(
     requires { IsTableOf shape.now arena.now table.old }
     ensures { IsRaisedFrom shape.now arena.now table.old table.new }
 {
-    let mut risen = Vec::new(alloc);
+    let mut risen = Found::none(alloc);
     for v in 0..arena.vertices() {
         if even.would_rise(arena, table.values(), v) && lift_vertex(shape, arena, table, v) {
-            risen.push(v)?;
+            risen.add(v);
         }
     }
-    Ok(risen)
+    risen.list()
 }
 
 // Lifts a vertex that waits, which waits no more.

@@ -48,13 +48,13 @@ impl Subgame {
     }
 
     /// An edge of the vertex that comes next; to the dead end where w is not in the game.
-    pub(crate) fn edge(&mut self, w: u32) -> Result<(), AllocError> {
-        self.draft.edge(self.places.get(w).unwrap_or(self.sink))
+    pub(crate) fn edge(&mut self, w: u32) {
+        self.draft.edge(self.places.get(w).unwrap_or(self.sink));
     }
 
     /// The next vertex, with the edges since the last one.
-    pub(crate) fn vertex(&mut self, graph: &Graph, v: u32) -> Result<(), AllocError> {
-        self.draft.vertex(graph.owner(v), graph.priority(v))
+    pub(crate) fn vertex(&mut self, graph: &Graph, v: u32) {
+        self.draft.vertex(graph.owner(v), graph.priority(v));
     }
 
     /// Solves the game.
@@ -81,7 +81,7 @@ fn solve_with_sink(
     budget: &mut Budget,
 ) -> Result<Regions, AllocError> {
     let mut draft = draft;
-    draft.vertex(Player::Even, 0)?;
+    draft.vertex(Player::Even, 0);
     let graph = draft.finish(alloc)?;
     solve_regions(alloc, &graph, Vec::new(alloc), budget)
 }

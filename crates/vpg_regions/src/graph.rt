@@ -39,11 +39,10 @@ impl Lists {
         }
     }
 
-    // The list of the next vertex ends here.
-    fn end_here(&mut self) -> Result<(), AllocError> {
-        self.ends
-            .push(u32::try_from(self.items.len()).unwrap_or(u32::MAX))?;
-        Ok(())
+    // The list of the next vertex ends here. Says whether there was memory for that.
+    fn end_here(&mut self) -> bool {
+        let end = u32::try_from(self.items.len()).unwrap_or(u32::MAX);
+        self.ends.push(end).is_ok()
     }
 }
 
@@ -142,9 +141,10 @@ impl Predecessors {
     }
 }
 
-/// A game that is being written down, vertex by vertex.
+/// A game that is being written down, vertex by vertex. Where memory refused that, it is noted, and told at the end.
 pub struct Draft {
     count: u32,
+    is_refused: bool,
     owners: Vec<Player>,
     priorities: Vec<u32>,
     successors: Lists,
@@ -155,6 +155,7 @@ impl Drop for Draft {
     fn drop(self) {
         let Draft {
             count: _,
+            is_refused: _,
             owners: _,
             priorities: _,
             successors: _,
@@ -166,6 +167,7 @@ impl Draft {
     pub fn new(alloc: Global) -> Draft {
         Draft {
             count: 0,
+            is_refused: false,
             owners: Vec::new(alloc),
             priorities: Vec::new(alloc),
             successors: Lists {
@@ -179,6 +181,7 @@ impl Draft {
     pub fn with_room(alloc: Global, vertices: usize, edges: usize) -> Result<Draft, AllocError> {
         Ok(Draft {
             count: 0,
+            is_refused: false,
             owners: Vec::with_capacity(alloc, vertices)?,
             priorities: Vec::with_capacity(alloc, vertices)?,
             successors: Lists {
@@ -188,28 +191,38 @@ impl Draft {
         })
     }
 
+    fn note(&mut self, has_grown: bool) {
+        if !has_grown {
+            self.is_refused = true;
+        }
+    }
+
     /// An edge of the vertex that comes next.
-    pub fn edge(&mut self, to: u32) -> Result<(), AllocError> {
-        self.successors.items.push(to)?;
-        Ok(())
+    pub fn edge(&mut self, to: u32) {
+        let grown = self.successors.items.push(to).is_ok();
+        self.note(grown);
+    }
+
+    fn edges(&mut self, to: &[u32]) {
+        let grown = self.successors.items.extend_from_slice(to).is_ok();
+        self.note(grown);
     }
 
     /// A vertex with the edges since the last one.
-    pub fn vertex(&mut self, owner: Player, priority: u32) -> Result<(), AllocError> {
-        self.owners.push(owner)?;
-        self.priorities.push(priority)?;
-        self.successors.end_here()?;
+    pub fn vertex(&mut self, owner: Player, priority: u32) {
+        let owned = self.owners.push(owner).is_ok();
+        let counted = self.priorities.push(priority).is_ok();
+        let ended = self.successors.end_here();
+        self.note(owned && counted && ended);
         self.count = self.count.saturating_add(1);
-        Ok(())
     }
 
     // The vertices of an arena, with their edges.
-    fn write(&mut self, arena: &Arena) -> Result<(), AllocError> {
+    fn write(&mut self, arena: &Arena) {
         for v in 0..arena.vertices() {
-            self.successors.items.extend_from_slice(arena.kept(v))?;
-            self.vertex(arena.owner(v), arena.priority(v))?;
+            self.edges(arena.kept(v));
+            self.vertex(arena.owner(v), arena.priority(v));
         }
-        Ok(())
     }
 
     /// The game, with as few priorities as have the same winners.
@@ -226,6 +239,9 @@ impl Draft {
     }
 
     fn merge(&mut self, alloc: Global) -> Result<(), AllocError> {
+        if self.is_refused {
+            return Err(AllocError);
+        }
         let occurs = occurring(alloc, &self.priorities)?;
         let merged = merged(alloc, &occurs)?;
         for priority in &mut self.priorities {
@@ -238,6 +254,7 @@ impl Draft {
     fn with(self, predecessors: Predecessors) -> Graph {
         let Draft {
             count,
+            is_refused: _,
             owners,
             priorities,
             successors,
@@ -310,7 +327,7 @@ impl Graph {
     ) -> Result<Graph, AllocError> {
         let edges = predecessors.lists.items.len();
         let mut draft = Draft::with_room(alloc, arena.vertices() as usize, edges)?;
-        draft.write(arena)?;
+        draft.write(arena);
         draft.finish_with(alloc, predecessors)
     }
 

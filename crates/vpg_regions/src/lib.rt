@@ -6,11 +6,13 @@
 //!
 //! The layer above, `vpg_guess`, uses `solve_regions` for a whole game and `solve_part` for some of its vertices,
 //! `Graph` for the edges of a game both ways, `Predecessors` for those that lead to a vertex, `Components` for what a
-//! strategy leaves, `VertexSet` for some of the vertices, `PerVertex` for one value of each vertex, and `Budget`.
+//! strategy leaves, `VertexSet` for some of the vertices, `PerVertex` for one value of each vertex, `Found` for lists
+//! that grow, and `Budget`.
 #![tactic(auto)]
 
 mod budget;
 mod components;
+mod found;
 mod graph;
 mod odd_cycles;
 mod per_vertex;
@@ -21,6 +23,7 @@ mod weights;
 
 pub use budget::Budget;
 pub use components::{Components, Moves};
+pub use found::Found;
 pub use graph::{Draft, Graph, Predecessors};
 pub use per_vertex::{Choices, PerVertex, VertexSet};
 pub use regions::{Regions, solve_part, solve_regions};

@@ -1,6 +1,7 @@
 //! Where Odd wins by moves of its own alone: cycles of an odd greatest priority over Odd's vertices.
 use crate::budget::Budget;
 use crate::components::{Components, Moves};
+use crate::found::Found;
 use crate::per_vertex::PerVertex;
 use crate::solution::Solution;
 use std::alloc::{AllocError, Global};
@@ -14,7 +15,7 @@ struct OddCycles {
     // parts to be searched
     parts: Vec<Vec<u32>>,
     // the vertices that lead to odd cycles, each with a choice
-    found: Vec<u32>,
+    found: Found<u32>,
 }
 
 // Not derived, so that letting one go is one call: a derived way would be proved anew at each exit that owns one.
@@ -36,13 +37,13 @@ fn own_vertices(
     solution: &Solution<'_>,
     vertices: &[u32],
 ) -> Result<Vec<u32>, AllocError> {
-    let mut own = Vec::new(alloc);
+    let mut own = Found::none(alloc);
     for v in vertices {
         if solution.graph.owner(*v) == Player::Odd {
-            own.push(*v)?;
+            own.add(*v);
         }
     }
-    Ok(own)
+    own.list()
 }
 
 // Whether a component is more than one vertex without a move to itself.
@@ -60,13 +61,13 @@ fn lesser(
     members: &[u32],
     greatest: u32,
 ) -> Result<Vec<u32>, AllocError> {
-    let mut rest = Vec::new(alloc);
+    let mut rest = Found::none(alloc);
     for v in members {
         if solution.graph.priority(*v) != greatest {
-            rest.push(*v)?;
+            rest.add(*v);
         }
     }
-    Ok(rest)
+    rest.list()
 }
 
 impl OddCycles {
@@ -76,7 +77,7 @@ impl OddCycles {
             mark: PerVertex::of(alloc, vertices, 0)?,
             stamp: 0,
             parts: Vec::new(alloc),
-            found: Vec::new(alloc),
+            found: Found::none(alloc),
         })
     }
 
@@ -98,7 +99,7 @@ impl OddCycles {
         Ok(())
     }
 
-    fn into_found(self) -> Vec<u32> {
+    fn into_found(self) -> Result<Vec<u32>, AllocError> {
         let OddCycles {
             components: _,
             mark: _,
@@ -106,7 +107,7 @@ impl OddCycles {
             parts: _,
             found,
         } = self;
-        found
+        found.list()
     }
 
     fn search(
@@ -134,9 +135,8 @@ impl OddCycles {
         self.search(solution, part, budget)?;
         let mut from = 0;
         for at in 0..self.components.ends.len() {
-            let to = match self.components.ends.get(at) {
-                Some(end) => *end,
-                None => break,
+            let Some(to) = self.components.ends.get(at) else {
+                break;
             };
             self.look_between(alloc, solution, from, to)?;
             from = to;
@@ -167,7 +167,8 @@ impl OddCycles {
         }
         let greatest = solution.graph.greatest_priority(members);
         if greatest % 2 == 1 {
-            return self.win(solution, members, greatest);
+            self.win(solution, members, greatest);
+            return Ok(());
         }
         self.parts
             .push(lesser(alloc, solution, members, greatest)?)?;
@@ -175,43 +176,30 @@ impl OddCycles {
     }
 
     // Each member chooses a way to the greatest priority, and that one to stay in the component.
-    fn win(
-        &mut self,
-        solution: &mut Solution<'_>,
-        members: &[u32],
-        greatest: u32,
-    ) -> Result<(), AllocError> {
+    fn win(&mut self, solution: &mut Solution<'_>, members: &[u32], greatest: u32) {
         self.stamp = self.stamp.saturating_add(2);
         for v in members {
             self.mark.set(*v, self.stamp);
         }
         let from = self.found.len();
-        self.find_greatest(solution, members, greatest)?;
+        self.find_greatest(solution, members, greatest);
         for at in from..from.saturating_add(members.len()) {
             if let Some(v) = self.found.get(at) {
-                let next = *v;
-                self.lead(solution, next)?;
+                self.lead(solution, v);
             }
         }
-        Ok(())
     }
 
     // Finds the members of the greatest priority.
-    fn find_greatest(
-        &mut self,
-        solution: &mut Solution<'_>,
-        members: &[u32],
-        greatest: u32,
-    ) -> Result<(), AllocError> {
+    fn find_greatest(&mut self, solution: &mut Solution<'_>, members: &[u32], greatest: u32) {
         for v in members {
             if solution.graph.priority(*v) == greatest {
                 self.mark.set(*v, self.stamp.saturating_add(1));
                 let member = self.member_from(solution, *v);
                 solution.choice.set(*v, member);
-                self.found.push(*v)?;
+                self.found.add(*v);
             }
         }
-        Ok(())
     }
 
     // A move that stays in the component.
@@ -225,16 +213,15 @@ impl OddCycles {
     }
 
     // The members that move to v lead to the greatest priority, too.
-    fn lead(&mut self, solution: &mut Solution<'_>, v: u32) -> Result<(), AllocError> {
+    fn lead(&mut self, solution: &mut Solution<'_>, v: u32) {
         let graph = solution.graph;
         for u in graph.predecessors(v) {
             if self.mark.get(*u) == self.stamp {
                 self.mark.set(*u, self.stamp.saturating_add(1));
                 solution.choice.set(*u, Some(v));
-                self.found.push(*u)?;
+                self.found.add(*u);
             }
         }
-        Ok(())
     }
 }
 
@@ -249,6 +236,6 @@ pub fn win_odd_cycles(
     let own = own_vertices(alloc, solution, living)?;
     let mut cycles = OddCycles::new(alloc, solution.graph.vertices())?;
     cycles.run(alloc, solution, own, budget)?;
-    solution.win(Player::Odd, cycles.into_found(), budget)?;
+    solution.win(Player::Odd, cycles.into_found()?, budget)?;
     Ok(())
 }

@@ -1,5 +1,6 @@
 //! Who wins where, by Zielonka's recursion (Zielonka 1998) with a stack of its own.
 use crate::budget::Budget;
+use crate::found::Found;
 use crate::solution::Solution;
 use std::alloc::{AllocError, Global};
 use vpg_game::Player;
@@ -50,14 +51,14 @@ impl Game {
         solution: &mut Solution<'_>,
         greatest: u32,
     ) -> Result<Vec<u32>, AllocError> {
-        let mut seed = Vec::new(alloc);
+        let mut seed = Found::none(alloc);
         for v in &self.all {
             solution.choice.set(*v, None);
             if solution.graph.priority(*v) == greatest {
-                seed.push(*v)?;
+                seed.add(*v);
             }
         }
-        Ok(seed)
+        seed.list()
     }
 
     // What the player of the greatest priority can force there.

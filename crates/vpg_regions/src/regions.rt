@@ -44,34 +44,30 @@ impl Regions {
     }
 }
 
-// One turn of the recursion; says whether all is solved.
-fn recur(
-    alloc: Global,
-    solution: &mut Solution<'_>,
-    vertices: &[u32],
-    most: u64,
-    budget: &mut Budget,
-) -> Result<bool, AllocError> {
-    let mut turn = budget.take(most);
-    let solved = solve_by_recursion(alloc, solution, vertices, &mut turn)?;
-    budget.give_back(turn);
-    solution.reopen(vertices);
-    Ok(solved)
+// How a game is solved.
+#[derive(Clone, Copy)]
+enum Way {
+    Recursion,
+    Weights,
 }
 
-// One turn of the weights; says whether all is solved.
-fn weigh(
+// One turn of the recursion or of the weights; says whether all is solved.
+fn take_turn(
     alloc: Global,
     solution: &mut Solution<'_>,
+    way: Way,
     vertices: &[u32],
     most: u64,
     budget: &mut Budget,
 ) -> Result<bool, AllocError> {
     let mut turn = budget.take(most);
-    let solved = solve_by_weights(alloc, solution, vertices, &mut turn)?;
+    let solved = match way {
+        Way::Recursion => solve_by_recursion(alloc, solution, vertices, &mut turn),
+        Way::Weights => solve_by_weights(alloc, solution, vertices, &mut turn),
+    };
     budget.give_back(turn);
     solution.reopen(vertices);
-    Ok(solved)
+    solved
 }
 
 // Solves the present game, which is of some of these vertices, by turns, each longer than the one before it, until one
@@ -85,8 +81,8 @@ fn take_turns(
     let mut passes = (vertices.len() as u64).saturating_mul(FIRST_PASSES);
     let mut weights = passes.saturating_mul(4).max(FIRST_WEIGHTS);
     for _ in 0..u64::MAX {
-        if recur(alloc, solution, vertices, passes, budget)?
-            || weigh(alloc, solution, vertices, weights, budget)?
+        if take_turn(alloc, solution, Way::Recursion, vertices, passes, budget)?
+            || take_turn(alloc, solution, Way::Weights, vertices, weights, budget)?
         {
             return Ok(true);
         }
@@ -126,7 +122,7 @@ fn solve_apart(
     let components = components_of(alloc, solution, &living, budget)?;
     solution.leave(&living);
     let mut from = 0;
-    for to in &components.ends {
+    for to in components.ends.items() {
         let members = components.between(alloc, from, *to)?;
         if !solve_component(alloc, solution, &members, budget)? {
             break;
@@ -177,7 +173,7 @@ fn solve_whole(
     solution.win_dead_ends(alloc, Player::Odd, budget)?;
     let all = solution.all_living(alloc)?;
     let most = solution.graph.size().saturating_mul(FIRST_PASSES);
-    if recur(alloc, solution, &all, most, budget)? {
+    if take_turn(alloc, solution, Way::Recursion, &all, most, budget)? {
         return Ok(());
     }
     solve_apart(alloc, solution, &all, budget)

@@ -1,5 +1,6 @@
 //! A game that is being solved: who is taken to win where, and what a player can force.
 use crate::budget::Budget;
+use crate::found::Found;
 use crate::graph::Graph;
 use crate::per_vertex::{Choices, PerVertex};
 use std::alloc::{AllocError, Global};
@@ -117,8 +118,7 @@ impl<'a> Solution<'a> {
         self.stamp = self.stamp.saturating_add(1);
         self.mark_all(barred);
         self.mark_all(&seed);
-        let mut taken = seed;
-        self.take_all(player, &mut taken, budget)?;
+        let taken = self.take_all(player, seed, budget)?;
         self.leave(&taken);
         Ok(taken)
     }
@@ -129,39 +129,32 @@ impl<'a> Solution<'a> {
         }
     }
 
-    // What leads to those that were taken, and so on.
+    // The seed, what leads to it, and so on.
     fn take_all(
         &mut self,
         player: Player,
-        taken: &mut Vec<u32>,
+        seed: Vec<u32>,
         budget: &mut Budget,
-    ) -> Result<(), AllocError> {
+    ) -> Result<Vec<u32>, AllocError> {
+        let mut taken = Found::with(seed);
         for at in 0..self.graph.vertices() as usize {
-            let v = match taken.get(at) {
-                Some(v) => *v,
-                None => break,
+            let Some(v) = taken.get(at) else {
+                break;
             };
-            self.take_from(player, v, taken, budget)?;
+            self.take_from(player, v, &mut taken, budget);
         }
-        Ok(())
+        taken.list()
     }
 
-    fn take_from(
-        &mut self,
-        player: Player,
-        v: u32,
-        taken: &mut Vec<u32>,
-        budget: &mut Budget,
-    ) -> Result<(), AllocError> {
+    fn take_from(&mut self, player: Player, v: u32, taken: &mut Found<u32>, budget: &mut Budget) {
         let graph = self.graph;
         budget.spend(graph.predecessors(v).len());
         for u in graph.predecessors(v) {
             if self.takes(*u, v, player, budget) {
                 self.mark.set(*u, self.stamp);
-                taken.push(*u)?;
+                taken.add(*u);
             }
         }
-        Ok(())
     }
 
     /// Gives a player the seed and what it can force there, which leave the present game.
@@ -190,13 +183,13 @@ impl<'a> Solution<'a> {
         player: Player,
         budget: &mut Budget,
     ) -> Result<(), AllocError> {
-        let mut dead = Vec::new(alloc);
+        let mut dead = Found::none(alloc);
         for v in 0..self.graph.vertices() {
             if self.alive.get(v) && self.graph.owner(v) != player && self.first_alive(v).is_none() {
-                dead.push(v)?;
+                dead.add(v);
             }
         }
-        self.win(player, dead, budget)?;
+        self.win(player, dead.list()?, budget)?;
         Ok(())
     }
 
@@ -208,24 +201,24 @@ impl<'a> Solution<'a> {
 
     /// Those of some vertices that are in the present game.
     pub fn living(&self, alloc: Global, vertices: &[u32]) -> Result<Vec<u32>, AllocError> {
-        let mut living = Vec::new(alloc);
+        let mut living = Found::none(alloc);
         for v in vertices {
             if self.alive.get(*v) {
-                living.push(*v)?;
+                living.add(*v);
             }
         }
-        Ok(living)
+        living.list()
     }
 
     /// The vertices of the present game.
     pub fn all_living(&self, alloc: Global) -> Result<Vec<u32>, AllocError> {
-        let mut living = Vec::new(alloc);
+        let mut living = Found::none(alloc);
         for v in 0..self.graph.vertices() {
             if self.alive.get(v) {
-                living.push(v)?;
+                living.add(v);
             }
         }
-        Ok(living)
+        living.list()
     }
 
     /// Those of some vertices in the present game that a player was given.
@@ -235,13 +228,13 @@ impl<'a> Solution<'a> {
         player: Player,
         vertices: &[u32],
     ) -> Result<Vec<u32>, AllocError> {
-        let mut won = Vec::new(alloc);
+        let mut won = Found::none(alloc);
         for v in vertices {
             if self.alive.get(*v) && self.winner.get(*v) == Some(player) {
-                won.push(*v)?;
+                won.add(*v);
             }
         }
-        Ok(won)
+        won.list()
     }
 
     /// Any move within the present game, where there is no choice.
@@ -292,37 +285,38 @@ impl<'a> Solution<'a> {
         player: Player,
         vertices: &[u32],
     ) -> Result<Vec<u32>, AllocError> {
-        let mut exits = Vec::new(alloc);
+        let mut exits = Found::none(alloc);
         for v in vertices {
             if self.graph.owner(*v) == player {
                 let exit = self.exit_of(*v, player);
                 if exit.is_some() {
                     self.choice.set(*v, exit);
-                    exits.push(*v)?;
+                    exits.add(*v);
                 }
             }
         }
-        Ok(exits)
+        exits.list()
     }
 
-    // Those of these vertices from where the opponent of a player can't but move out of the present game.
-    fn add_stuck(
+    // The seed, and those of these vertices from where the opponent of a player can't but move out of the present game.
+    fn with_stuck(
         &self,
         player: Player,
         vertices: &[u32],
-        seed: &mut Vec<u32>,
-    ) -> Result<(), AllocError> {
+        seed: Vec<u32>,
+    ) -> Result<Vec<u32>, AllocError> {
         let other = player.opponent();
+        let mut all = Found::with(seed);
         for v in vertices {
             if self.alive.get(*v)
                 && self.graph.owner(*v) == other
                 && self.first_alive(*v).is_none()
                 && self.exit_of(*v, other).is_none()
             {
-                seed.push(*v)?;
+                all.add(*v);
             }
         }
-        Ok(())
+        all.list()
     }
 
     /// Gives both players what they can force out of the present game, which is of these vertices, to where they win.
@@ -333,13 +327,25 @@ impl<'a> Solution<'a> {
         vertices: &[u32],
         budget: &mut Budget,
     ) -> Result<(), AllocError> {
-        let mut even = self.exits(alloc, Player::Even, vertices)?;
-        let mut odd = self.exits(alloc, Player::Odd, vertices)?;
-        self.add_stuck(Player::Even, vertices, &mut even)?;
-        let taken = self.attract_around(Player::Even, even, &odd, budget)?;
-        self.give(Player::Even, &taken);
-        self.add_stuck(Player::Odd, vertices, &mut odd)?;
-        self.win(Player::Odd, odd, budget)?;
+        let even = self.exits(alloc, Player::Even, vertices)?;
+        let odd = self.exits(alloc, Player::Odd, vertices)?;
+        self.win_by_exits(Player::Even, vertices, even, &odd, budget)?;
+        self.win_by_exits(Player::Odd, vertices, odd, &[], budget)
+    }
+
+    // Gives a player what it can force to its exits without the barred vertices, and where the opponent can't but move
+    // to where it wins.
+    fn win_by_exits(
+        &mut self,
+        player: Player,
+        vertices: &[u32],
+        exits: Vec<u32>,
+        barred: &[u32],
+        budget: &mut Budget,
+    ) -> Result<(), AllocError> {
+        let seed = self.with_stuck(player, vertices, exits)?;
+        let taken = self.attract_around(player, seed, barred, budget)?;
+        self.give(player, &taken);
         Ok(())
     }
 

@@ -25,6 +25,8 @@ struct PathWeights {
     // those whose predecessors are to be looked at
     waits: PerVertex<bool>,
     queue: VecDeque<u32>,
+    // whether memory was refused for one of them
+    is_refused: bool,
 }
 
 // Not derived, so that letting one go is one call: a derived way would be proved anew at each exit that owns one.
@@ -36,6 +38,7 @@ impl Drop for PathWeights {
             least: _,
             waits: _,
             queue: _,
+            is_refused: _,
         } = self;
     }
 }
@@ -71,6 +74,7 @@ impl PathWeights {
             least: PerVertex::of(alloc, graph.vertices(), UNREACHED)?,
             waits: PerVertex::of(alloc, graph.vertices(), false)?,
             queue: VecDeque::new(alloc),
+            is_refused: false,
         })
     }
 
@@ -91,42 +95,50 @@ impl PathWeights {
         solution: &Solution<'_>,
         budget: &mut Budget,
     ) -> Result<(), AllocError> {
-        for v in &self.vertices {
-            self.least.set(*v, UNREACHED);
-        }
-        self.stop_all(solution)?;
+        self.stop_all(solution);
         for _ in 0..u64::MAX {
             if budget.is_spent() {
                 break;
             }
-            match self.queue.pop_front() {
-                Some(w) => self.reach_from(solution, w, budget)?,
-                None => break,
-            }
+            let Some(w) = self.queue.pop_front() else {
+                break;
+            };
+            self.reach_from(solution, w, budget);
+        }
+        if self.is_refused {
+            return Err(AllocError);
         }
         Ok(())
     }
 
-    // Each vertex of Even without a choice is a stop.
-    fn stop_all(&mut self, solution: &Solution<'_>) -> Result<(), AllocError> {
+    // Each vertex of Even without a choice is a stop; from the others none is reached yet.
+    fn stop_all(&mut self, solution: &Solution<'_>) {
         let graph = solution.graph;
         for v in &self.vertices {
             if graph.owner(*v) == Player::Even && solution.choice.get(*v).is_none() {
                 self.least.set(*v, self.weights.get(graph.priority(*v)));
                 self.waits.set(*v, true);
-                self.queue.push_back(*v)?;
+                if self.queue.push_back(*v).is_err() {
+                    self.is_refused = true;
+                }
+            } else {
+                self.least.set(*v, UNREACHED);
             }
         }
-        Ok(())
+    }
+
+    fn add(&mut self, v: u32) {
+        if self.waits.get(v) {
+            return;
+        }
+        self.waits.set(v, true);
+        if self.queue.push_back(v).is_err() {
+            self.is_refused = true;
+        }
     }
 
     // What the weight of w makes of its predecessors'.
-    fn reach_from(
-        &mut self,
-        solution: &Solution<'_>,
-        w: u32,
-        budget: &mut Budget,
-    ) -> Result<(), AllocError> {
+    fn reach_from(&mut self, solution: &Solution<'_>, w: u32, budget: &mut Budget) {
         let graph = solution.graph;
         self.waits.set(w, false);
         budget.spend(graph.predecessors(w).len().saturating_add(1));
@@ -134,13 +146,9 @@ impl PathWeights {
             let weight = self.over(graph, *u, w);
             if self.changes(solution, *u, w, weight) {
                 self.least.set(*u, weight);
-                if !self.waits.get(*u) {
-                    self.waits.set(*u, true);
-                    self.queue.push_back(*u)?;
-                }
+                self.add(*u);
             }
         }
-        Ok(())
     }
 
     // Whether the path from u over w, of this weight, is the one to be taken.

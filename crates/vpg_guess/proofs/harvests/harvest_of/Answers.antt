@@ -1,6 +1,6 @@
 use Rattle.std.proofs.Common.{◌∙◌}
 use Rattle.vpg_guess.proofs.Rounds.{above_rounds, settles}
-use Rattle.vpg_guess.proofs.raising.harvest_of.Goals as goal
+use Rattle.vpg_guess.proofs.harvests.harvest_of.Goals as goal
 
 pub noted_where-requires : goal.noted_where-requires
 noted_where-requires c = λ hopeful dual. settles c.args.order c.of-harvest.result c.of-harvest.ensures.order c.args.hopeful.table c.args.dual.table

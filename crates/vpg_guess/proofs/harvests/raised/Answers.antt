@@ -1,5 +1,5 @@
 use Rattle.vpg_measure.proofs.RaisedTables.{raised_from_order}
-use Rattle.vpg_guess.proofs.raising.raised.Goals as goal
+use Rattle.vpg_guess.proofs.harvests.raised.Goals as goal
 
 pub returns-clause-raised : goal.returns-clause-raised
 returns-clause-raised c = raised_from_order c.args.which c.args.order.now c.raise_within.new.table c.table.ensures.order

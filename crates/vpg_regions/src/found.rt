@@ -1,0 +1,75 @@
+//! Lists that grow.
+use std::alloc::{AllocError, Global};
+
+/// A list that grows. What memory was refused for is left out; that is noted, and told at the end.
+pub struct Found<T> {
+    items: Vec<T>,
+    is_refused: bool,
+}
+
+// Not derived, so that letting one go is one call: a derived way would be proved anew at each exit that owns one.
+impl<T: Drop> Drop for Found<T> {
+    fn drop(self) {
+        let Found {
+            items: _,
+            is_refused: _,
+        } = self;
+    }
+}
+
+impl<T: Copy> Found<T> {
+    /// Nothing yet.
+    pub fn none(alloc: Global) -> Found<T> {
+        Found::with(Vec::new(alloc))
+    }
+
+    /// These first.
+    pub fn with(items: Vec<T>) -> Found<T> {
+        Found {
+            items,
+            is_refused: false,
+        }
+    }
+
+    pub fn add(&mut self, item: T) {
+        if self.items.push(item).is_err() {
+            self.is_refused = true;
+        }
+    }
+
+    /// Takes the last one away.
+    pub fn pop(&mut self) -> Option<T> {
+        self.items.pop()
+    }
+
+    /// Takes all away.
+    pub fn clear(&mut self) {
+        self.items.clear();
+    }
+
+    pub fn len(&self) -> usize {
+        self.items.len()
+    }
+
+    pub fn get(&self, at: usize) -> Option<T> {
+        self.items.get(at).copied()
+    }
+
+    /// What was found until now.
+    pub fn items(&self) -> &[T] {
+        &self.items
+    }
+
+    pub fn is_refused(&self) -> bool {
+        self.is_refused
+    }
+
+    /// The whole list.
+    pub fn list(self) -> Result<Vec<T>, AllocError> {
+        let Found { items, is_refused } = self;
+        if is_refused {
+            return Err(AllocError);
+        }
+        Ok(items)
+    }
+}
