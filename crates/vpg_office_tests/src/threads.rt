@@ -346,7 +346,7 @@ fn make_rush<L: Terms + Send + Sync, R: Threads + Wait + Abort + AllocGlobal + S
     assert!(rt; shared.places.load(Ordering::SeqCst) == rush.sum);
 }
 
-/// Whether the log is as it has to be behind a rush.
+/// Whether the log is as it has to be behind a rush. To look at the page is one further call.
 fn is_left<L: Terms, R: Wait + Abort + AllocGlobal>(
     rt: &R,
     office: &Office<L>,
@@ -362,6 +362,7 @@ fn is_left<L: Terms, R: Wait + Abort + AllocGlobal>(
         Some(text) => {
             let mut kept = none_kept(seat);
             asked(rt, office, seat, &mut kept, Call::Page(text)) == Answer::Is(true)
+                && seat.front.len() == rush.calls.saturating_add(1)
         }
         None => true,
     }
@@ -466,7 +467,8 @@ fn eight_watches_never_go_back(rt: HostRuntime) {
     on_shared_office(&rt, DIAGRAM, 2000, WATCHED);
 }
 
-/// A harvest comes after another session decided: it is taken, and the page has both.
+/// A harvest comes after another session decided: it is taken, and the page has both. The two wait for each other, so
+/// each needs a thread of its own.
 const LATE: &Rush = &Rush {
     tasks: &[Task::CommitLate, Task::Decide(false)],
     gives: &[Answer::Added(2), Answer::Token(1)],
