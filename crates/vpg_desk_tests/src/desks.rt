@@ -185,10 +185,6 @@ fn spends(rt: &impl Abort, alloc: Global, desk: &mut Desk, held: &mut Held, call
     }
 }
 
-fn diagram_of(rt: &impl Abort, alloc: Global, text: &[u8]) -> Diagram {
-    Diagram::read(alloc, text).expect(rt, "no diagram")
-}
-
 fn game_of(rt: &impl Abort, alloc: Global, family: &Family, diagram: &Diagram) -> GuardedGame {
     let game = GuardedGame::read(alloc, family.game, diagram.names()).expect(rt, "no game");
     if family.is_dual {
@@ -200,7 +196,7 @@ fn game_of(rt: &impl Abort, alloc: Global, family: &Family, diagram: &Diagram) -
 
 /// A desk on a family; or why there is none, and both come back.
 fn opened(rt: &impl Abort, alloc: Global, family: &Family) -> Result<Desk, OpenFault> {
-    let diagram = diagram_of(rt, alloc, family.diagram);
+    let diagram = Diagram::read(alloc, family.diagram).expect(rt, "no diagram");
     let game = game_of(rt, alloc, family, &diagram);
     let game = Arc::new(alloc, game).expect(rt, "no memory");
     let diagram = Arc::new(alloc, diagram).expect(rt, "no memory");
@@ -229,29 +225,14 @@ fn tokens_out(rt: &impl Abort, alloc: Global, desk: &mut Desk) -> u64 {
     }
 }
 
-/// The settled harvest of a desk's page.
-fn settled(rt: &impl Abort, alloc: Global, desk: &Desk) -> Harvest {
-    Harvest::alone(desk.order(alloc).expect(rt, "no order"), 100)
-}
-
-fn settled_on(rt: &impl Abort, alloc: Global, family: &Family) -> Harvest {
-    let desk = desk_on(rt, alloc, family);
-    settled(rt, alloc, &desk)
-}
-
-/// A desk's page with one vertex of the first table lifted once.
-fn lifted(rt: &impl Abort, alloc: Global, desk: &Desk, v: u32) -> Harvest {
-    let order = desk.order(alloc).expect(rt, "no order");
-    assert!(rt; (v as usize) < order.game().vertices());
-    Harvest::one(order, Which::Hopeful, v)
-}
-
-/// The harvest that this call gives.
+/// The harvest of a desk's page that this call gives, where there is such a vertex.
 fn harvest_of(rt: &impl Abort, alloc: Global, desk: &Desk, call: &Call) -> Option<Harvest> {
-    match call {
-        Call::Settle => Some(settled(rt, alloc, desk)),
-        Call::SettleOther(family) => Some(settled_on(rt, alloc, family)),
-        Call::Lift(v) => Some(lifted(rt, alloc, desk, *v)),
+    let order = desk.order(alloc).expect(rt, "no order");
+    match *call {
+        Call::Settle => Some(Harvest::alone(order, 100)),
+        Call::Lift(v) if (v as usize) < order.game().vertices() => {
+            Some(Harvest::one(order, Which::Hopeful, v))
+        }
         _ => None,
     }
 }
@@ -321,6 +302,11 @@ fn looks(
                 sure: *sure,
             };
             is_verdict(desk, *v, verdict)
+        }
+        Call::SettleOther(family) => {
+            let other = desk_on(rt, alloc, family);
+            *harvest = harvest_of(rt, alloc, &other, &Call::Settle);
+            harvest.is_some()
         }
         _ => {
             *harvest = harvest_of(rt, alloc, desk, call);

@@ -66,16 +66,6 @@ fn put_choice(line: &mut Line, value: bool, feature: u16) {
     line.number(if value { " +" } else { " -" }, feature as u64);
 }
 
-fn put_lift(line: &mut Line, table: Which, vertex: u32, old: u64, new: u64) {
-    line.put(match table {
-        Which::Hopeful => " hopeful",
-        Which::Dual => " dual",
-    });
-    line.number(" ", vertex as u64);
-    line.number(" ", old);
-    line.number(" ", new);
-}
-
 fn put_assumed(line: &mut Line, under: &Assumed) {
     for literal in under.literals() {
         put_choice(line, literal.value, literal.feature);
@@ -92,7 +82,13 @@ fn put_entry(line: &mut Line, entry: &Entry) {
             new,
             under,
         } => {
-            put_lift(line, *table, *vertex, *old, *new);
+            let table = match table {
+                Which::Hopeful => " hopeful ",
+                Which::Dual => " dual ",
+            };
+            line.number(table, *vertex as u64);
+            line.number(" ", *old);
+            line.number(" ", *new);
             put_assumed(line, under);
         }
     }
@@ -135,10 +131,8 @@ enum Deed {
     Raise(Which, u32, u64, &'static [Literal]),
     /// The same by a lift that shares what the last entry assumed, which is a lift too.
     RaiseAlso(Which, u32, u64),
-    /// The decision on a feature is retracted.
-    Retract(u16),
-    /// The same, and taken back.
-    RetractAndBack(u16),
+    /// The decision on a feature is retracted, and that taken back where this says so.
+    Retract(u16, bool),
     /// All entries are taken, and put behind an empty trail at once.
     PutAgain,
 }
@@ -209,22 +203,17 @@ fn does(rt: &impl Abort, alloc: Global, trail: &mut Trail, deed: &Deed) -> bool 
             raise(trail, table, vertex, new, assumed(rt, alloc, under))
         }
         Deed::RaiseAlso(table, vertex, new) => raise_also(trail, table, vertex, new),
-        Deed::Retract(feature) => retract(alloc, trail, feature, false).is_ok(),
-        Deed::RetractAndBack(feature) => retract(alloc, trail, feature, true).is_ok(),
+        Deed::Retract(feature, and_back) => retract(alloc, trail, feature, and_back).is_ok(),
         Deed::PutAgain => put_again(rt, alloc, trail),
-    }
-}
-
-fn carry_out(rt: &impl Abort, alloc: Global, trail: &mut Trail, deeds: &[Deed]) {
-    for deed in deeds {
-        assert!(rt; does(rt, alloc, trail, deed));
     }
 }
 
 /// A trail over two vertices of which this was made.
 fn made(rt: &impl Abort, alloc: Global, deeds: &[Deed]) -> Trail {
     let mut trail = Trail::open(alloc, 2).expect(rt, "no memory");
-    carry_out(rt, alloc, &mut trail, deeds);
+    for deed in deeds {
+        assert!(rt; does(rt, alloc, &mut trail, deed));
+    }
     trail
 }
 
@@ -261,21 +250,21 @@ type Row = (
 const ROWS: &[Row] = &[
     (
         TWO_DECISIONS,
-        Deed::Retract(2),
+        Deed::Retract(2, false),
         " -1; hopeful 0 0 2 -1; dual 1 0 1 -1;",
         &[2, 0],
         &[0, 1],
     ),
     (
         TWO_DECISIONS,
-        Deed::RetractAndBack(2),
+        Deed::Retract(2, true),
         TWO_TEXT,
         &[2, 0],
         &[0, 1],
     ),
     (
         ONE_DECISION,
-        Deed::Retract(1),
+        Deed::Retract(1, false),
         " hopeful 0 0 1; dual 1 0 1;",
         &[1, 0],
         &[0, 1],
@@ -326,15 +315,9 @@ fn is_exchanged(rt: &impl Abort, alloc: Global) -> bool {
     let cut = exchange(rt, alloc, &mut trail);
     are(alloc, &cut, " hopeful 0 0 2;")
         && is_trail(alloc, &trail, " -1; hopeful 0 0 1;", &[1, 0], &[0, 0])
-        && level(&trail, 0) == Some(0)
-        && level(&trail, 2) == Some(1)
-}
-
-fn level(trail: &Trail, place: usize) -> Option<usize> {
-    if place > trail.entries().len() {
-        return None;
-    }
-    Some(trail.level(place))
+        && trail.entries().len() == 2
+        && trail.level(0) == 0
+        && trail.level(2) == 1
 }
 
 // ---- lists
@@ -345,17 +328,15 @@ fn is_copied(rt: &impl Abort, alloc: Global, entries: &[Entry]) -> bool {
     are(alloc, copy.as_slice(), TWO_TEXT)
 }
 
-/// Whether the decisions among entries are both, as a list and back.
+/// Whether the decisions among entries are both, as a list and back, and the second is found in its place, and one of
+/// the root nowhere.
 fn are_both(rt: &impl Abort, alloc: Global, entries: &[Entry]) -> bool {
     let decisions = Decisions::new(decisions_among(alloc, entries).expect(rt, "no memory"));
     let listed = decisions.as_slice() == [OUT, IN].as_slice();
     let back = decisions.into_vec();
-    listed && back.as_slice() == [OUT, IN].as_slice()
-}
-
-/// Whether the second decision is found in its place, and one of the root nowhere.
-fn are_found(entries: &[Entry]) -> bool {
-    decided(entries, 2) == Some(IN)
+    listed
+        && back.as_slice() == [OUT, IN].as_slice()
+        && decided(entries, 2) == Some(IN)
         && decided(entries, 0).is_none()
         && place_of(entries, 2) == Some(1)
         && place_of(entries, 0).is_none()
@@ -390,11 +371,7 @@ fn are_lifts(rt: &impl Abort, alloc: Global) -> bool {
 #[test]
 fn lists_are_as_made(rt: HostRuntime) {
     let alloc = rt.alloc();
-    assert!(rt; is_exchanged(&rt, alloc));
     let trail = made(&rt, alloc, TWO_DECISIONS);
-    assert!(rt; is_copied(&rt, alloc, trail.entries()));
-    assert!(rt; are_both(&rt, alloc, trail.entries()));
-    assert!(rt; are_found(trail.entries()));
-    assert!(rt; are_held(&rt, alloc));
-    assert!(rt; are_lifts(&rt, alloc));
+    assert!(rt; is_exchanged(&rt, alloc) && are_held(&rt, alloc) && are_lifts(&rt, alloc));
+    assert!(rt; is_copied(&rt, alloc, trail.entries()) && are_both(&rt, alloc, trail.entries()));
 }

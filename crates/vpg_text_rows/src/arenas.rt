@@ -59,21 +59,16 @@ fn put_product(known: &Partial, line: &mut Line) {
     }
 }
 
-/// Answers a row of what decisions make known of a diagram.
-fn told(asked: &Asked, decisions: &[u8], diagram: &Diagram, line: &mut Line) {
-    if let Some(known) = known_of(diagram, decisions, line) {
-        match asked {
-            Asked::Close => put_values(known.values(), line),
-            _ => put_product(&known, line),
-        }
-    }
-}
-
 /// Answers a row of what decisions make known.
 fn known_told(asked: &Asked, text: &[u8], line: &mut Line) {
     let (decisions, text) = two_of(text);
     if let Some(diagram) = diagram_of(text, line) {
-        told(asked, decisions, &diagram, line);
+        if let Some(known) = known_of(&diagram, decisions, line) {
+            match asked {
+                Asked::Close => put_values(known.values(), line),
+                _ => put_product(&known, line),
+            }
+        }
     }
 }
 

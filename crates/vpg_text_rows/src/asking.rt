@@ -17,11 +17,13 @@ ghost use Rattle.std.specs.Prelude.{◌<◌, IfSome, length};
 ghost use Rattle.vpg_diagram.specs.FeatureDiagram.{feature_count};
 ghost use Rattle.vpg_why.specs.Suffices.{IsAim};
 
+use crate::decisions::decision_of;
 use crate::line::Line;
 use crate::putting::{
     put_demand, put_found, put_offer, put_remedy, put_shown, put_why, put_why_lost,
 };
 use vpg_measure::Order;
+use vpg_partial::Decision;
 use vpg_verdict::Which;
 use vpg_why::{
     Aim, Limits, find, look_ahead, look_back, needs, repair, stays_without, why, why_conflict,
@@ -107,26 +109,11 @@ fn vertex_of(order: &Order, word: &str, line: &mut Line) -> Option<u32>
     }
 }
 
-/// A feature and its value.
-#[derive(Clone, Copy)]
-struct Choice {
-    feature: u16,
-    value: bool,
-}
-
-/// The choice that a word spells: `+F` or `-F`.
-fn choice_spelled(order: &Order, word: &str) -> Option<Choice> {
-    let (sign, name) = word.as_bytes().split_first()?;
-    let feature = order.diagram().names().get(name)?;
-    let value = *sign == b'+';
-    Some(Choice { feature, value })
-}
-
-/// The choice of a word.
-fn choice_of(order: &Order, word: &str, line: &mut Line) -> Option<Choice>
+/// The choice of a word, `+F` or `-F`, as a decision.
+fn choice_of(order: &Order, word: &str, line: &mut Line) -> Option<Decision>
     ensures { IfSome result (λ choice. choice.feature < feature_count order.now.diagram.lines) }
 {
-    match choice_spelled(order, word) {
+    match decision_of(order.diagram().names(), word.as_bytes()) {
         Some(choice) if (choice.feature as usize) < order.diagram().features() => Some(choice),
         _ => {
             line.put("feature");
@@ -158,50 +145,54 @@ fn aim_of(order: &Order, which: Option<Which>, word: &str, line: &mut Line) -> O
     Some(Aim::Won { which, vertex })
 }
 
-fn ask_why(order: &Order, which: Which, word: &str, limits: Limits, line: &mut Line) {
+/// Asks of a vertex: why its verdict is so, or what to retract so that it is not so any more.
+fn ask_vertex(
+    order: &Order,
+    asked: Asked,
+    which: Which,
+    word: &str,
+    limits: Limits,
+    line: &mut Line,
+) {
     if let Some(vertex) = vertex_of(order, word, line) {
-        put_why(order, why(line.alloc, order, which, vertex, limits), line);
+        match asked {
+            Asked::Why => put_why(order, why(line.alloc, order, which, vertex, limits), line),
+            _ => put_remedy(
+                order,
+                repair(line.alloc, order, which, vertex, limits),
+                line,
+            ),
+        }
     }
 }
 
 /// Asks what makes a choice known, or what contradicts it.
 fn ask_choice(order: &Order, asked: Asked, word: &str, line: &mut Line) {
-    let Some(Choice { feature, value }) = choice_of(order, word, line) else {
-        return;
-    };
-    let found = match asked {
-        Asked::Known => why_known(line.alloc, order, feature, value),
-        _ => why_conflict(line.alloc, order, feature, value),
-    };
-    put_why(order, found, line);
-}
-
-/// Asks of products that meet an aim.
-fn ask_products(order: &Order, asked: Asked, aim: Aim, limits: Limits, line: &mut Line)
-    requires { IsAim order.now.game aim }
-{
-    match asked {
-        Asked::Lost => put_why_lost(order, why_lost(line.alloc, order, aim, limits), line),
-        Asked::Example => put_found(order, find(line.alloc, order, aim, limits), line),
-        Asked::Needs => put_demand(order, needs(line.alloc, order, aim, limits), line),
-        _ => line.put("word"),
+    if let Some(choice) = choice_of(order, word, line) {
+        let found = match asked {
+            Asked::Known => why_known(line.alloc, order, choice.feature, choice.value),
+            _ => why_conflict(line.alloc, order, choice.feature, choice.value),
+        };
+        put_why(order, found, line);
     }
 }
 
-fn ask_offer(
-    order: &Order,
-    choice: &str,
-    word: &str,
-    limits: Limits,
-    line: &mut Line,
-) -> Option<()> {
-    let Choice { feature, value } = choice_of(order, choice, line)?;
-    let vertex = vertex_of(order, word, line)?;
-    put_offer(
-        look_ahead(line.alloc, order, feature, value, vertex, limits),
-        line,
-    );
-    Some(())
+fn ask_offer(order: &Order, choice: &str, word: &str, limits: Limits, line: &mut Line) {
+    if let Some(choice) = choice_of(order, choice, line) {
+        if let Some(vertex) = vertex_of(order, word, line) {
+            put_offer(
+                look_ahead(
+                    line.alloc,
+                    order,
+                    choice.feature,
+                    choice.value,
+                    vertex,
+                    limits,
+                ),
+                line,
+            );
+        }
+    }
 }
 
 /// Asks what would be without a decision: of both tables, or of one.
@@ -212,18 +203,19 @@ fn ask_fewer(
     word: &str,
     limits: Limits,
     line: &mut Line,
-) -> Option<()> {
-    let place = place_of(order, number, line)?;
-    let vertex = vertex_of(order, word, line)?;
-    match which {
-        Some(which) => put_shown(
-            which,
-            stays_without(line.alloc, order, which, place, vertex, limits),
-            line,
-        ),
-        None => put_offer(look_back(line.alloc, order, place, vertex, limits), line),
+) {
+    if let Some(place) = place_of(order, number, line) {
+        if let Some(vertex) = vertex_of(order, word, line) {
+            match which {
+                Some(which) => put_shown(
+                    which,
+                    stays_without(line.alloc, order, which, place, vertex, limits),
+                    line,
+                ),
+                None => put_offer(look_back(line.alloc, order, place, vertex, limits), line),
+            }
+        }
     }
-    Some(())
 }
 
 /// Asks what two words say: a choice or the number of a decision, and a vertex.
@@ -235,23 +227,10 @@ fn ask_of_two(
     limits: Limits,
     line: &mut Line,
 ) {
-    let Some((first, word)) = words.split_once(' ') else {
-        line.put("vertex");
-        return;
-    };
-    let _told = match asked {
-        Asked::Offer => ask_offer(order, first, word, limits, line),
-        _ => ask_fewer(order, which, first, word, limits, line),
-    };
-}
-
-fn ask_repair(order: &Order, which: Which, word: &str, limits: Limits, line: &mut Line) {
-    if let Some(vertex) = vertex_of(order, word, line) {
-        put_remedy(
-            order,
-            repair(line.alloc, order, which, vertex, limits),
-            line,
-        );
+    match (words.split_once(' '), asked) {
+        (Some((choice, word)), Asked::Offer) => ask_offer(order, choice, word, limits, line),
+        (Some((number, word)), _) => ask_fewer(order, which, number, word, limits, line),
+        (None, _) => line.put("vertex"),
     }
 }
 
@@ -265,7 +244,12 @@ fn ask_of_products(
     line: &mut Line,
 ) {
     if let Some(aim) = aim_of(order, which, word, line) {
-        ask_products(order, asked, aim, limits, line);
+        match asked {
+            Asked::Lost => put_why_lost(order, why_lost(line.alloc, order, aim, limits), line),
+            Asked::Example => put_found(order, find(line.alloc, order, aim, limits), line),
+            Asked::Needs => put_demand(order, needs(line.alloc, order, aim, limits), line),
+            _ => line.put("word"),
+        }
     }
 }
 
@@ -274,12 +258,11 @@ pub(crate) fn ask(order: &Order, word: &str, words: &str, limits: Limits, line: 
     let (asked, which) = asked_of(word);
     let table = which.unwrap_or(Which::Hopeful);
     match asked {
-        Asked::Why => ask_why(order, table, words, limits, line),
+        Asked::Why | Asked::Repair => ask_vertex(order, asked, table, words, limits, line),
         Asked::Known | Asked::Against => ask_choice(order, asked, words, line),
         Asked::Offer | Asked::Without | Asked::Stays => {
             ask_of_two(order, asked, which, words, limits, line)
         }
-        Asked::Repair => ask_repair(order, table, words, limits, line),
         _ => ask_of_products(order, asked, which, words, limits, line),
     }
 }

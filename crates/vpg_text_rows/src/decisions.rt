@@ -45,7 +45,7 @@ pub(crate) fn close_checked(
 }
 
 /// The decision of a word.
-fn decision_of(names: &Names, word: &[u8]) -> Option<Decision> {
+pub(crate) fn decision_of(names: &Names, word: &[u8]) -> Option<Decision> {
     let (sign, name) = word.split_first()?;
     let feature = names.get(name)?;
     Some(Decision {

@@ -78,20 +78,6 @@ fn put_diagram(diagram: &Diagram, known: &Partial, decisions: &[Decision], line:
     line.note(done);
 }
 
-/// Draws both under decisions.
-fn put_both(
-    diagram: &Diagram,
-    game: &GuardedGame,
-    names: &VertexNames,
-    decisions: &[Decision],
-    line: &mut Line,
-) {
-    if let Some(known) = close_checked(diagram, decisions, line) {
-        put_game(diagram, game, names, &known, decisions, line);
-        put_diagram(diagram, &known, decisions, line);
-    }
-}
-
 /// Draws both under the decisions of a row.
 fn put_decided(
     diagram: &Diagram,
@@ -101,7 +87,10 @@ fn put_decided(
     line: &mut Line,
 ) {
     if let Some(decisions) = decisions_of(diagram.names(), row, line) {
-        put_both(diagram, game, names, &decisions, line);
+        if let Some(known) = close_checked(diagram, &decisions, line) {
+            put_game(diagram, game, names, &known, &decisions, line);
+            put_diagram(diagram, &known, &decisions, line);
+        }
     }
 }
 
@@ -120,17 +109,12 @@ pub(crate) fn put_start(line: &mut Line) {
     }
 }
 
-/// Writes the pictures of a game of a diagram.
-fn put_named(diagram: &Diagram, game: &GuardedGame, row: &[u8], line: &mut Line) {
-    if let Some(names) = names_of(line) {
-        put_decided(diagram, game, &names, row, line);
-    }
-}
-
 /// Writes the pictures over a diagram.
 fn put_over(diagram: &Diagram, row: &[u8], line: &mut Line) {
     if let Some(game) = game_of(diagram.names(), GAME, line) {
-        put_named(diagram, &game, row, line);
+        if let Some(names) = names_of(line) {
+            put_decided(diagram, &game, &names, row, line);
+        }
     }
 }
 

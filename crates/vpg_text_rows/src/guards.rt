@@ -30,14 +30,6 @@ fn guard_of(names: &Names, text: &[u8], line: &mut Line) -> Option<Guard>
     }
 }
 
-/// Writes what is written of a guard.
-fn put_written(names: &Names, guard: &Guard, line: &mut Line)
-    requires { IsBelow (length names.now) (formula_of guard.now) }
-{
-    let done = guard.write(line.alloc, names, &mut line.text).is_ok();
-    line.note(done);
-}
-
 /// What signs say of each feature.
 fn known_of(signs: &[u8], line: &mut Line) -> Vec<Tri> {
     let mut known = Vec::new(line.alloc);
@@ -84,7 +76,10 @@ fn put(names: &Names, asked: &Asked, signs: &[u8], guard: &Guard, line: &mut Lin
 {
     match asked {
         Asked::Read => line.put("read"),
-        Asked::Write => put_written(names, guard, line),
+        Asked::Write => {
+            let done = guard.write(line.alloc, names, &mut line.text).is_ok();
+            line.note(done);
+        }
         Asked::Known => put_value(names, signs, guard, line),
         _ => put_truth(names, signs, guard, line),
     }
