@@ -31,18 +31,6 @@ fn board_of<R: Abort + AllocGlobal>(rt: &R, order: Order) -> (Board, Seat)
     }
 }
 
-/// What a seat splits off.
-fn split_off<R: Abort>(rt: &R, board: &Board, seat: &mut Seat) -> Seat
-    requires { seat.old.board ≡ board.now }
-    ensures seat { seat.new.board ≡ board.now }
-    ensures other { result.board ≡ board.now }
-{
-    match board.split(seat) {
-        Ok(other) => other,
-        Err(_) => panic!(rt; "too many seats"),
-    }
-}
-
 /// Claims a vertex, which must be this one, and lifts it.
 fn claims_and_lifts(board: &Board, seat: &mut Seat, which: Which, v: u32) -> Option<bool>
     requires { seat.old.board ≡ board.now }
@@ -226,14 +214,8 @@ fn claims_of_four<R: Threads + Wait + Sync>(rt: &R, board: &Board, seat: Seat) -
 }
 
 /// Whether a seat does so.
-fn sits<R: Threads + Wait + Abort + Sync>(
-    rt: &R,
-    board: &Board,
-    seat: &mut Seat,
-    sitting: Sitting,
-) -> bool
-    requires sync { IsSync R.row }
-    requires board { seat.old.board ≡ board.now }
+fn sits(board: &Board, seat: &mut Seat, sitting: Sitting) -> bool
+    requires { seat.old.board ≡ board.now }
     ensures { seat.new.board ≡ board.now }
 {
     match sitting {
@@ -243,15 +225,9 @@ fn sits<R: Threads + Wait + Abort + Sync>(
 }
 
 /// The harvest of a board whose seat does so.
-pub(crate) fn seated<R: Threads + Wait + Abort + AllocGlobal + Sync>(
-    rt: &R,
-    order: Order,
-    sitting: Sitting,
-) -> Harvest
-    requires { IsSync R.row }
-{
+pub(crate) fn seated<R: Abort + AllocGlobal>(rt: &R, order: Order, sitting: Sitting) -> Harvest {
     let (board, mut seat) = board_of(rt, order);
-    assert!(rt; sits(rt, &board, &mut seat, sitting));
+    assert!(rt; sits(&board, &mut seat, sitting));
     given(rt, board.close(rt.alloc(), seat))
 }
 

@@ -138,33 +138,26 @@ pub(crate) fn in_turn<G: Gate + Sync, R: Threads + Wait + Abort + AllocGlobal + 
     let_go(order);
 }
 
-/// As `in_turn`, each turn by itself.
-fn by_itself<R: Threads + Wait + Abort + AllocGlobal + Sync>(
-    rt: &R,
-    choices: &[(u16, bool)],
-    turns: &[Turn],
-) {
-    for k in 0..turns.len() {
-        in_turn(rt, &OpenGate, choices, &[turns[k]]);
-    }
-}
+/// Decisions, and the turns of the order with these.
+type Row = (&'static [(u16, bool)], &'static [Turn]);
 
-/// One lift from zeros.
-const LIFTS: &[Turn] = &[
-    (One(Hopeful, 0), [[1, 0], [0, 0]], false),
-    (One(Hopeful, 1), [[0, 0], [0, 0]], false),
-    (One(Dual, 0), [[0, 0], [0, 0]], false),
-    (One(Dual, 1), [[0, 0], [0, 1]], false),
-];
+const WITHOUT_F: &[(u16, bool)] = &[(1, false)];
 
-/// Rounds and guesses from zeros, without `f`.
-const WITHOUT_F: &[Turn] = &[
-    (Alone(0), [[0, 0], [0, 0]], false),
-    (Alone(1), [[1, 0], [0, 1]], false),
-    (Alone(2), [[2, 0], [0, 1]], true),
-    (Alone(u64::MAX), [[2, 0], [0, 1]], true),
-    (Bounds, [[2, 0], [0, 1]], true),
-    (AtOnce, [[2, 0], [0, 1]], true),
+/// One lift from zeros; rounds and guesses from zeros, without `f`; and more than one turn.
+const ROWS: &[Row] = &[
+    (&[], &[(One(Hopeful, 0), [[1, 0], [0, 0]], false)]),
+    (&[], &[(One(Hopeful, 1), [[0, 0], [0, 0]], false)]),
+    (&[], &[(One(Dual, 0), [[0, 0], [0, 0]], false)]),
+    (&[], &[(One(Dual, 1), [[0, 0], [0, 1]], false)]),
+    (WITHOUT_F, &[(Alone(0), [[0, 0], [0, 0]], false)]),
+    (WITHOUT_F, &[(Alone(1), [[1, 0], [0, 1]], false)]),
+    (WITHOUT_F, &[(Alone(2), [[2, 0], [0, 1]], true)]),
+    (WITHOUT_F, &[(Alone(u64::MAX), [[2, 0], [0, 1]], true)]),
+    (WITHOUT_F, &[(Bounds, [[2, 0], [0, 1]], true)]),
+    (WITHOUT_F, &[(AtOnce, [[2, 0], [0, 1]], true)]),
+    (WITHOUT_F, HANDED_IN),
+    (&[], SEATED),
+    (&[], SPLIT),
 ];
 
 /// Tables handed in, of one round and then of one more.
@@ -188,9 +181,8 @@ const SPLIT: &[Turn] = &[(Seated(Sitting::Splits), [[0, 0], [0, 0]], false)];
 
 #[test]
 fn harvests(rt: HostRuntime) {
-    by_itself(&rt, &[], LIFTS);
-    by_itself(&rt, &[(1, false)], WITHOUT_F);
-    in_turn(&rt, &OpenGate, &[(1, false)], HANDED_IN);
-    in_turn(&rt, &OpenGate, &[], SEATED);
-    in_turn(&rt, &OpenGate, &[], SPLIT);
+    for k in 0..ROWS.len() {
+        let (choices, turns) = ROWS[k];
+        in_turn(&rt, &OpenGate, choices, turns);
+    }
 }
