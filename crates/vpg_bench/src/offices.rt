@@ -1,7 +1,7 @@
 //! Offices at work: two sessions beside a watcher, sessions that call at once, and readers beside a session that
 //! changes the page.
 
-mod calls;
+pub(crate) mod calls;
 mod day;
 mod reading;
 mod watcher;
