@@ -17,7 +17,9 @@ fn number_of(word: &str, most: u64) -> Result<u64>
 }
 
 /// The same of a word that spells less than 2 to the power of 32.
-fn small_of(word: &str, most: u32) -> Result<u32> {
+fn small_of(word: &str, most: u32) -> Result<u32>
+    ensures { IfOk result (λ number. number ≤ most) }
+{
     Ok(number_of(word, u64::from(most))? as u32)
 }
 
