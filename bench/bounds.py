@@ -35,8 +35,8 @@ def main():
             subprocess.run([sys.executable, f"{HERE}/families.py", family, vertices, folder], check=True)
             game = f"{folder}/game"
             plain = ran(yardstick, game, 1_000_000, "open", seconds)[1].strip()
-            nothing = min(ran(program, game, "rounds", 0)[0] for _ in range(3))
-            took, out = min(ran(program, game, "guesses", 100_000) for _ in range(3))
+            nothing = min(ran(program, "settle", game, "rounds", 0)[0] for _ in range(3))
+            took, out = min(ran(program, "settle", game, "guesses", 100_000) for _ in range(3))
             word = out.split()
             settled = "settled" if word[1] == "true" else "not settled"
             alone = re.sub(r"^read [0-9.]+ s, ", "", plain)

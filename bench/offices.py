@@ -1,7 +1,7 @@
 #!/usr/bin/env python3
 """What an office costs: sessions that call at once, readers beside a session that changes the page, and publishing.
 
-    offices.py VPG_OFFICE_BENCH [RUNS]
+    offices.py VPG_BENCH [RUNS]
 
 Each figure comes of two runs, of which one does more work: the difference of their seconds, reads or megabytes is divided by that of their work. So
 reading the files and starting threads is not counted. All that is compared takes turns, RUNS times (5 if left out), and the median is told.

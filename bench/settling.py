@@ -111,7 +111,7 @@ class Bench:
     """A vpg_bench at one game."""
 
     def __init__(self, program, _folder, game, _is_family):
-        self.words = [program, game]
+        self.words = [program, "settle", game]
         self.nothing, self.took, self.told = [], [], ""
 
     def turn(self):

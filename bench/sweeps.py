@@ -20,7 +20,8 @@ LIFTERS = (1, 2, 4)
 
 def ran(program, *words):
     start = time.perf_counter()
-    out = subprocess.run([program, *map(str, words)], stdout=subprocess.PIPE, check=True).stdout.decode().split()
+    words = [program, "settle", *map(str, words)]
+    out = subprocess.run(words, stdout=subprocess.PIPE, check=True).stdout.decode().split()
     millis = (time.perf_counter() - start) * 1000
     return dict(settled=out[1] == "true", sweeps=int(out[3]), lifts=int(out[5]), sums=(int(out[7]), int(out[8])), millis=millis)
 

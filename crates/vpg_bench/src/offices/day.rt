@@ -1,0 +1,159 @@
+//! A day of two sessions of one office, each in a thread of its own: one lifts while the other decides. Then the page
+//! is settled, and the decision is taken back by its token.
+
+use crate::offices::calls::{Call, Held, Seat, end_of, joined, made};
+use crate::offices::watcher::is_read;
+use crate::offices::{Done, Left, Stopped};
+use std::alloc::Global;
+use std::sync::Wait;
+use std::sync::atomic::AtomicU64;
+use std::thread::{Threads, join};
+use vpg_measure::Harvest;
+use vpg_office::{Office, Returned, Terms};
+use vpg_scarce::End;
+
+/// The feature that is decided.
+const FEATURE: u16 = 1;
+
+/// Lets a harvest go that isn't taken, here alone.
+fn let_go(_harvest: Harvest) {}
+
+/// Takes an order, lifts until both tables are settled, and commits: how many lifts that added.
+fn lifts<L: Terms, R: Wait>(
+    rt: &R,
+    alloc: Global,
+    office: &Office<L>,
+    seat: &mut Seat<L>,
+) -> Option<u32> {
+    let order = seat.session.order(rt, alloc, office, &mut seat.front).ok()?;
+    let harvest = Harvest::alone(order, 1000);
+    match seat
+        .session
+        .commit(rt, alloc, office, &mut seat.front, harvest)
+    {
+        Ok(added) => Some(added),
+        Err(Returned { fault, value }) => {
+            end_of(fault);
+            let_go(value);
+            None
+        }
+    }
+}
+
+/// As `lifts`, by a session of its own.
+fn lifts_once<L: Terms, R: Wait>(
+    rt: &R,
+    alloc: Global,
+    office: &Office<L>,
+    mut seat: Seat<L>,
+) -> Option<u32> {
+    lifts(rt, alloc, office, &mut seat)
+}
+
+/// One session lifts while the other decides the feature out: how many lifts that added, what is held of the decision,
+/// and how that ended.
+fn works<L: Terms + Send + Sync, R: Threads + Wait + Sync>(
+    rt: &R,
+    alloc: Global,
+    office: &Office<L>,
+    lifter: Seat<L>,
+    decider: &mut Seat<L>,
+) -> (Option<u32>, (Held<L>, End)) {
+    let (lifted, decided) = join(
+        rt,
+        || lifts_once(rt, alloc, office, lifter),
+        || {
+            made(
+                rt,
+                alloc,
+                office,
+                decider,
+                Held::Nothing,
+                Call::Decide(FEATURE, false),
+            )
+        },
+    );
+    (lifted, decided)
+}
+
+/// Settles the page, and takes the decision back once the watcher has read what is said then. It waits for the watcher
+/// again behind that. What is held then, and why that was not done.
+fn settles_and_undoes<L: Terms, R: Wait>(
+    rt: &R,
+    alloc: Global,
+    office: &Office<L>,
+    seat: &mut Seat<L>,
+    held: Held<L>,
+    seen: &AtomicU64,
+) -> (Held<L>, Option<Stopped>) {
+    if lifts(rt, alloc, office, seat).is_none() {
+        return (held, Some(Stopped::Refused));
+    }
+    if !is_read(seen, seat.front.len()) {
+        return (held, Some(Stopped::Unseen));
+    }
+    let (held, _) = made(rt, alloc, office, seat, held, Call::Undo);
+    let stopped = if !is_undone(&held) {
+        Some(Stopped::Refused)
+    } else if !is_read(seen, seat.front.len()) {
+        Some(Stopped::Unseen)
+    } else {
+        None
+    };
+    (held, stopped)
+}
+
+/// Whether a decision was taken back.
+fn is_undone<L: Terms>(held: &Held<L>) -> bool {
+    matches!(held, Held::Redo(_))
+}
+
+/// What came of the work of two.
+fn done_by_two(
+    stopped: Option<Stopped>,
+    added: Option<u32>,
+    undone: bool,
+) -> Result<Done, Stopped> {
+    match (stopped, added) {
+        (None, Some(added)) => Ok(Done::TwoSessions { added, undone }),
+        (Some(stopped), _) => Err(stopped),
+        (None, None) => Err(Stopped::Refused),
+    }
+}
+
+/// Two sessions work, and the decision is taken back: how many lifts were added, and the token that is left.
+fn work_of<L: Terms + Send + Sync, R: Threads + Wait + Sync>(
+    rt: &R,
+    alloc: Global,
+    office: &Office<L>,
+    lifter: Seat<L>,
+    decider: &mut Seat<L>,
+    seen: &AtomicU64,
+) -> Left<L> {
+    let (added, (held, end)) = works(rt, alloc, office, lifter, decider);
+    let (held, stopped) = if end == End::Done {
+        settles_and_undoes(rt, alloc, office, decider, held, seen)
+    } else {
+        (held, Some(Stopped::Refused))
+    };
+    (done_by_two(stopped, added, is_undone(&held)), held)
+}
+
+/// Two sessions join and work, once the watcher has read what is said at the opening.
+pub(crate) fn work_in_two<L: Terms + Send + Sync, R: Threads + Wait + Sync>(
+    rt: &R,
+    alloc: Global,
+    office: &Office<L>,
+    seen: &AtomicU64,
+) -> Left<L> {
+    if !is_read(seen, 0) {
+        return (Err(Stopped::Unseen), Held::Nothing);
+    }
+    match joined(rt, office) {
+        Some(lifter) => match joined(rt, office) {
+            Some(mut decider) => work_of(rt, alloc, office, lifter, &mut decider, seen),
+            None => (Err(Stopped::Refused), Held::Nothing),
+        },
+        None => (Err(Stopped::Refused), Held::Nothing),
+    }
+}

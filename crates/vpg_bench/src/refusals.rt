@@ -1,0 +1,122 @@
+//! Calls that are refused memory: those of the libraries below an office, of an office and its sessions, and of a
+//! press.
+//!
+//! Each call is made with no memory at all, and with sixteen bytes more each time, until it is done. A line says what
+//! came of it: its name, and
+//!
+//! - `takes no memory` where it was done with none;
+//! - `each growth refused in turn, unchanged` where each refusal was `Memory` and changed nothing, and it was done at
+//!   last;
+//! - words in capitals where that is not so.
+//!
+//! A desk is compared by value: its page, the tokens out, whether it is settled. A board is opened and closed until
+//! that is done: each time the order comes back with its tables unchanged, or a harvest of it is made. A sweep is made
+//! with none, and up to more memory than it takes: with little it has no board, with more no hints, and a thread is
+//! refused where the process cannot get its stack. It is done each time.
+//!
+//! Each try of a call of an office is made on an office of its own, whose log is full up to what its lists have room
+//! for. So the growths of the log are refused too, and all that a refused call has to leave is looked at behind each
+//! try.
+//!
+//! Or no memory is taken from the program, and each call is marked for `bench/refused.py`.
+
+mod boards;
+mod calls;
+mod decided;
+mod desk_calls;
+mod desks;
+mod held;
+mod looks;
+mod lookups;
+mod office_calls;
+mod offices;
+mod orders;
+mod presses;
+mod reading;
+mod steps;
+mod texts;
+mod trails;
+mod writing;
+
+use crate::family::{DIAGRAM, GAME, diagram_of, game_of};
+use crate::refusals::calls::refuse_each;
+use crate::refusals::lookups::ask_guard;
+use crate::refusals::orders::ask_order;
+use anyhow::{Context, Result};
+use std::alloc::Global;
+use std::sync::{Arc, Wait};
+use std::thread::Threads;
+use vpg_diagram::Diagram;
+use vpg_game::GuardedGame;
+use vpg_scarce::{End, Heap, Report, Told};
+
+/// What came of calls that were made once, with no memory.
+pub(crate) fn told_of(tells: bool) -> Told {
+    if tells {
+        Told::TakesNone
+    } else {
+        Told::Otherwise
+    }
+}
+
+/// How a call ended that wasn't refused: it is done where it gave what it should.
+pub(crate) fn done_if(gives: bool) -> End {
+    if gives { End::Done } else { End::Otherwise }
+}
+
+/// How a call ended that gave nothing.
+pub(crate) fn memory_if(is_memory: bool) -> End {
+    if is_memory {
+        End::Memory
+    } else {
+        End::Otherwise
+    }
+}
+
+/// Makes each call of a game and a diagram with little memory: those below an office, and those of an office.
+fn refuse_of<R: Threads + Wait + Sync>(
+    rt: &R,
+    heap: &mut Heap,
+    report: &mut Report,
+    game: &Arc<GuardedGame>,
+    diagram: &Arc<Diagram>,
+) -> Option<()> {
+    refuse_each(rt, heap, report, game, diagram)?;
+    ask_guard(heap, report, diagram.names());
+    ask_order(heap, report, game, diagram)?;
+    texts::refuse(heap, report, diagram, game)?;
+    desk_calls::refuse(rt, heap, report, game, diagram)?;
+    boards::refuse(rt, heap, report, game, diagram)?;
+    office_calls::refuse(rt, heap, report, game, diagram);
+    presses::refuse(rt, heap, report);
+    Some(())
+}
+
+/// Makes each call with little memory.
+fn refuse<R: Threads + Wait + Sync>(rt: &R, heap: &mut Heap, report: &mut Report) -> Result<()> {
+    let diagram = diagram_of(heap.alloc(), DIAGRAM)?;
+    let game = game_of(heap.alloc(), GAME, &diagram)?;
+    refuse_of(rt, heap, report, &game, &diagram).context("nothing to call")
+}
+
+/// Makes each call with little memory, and writes what came of each.
+fn report_all<R: Threads + Wait + Sync + Print>(
+    rt: &R,
+    heap: &mut Heap,
+    report: &mut Report,
+) -> Result<()> {
+    refuse(rt, heap, report)?;
+    report.write(rt, heap)?;
+    Ok(())
+}
+
+/// Does so with the memory of the process, or marks each call where there is more than one word.
+pub(crate) fn report_within<R: Threads + Wait + Sync + Print>(
+    rt: &R,
+    alloc: Global,
+    words: usize,
+) -> Result<()> {
+    let mut heap = Heap::new(alloc, words)?;
+    let mut report = Report::new(alloc)?;
+    report_all(rt, &mut heap, &mut report)
+}

@@ -1,0 +1,243 @@
+//! The calls that are made of one game and one diagram, as tables.
+
+use crate::refusals::decided::{
+    DECISIONS, SETTLED, arena_of, close, close_checked, copy_table, make_arena, make_product,
+    make_shape, make_strategy, make_zeros,
+};
+use crate::refusals::lookups::{
+    arena_tells, diagram_tells, game_tells, known_tells, measures_tell, names_tell, settles,
+};
+use crate::refusals::orders::make_order;
+use crate::refusals::reading::{
+    add_name, has_ten, make_names, names_of, read_diagram, read_game, read_guard,
+};
+use crate::refusals::trails::{append, is_of_first, look, open, splice};
+use crate::refusals::writing::{
+    is_before, make_dual, make_projection, plain_of, text_before, write_game, write_guard,
+    write_plain,
+};
+use std::alloc::Global;
+use std::sync::{Arc, Wait};
+use vpg_diagram::Diagram;
+use vpg_game::GuardedGame;
+use vpg_guards::Names;
+use vpg_hope::{Arena, PlainGame};
+use vpg_measure::{Shape, Table};
+use vpg_partial::Partial;
+use vpg_scarce::{End, Heap, Report, Trial};
+use vpg_trail::Trail;
+
+/// A call.
+#[derive(Clone, Copy)]
+enum Call {
+    NewNames,
+    ReadGuard,
+    ReadDiagram,
+    ReadGame,
+    AddName,
+    WriteGuard,
+    WriteGame,
+    Dual,
+    Project,
+    WritePlain,
+    Known,
+    Product,
+    Arena,
+    Shape,
+    Zeros,
+    Copy,
+    Strategy,
+    AskNames,
+    AskDiagram,
+    AskGame,
+    AskKnown,
+    AskArena,
+    AskMeasures,
+    Settle,
+    Order,
+    OpenTrail,
+    Append,
+    Splice,
+    Look,
+}
+
+/// The calls, those of a trail one after another. Those that ask take no memory: what they tell is compared where there
+/// is none.
+const CALLS: &[(&str, Call)] = &[
+    ("Names::add", Call::AddName),
+    ("Names::new", Call::NewNames),
+    ("parse_guard", Call::ReadGuard),
+    ("Diagram::read", Call::ReadDiagram),
+    ("GuardedGame::read", Call::ReadGame),
+    ("parse_guard and Guard::write", Call::WriteGuard),
+    ("GuardedGame::write", Call::WriteGame),
+    ("GuardedGame::dual", Call::Dual),
+    ("project", Call::Project),
+    ("PlainGame::write", Call::WritePlain),
+    ("Partial::close", Call::Known),
+    ("Partial::product", Call::Product),
+    ("Arena::hopeful", Call::Arena),
+    ("Shape::of", Call::Shape),
+    ("Table::zero", Call::Zeros),
+    ("Table::copy", Call::Copy),
+    ("strategy", Call::Strategy),
+    ("Names::len, get, name", Call::AskNames),
+    ("Diagram::names, is_product, clauses", Call::AskDiagram),
+    (
+        "GuardedGame::vertices, features, id, find, owner, priority, edges, tops",
+        Call::AskGame,
+    ),
+    ("Partial::value, is_full", Call::AskKnown),
+    ("Arena::kept", Call::AskArena),
+    ("Shape::top, prog, lift, is_progress", Call::AskMeasures),
+    ("settle_alone, Table::get, set", Call::Settle),
+    ("Order::of", Call::Order),
+    ("Trail::open", Call::OpenTrail),
+    ("Trail::append", Call::Append),
+    ("Trail::splice", Call::Splice),
+    ("Trail::entries, tables, level", Call::Look),
+];
+
+/// What the calls are made of, beside a game and a diagram.
+#[derive(Drop)]
+struct Parts {
+    /// Ten names, and then one more.
+    names: Names,
+    /// The game of one product.
+    plain: PlainGame,
+    /// What is written, behind what stands there before.
+    out: Vec<u8>,
+    known: Partial,
+    shape: Shape,
+    arena: Arena,
+    /// The settled table of the hopeful game.
+    table: Table,
+    /// A table of zeros.
+    zeros: Table,
+    trail: Trail,
+    /// Whether what was handed in to make an order last came back.
+    is_back: bool,
+}
+
+/// The parts for a game and a diagram: first those that are let go by one call.
+fn parts_of(alloc: Global, diagram: &Diagram, game: &GuardedGame) -> Option<Parts> {
+    let trail = Trail::open(alloc, 2).ok()?;
+    let zeros = Table::zero(alloc, 2).ok()?;
+    let table = Table::of(Vec::from_slice(alloc, &SETTLED).ok()?);
+    let names = names_of(alloc)?;
+    let shape = Shape::of(alloc, game).ok()?;
+    let plain = plain_of(alloc, diagram, game)?;
+    let known = close_checked(alloc, diagram, &DECISIONS).ok()?;
+    let arena = arena_of(alloc, game, &known)?;
+    Some(Parts {
+        names,
+        plain,
+        out: Vec::new(alloc),
+        known,
+        shape,
+        arena,
+        table,
+        zeros,
+        trail,
+        is_back: true,
+    })
+}
+
+/// A call, and what it is made of.
+#[derive(Drop)]
+struct Calling<'t> {
+    call: Call,
+    diagram: &'t Arc<Diagram>,
+    game: &'t Arc<GuardedGame>,
+    parts: &'t mut Parts,
+}
+
+/// Makes a call.
+fn made(
+    alloc: Global,
+    call: Call,
+    diagram: &Arc<Diagram>,
+    game: &Arc<GuardedGame>,
+    parts: &mut Parts,
+) -> End {
+    match call {
+        Call::NewNames => make_names(alloc),
+        Call::ReadGuard => read_guard(alloc, &parts.names),
+        Call::ReadDiagram => read_diagram(alloc),
+        Call::ReadGame => read_game(alloc, &parts.names),
+        Call::AddName => add_name(alloc, &mut parts.names),
+        Call::WriteGuard => write_guard(alloc, diagram.names(), &mut parts.out),
+        Call::WriteGame => write_game(alloc, game, diagram.names(), &mut parts.out),
+        Call::Dual => make_dual(alloc, game),
+        Call::Project => make_projection(alloc, game, diagram),
+        Call::WritePlain => write_plain(alloc, &parts.plain, &mut parts.out),
+        Call::Known => close(alloc, diagram),
+        Call::Product => make_product(alloc, &parts.known),
+        Call::Arena => make_arena(alloc, game, &parts.known),
+        Call::Shape => make_shape(alloc, game),
+        Call::Zeros => make_zeros(alloc),
+        Call::Copy => copy_table(alloc, &parts.table),
+        Call::Strategy => make_strategy(alloc, &parts.shape, &parts.arena, &parts.table),
+        Call::AskNames => names_tell(diagram.names()),
+        Call::AskDiagram => diagram_tells(diagram),
+        Call::AskGame => game_tells(game),
+        Call::AskKnown => known_tells(&parts.known),
+        Call::AskArena => arena_tells(&parts.arena),
+        Call::AskMeasures => measures_tell(&parts.shape, &parts.arena, &parts.table),
+        Call::Settle => settles(&parts.shape, &parts.arena, &mut parts.zeros),
+        Call::Order => make_order(alloc, game, diagram, &mut parts.is_back),
+        Call::OpenTrail => open(alloc),
+        Call::Append => append(&mut parts.trail),
+        Call::Splice => splice(alloc, &mut parts.trail),
+        Call::Look => look(&parts.trail),
+    }
+}
+
+impl<R> Trial<R> for Calling<'_> {
+    fn attempt(&mut self, _rt: &R, alloc: Global) -> End {
+        made(alloc, self.call, self.diagram, self.game, self.parts)
+    }
+
+    fn is_unchanged(&mut self, _rt: &R, _alloc: Global) -> bool {
+        let parts = &*self.parts;
+        let (names, entries) = match self.call {
+            Call::AddName => (10, 0),
+            Call::Splice => (11, 1),
+            _ => (11, 0),
+        };
+        has_ten(&parts.names, names)
+            && is_before(&parts.out)
+            && parts.is_back
+            && parts.known.is_full()
+            && parts.table.values() == SETTLED.as_slice()
+            && is_of_first(&parts.trail, entries)
+    }
+}
+
+/// Makes each call with little memory.
+fn try_each<R: Wait>(rt: &R, heap: &mut Heap, report: &mut Report, calling: &mut Calling<'_>) {
+    for (name, call) in CALLS {
+        calling.call = *call;
+        calling.parts.out = text_before(heap.alloc());
+        report.try_call(rt, heap, name, calling);
+    }
+}
+
+/// Makes each call of a game and a diagram with little memory.
+pub(crate) fn refuse_each<R: Wait>(
+    rt: &R,
+    heap: &mut Heap,
+    report: &mut Report,
+    game: &Arc<GuardedGame>,
+    diagram: &Arc<Diagram>,
+) -> Option<()> {
+    let mut parts = parts_of(heap.alloc(), diagram, game)?;
+    let mut calling = Calling {
+        call: Call::NewNames,
+        diagram,
+        game,
+        parts: &mut parts,
+    };
+    try_each(rt, heap, report, &mut calling);
+    Some(())
+}

@@ -1,0 +1,83 @@
+//! Tokens and a harvest that are held from one call to the next.
+
+ghost use Rattle.std.specs.Prelude.{◌<◌};
+
+use crate::refusals::desks::Seen;
+use std::sync::Wait;
+use vpg_desk::{Desk, Redo, Undo};
+use vpg_measure::Harvest;
+
+/// What is held beside a desk.
+pub(crate) struct Held {
+    /// The token of a change.
+    pub(crate) undo: Option<Undo>,
+    /// The token of a change that was undone.
+    pub(crate) redo: Option<Redo>,
+    pub(crate) harvest: Option<Harvest>,
+    /// What the desk told before the call.
+    pub(crate) before: Option<Seen>,
+    /// Whether what was handed in to open a desk last came back.
+    pub(crate) is_back: bool,
+}
+
+/// Nothing, held.
+pub(crate) fn nothing() -> Held {
+    Held {
+        undo: None,
+        redo: None,
+        harvest: None,
+        before: None,
+        is_back: true,
+    }
+}
+
+/// Waits until a token is out. It never waits, since who calls it holds one; no contract here says so.
+pub(crate) fn wait_for_token<R: Wait>(rt: &R, desk: &Desk)
+    ensures { 0 < desk.now.book.tokens }
+{
+    for _ in rt.forever() {
+        if desk.tokens() > 0 {
+            return;
+        }
+    }
+    unreachable!()
+}
+
+/// Keeps a change, where there is a token.
+pub(crate) fn keep<R: Wait>(rt: &R, desk: &mut Desk, token: Option<Undo>) {
+    if let Some(token) = token {
+        wait_for_token(rt, desk);
+        desk.keep(token);
+    }
+}
+
+/// Forgets an undone change, where there is a token.
+pub(crate) fn forget<R: Wait>(rt: &R, desk: &mut Desk, token: Option<Redo>) {
+    if let Some(token) = token {
+        wait_for_token(rt, desk);
+        desk.forget(token);
+    }
+}
+
+/// Whether the one token that is out is that of an undone change, of this serial; and forgets it.
+pub(crate) fn forgets<R: Wait>(rt: &R, desk: &mut Desk, held: &mut Held, serial: u64) -> bool {
+    let told = match &held.redo {
+        Some(token) => token.serial() == serial && desk.tokens() == 1,
+        None => false,
+    };
+    forget(rt, desk, held.redo.take());
+    told && desk.tokens() == 0
+}
+
+/// Lets go what is held, and spends its tokens.
+pub(crate) fn let_go<R: Wait>(rt: &R, desk: &mut Desk, held: Held) {
+    let Held {
+        undo,
+        redo,
+        harvest: _,
+        before: _,
+        is_back: _,
+    } = held;
+    keep(rt, desk, undo);
+    forget(rt, desk, redo);
+}

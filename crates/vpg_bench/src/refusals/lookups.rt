@@ -1,0 +1,104 @@
+//! Calls that take no memory. Each is made where there is none, and has to tell what it tells otherwise.
+
+use crate::refusals::decided::is_table;
+use crate::refusals::{done_if, told_of};
+use vpg_diagram::Diagram;
+use vpg_game::{GuardedGame, Player};
+use vpg_guards::{Names, Tri, parse_guard};
+use vpg_hope::Arena;
+use vpg_measure::{Shape, Table, is_progress, lift, prog, settle_alone};
+use vpg_partial::Partial;
+use vpg_scarce::{End, Heap, Report};
+
+pub(crate) fn names_tell(names: &Names) -> End {
+    if names.len() != 3 {
+        return End::Otherwise;
+    }
+    done_if(names.get(b"f") == Some(1) && names.get(b"h").is_none() && names.name(1) == "f")
+}
+
+pub(crate) fn diagram_tells(diagram: &Diagram) -> End {
+    if diagram.features() != 3 {
+        return End::Otherwise;
+    }
+    done_if(
+        diagram.is_product(&[true, true, false])
+            && !diagram.is_product(&[false, true, false])
+            && diagram.clauses().len() == 3
+            && diagram.counts().is_empty(),
+    )
+}
+
+pub(crate) fn game_tells(game: &GuardedGame) -> End {
+    if game.vertices() != 2 {
+        return End::Otherwise;
+    }
+    done_if(
+        matches!(game.owner(1), Player::Odd)
+            && game.find(1) == Some(1)
+            && game.find(7).is_none()
+            && [game.id(1), game.priority(1)] == [1, 2]
+            && [game.edges(0).len(), game.features()] == [2, 3]
+            && game.tops() == (2, 2),
+    )
+}
+
+pub(crate) fn known_tells(known: &Partial) -> End {
+    if known.values().len() != 3 {
+        return End::Otherwise;
+    }
+    done_if(matches!(known.value(2), Tri::Yes) && known.is_full())
+}
+
+pub(crate) fn arena_tells(arena: &Arena) -> End {
+    if arena.vertices() != 2 {
+        return End::Otherwise;
+    }
+    done_if(arena.kept(0) == [1, 0].as_slice() && arena.kept(1) == [0, 1].as_slice())
+}
+
+/// The settled table is one that no lift raises.
+pub(crate) fn measures_tell(shape: &Shape, arena: &Arena, table: &Table) -> End {
+    if arena.vertices() != 2 || !is_table(shape, arena, table) {
+        return End::Otherwise;
+    }
+    done_if(
+        [shape.top(), prog(shape, 1, 0), lift(shape, arena, table, 0)] == [2, 1, 1]
+            && is_progress(shape, arena, table),
+    )
+}
+
+/// A table of zeros is settled, and made one of zeros again.
+pub(crate) fn settles(shape: &Shape, arena: &Arena, table: &mut Table) -> End {
+    if arena.vertices() != 2 || !is_table(shape, arena, table) {
+        return End::Otherwise;
+    }
+    settle_alone(shape, arena, table, 10);
+    if table.values().len() != 2 {
+        return End::Otherwise;
+    }
+    let told = [table.get(0), table.get(1)];
+    table.set(0, 0);
+    done_if(told == [1, 0])
+}
+
+/// A guard of each kind of part.
+const GUARD: &[u8] = b"!(f & g) | r & true";
+
+/// A set of features without the root and `g`, and what is known where only the root is: that it is out.
+const SET: [bool; 3] = [false, true, false];
+
+const KNOWN: [Tri; 3] = [Tri::No, Tri::Unknown, Tri::Unknown];
+
+/// Asks a guard, with no memory, whether it holds in a set, and what is known of it.
+pub(crate) fn ask_guard(heap: &mut Heap, report: &mut Report, names: &Names) {
+    if names.len() != SET.len() {
+        return;
+    }
+    if let Ok(guard) = parse_guard(heap.alloc(), GUARD, names) {
+        heap.leave(0);
+        let tells = guard.eval(&SET) && matches!(guard.kleene(&KNOWN), Tri::Unknown);
+        heap.relax();
+        report.note(heap, "Guard::eval, kleene", told_of(tells));
+    }
+}
