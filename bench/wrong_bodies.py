@@ -65,8 +65,11 @@ def copied(room):
         if os.path.isfile(f"{ROOT}/{name}"):
             shutil.copy(f"{ROOT}/{name}", f"{room}/{name}")
     for crate in sorted(os.listdir(f"{ROOT}/crates")):
-        for part in (*RT.rtlib.PARTS, *FOLDERS.values()):
+        for part in (*RT.rtlib.PARTS, *FOLDERS.values(), "data"):
             mirror(f"{ROOT}/crates/{crate}/{part}", f"{room}/crates/{crate}/{part}")
+        # (what a program writes is compared where a row refuses a wrong body)
+        if os.path.isfile(f"{ROOT}/crates/{crate}/stdout"):
+            shutil.copy(f"{ROOT}/crates/{crate}/stdout", f"{room}/crates/{crate}/stdout")
         out = f"{room}/crates/{crate}/out"
         if not os.path.isdir(out) and os.path.isdir(f"{ROOT}/crates/{crate}/out"):
             shutil.copytree(f"{ROOT}/crates/{crate}/out", out)
