@@ -145,7 +145,8 @@ impl<L: Terms> Front<L> {
     }
 }
 
-/// A token's front. With a serial the log's last call that gave a token of it has to be at the end of the front.
+/// A further front that the log has to have: a token's, or one that is met. With a serial the log's last call that gave
+/// a token of it has to be at the end of the front.
 pub struct Own<L: Terms> {
     pub(crate) front: Front<L>,
     pub(crate) serial: Option<u64>,

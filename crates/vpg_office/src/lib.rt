@@ -6,7 +6,7 @@
 //! of the page publishes a sheet, which watches read without the lock (`read`). Definitions: `specs/Fronts.antt`
 //! (histories and how a call extends them), `specs/Faults.antt` (what a refused call tells), `specs/Token.antt`,
 //! `specs/Sheets.antt` (what a sheet tells); what lies under the lock is in `specs/Kept.antt`, `specs/Locked.antt` and
-//! `specs/Story.antt`.
+//! `specs/Story.antt`, and what a call does there in `specs/Made.antt`.
 #![tactic(auto)]
 
 mod asked;

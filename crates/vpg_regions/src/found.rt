@@ -31,6 +31,7 @@ impl<T: Copy> Found<T> {
         }
     }
 
+    /// Adds one more. Where memory is refused it is left out, which is noted.
     pub fn add(&mut self, item: T) {
         if self.items.push(item).is_err() {
             self.is_refused = true;
@@ -42,15 +43,17 @@ impl<T: Copy> Found<T> {
         self.items.pop()
     }
 
-    /// Takes all away.
+    /// Takes all away. That something was left out stays noted.
     pub fn clear(&mut self) {
         self.items.clear();
     }
 
+    /// How many there are.
     pub fn len(&self) -> usize {
         self.items.len()
     }
 
+    /// The one at this place, from 0.
     pub fn get(&self, at: usize) -> Option<T> {
         self.items.get(at).copied()
     }
@@ -60,11 +63,12 @@ impl<T: Copy> Found<T> {
         &self.items
     }
 
+    /// Whether something was left out.
     pub fn is_refused(&self) -> bool {
         self.is_refused
     }
 
-    /// The whole list.
+    /// The whole list, or that memory was refused.
     pub fn list(self) -> Result<Vec<T>, AllocError> {
         let Found { items, is_refused } = self;
         if is_refused {

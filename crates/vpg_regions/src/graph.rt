@@ -191,6 +191,7 @@ impl Draft {
         })
     }
 
+    // Notes where there was no memory for something.
     fn note(&mut self, has_grown: bool) {
         if !has_grown {
             self.is_refused = true;
@@ -203,6 +204,7 @@ impl Draft {
         self.note(grown);
     }
 
+    // More edges of the vertex that comes next.
     fn edges(&mut self, to: &[u32]) {
         let grown = self.successors.items.extend_from_slice(to).is_ok();
         self.note(grown);
