@@ -100,8 +100,8 @@ impl<L: Terms> Log<L> {
         publish(rt, alloc, &mut self.press, &self.desk, &self.calls.newest)
     }
 
-    /// Publishes the sheet of the log, where the call was made and there was a watch. `sheet` is the allocator of a call
-    /// that changes the page, and none of any other. A sheet that finds no memory is left out.
+    /// Publishes the sheet of the log, where the call was made and there was a watch. `sheet` is the allocator of a
+    /// call that changes the page, and none of any other. A sheet that finds no memory is left out.
     pub(crate) fn publish<R: Wait>(&mut self, rt: &R, sheet: Option<Global>, made: bool)
         ensures { self.new ≡ self.old }
     {
