@@ -5,7 +5,7 @@ use Rattle.vpg_guards.specs.declared.tri.Tri.{Tri}
 use Rattle.vpg_diagram.specs.DiagramText.{NamedDiagram}
 use Rattle.vpg_diagram.specs.FeatureDiagram.{feature_count}
 use Rattle.vpg_draw.specs.PartDrawing.{part_drawing}
-use Rattle.vpg_game.specs.declared.player.Player.{Player}
+use Rattle.vpg_players.specs.declared.player.Player.{Player}
 use Rattle.vpg_game.specs.Game.{NamedGame, graph_of}
 use Rattle.vpg_measure.specs.Games.{GamesView, ArePageGames}
 use Rattle.vpg_measure.specs.Orders.{OrderView}

@@ -2,7 +2,7 @@
 use Rattle.std.specs.Prelude.{◌≡◌, ℕ, ◌⊎◌, Bool, Option, Some, None, List, [], slice_index}
 use Rattle.vpg_guards.specs.declared.tri.Tri.{Tri}
 use Rattle.vpg_draw.specs.PartDrawing.{part_drawing}
-use Rattle.vpg_game.specs.declared.player.Player.{Player}
+use Rattle.vpg_players.specs.declared.player.Player.{Player}
 use Rattle.vpg_measure.specs.TwoGames.{top_for}
 use Rattle.vpg_verdict.specs.declared.which.Which.{Which}
 use Rattle.vpg_verdict.specs.declared.which.Which.TheVariants.{Hopeful, Dual}

@@ -7,7 +7,7 @@ use Rattle.vpg_measure.specs.Views.{strategy_of}
 use Rattle.vpg_hope.specs.Arena.{Vertex as Node, vertex_at}
 use Rattle.vpg_hope.specs.Strategies.{Strategy}
 use Rattle.vpg_game.specs.declared.levels.Level.{Level}
-use Rattle.vpg_game.specs.declared.player.Player.{Player}
+use Rattle.vpg_players.specs.declared.player.Player.{Player}
 use Rattle.vpg_guards.specs.declared.tri.Tri.{Tri}
 use Rattle.vpg_hope.specs.Hope.{IsFullOf}
 use Rattle.vpg_measure.specs.Least.{IsBelowProgressTables}

@@ -18,8 +18,8 @@ use Rattle.vpg_features.specs.Names.{AreNames, EachIsName, is_name_byte}
 use Rattle.vpg_guards.specs.Grammar.{AreBlank}
 use Rattle.vpg_guards.specs.Writing.{guard_text, all_text, any_text, more_all_text, more_any_text, enclosed_if, is_group, IsReadable}
 use Rattle.vpg_guards.proofs.LawProofs.{writings_spell_the_guard}
-use Rattle.vpg_game.specs.declared.player.Player.{Player}
-use Rattle.vpg_game.specs.declared.player.Player.TheVariants.{Even, Odd}
+use Rattle.vpg_players.specs.declared.player.Player.{Player}
+use Rattle.vpg_players.specs.declared.player.Player.TheVariants.{Even, Odd}
 use Rattle.vpg_edges.specs.Edges.{GuardedEdge, join_edge, no_edge}
 use Rattle.vpg_edges.proofs.Joining.{join_new}
 use Rattle.vpg_game.specs.Spelled.{SpelledSuccessor, SpelledEntry, named_in}

@@ -6,7 +6,6 @@ ghost use Rattle.vpg_game.specs.Refused.{IsRefused};
 
 use crate::fault::GameFault;
 use crate::making::make;
-use crate::player::Player;
 use crate::reading::read_entries;
 use crate::vertex::Vertex;
 use indexmap::IndexSet;
@@ -14,6 +13,7 @@ use std::alloc::Global;
 use std::marker::Model;
 use vpg_edges::Edge;
 use vpg_guards::{Index, Names};
+use vpg_players::Player;
 
 /// The highest priority that a game has. One that is read has lower ones; its dual may have it.
 pub const HIGHEST_PRIORITY: u32 = 65_536;

@@ -12,9 +12,9 @@ ghost use Rattle.vpg_game.specs.Reading.{Gives, Fails, digits_at, number_at, len
 
 use crate::entry::{Entry, Successor};
 use crate::fault::GameFault;
-use crate::player::Player;
 use std::alloc::Global;
 use vpg_guards::{Guard, GuardFault, Names, parse_guard};
+use vpg_players::Player;
 
 /// The most vertices of a game.
 pub const MOST_VERTICES: usize = 65_536;

@@ -5,12 +5,12 @@ ghost use Rattle.vpg_game.specs.Game.{vertex_ids, AreEdges, AreVertices, IsAtLim
 ghost use Rattle.vpg_game.specs.Writing.{game_text, vertex_text, vertices_text, edge_text, edges_behind, owner_digit, greatest};
 
 use crate::game::GuardedGame;
-use crate::player::Player;
 use crate::vertex::Vertex;
 use itoa::Buffer;
 use std::alloc::{AllocError, Global};
 use vpg_edges::Edge;
 use vpg_guards::{Guard, Names};
+use vpg_players::Player;
 
 impl GuardedGame {
     /// Writes the game behind what is there: `parity` and the greatest identifier, then a line for each vertex.

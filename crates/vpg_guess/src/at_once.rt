@@ -4,13 +4,14 @@ ghost use Rattle.std.specs.Thread.{IsSync};
 ghost use Rattle.vpg_measure.specs.Lifts.{IsProgressTable, IsBelowTable, after_rounds};
 ghost use Rattle.vpg_measure.specs.Orders.{IsSameOrder, IsHarvest, IsRaised, order_levels, order_arena, order_table, harvest_table};
 
-use crate::ground::{Groundwork, TableGround, shape_in};
+use crate::ground::{Groundwork, shape_in};
 use crate::harvests::{RaisedTable, harvest_of, raised};
 use std::alloc::{AllocError, Global};
 use std::sync::Wait;
 use std::thread::{Threads, join};
 use vpg_measure::{Harvest, Order, Shape};
 use vpg_regions::Budget;
+use vpg_values::TableGround;
 use vpg_verdict::Which;
 
 // A copy of one of an order's tables, raised within a budget of its own.

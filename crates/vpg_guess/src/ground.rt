@@ -1,84 +1,14 @@
-//! What guesses of one table are made over.
-use crate::scale::Scale;
+//! What guesses of one table are made over, as an arena has it.
 use std::alloc::{AllocError, Global};
-use vpg_game::{GuardedGame, Player};
+use vpg_game::GuardedGame;
 use vpg_hope::Arena;
 use vpg_measure::Shape;
-use vpg_regions::{Found, Graph, PerVertex, Predecessors};
-
-/// A part with less than one in so many of the vertices is small.
-const SMALL_PART: usize = 4;
+use vpg_players::Player;
+use vpg_regions::{Arrivals, Draft, PerVertex, Predecessors};
+use vpg_values::{GuessGround, Scale, TableGround};
 
 /// Lists of an earlier page serve where at most one in so many of their edges and vertices is gone.
 const STALE: u64 = 8;
-
-/// What lifts go by: who moves to each vertex, and how measures grow for Even.
-#[derive(Clone, Copy)]
-pub(crate) struct LiftGround<'a> {
-    pub(crate) predecessors: &'a Predecessors,
-    pub(crate) even: &'a Scale,
-}
-
-impl LiftGround<'_> {
-    pub(crate) fn vertices(self) -> u32 {
-        self.predecessors.vertices()
-    }
-
-    /// So many looks at each edge and vertex.
-    pub(crate) fn looks(self, each: u64) -> u64 {
-        self.predecessors.size().saturating_mul(each)
-    }
-
-    /// Whether so many vertices are a small part of all.
-    pub(crate) fn is_small_part(self, count: usize) -> bool {
-        count < self.vertices() as usize / SMALL_PART
-    }
-}
-
-/// What lifts of one table go by, as it was made for some page of a game. On other pages some edges are others: the
-/// lists may miss one that lifts would follow, and never cost a clause.
-pub(crate) struct TableGround {
-    pub(crate) predecessors: Predecessors,
-    pub(crate) even: Scale,
-}
-
-// Not derived, so that letting one go is one call: a derived way would be proved anew at each exit that owns one.
-impl Drop for TableGround {
-    fn drop(self) {
-        let TableGround {
-            predecessors: _,
-            even: _,
-        } = self;
-    }
-}
-
-impl TableGround {
-    pub(crate) fn lifts(&self) -> LiftGround<'_> {
-        LiftGround {
-            predecessors: &self.predecessors,
-            even: &self.even,
-        }
-    }
-
-    /// Whether the lists serve another page of the game, whose arena this is: it has as many edges or a few less.
-    pub(crate) fn serves(&self, arena: &Arena) -> bool {
-        let listed = self.predecessors.size();
-        let present = size_of(arena);
-        present <= listed && listed.saturating_sub(listed / STALE) <= present
-    }
-
-    fn into_parts(self) -> (Predecessors, Scale) {
-        let TableGround { predecessors, even } = self;
-        (predecessors, even)
-    }
-
-    /// The same for another page of the game, whose arena this is.
-    pub(crate) fn renewed(self, alloc: Global, arena: &Arena) -> Result<TableGround, AllocError> {
-        let (_, even) = self.into_parts();
-        let predecessors = Predecessors::of(alloc, arena)?;
-        Ok(TableGround { predecessors, even })
-    }
-}
 
 /// What guesses make of a game, kept from one of its pages to the next: what lifts of either table go by, and the shape
 /// of the dual's dual. That of another game costs time, and never a clause.
@@ -123,113 +53,133 @@ pub(crate) fn shape_in<'a>(
     Ok(kept.insert(shape))
 }
 
-/// A graph, and how measures grow along its edges for either player.
-pub(crate) struct GuessGround {
-    pub(crate) graph: Graph,
-    pub(crate) even: Scale,
-    pub(crate) odd: Scale,
+/// Who moves to each vertex of an arena.
+pub(crate) fn predecessors_of(alloc: Global, arena: &Arena) -> Result<Predecessors, AllocError> {
+    let mut arrivals = Arrivals::none(alloc, arena.vertices())?;
+    for v in 0..arena.vertices() {
+        arrivals.count(arena.kept(v));
+    }
+    let mut places = arrivals.into_places(alloc)?;
+    for v in 0..arena.vertices() {
+        places.write(v, arena.kept(v));
+    }
+    Ok(places.finish())
 }
 
-// Not derived, so that letting one go is one call: a derived way would be proved anew at each exit that owns one.
-impl Drop for GuessGround {
-    fn drop(self) {
-        let GuessGround {
-            graph: _,
-            even: _,
-            odd: _,
-        } = self;
+// The vertices of an arena, with their edges.
+fn write_down(arena: &Arena, draft: &mut Draft) {
+    for v in 0..arena.vertices() {
+        draft.edges(arena.kept(v));
+        draft.vertex(arena.owner(v), arena.priority(v));
     }
 }
 
-impl GuessGround {
-    pub(crate) fn of(
-        alloc: Global,
-        shape: &Shape,
-        dual_shape: &Shape,
-        arena: &Arena,
-    ) -> Result<GuessGround, AllocError> {
-        let even = Scale::of(alloc, arena, shape, Player::Even)?;
-        let predecessors = Predecessors::of(alloc, arena)?;
-        let lifts = TableGround { predecessors, even };
-        GuessGround::over(alloc, dual_shape, arena, lifts)
+// By how much priorities are raised: those of the dual are one greater.
+fn raise_for(player: Player) -> u32 {
+    match player {
+        Player::Even => 0,
+        Player::Odd => 1,
     }
+}
 
-    /// The same, with what its lifts go by.
-    pub(crate) fn over(
-        alloc: Global,
-        dual_shape: &Shape,
-        arena: &Arena,
-        lifts: TableGround,
-    ) -> Result<GuessGround, AllocError> {
-        let (predecessors, even) = lifts.into_parts();
-        let odd = Scale::of(alloc, arena, dual_shape, Player::Odd)?;
-        let graph = Graph::over(alloc, arena, predecessors)?;
-        Ok(GuessGround { graph, even, odd })
+/// The scale of an arena's shape for Even, of the shape of its dual for Odd.
+pub(crate) fn scale_of(
+    alloc: Global,
+    arena: &Arena,
+    shape: &Shape,
+    player: Player,
+) -> Result<Scale, AllocError> {
+    let raise = raise_for(player);
+    let mut priorities = PerVertex::of(alloc, arena.vertices(), 0)?;
+    let mut greatest = 0u32;
+    for v in 0..arena.vertices() {
+        let priority = arena.priority(v).saturating_add(raise);
+        priorities.set(v, priority);
+        greatest = greatest.max(priority);
     }
+    scale_with(alloc, shape, player, priorities, greatest)
+}
 
-    /// What its lifts go by, all else let go.
-    pub(crate) fn into_lifts(self) -> TableGround {
-        let GuessGround {
-            graph,
-            even,
-            odd: _,
-        } = self;
-        TableGround {
-            predecessors: graph.into_predecessor_lists(),
-            even,
-        }
+/// The same for the game that has these vertices of the arena, in this order.
+pub(crate) fn scale_of_part(
+    alloc: Global,
+    arena: &Arena,
+    shape: &Shape,
+    player: Player,
+    vertices: &[u32],
+) -> Result<Scale, AllocError> {
+    let raise = raise_for(player);
+    let count = u32::try_from(vertices.len()).unwrap_or(u32::MAX);
+    let mut priorities = PerVertex::of(alloc, count, 0)?;
+    let mut greatest = 0u32;
+    let mut place = 0u32;
+    for v in vertices {
+        let priority = priority_in(arena, *v).saturating_add(raise);
+        priorities.set(place, priority);
+        greatest = greatest.max(priority);
+        place = place.saturating_add(1);
     }
+    scale_with(alloc, shape, player, priorities, greatest)
+}
 
-    /// What lifts go by.
-    pub(crate) fn lifts(&self) -> LiftGround<'_> {
-        LiftGround {
-            predecessors: self.graph.predecessor_lists(),
-            even: &self.even,
-        }
+// That of these priorities, of which this is the greatest.
+fn scale_with(
+    alloc: Global,
+    shape: &Shape,
+    player: Player,
+    priorities: PerVertex<u32>,
+    greatest: u32,
+) -> Result<Scale, AllocError> {
+    let mut weights = PerVertex::of(alloc, greatest.saturating_add(1), 1)?;
+    for priority in 0..=greatest {
+        weights.set(priority, shape.weight(u64::from(priority)));
     }
+    Scale::with(alloc, player, shape.top(), priorities, weights)
+}
 
-    /// The vertices that stand at the top.
-    pub(crate) fn lost(&self, alloc: Global, table: &[u64]) -> Result<Vec<u32>, AllocError> {
-        let mut lost = Found::none(alloc);
-        for v in 0..self.graph.vertices() {
-            if self.even.top <= value_in(table, v) {
-                lost.add(v);
-            }
-        }
-        lost.list()
-    }
+/// Whether the lists serve another page of the game, whose arena this is: it has as many edges or a few less.
+pub(crate) fn serves(lifts: &TableGround, arena: &Arena) -> bool {
+    let listed = lifts.predecessors.size();
+    let present = size_of(arena);
+    present <= listed && listed.saturating_sub(listed / STALE) <= present
+}
 
-    /// Whether a table has these values, or greater ones.
-    pub(crate) fn is_reached(&self, values: &PerVertex<u64>, table: &[u64]) -> bool {
-        for v in 0..self.graph.vertices() {
-            if value_in(table, v) < values.get(v) {
-                return false;
-            }
-        }
-        true
-    }
+/// The same for another page of the game, whose arena this is.
+pub(crate) fn renewed(
+    alloc: Global,
+    lifts: TableGround,
+    arena: &Arena,
+) -> Result<TableGround, AllocError> {
+    let (_, even) = lifts.into_parts();
+    let predecessors = predecessors_of(alloc, arena)?;
+    Ok(TableGround { predecessors, even })
+}
 
-    /// The weights that values are cut to, stage by stage: the top, and those of the odd priorities, greatest first.
-    pub(crate) fn weights(&self, alloc: Global) -> Result<Vec<u64>, AllocError> {
-        let mut odd = Found::none(alloc);
-        for v in 0..self.graph.vertices() {
-            if self.graph.priority(v) % 2 == 1 {
-                odd.add(self.even.weight(v));
-            }
-        }
-        let mut sorted = odd.list()?;
-        sorted.sort()?;
-        let mut weights = Found::none(alloc);
-        let mut last = self.even.top;
-        weights.add(last);
-        for weight in sorted.iter().rev() {
-            if *weight < last {
-                last = *weight;
-                weights.add(last);
-            }
-        }
-        weights.list()
-    }
+/// What guesses of an arena are made over.
+pub(crate) fn ground_of(
+    alloc: Global,
+    shape: &Shape,
+    dual_shape: &Shape,
+    arena: &Arena,
+) -> Result<GuessGround, AllocError> {
+    let even = scale_of(alloc, arena, shape, Player::Even)?;
+    let predecessors = predecessors_of(alloc, arena)?;
+    ground_over(alloc, dual_shape, arena, TableGround { predecessors, even })
+}
+
+/// The same, with what its lifts go by.
+pub(crate) fn ground_over(
+    alloc: Global,
+    dual_shape: &Shape,
+    arena: &Arena,
+    lifts: TableGround,
+) -> Result<GuessGround, AllocError> {
+    let (predecessors, even) = lifts.into_parts();
+    let odd = scale_of(alloc, arena, dual_shape, Player::Odd)?;
+    let mut draft = Draft::with_room(alloc, arena.vertices() as usize, predecessors.edges())?;
+    write_down(arena, &mut draft);
+    let graph = draft.finish_with(alloc, predecessors)?;
+    Ok(GuessGround { graph, even, odd })
 }
 
 // How many edges and vertices there are in an arena.
@@ -239,14 +189,6 @@ fn size_of(arena: &Arena) -> u64 {
         size = size.saturating_add(arena.kept(v).len() as u64);
     }
     size
-}
-
-/// A vertex's value in a table.
-pub(crate) fn value_in(table: &[u64], v: u32) -> u64 {
-    match table.get(v as usize) {
-        Some(value) => *value,
-        None => 0,
-    }
 }
 
 /// A vertex's priority in an arena.

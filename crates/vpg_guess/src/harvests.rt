@@ -3,11 +3,12 @@ ghost use Rattle.std.specs.Prelude.{◌≡◌, IfOk, IfErr, IsTrue};
 ghost use Rattle.vpg_measure.specs.Lifts.{IsProgressTable, IsBelowTable, after_rounds};
 ghost use Rattle.vpg_measure.specs.Orders.{IsSameOrder, IsHarvest, IsRaised, IsSettledHarvest, order_levels, order_arena, order_table, harvest_table};
 
-use crate::ground::{Groundwork, TableGround, shape_in};
+use crate::ground::{Groundwork, shape_in};
 use crate::raising::raise_within;
 use std::alloc::{AllocError, Global};
 use vpg_measure::{Harvest, Order, Shape, Table};
 use vpg_regions::Budget;
+use vpg_values::TableGround;
 use vpg_verdict::Which;
 
 /// A raised table, and whether it is known to be a progress table.

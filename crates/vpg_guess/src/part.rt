@@ -1,12 +1,11 @@
 //! The part of a game that moves, under numbers of its own: all else is taken to keep its value.
-use crate::ground::{GuessGround, kept_in, owner_in, priority_in, value_in};
-use crate::improve::{Guess, guess_table};
-use crate::scale::Scale;
+use crate::ground::{kept_in, owner_in, priority_in, scale_of_part};
 use std::alloc::{AllocError, Global};
-use vpg_game::Player;
 use vpg_hope::Arena;
 use vpg_measure::Shape;
+use vpg_players::Player;
 use vpg_regions::{Budget, Choices, Draft, Found, Graph, solve_part};
+use vpg_values::{Guess, GuessGround, guess_table, value_in};
 
 /// Vertices that move, and behind them the others that they move to, which have no moves here.
 pub(crate) struct Part {
@@ -145,8 +144,8 @@ fn ground_of(
     numbered: &Numbered,
     moving: usize,
 ) -> Result<GuessGround, AllocError> {
-    let even = Scale::of_part(alloc, arena, shape, Player::Even, numbered.vertices.items())?;
-    let odd = Scale::of_part(
+    let even = scale_of_part(alloc, arena, shape, Player::Even, numbered.vertices.items())?;
+    let odd = scale_of_part(
         alloc,
         arena,
         dual_shape,

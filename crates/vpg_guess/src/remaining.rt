@@ -3,13 +3,14 @@ ghost use Rattle.std.specs.Prelude.{◌≡◌, IsTrue};
 ghost use Rattle.vpg_guess.specs.Kept.{IsRaisedFrom};
 ghost use Rattle.vpg_measure.specs.Lifts.{IsTableOf, IsProgressTable, after_rounds};
 
-use crate::ground::{LiftGround, kept_in, value_in};
-use crate::scale::Scale;
+use crate::ground::kept_in;
+use crate::rising::would_rise;
 use std::alloc::{AllocError, Global};
 use vpg_hope::Arena;
 use vpg_measure::lifts::{Outcome, raise, settle_alone};
 use vpg_measure::{Shape, Table};
 use vpg_regions::{Budget, Found, PerVertex, VertexSet};
+use vpg_values::{LiftGround, Scale, value_in};
 
 /// Rounds go on while the number of waiting vertices falls by one in so many.
 const FALL: usize = 16;
@@ -316,7 +317,7 @@ fn ask(arena: &Arena, ground: LiftGround<'_>, table: &[u64]) -> Rising {
         let v = at.saturating_mul(stride);
         if v < ground.vertices() && value_in(table, v) < ground.even.top {
             asked = asked.saturating_add(1);
-            if ground.even.would_rise(arena, table, v) {
+            if would_rise(ground.even, arena, table, v) {
                 rising = rising.saturating_add(1);
             }
         }
@@ -356,7 +357,7 @@ pub(crate) fn lift_each(
 {
     let mut risen = Found::none(alloc);
     for v in 0..arena.vertices() {
-        if even.would_rise(arena, table.values(), v) && lift_vertex(shape, arena, table, v) {
+        if would_rise(even, arena, table.values(), v) && lift_vertex(shape, arena, table, v) {
             risen.add(v);
         }
     }
@@ -378,7 +379,7 @@ fn look(
 {
     waiting.waits.remove(v);
     budget.spend(kept_in(arena, v).len().saturating_add(1));
-    if ground.even.would_rise(arena, table.values(), v) && lift_vertex(shape, arena, table, v) {
+    if would_rise(ground.even, arena, table.values(), v) && lift_vertex(shape, arena, table, v) {
         waiting.wake(ground, v);
     }
 }

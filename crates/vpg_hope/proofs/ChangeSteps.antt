@@ -9,8 +9,8 @@ use Rattle.vpg_guards.specs.Formula.{Formula, named}
 use Rattle.vpg_guards.specs.Known.{kleene}
 use Rattle.vpg_guards.proofs.Named.{values_rest_on_named_features}
 use Rattle.vpg_features.proofs.Noted.{Contains-none, Contains-one}
-use Rattle.vpg_game.specs.declared.player.Player.{Player}
-use Rattle.vpg_game.specs.Players.{opponent}
+use Rattle.vpg_players.specs.declared.player.Player.{Player}
+use Rattle.vpg_players.specs.Players.{opponent}
 use Rattle.vpg_game.specs.Guarded.{GuardedEdge, GuardedGame, dual}
 use Rattle.vpg_game.specs.Game.{vertex_in}
 use Rattle.vpg_game.specs.Naming.{features_named}

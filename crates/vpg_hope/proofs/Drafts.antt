@@ -6,7 +6,7 @@ use Rattle.vpg_guards.specs.Formula.{Formula}
 use Rattle.vpg_game.specs.Guarded.{GuardedEdge, GuardedGame}
 use Rattle.vpg_game.specs.Game.{NamedGame, IsGame, graph_of, vertex_in, edges_in}
 use Rattle.vpg_game.proofs.Graphs.{same_count, graph_at}
-use Rattle.vpg_game.specs.declared.player.Player.{Player}
+use Rattle.vpg_players.specs.declared.player.Player.{Player}
 use Rattle.vpg_hope.specs.declared.arena.Row.{Row}
 use Rattle.vpg_kept.specs.declared.selection.Selection.{Selection}
 use Rattle.vpg_hope.specs.Games.{Vertex, isolated}

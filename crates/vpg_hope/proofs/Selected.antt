@@ -9,7 +9,7 @@ use Rattle.vpg_guards.specs.Known.{kleene}
 use Rattle.vpg_game.specs.Guarded.{GuardedEdge, GuardedVertex, GuardedGame, dual}
 use Rattle.vpg_game.specs.Game.{NamedVertex, NamedGame, IsGame, AreVertices, edges_in, graph_of, vertex_in, unnamed, no_vertex}
 use Rattle.vpg_game.proofs.Graphs.{games_have_graphs, same_count, graph_at}
-use Rattle.vpg_game.specs.declared.player.Player.{Player}
+use Rattle.vpg_players.specs.declared.player.Player.{Player}
 use Rattle.vpg_hope.specs.Games.{Vertex, isolated}
 use Rattle.vpg_hope.specs.Arena.{row_vertices, InLists}
 use Rattle.vpg_kept.specs.Selection.{owner_under, priority_under, is_kept, kept_under}

@@ -2,10 +2,10 @@
 -- game are this project's own.
 use Rattle.vpg_game.specs.Guarded.{GuardedGame, AllGuards}
 use Rattle.std.specs.Prelude.{◌≡◌, Bool, true, false, map, filter, if◌then◌else◌}
-use Rattle.vpg_game.specs.declared.player.Player.{Player}
+use Rattle.vpg_players.specs.declared.player.Player.{Player}
 use Rattle.vpg_guards.specs.declared.tri.Tri.{Tri}
 use Rattle.vpg_guards.specs.declared.tri.Tri.TheVariants.{No, Yes}
-use Rattle.vpg_game.specs.Players.{opponent}
+use Rattle.vpg_players.specs.Players.{opponent}
 pub use Rattle.vpg_kept.specs.Selection.{keeps_in_hope}
 use Rattle.vpg_hope.specs.Games.{Game}
 

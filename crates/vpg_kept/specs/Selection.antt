@@ -4,10 +4,10 @@ use Rattle.vpg_guards.specs.Formula.{Formula, truth}
 use Rattle.vpg_guards.specs.Known.{kleene}
 use Rattle.vpg_guards.specs.declared.tri.Tri.{Tri}
 use Rattle.vpg_guards.specs.declared.tri.Tri.TheVariants.{No, Unknown, Yes}
-use Rattle.vpg_game.specs.declared.player.Player.{Player}
-use Rattle.vpg_game.specs.declared.player.Player.TheVariants.{Even, Odd}
-use Rattle.vpg_game.specs.Players.{opponent}
-use Rattle.vpg_game.specs.Guarded.{GuardedEdge}
+use Rattle.vpg_players.specs.declared.player.Player.{Player}
+use Rattle.vpg_players.specs.declared.player.Player.TheVariants.{Even, Odd}
+use Rattle.vpg_players.specs.Players.{opponent}
+use Rattle.vpg_edges.specs.Edges.{GuardedEdge}
 use Rattle.vpg_kept.specs.declared.selection.Selection.{Selection}
 use Rattle.vpg_kept.specs.declared.selection.Selection.TheVariants.{Hopeful, HopefulOfDual, Cautious, CautiousOfDual, Product}
 

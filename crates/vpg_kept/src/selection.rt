@@ -6,8 +6,9 @@ ghost use Rattle.vpg_guards.specs.View.{formula_of};
 ghost use Rattle.vpg_kept.specs.Selection.{keeps_in_hope, features_under, owner_under, priority_under, is_kept, kept_under};
 
 use std::alloc::AllocError;
-use vpg_game::{Edge, Player};
+use vpg_edges::Edge;
 use vpg_guards::{Guard, Tri};
+use vpg_players::Player;
 
 /// What a plain game takes over from a guarded one, with the values of the features that decide its guards.
 #[derive(Clone, Copy)]

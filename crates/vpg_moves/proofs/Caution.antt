@@ -7,8 +7,8 @@ use Rattle.vpg_guards.specs.Formula.{Formula, truth}
 use Rattle.vpg_guards.specs.Known.{kleene}
 use Rattle.vpg_diagram.specs.DiagramText.{NamedDiagram, IsNamedDiagram}
 use Rattle.vpg_diagram.specs.declared.clause.Literal.{Literal}
-use Rattle.vpg_game.specs.declared.player.Player.{Player}
-use Rattle.vpg_game.specs.Players.{opponent}
+use Rattle.vpg_players.specs.declared.player.Player.{Player}
+use Rattle.vpg_players.specs.Players.{opponent}
 use Rattle.vpg_game.specs.Game.{NamedGame, IsGame, graph_of}
 use Rattle.vpg_game.specs.Guarded.{GuardedGame, IsClosedGuarded, guarded_priorities, dual}
 use Rattle.vpg_game.specs.Levels.{levels_of, top_of}

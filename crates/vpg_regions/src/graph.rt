@@ -1,8 +1,7 @@
 //! Flat parity games: what guesses are made over.
 use crate::per_vertex::PerVertex;
 use std::alloc::{AllocError, Global};
-use vpg_game::Player;
-use vpg_hope::Arena;
+use vpg_players::Player;
 
 /// A list for each vertex, one after another.
 struct Lists {
@@ -93,37 +92,88 @@ impl Drop for Predecessors {
     }
 }
 
-impl Predecessors {
-    /// Those of an arena's vertices.
-    pub fn of(alloc: Global, arena: &Arena) -> Result<Predecessors, AllocError> {
-        let count = arena.vertices();
-        let mut ends = vec![in alloc; 0u32; count as usize]?;
-        let mut edges = 0usize;
-        for v in 0..count {
-            let kept = arena.kept(v);
-            count_each(kept, &mut ends);
-            edges = edges.saturating_add(kept.len());
-        }
-        places_before(&mut ends);
-        let mut items = vec![in alloc; 0u32; edges]?;
-        for v in 0..count {
-            put_back(v, arena.kept(v), &mut ends, &mut items);
-        }
-        let lists = Lists { ends, items };
-        Ok(Predecessors { count, lists })
+/// For each vertex how many move to it, while that is counted.
+pub struct Arrivals {
+    counts: Vec<u32>,
+    edges: usize,
+}
+
+// Not derived, so that letting one go is one call: a derived way would be proved anew at each exit that owns one.
+impl Drop for Arrivals {
+    fn drop(self) {
+        let Arrivals {
+            counts: _,
+            edges: _,
+        } = self;
+    }
+}
+
+impl Arrivals {
+    /// None of so many vertices.
+    pub fn none(alloc: Global, vertices: u32) -> Result<Arrivals, AllocError> {
+        let counts = vec![in alloc; 0u32; vertices as usize]?;
+        Ok(Arrivals { counts, edges: 0 })
     }
 
+    /// One vertex moves to these.
+    pub fn count(&mut self, successors: &[u32]) {
+        count_each(successors, &mut self.counts);
+        self.edges = self.edges.saturating_add(successors.len());
+    }
+
+    /// With places for those that move to each vertex, of whom none is written yet.
+    pub fn into_places(self, alloc: Global) -> Result<Places, AllocError> {
+        let items = vec![in alloc; 0u32; self.edges]?;
+        let mut ends = self.into_counts();
+        places_before(&mut ends);
+        Ok(Places { ends, items })
+    }
+
+    fn into_counts(self) -> Vec<u32> {
+        let Arrivals { counts, edges: _ } = self;
+        counts
+    }
+}
+
+/// For each vertex those that move to it, while they are written: each vertex once, in ascending order.
+pub struct Places {
+    // where each list ends by now
+    ends: Vec<u32>,
+    items: Vec<u32>,
+}
+
+// Not derived, so that letting one go is one call: a derived way would be proved anew at each exit that owns one.
+impl Drop for Places {
+    fn drop(self) {
+        let Places { ends: _, items: _ } = self;
+    }
+}
+
+impl Places {
+    /// A vertex moves to these.
+    pub fn write(&mut self, v: u32, successors: &[u32]) {
+        put_back(v, successors, &mut self.ends, &mut self.items);
+    }
+
+    /// All are written.
+    pub fn finish(self) -> Predecessors {
+        let Places { ends, items } = self;
+        let count = u32::try_from(ends.len()).unwrap_or(u32::MAX);
+        let lists = Lists { ends, items };
+        Predecessors { count, lists }
+    }
+}
+
+impl Predecessors {
     // Those where vertices move along these lists.
     fn of_lists(alloc: Global, successors: &Lists, count: u32) -> Result<Predecessors, AllocError> {
-        let mut ends = vec![in alloc; 0u32; count as usize]?;
-        count_each(&successors.items, &mut ends);
-        places_before(&mut ends);
-        let mut items = vec![in alloc; 0u32; successors.items.len()]?;
+        let mut arrivals = Arrivals::none(alloc, count)?;
+        arrivals.count(&successors.items);
+        let mut places = arrivals.into_places(alloc)?;
         for v in 0..count {
-            put_back(v, successors.of(v), &mut ends, &mut items);
+            places.write(v, successors.of(v));
         }
-        let lists = Lists { ends, items };
-        Ok(Predecessors { count, lists })
+        Ok(places.finish())
     }
 
     pub fn vertices(&self) -> u32 {
@@ -133,6 +183,11 @@ impl Predecessors {
     /// How many edges and vertices there are.
     pub fn size(&self) -> u64 {
         u64::from(self.count).saturating_add(self.lists.items.len() as u64)
+    }
+
+    /// How many edges there are.
+    pub fn edges(&self) -> usize {
+        self.lists.items.len()
     }
 
     /// Those that move to a vertex.
@@ -204,8 +259,8 @@ impl Draft {
         self.note(grown);
     }
 
-    // More edges of the vertex that comes next.
-    fn edges(&mut self, to: &[u32]) {
+    /// More edges of the vertex that comes next.
+    pub fn edges(&mut self, to: &[u32]) {
         let grown = self.successors.items.extend_from_slice(to).is_ok();
         self.note(grown);
     }
@@ -219,22 +274,18 @@ impl Draft {
         self.count = self.count.saturating_add(1);
     }
 
-    // The vertices of an arena, with their edges.
-    fn write(&mut self, arena: &Arena) {
-        for v in 0..arena.vertices() {
-            self.edges(arena.kept(v));
-            self.vertex(arena.owner(v), arena.priority(v));
-        }
-    }
-
     /// The game, with as few priorities as have the same winners.
     pub fn finish(self, alloc: Global) -> Result<Graph, AllocError> {
         let predecessors = Predecessors::of_lists(alloc, &self.successors, self.count)?;
         self.finish_with(alloc, predecessors)
     }
 
-    // The same, where it is known who moves to each vertex.
-    fn finish_with(self, alloc: Global, predecessors: Predecessors) -> Result<Graph, AllocError> {
+    /// The same, where it is known who moves to each vertex.
+    pub fn finish_with(
+        self,
+        alloc: Global,
+        predecessors: Predecessors,
+    ) -> Result<Graph, AllocError> {
         let mut draft = self;
         draft.merge(alloc)?;
         Ok(draft.with(predecessors))
@@ -321,18 +372,6 @@ fn merged(alloc: Global, occurs: &PerVertex<bool>) -> Result<PerVertex<u32>, All
 }
 
 impl Graph {
-    /// The game of an arena, with those that move to each vertex of it.
-    pub fn over(
-        alloc: Global,
-        arena: &Arena,
-        predecessors: Predecessors,
-    ) -> Result<Graph, AllocError> {
-        let edges = predecessors.lists.items.len();
-        let mut draft = Draft::with_room(alloc, arena.vertices() as usize, edges)?;
-        draft.write(arena);
-        draft.finish_with(alloc, predecessors)
-    }
-
     pub fn vertices(&self) -> u32 {
         self.count
     }

@@ -24,6 +24,6 @@ mod weights;
 pub use budget::Budget;
 pub use components::{Components, Moves};
 pub use found::Found;
-pub use graph::{Draft, Graph, Predecessors};
+pub use graph::{Arrivals, Draft, Graph, Places, Predecessors};
 pub use per_vertex::{Choices, PerVertex, VertexSet};
 pub use regions::{Regions, solve_part, solve_regions};

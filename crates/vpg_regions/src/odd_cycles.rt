@@ -5,7 +5,7 @@ use crate::found::Found;
 use crate::per_vertex::PerVertex;
 use crate::solution::Solution;
 use std::alloc::{AllocError, Global};
-use vpg_game::Player;
+use vpg_players::Player;
 
 struct OddCycles {
     components: Components,

@@ -3,7 +3,7 @@ use crate::budget::Budget;
 use crate::found::Found;
 use crate::solution::Solution;
 use std::alloc::{AllocError, Global};
-use vpg_game::Player;
+use vpg_players::Player;
 
 // A game on the stack: its vertices, and those that were found to be won by the player against whom its greatest
 // priority is.

@@ -8,7 +8,7 @@ use crate::recursion::solve_by_recursion;
 use crate::solution::Solution;
 use crate::weights::solve_by_weights;
 use std::alloc::{AllocError, Global};
-use vpg_game::Player;
+use vpg_players::Player;
 
 /// How often the recursion may look at a whole game in its first turn.
 const FIRST_PASSES: u64 = 32;

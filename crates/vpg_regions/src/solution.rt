@@ -4,7 +4,7 @@ use crate::found::Found;
 use crate::graph::Graph;
 use crate::per_vertex::{Choices, PerVertex};
 use std::alloc::{AllocError, Global};
-use vpg_game::Player;
+use vpg_players::Player;
 
 /// The vertices that are still played on, and who wins at the others.
 pub struct Solution<'a> {

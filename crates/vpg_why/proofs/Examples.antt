@@ -8,7 +8,7 @@ use Rattle.vpg_guards.proofs.Full.{full_values_decide}
 use Rattle.vpg_diagram.specs.DiagramText.{NamedDiagram, IsNamedDiagram}
 use Rattle.vpg_diagram.specs.FeatureDiagram.{feature_count}
 use Rattle.vpg_diagram.specs.declared.clause.Literal.{Literal}
-use Rattle.vpg_game.specs.declared.player.Player.{Player}
+use Rattle.vpg_players.specs.declared.player.Player.{Player}
 use Rattle.vpg_game.specs.Game.{NamedGame, IsGame, graph_of}
 use Rattle.vpg_game.specs.Guarded.{GuardedGame, AllGuards, IsClosedGuarded}
 use Rattle.vpg_game.proofs.Graphs.{games_have_graphs, same_count}

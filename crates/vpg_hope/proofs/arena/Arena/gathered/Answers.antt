@@ -5,7 +5,7 @@ use Rattle.std.proofs.lemmas.Result.{IfOk-weaker}
 use Rattle.std.proofs.lemmas.List.Elements.{All-push}
 use Rattle.vpg_guards.specs.Formula.{Formula}
 use Rattle.vpg_features.proofs.Noted.{any_default}
-use Rattle.vpg_game.specs.declared.player.Player.{Player}
+use Rattle.vpg_players.specs.declared.player.Player.{Player}
 use Rattle.vpg_game.specs.Guarded.{GuardedEdge, GuardedGame}
 use Rattle.vpg_game.specs.Game.{graph_of, vertex_in}
 use Rattle.vpg_game.proofs.Graphs.{same_count, graph_at}

@@ -4,7 +4,7 @@ use Rattle.std.proofs.lemmas.List.{length_push, take_all}
 use Rattle.std.proofs.lemmas.Result.{IfOk-weaker}
 use Rattle.std.proofs.lemmas.List.Elements.{All-push}
 use Rattle.vpg_guards.specs.Formula.{Formula, IsBelow}
-use Rattle.vpg_game.specs.declared.player.Player.{Player}
+use Rattle.vpg_players.specs.declared.player.Player.{Player}
 use Rattle.vpg_game.specs.Guarded.{GuardedEdge, GuardedGame}
 use Rattle.vpg_game.specs.Game.{graph_of, vertex_in}
 use Rattle.vpg_game.proofs.Graphs.{same_count}

@@ -2,7 +2,7 @@ use Rattle.std.proofs.lemmas.Grind.{common_steps}
 use Rattle.std.proofs.Common.{ℕ, List, ◌++◌, sym, ap, subst, ◌∙◌, arith}
 use Rattle.std.proofs.lemmas.List.{take_all}
 use Rattle.vpg_guards.specs.Formula.{Formula, IsBelow}
-use Rattle.vpg_game.specs.Guarded.{GuardedEdge}
+use Rattle.vpg_edges.specs.Edges.{GuardedEdge}
 use Rattle.vpg_kept.specs.Selection.{features_under, kept_under}
 use Rattle.vpg_kept.proofs.selection.Selection.push_kept.Goals as goal
 

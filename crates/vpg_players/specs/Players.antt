@@ -1,7 +1,7 @@
 -- The two players and the parity with which each wins. FASE 2020, read as max-parity.
 use Rattle.std.specs.Prelude.{◌≡◌, ℕ, ◌%◌}
-use Rattle.vpg_game.specs.declared.player.Player.{Player}
-use Rattle.vpg_game.specs.declared.player.Player.TheVariants.{Even, Odd}
+use Rattle.vpg_players.specs.declared.player.Player.{Player}
+use Rattle.vpg_players.specs.declared.player.Player.TheVariants.{Even, Odd}
 
 -- the other player
 abbrev pub opponent : Player → Player

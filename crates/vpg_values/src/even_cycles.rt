@@ -3,16 +3,16 @@ use crate::ground::value_in;
 use crate::scale::Scale;
 use crate::subgame::{Solved, Subgame};
 use std::alloc::{AllocError, Global};
-use vpg_game::Player;
+use vpg_players::Player;
 use vpg_regions::{Budget, Found, Graph, PerVertex};
 
 /// The values of a strategy, and the table that they lie above.
 #[derive(Drop)]
-pub(crate) struct Level<'a> {
-    pub(crate) graph: &'a Graph,
-    pub(crate) scale: &'a Scale,
-    pub(crate) table: &'a [u64],
-    pub(crate) values: &'a PerVertex<u64>,
+pub struct Level<'a> {
+    pub graph: &'a Graph,
+    pub scale: &'a Scale,
+    pub table: &'a [u64],
+    pub values: &'a PerVertex<u64>,
 }
 
 // One vertex for each even priority that occurs among some vertices, greatest first.
@@ -142,7 +142,7 @@ impl<'a> Level<'a> {
     }
 
     /// Choices of Even in a region that go round such cycles, of the greatest even priority that has some.
-    pub(crate) fn even_cycles(
+    pub fn even_cycles(
         &self,
         alloc: Global,
         region: &[u32],

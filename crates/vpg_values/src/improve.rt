@@ -7,13 +7,13 @@ use crate::ground::{GuessGround, value_in};
 use crate::scale::Scale;
 use crate::values::Evaluation;
 use std::alloc::{AllocError, Global};
-use vpg_game::Player;
+use vpg_players::Player;
 use vpg_regions::{Budget, Choices, Found, Graph, PerVertex, Regions};
 
 /// A guess of values, and choices. Odd's are those that win, where its value is the top.
-pub(crate) struct Guess {
-    pub(crate) values: PerVertex<u64>,
-    pub(crate) choice: Choices,
+pub struct Guess {
+    pub values: PerVertex<u64>,
+    pub choice: Choices,
 }
 
 // Not derived, so that letting one go is one call: a derived way would be proved anew at each exit that owns one.
@@ -477,7 +477,7 @@ fn guess_over(
 
 /// Guesses the least progress table above a table that has its values but at some vertices: the top where Odd is taken
 /// to win, and elsewhere from Even's choices on. Where the budget is spent, the values are those of some choices.
-pub(crate) fn guess_table(
+pub fn guess_table(
     alloc: Global,
     ground: &GuessGround,
     regions: &Regions,

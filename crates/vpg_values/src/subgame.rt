@@ -1,11 +1,11 @@
 //! Games over some of a graph's vertices.
 use std::alloc::{AllocError, Global};
-use vpg_game::Player;
+use vpg_players::Player;
 use vpg_regions::{Budget, Choices, Draft, Graph, Regions, solve_regions};
 
 /// Some vertices of a graph under numbers of their own, and behind them a dead end of Even, where Odd wins.
-pub(crate) struct Subgame {
-    pub(crate) vertices: Vec<u32>,
+pub struct Subgame {
+    pub vertices: Vec<u32>,
     places: Choices,
     sink: u32,
     draft: Draft,
@@ -24,11 +24,7 @@ impl Drop for Subgame {
 }
 
 impl Subgame {
-    pub(crate) fn new(
-        alloc: Global,
-        graph: &Graph,
-        vertices: Vec<u32>,
-    ) -> Result<Subgame, AllocError> {
+    pub fn new(alloc: Global, graph: &Graph, vertices: Vec<u32>) -> Result<Subgame, AllocError> {
         let mut places = Choices::none(alloc, graph.vertices())?;
         let mut sink = 0u32;
         for v in &vertices {
@@ -43,22 +39,22 @@ impl Subgame {
         })
     }
 
-    pub(crate) fn has(&self, v: u32) -> bool {
+    pub fn has(&self, v: u32) -> bool {
         self.places.get(v).is_some()
     }
 
     /// An edge of the vertex that comes next; to the dead end where w is not in the game.
-    pub(crate) fn edge(&mut self, w: u32) {
+    pub fn edge(&mut self, w: u32) {
         self.draft.edge(self.places.get(w).unwrap_or(self.sink));
     }
 
     /// The next vertex, with the edges since the last one.
-    pub(crate) fn vertex(&mut self, graph: &Graph, v: u32) {
+    pub fn vertex(&mut self, graph: &Graph, v: u32) {
         self.draft.vertex(graph.owner(v), graph.priority(v));
     }
 
     /// Solves the game.
-    pub(crate) fn solve(self, alloc: Global, budget: &mut Budget) -> Result<Solved, AllocError> {
+    pub fn solve(self, alloc: Global, budget: &mut Budget) -> Result<Solved, AllocError> {
         let Subgame {
             vertices,
             places,
@@ -87,7 +83,7 @@ fn solve_with_sink(
 }
 
 /// A game over some vertices and who wins where.
-pub(crate) struct Solved {
+pub struct Solved {
     vertices: Vec<u32>,
     places: Choices,
     regions: Regions,
@@ -105,11 +101,11 @@ impl Drop for Solved {
 }
 
 impl Solved {
-    pub(crate) fn vertices(&self) -> &[u32] {
+    pub fn vertices(&self) -> &[u32] {
         &self.vertices
     }
 
-    pub(crate) fn winner(&self, v: u32) -> Option<Player> {
+    pub fn winner(&self, v: u32) -> Option<Player> {
         match self.places.get(v) {
             Some(place) => self.regions.winner(place),
             None => None,
@@ -117,13 +113,13 @@ impl Solved {
     }
 
     /// The winner's choice, where it stays in the game.
-    pub(crate) fn choice(&self, v: u32) -> Option<u32> {
+    pub fn choice(&self, v: u32) -> Option<u32> {
         let place = self.places.get(v)?;
         let chosen = self.regions.choice(place)?;
         self.vertices.get(chosen as usize).copied()
     }
 
-    pub(crate) fn has(&self, v: u32) -> bool {
+    pub fn has(&self, v: u32) -> bool {
         self.places.get(v).is_some()
     }
 }

@@ -9,7 +9,7 @@ pub enum Player {
 
 impl Player {
     ghost use Rattle.std.specs.Prelude.{◌≡◌};
-    ghost use Rattle.vpg_game.specs.Players.{opponent};
+    ghost use Rattle.vpg_players.specs.Players.{opponent};
 
     /// The other player.
     pub fn opponent(self) -> Player

@@ -1,0 +1,127 @@
+//! How numbers of measures grow along the edges of a graph.
+use std::alloc::{AllocError, Global};
+use vpg_players::Player;
+use vpg_regions::PerVertex;
+
+/// The measures by which one player wins: those of the game for Even, those of its dual for Odd.
+pub struct Scale {
+    pub player: Player,
+    pub top: u64,
+    // each vertex's priority, as the shape counts it
+    priorities: PerVertex<u32>,
+    // what one more counts at each priority
+    weights: PerVertex<u64>,
+    // the same where the other player wins if that priority recurs, and else nothing
+    steps: PerVertex<u64>,
+    // the weights less these
+    gaps: PerVertex<u64>,
+}
+
+// Not derived, so that letting one go is one call: a derived way would be proved anew at each exit that owns one.
+impl Drop for Scale {
+    fn drop(self) {
+        let Scale {
+            player: _,
+            top: _,
+            priorities: _,
+            weights: _,
+            steps: _,
+            gaps: _,
+        } = self;
+    }
+}
+
+impl Scale {
+    /// The scale of a player with this top, of vertices with these priorities: what one more counts is given for each
+    /// priority up to the greatest.
+    pub fn with(
+        alloc: Global,
+        player: Player,
+        top: u64,
+        priorities: PerVertex<u32>,
+        weights: PerVertex<u64>,
+    ) -> Result<Scale, AllocError> {
+        let mut steps = PerVertex::of(alloc, weights.count(), 0)?;
+        let mut gaps = PerVertex::of(alloc, weights.count(), 0)?;
+        for priority in 0..weights.count() {
+            if priority % 2 == 1 {
+                steps.set(priority, weights.get(priority));
+            } else {
+                gaps.set(priority, weights.get(priority));
+            }
+        }
+        Ok(Scale {
+            player,
+            top,
+            priorities,
+            weights,
+            steps,
+            gaps,
+        })
+    }
+
+    pub fn weight(&self, v: u32) -> u64 {
+        self.weights.get(self.priorities.get(v))
+    }
+
+    /// What one more counts at a vertex where the other player wins if its priority recurs; else nothing.
+    pub fn step(&self, v: u32) -> u64 {
+        self.steps.get(self.priorities.get(v))
+    }
+
+    /// Whether the other player wins where the priority of this vertex recurs.
+    pub fn is_strict(&self, v: u32) -> bool {
+        self.priorities.get(v) % 2 == 1
+    }
+
+    /// The least number over an edge from this vertex to one of this value.
+    pub fn prog(&self, v: u32, value: u64) -> u64 {
+        if self.top <= value {
+            return self.top;
+        }
+        cut(value, self.weight(v))
+            .saturating_add(self.step(v))
+            .min(self.top)
+    }
+
+    /// Whether the least number over an edge from this vertex to one of this value is at least a bound, itself such a
+    /// number.
+    pub fn reaches(&self, v: u32, bound: u64, value: u64) -> bool {
+        bound <= value.saturating_add(self.step(v))
+    }
+
+    /// The least value over an edge to which the number at this vertex exceeds its own, itself such a number; past all
+    /// values at the top.
+    #[inline(always)]
+    pub fn limit(&self, v: u32, own: u64) -> u64 {
+        self.limit_at(self.priorities.get(v), own)
+    }
+
+    /// The same at a vertex of this priority.
+    #[inline(always)]
+    pub fn limit_at(&self, priority: u32, own: u64) -> u64 {
+        if own < self.top {
+            own.saturating_add(self.gaps.get(priority))
+        } else {
+            u64::MAX
+        }
+    }
+
+    /// The value without what stands below a weight; the top stays.
+    pub fn cut(&self, value: u64, weight: u64) -> u64 {
+        if self.top <= value {
+            self.top
+        } else {
+            cut(value, weight)
+        }
+    }
+}
+
+/// The greatest multiple of a weight up to a value.
+fn cut(value: u64, weight: u64) -> u64 {
+    if weight <= 1 {
+        value
+    } else {
+        value.saturating_sub(value % weight)
+    }
+}
