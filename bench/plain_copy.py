@@ -5,7 +5,7 @@
     plain_copy.py measure ZIELONKA VERTICES RUNS COPY..   # beside plain Zielonka: all families, and hard games
     plain_copy.py compare COUNT COPY COPY..               # tables of so many small games of all families
 
-`make` takes the functions of vpg_regions and vpg_guess under ROOT, and of vpg_measure what those use, without clauses,
+`make` takes the functions of vpg_regions, vpg_values and vpg_guess under ROOT, and of vpg_measure what those use, without clauses,
 and puts `plain_copy.rs` around them. `COPY GAME zeros` raises both tables of a game from zeros; `COPY GAME line` does
 as a line `settle` does, with a sweep first, and settles again after `exclude f`. Each prints milliseconds of processor
 time, whether all is settled, and a number that is the same for the same tables.
@@ -77,8 +77,8 @@ def plain(crate, text):
     lines = [line.replace("///", "//") for line in lines if not line.strip().startswith(left_out)]
     text = "\n".join(lines).replace(", Error)]", ")]").replace("\nfn raise_within", "\npub fn raise_within")
     text = re.sub(r"\bcrate::", f"crate::{crate}::", text)
-    text = re.sub(r"^use (vpg_regions|vpg_measure|vpg_verdict)::", r"use crate::\1::", text, flags=re.M)
-    others = r"^use (vpg_game|vpg_hope(::arena)?|std::(alloc|collections))::"
+    text = re.sub(r"^use (vpg_regions|vpg_values|vpg_measure|vpg_verdict)::", r"use crate::\1::", text, flags=re.M)
+    others = r"^use (vpg_game|vpg_players|vpg_hope(::arena)?|std::(alloc|collections))::"
     text = re.sub(others, "use crate::shim::", text, flags=re.M)
     text = re.sub(r"^use std::marker::Model;", "", text, flags=re.M)
     return re.sub(r"^use crate::shim::(\{?)(.*?)(\}?);", lambda m: used(m.group(2)), text, flags=re.M)
@@ -104,13 +104,19 @@ def crate_text(root, crate, names):
     return "".join(modules)
 
 
+def passed_on(root, crate):
+    """What the crate's root passes on of its modules."""
+    public = re.findall(r"^pub use [^;]*;", open(f"{root}/crates/{crate}/src/lib.rt").read(), flags=re.M)
+    return "\n".join(public).replace("pub use ", "pub use self::")
+
+
 def copy(root):
     around = open(f"{HERE}/plain_copy.rs").read()
     head, tail = around.split("// The crates stand here.\n")
-    public = re.findall(r"^pub use [^;]*;", open(f"{root}/crates/vpg_regions/src/lib.rt").read(), flags=re.M)
+    solvers = {name: crate_text(root, name, None) + passed_on(root, name) for name in ("vpg_regions", "vpg_values")}
     crates = {
         "vpg_verdict": VERDICT,
-        "vpg_regions": crate_text(root, "vpg_regions", None) + "\n".join(public).replace("pub use ", "pub use self::"),
+        **solvers,
         "vpg_guess": crate_text(root, "vpg_guess", None),
         "vpg_measure": crate_text(root, "vpg_measure", ["bounds", "lifts", "shape", "table"]) + MEASURE,
     }
