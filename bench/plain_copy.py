@@ -5,8 +5,8 @@
     plain_copy.py measure ZIELONKA VERTICES RUNS COPY..   # beside plain Zielonka: all families, and hard games
     plain_copy.py compare COUNT COPY COPY..               # tables of so many small games of all families
 
-`make` takes the functions of vpg_regions, vpg_values and vpg_guess under ROOT, and of vpg_measure what those use, without clauses,
-and puts `plain_copy.rs` around them. `COPY GAME zeros` raises both tables of a game from zeros; `COPY GAME line` does
+`make` takes the functions of vpg_regions, vpg_values and vpg_guess under ROOT, and of vpg_measure what those use,
+without clauses, and puts `plain_copy.rs` around them. `COPY GAME zeros` raises both tables of a game from zeros; `COPY GAME line` does
 as a line `settle` does, with a sweep first, and settles again after `exclude f`. Each prints milliseconds of processor
 time, whether all is settled, and a number that is the same for the same tables.
 
