@@ -6,9 +6,9 @@
     plain_copy.py compare COUNT COPY COPY..               # tables of so many small games of all families
 
 `make` takes the functions of vpg_regions, vpg_values and vpg_guess under ROOT, and of vpg_measure what those use,
-without clauses, and puts `plain_copy.rs` around them. `COPY GAME zeros` raises both tables of a game from zeros; `COPY GAME line` does
-as a line `settle` does, with a sweep first, and settles again after `exclude f`. Each prints milliseconds of processor
-time, whether all is settled, and a number that is the same for the same tables.
+without clauses, and puts `plain_copy.rs` around them. `COPY GAME zeros` raises both tables of a game from zeros;
+`COPY GAME line` does as a line `settle` does, with a sweep first, and settles again after `exclude f`. Each prints
+milliseconds of processor time, whether all is settled, and a number that is the same for the same tables.
 
 `measure` prints one line for each game, each figure the least of RUNS runs, in turns: the recursion on both games
 (`zielonka.rs`), and for each COPY zeros, in milliseconds and times the recursion, and for families a line, and again,
