@@ -1,9 +1,0 @@
-//! Tests of trails and desks.
-//!
-//! A crate that has tests is proved once more with them, so the tests of the crates below stand here, in a crate that has nothing else.
-#![tactic(auto)]
-
-#[cfg(test)]
-mod desks;
-#[cfg(test)]
-mod trails;

@@ -1,0 +1,3 @@
+//! Tests of trails and desks.
+mod desks;
+mod trails;

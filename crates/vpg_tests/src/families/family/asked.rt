@@ -1,0 +1,162 @@
+//! What is asked of families in texts.
+ghost use Rattle.std.specs.Arc.{arc_value};
+ghost use Rattle.std.specs.Prelude.{◌≡◌};
+ghost use Rattle.vpg_diagram.specs.FeatureDiagram.{feature_count};
+
+use super::PATHS;
+use super::rows::{Row, TABLES, row_of};
+use crate::families::said::Said;
+use std::alloc::{AllocError, Global};
+use std::test::*;
+use vpg_family::{Family, Fault, Pictured, Subject, Texts, drawn, linted, redrawn};
+use vpg_names::VertexNames;
+use vpg_script::{Device, Sink};
+use vpg_terminal::named_text;
+
+/// What is made, where there is memory for it.
+fn kept(made: Result<Vec<u8>, AllocError>) -> Result<Vec<u8>, Fault> {
+    match made {
+        Ok(text) => Ok(text),
+        Err(_) => Err(Fault::Memory),
+    }
+}
+
+/// The plain game of the product of these features.
+fn projected(alloc: Global, family: &Family, features: &str) -> Result<Vec<u8>, Fault>
+    requires { (arc_value family.now.game).features ≡ feature_count (arc_value family.now.diagram).lines }
+{
+    let words: Vec<&str> = features.split(' ').collect(alloc)?;
+    family.again()?.projected(alloc, &words)
+}
+
+/// The texts of the family.
+fn texts(alloc: Global, row: &Row<'_>) -> Result<Texts, AllocError> {
+    let diagram = Vec::from_slice(alloc, row.diagram.as_bytes())?;
+    let game = Vec::from_slice(alloc, row.game.as_bytes())?;
+    Ok(Texts { diagram, game })
+}
+
+/// The picture of the page that a script left.
+fn page(alloc: Global, family: &Family, row: &Row<'_>, subject: Subject) -> Result<Vec<u8>, Fault>
+    requires { (arc_value family.now.game).features ≡ feature_count (arc_value family.now.diagram).lines }
+{
+    match texts(alloc, row) {
+        Ok(texts) => redrawn(
+            alloc,
+            subject,
+            &family.diagram,
+            &family.game,
+            &texts,
+            row.text.as_bytes(),
+        ),
+        Err(_) => Err(Fault::Memory),
+    }
+}
+
+/// What is passed on of an answer.
+fn passed_on(
+    alloc: Global,
+    family: &Family,
+    names: &VertexNames,
+    answer: &str,
+) -> Result<Vec<u8>, Fault>
+    requires { (arc_value family.now.game).features ≡ feature_count (arc_value family.now.diagram).lines }
+{
+    let text = Device::writer(Vec::new(alloc));
+    let mut sink = Pictured::new(alloc, &family.diagram, &family.game, names, text);
+    match sink.put(answer.as_bytes()) {
+        Ok(()) => Ok(sink.into_writer().into_writer()),
+        Err(_) => Err(Fault::Write),
+    }
+}
+
+/// An answer with the names of vertices.
+fn named(
+    alloc: Global,
+    family: &Family,
+    names: &VertexNames,
+    row: &Row<'_>,
+) -> Result<Vec<u8>, Fault>
+    requires { (arc_value family.now.game).features ≡ feature_count (arc_value family.now.diagram).lines }
+{
+    match row.asked {
+        "pass-on" => passed_on(alloc, family, names, row.text),
+        _ => kept(named_text(alloc, &family.game, names, row.text.as_bytes())),
+    }
+}
+
+/// What is written of a family and the names of its vertices.
+fn with_names(alloc: Global, family: &Family, row: &Row<'_>) -> Result<Vec<u8>, Fault>
+    requires { (arc_value family.now.game).features ≡ feature_count (arc_value family.now.diagram).lines }
+{
+    match VertexNames::read(alloc, row.game.as_bytes()) {
+        Ok(names) => named(alloc, family, &names, row),
+        Err(_) => Err(Fault::Memory),
+    }
+}
+
+/// What is written of a family.
+fn of_family(alloc: Global, family: &Family, row: &Row<'_>) -> Result<Vec<u8>, Fault>
+    requires { (arc_value family.now.game).features ≡ feature_count (arc_value family.now.diagram).lines }
+{
+    match row.asked {
+        "check" => kept(family.counted(alloc)),
+        "project" => projected(alloc, family, row.text),
+        "redraw" => page(alloc, family, row, Subject::Game),
+        "redraw-features" => page(alloc, family, row, Subject::Features),
+        _ => with_names(alloc, family, row),
+    }
+}
+
+/// What is written of the family of two texts.
+fn of_texts(alloc: Global, row: &Row<'_>) -> Result<Vec<u8>, Fault> {
+    match Family::read(alloc, row.diagram.as_bytes(), row.game.as_bytes()) {
+        Ok(family) => of_family(alloc, &family, row),
+        Err(fault) => Err(fault),
+    }
+}
+
+/// What is written for a row.
+fn answer(alloc: Global, row: &Row<'_>) -> Result<Vec<u8>, Fault> {
+    let diagram = row.diagram.as_bytes();
+    let game = row.game.as_bytes();
+    match row.asked {
+        "draw" => drawn(alloc, Subject::Game, diagram, game),
+        "draw-features" => drawn(alloc, Subject::Features, diagram, game),
+        "lint" => linted(alloc, PATHS, diagram, game),
+        _ => of_texts(alloc, row),
+    }
+}
+
+fn holds(alloc: Global, writing: &str) -> bool {
+    let row = row_of(writing);
+    let mut said = Said::new(alloc);
+    said.put_answer(answer(alloc, &row));
+    said.text() == row.written
+}
+
+/// The first row of a table that doesn't hold.
+fn first_of_table(alloc: Global, table: &'static str) -> Option<&'static str> {
+    for writing in table.split('§') {
+        if !writing.is_empty() && !holds(alloc, writing) {
+            return Some(writing);
+        }
+    }
+    None
+}
+
+/// The first row that doesn't hold.
+fn first_wrong(alloc: Global) -> Option<&'static str> {
+    for table in TABLES {
+        if let Some(wrong) = first_of_table(alloc, table) {
+            return Some(wrong);
+        }
+    }
+    None
+}
+
+#[test]
+fn families_and_what_is_asked_of_them(rt: HostRuntime) -> Result<(), Fail> {
+    assert_eq!(rt; first_wrong(rt.alloc()), None);
+    Ok(())
+}

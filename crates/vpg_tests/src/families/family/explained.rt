@@ -1,0 +1,164 @@
+//! What is said of files that are refused.
+use super::{DIAGRAM, GAME, PATHS};
+use crate::families::said::Said;
+use std::alloc::Global;
+use std::fs;
+use std::test::*;
+use vpg_family::{Fault, explained, read_family};
+use vpg_script::LineFault;
+
+const SCRIPT: &str = "explained_script";
+
+/// The texts of a diagram, a game and a script, and what is said of the first that is refused.
+struct Row {
+    diagram: &'static str,
+    game: &'static str,
+    script: &'static str,
+    said: &'static str,
+}
+
+static ROWS: [Row; 5] = [
+    Row {
+        diagram: "root r\noptional r: f\n",
+        game: "",
+        script: "",
+        said: "\
+explained_diagram:2:11: found `:`; expected the name of a child
+  hint: such a line is written `optional PARENT CHILD`
+  hint: a name is missing before the `:`, or a `:` is left over
+",
+    },
+    Row {
+        diagram: GAME,
+        game: DIAGRAM,
+        script: "",
+        said: "\
+explained_diagram:1:1: found `parity`; expected `root`, `mandatory`, `optional`, `alternative`, `or`, `group`, \
+`requires` or `excludes`
+  hint: this looks like the other file; GAME comes before DIAGRAM
+",
+    },
+    Row {
+        diagram: DIAGRAM,
+        game: "0 1 0 0;\n1 2 1 0[h];",
+        script: "",
+        said: "explained_game:2:9: found `h`; expected the name of a feature of the diagram\n",
+    },
+    Row {
+        diagram: DIAGRAM,
+        game: GAME,
+        script: "show\r\nslect f\n",
+        said: "explained_script:2:1: found `slect`; expected a command\n  hint: is `select` meant?\n",
+    },
+    Row {
+        diagram: DIAGRAM,
+        game: GAME,
+        script: "show\n  undo -1",
+        said: "\
+explained_script:2:8: found `-1`; expected the number of a change
+  hint: it is written `undo [S]`
+  hint: a number is digits alone
+",
+    },
+];
+
+/// Writes what is said of a fault.
+fn put_explained(rt: &HostRuntime, fault: &Fault, said: &mut Said) {
+    said.put_made(explained(rt, said.alloc, PATHS, Some(SCRIPT), fault));
+}
+
+/// Writes what is said of the fault of a family's files, and else of the second line of a script.
+fn put_files(rt: &HostRuntime, said: &mut Said) {
+    let fault = match read_family(rt, said.alloc, PATHS) {
+        Ok(_) => Fault::Line {
+            line: 2,
+            fault: LineFault::Word,
+        },
+        Err(fault) => fault,
+    };
+    put_explained(rt, &fault, said);
+}
+
+fn are_written(rt: &HostRuntime, row: &Row) -> bool {
+    fs::write(rt, PATHS.diagram, row.diagram).is_ok()
+        && fs::write(rt, PATHS.game, row.game).is_ok()
+        && fs::write(rt, SCRIPT, row.script).is_ok()
+}
+
+fn are_removed(rt: &HostRuntime) -> bool {
+    fs::remove_file(rt, PATHS.diagram).is_ok()
+        && fs::remove_file(rt, PATHS.game).is_ok()
+        && fs::remove_file(rt, SCRIPT).is_ok()
+}
+
+fn holds(rt: &HostRuntime, alloc: Global, row: &Row) -> bool {
+    let mut said = Said::new(alloc);
+    if are_written(rt, row) {
+        put_files(rt, &mut said);
+    }
+    said.text() == row.said
+}
+
+/// What is to be said of the first row that doesn't hold.
+fn first_wrong(rt: &HostRuntime, alloc: Global) -> Option<&'static str> {
+    for row in &ROWS {
+        if !holds(rt, alloc, row) {
+            return Some(row.said);
+        }
+    }
+    None
+}
+
+/// Writes what is said of a fault with a name.
+fn put_named(rt: &HostRuntime, name: &str, is_conflict: bool, said: &mut Said) {
+    match String::from_str(said.alloc, name) {
+        Ok(name) => {
+            let fault = if is_conflict {
+                Fault::Conflict { feature: name }
+            } else {
+                Fault::UnknownFeature { name }
+            };
+            put_explained(rt, &fault, said);
+        }
+        Err(_) => said.note(false),
+    }
+}
+
+/// What is said of faults that another file, or a word, has. Behind each stands an empty line.
+const BESIDE: &str = "\
+found `gg`; expected the name of a feature of the diagram
+  hint: is `g` meant?
+
+explained_diagram:1:6: the diagram has no product: its lines contradict each other
+
+explained_game: there is no such file, or it cannot be read
+
+";
+
+/// Writes what is said of faults that another file, or a word, has.
+fn put_beside(rt: &HostRuntime, said: &mut Said) {
+    put_named(rt, "gg", false, said);
+    said.put("\n");
+    put_named(rt, "r", true, said);
+    said.put("\n");
+    put_explained(rt, &Fault::GameUnreadable, said);
+    said.put("\n");
+    put_explained(rt, &Fault::NotAProduct, said);
+}
+
+#[test]
+fn faults_are_explained(rt: HostRuntime) -> Result<(), Fail> {
+    let mut beside = Said::new(rt.alloc());
+    let mut gone = Said::new(rt.alloc());
+    let wrong = first_wrong(&rt, rt.alloc());
+    put_beside(&rt, &mut beside);
+    let are_removed = are_removed(&rt);
+    // Files that are gone can't be read once more.
+    put_files(&rt, &mut gone);
+    let is_right = are_removed
+        && beside.text() == BESIDE
+        && gone.text() == "explained_diagram: there is no such file, or it cannot be read\n";
+    assert_eq!(rt; wrong, None);
+    assert!(rt; is_right);
+    Ok(())
+}

@@ -1,0 +1,68 @@
+//! Which fault of which file is told first.
+use super::{DIAGRAM, GAME};
+use crate::families::said::Said;
+use std::alloc::Global;
+use std::fs;
+use std::test::*;
+use vpg_family::{Family, Fault, Paths, open_script, read_family};
+
+/// The files of a game and a diagram, and what is told of them. `none` is missing, `.` is a folder, and `empty` has no
+/// bytes.
+const ROWS: [[&str; 3]; 8] = [
+    ["none", "none", "vpgdesk: diagram unreadable\n"],
+    ["game", ".", "vpgdesk: diagram unreadable\n"],
+    ["none", "empty", "vpgdesk: diagram NoRoot\n"],
+    ["diagram", "game", "vpgdesk: diagram Syntax 1\n"],
+    ["none", "diagram", "vpgdesk: game unreadable\n"],
+    [".", "diagram", "vpgdesk: game unreadable\n"],
+    ["empty", "diagram", "vpgdesk: game Syntax 0\n"],
+    ["game", "diagram", "vertices 2 edges 4 features 3 top 2 2\n"],
+];
+
+/// Writes the counts of a family, or the line that tells of its fault.
+fn put_counts(family: Result<Family, Fault>, said: &mut Said) {
+    match family {
+        Ok(family) => said.put_made(family.counted(said.alloc)),
+        Err(fault) => said.put_answer(Err(fault)),
+    }
+}
+
+fn holds(rt: &HostRuntime, alloc: Global, row: [&str; 3]) -> bool {
+    let [game, diagram, told] = row;
+    let mut said = Said::new(alloc);
+    put_counts(read_family(rt, alloc, Paths { game, diagram }), &mut said);
+    said.text() == told
+}
+
+/// What is to be told of the first row that doesn't hold.
+fn first_wrong(rt: &HostRuntime, alloc: Global) -> Option<&'static str> {
+    for row in ROWS {
+        if !holds(rt, alloc, row) {
+            return Some(row[2]);
+        }
+    }
+    None
+}
+
+#[test]
+fn the_diagram_is_read_before_the_game(rt: HostRuntime) -> Result<(), Fail> {
+    fs::write(&rt, "diagram", DIAGRAM)?;
+    fs::write(&rt, "game", GAME)?;
+    fs::write(&rt, "empty", "")?;
+    let wrong = first_wrong(&rt, rt.alloc());
+    fs::remove_file(&rt, "diagram")?;
+    fs::remove_file(&rt, "game")?;
+    fs::remove_file(&rt, "empty")?;
+    assert_eq!(rt; wrong, None);
+    Ok(())
+}
+
+#[test]
+fn a_script_is_opened_or_not(rt: HostRuntime) -> Result<(), Fail> {
+    fs::write(&rt, "script", "show\n")?;
+    let is_opened = open_script(&rt, "script").is_ok();
+    fs::remove_file(&rt, "script")?;
+    assert!(rt; is_opened);
+    assert!(rt; matches!(open_script(&rt, "none"), Err(Fault::ScriptUnreadable)));
+    Ok(())
+}

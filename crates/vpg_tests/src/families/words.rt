@@ -1,0 +1,297 @@
+//! What the words of the command line ask for.
+use crate::families::said::Said;
+use clap::Error;
+use clap::error::ErrorKind;
+use std::alloc::Global;
+use std::test::*;
+use vpg_family::Subject;
+use vpg_words::{Asked, Task, not_text, read};
+
+/// Words behind the program's name, with one blank between them, and behind ` = ` how they are taken.
+///
+/// A task is its command, its files, and behind commas its number of lifters or its features, and its options. What is
+/// `shown` ends with status 0, and what is `wrong` with status 2.
+const CALLS: &str = "\
+run g d s = run g d s, 1
+ = built-in
+run -- g d -s = run g d -s, 1
+run help g d = run help g d, 1
+run g d s --lifters 64 = run g d s, 64
+run --lifters=1 g d s = run g d s, 1
+run g d s --lifters 0 = wrong
+run g d s --lifters +1 = wrong
+run g d s --lifters=+064 = wrong
+run g d s --lifters=-1 = wrong
+run g d s --lifters 064 = run g d s, 64
+run g d s --lifters 65 = wrong
+run g d s --lifters x = wrong
+check g d --lifters 1 = wrong
+check g d = check g d
+project g d r = project g d, r
+project g d r f f x = project g d, r, f, f, x
+draw g d = draw g d
+draw --features g d = draw g d, features
+draw g d s = draw g d s
+draw g --features d s = draw g d s, features
+draw g d s x = wrong
+draw g d s --names = wrong
+check g d --features = wrong
+lint g d = lint g d, explained
+lint g d s = wrong
+lint g d --explain = wrong
+run g d s --explain --lifters 2 = run g d s, 2, explained
+run g d s --explain --explain = wrong
+desk g d = desk g d, 1, explained
+desk g --lifters 2 d = desk g d, 2, explained
+desk g d --names = desk g d, 1, names, explained
+check g d --names = wrong
+desk g d s = wrong
+help = shown
+help run = shown
+-h = shown
+--help = shown
+run --help = shown
+project g -h = shown
+-V = shown
+--version = shown
+run = wrong
+run g = wrong
+run g d = wrong
+run g d s x = wrong
+run g d s -x = wrong
+project = wrong
+project g = wrong
+project g d = wrong
+project g d --all = wrong
+check = wrong
+check g = wrong
+check g d s = wrong
+rum g d s = wrong
+RUN g d s = wrong
+g d s = wrong
+help rum = wrong
+--frob = wrong
+run a b c = run a b c, 1
+run --strict g d s = run g d s, 1, strict
+run g d s --keep-going = run g d s, 1, keep-going
+run g --keep-going d --lifters 2 s --strict = run g d s, 2, strict, keep-going
+run g d s -- --strict = wrong
+run g d s --strict --strict = wrong
+run g d s --strict=1 = wrong
+run g d s --keep = wrong
+check g d --strict = wrong
+project a b r f f x = project a b, r, f, f, x
+project a b -- r -- -f = project a b, r, --, -f
+check a b = check a b
+run -h = shown
+project --help = shown
+check --help = shown
+draw --help = shown
+desk --help = shown
+lint --help = shown
+";
+
+/// The most columns of a line of help.
+const COLUMNS: usize = 80;
+
+/// Adds a word to a line.
+fn add(word: &str, line: &mut Vec<String>, said: &mut Said) {
+    match String::from_str(said.alloc, word) {
+        Ok(word) => said.note(line.push(word).is_ok()),
+        Err(_) => said.note(false),
+    }
+}
+
+/// Adds the words behind the program's name.
+fn add_all(words: &str, line: &mut Vec<String>, said: &mut Said) {
+    if !words.is_empty() {
+        for word in words.split(' ') {
+            add(word, line, said);
+        }
+    }
+}
+
+/// The command of a task.
+fn command_of(task: &Task<'_>) -> &'static str {
+    match task {
+        Task::BuiltIn => "built-in",
+        Task::Run { .. } => "run",
+        Task::Desk { .. } => "desk",
+        Task::Project { .. } => "project",
+        Task::Check { .. } => "check",
+        Task::Lint { .. } => "lint",
+        Task::Draw { .. } => "draw",
+    }
+}
+
+/// Writes the path of a file.
+fn put_path(path: &str, said: &mut Said) {
+    said.put(" ");
+    said.put(path);
+}
+
+/// Writes the paths of a task's files.
+fn put_paths(task: &Task<'_>, said: &mut Said) {
+    if let Some(paths) = task.paths() {
+        put_path(paths.game, said);
+        put_path(paths.diagram, said);
+    }
+    if let Some(script) = task.script() {
+        put_path(script, said);
+    }
+}
+
+/// Writes a word behind a comma, where that is so.
+fn put_where(holds: bool, word: &str, said: &mut Said) {
+    if holds {
+        said.put(", ");
+        said.put(word);
+    }
+}
+
+/// Writes a number of lifters.
+fn put_lifters(lifters: u32, said: &mut Said) {
+    said.put(", ");
+    said.put_number(lifters);
+}
+
+/// Writes features.
+fn put_features(features: &[&str], said: &mut Said) {
+    for feature in features {
+        put_where(true, feature, said);
+    }
+}
+
+/// Writes what a task says beside its files.
+fn put_options(task: &Task<'_>, said: &mut Said) {
+    match task {
+        Task::Run {
+            lifters,
+            strict,
+            keep_going,
+            names,
+            ..
+        } => {
+            put_lifters(*lifters, said);
+            put_where(*strict, "strict", said);
+            put_where(*keep_going, "keep-going", said);
+            put_where(*names, "names", said);
+        }
+        Task::Desk { lifters, names, .. } => {
+            put_lifters(*lifters, said);
+            put_where(*names, "names", said);
+        }
+        Task::Project { features, .. } => put_features(features, said),
+        Task::Draw { subject, .. } => put_where(*subject == Subject::Features, "features", said),
+        _ => {}
+    }
+}
+
+/// Writes what words ask for.
+fn put_asked(asked: &Asked<'_>, said: &mut Said) {
+    said.put(command_of(&asked.task));
+    put_paths(&asked.task, said);
+    put_options(&asked.task, said);
+    put_where(asked.explains, "explained", said);
+}
+
+/// Writes what is told of words that ask for no task, behind a line on where it is told.
+fn put_told(told: &Error, said: &mut Said) {
+    said.note(told.kind() != ErrorKind::OutOfMemory);
+    said.put(if told.use_stderr() {
+        "wrong\n"
+    } else {
+        "shown\n"
+    });
+    match told.to_string(said.alloc) {
+        Ok(text) => said.put(text.as_str()),
+        Err(_) => said.note(false),
+    }
+}
+
+/// Writes how words are taken.
+fn put_taken(words: &[String], said: &mut Said) {
+    match read(said.alloc, words) {
+        Ok(asked) => put_asked(&asked, said),
+        Err(told) => put_told(&told, said),
+    }
+}
+
+/// How words are taken.
+fn taken(alloc: Global, words: &str) -> Said {
+    let mut said = Said::new(alloc);
+    let mut line = Vec::new(alloc);
+    add("vpgdesk", &mut line, &mut said);
+    add_all(words, &mut line, &mut said);
+    put_taken(&line, &mut said);
+    said
+}
+
+/// Whether a text is there, and no line of it is wider than a terminal.
+fn is_narrow(text: &str) -> bool {
+    for line in text.lines() {
+        if line.chars().count() > COLUMNS {
+            return false;
+        }
+    }
+    !text.is_empty()
+}
+
+/// A text's first line, and what stands behind it.
+fn first_line(text: &str) -> (&str, &str) {
+    text.split_once('\n').unwrap_or((text, ""))
+}
+
+/// Whether words are taken as their row says, and what is shown is no wider than a terminal.
+fn holds(alloc: Global, row: &str) -> bool {
+    let (words, wanted) = row.split_once(" = ").unwrap_or((row, ""));
+    let taken = taken(alloc, words);
+    let (how, text) = first_line(taken.text());
+    how == wanted && (wanted != "shown" || is_narrow(text))
+}
+
+/// The first row that does not hold.
+fn first_wrong(alloc: Global) -> Option<&'static str> {
+    for row in CALLS.lines() {
+        if !holds(alloc, row) {
+            return Some(row);
+        }
+    }
+    None
+}
+
+#[test]
+fn words_are_taken(rt: HostRuntime) -> Result<(), Fail> {
+    assert_eq!(rt; first_wrong(rt.alloc()), None);
+    Ok(())
+}
+
+/// What is told of words that are not text.
+fn told_of_no_text(alloc: Global) -> Said {
+    let mut said = Said::new(alloc);
+    match not_text(alloc) {
+        Ok(told) => put_told(&told, &mut said),
+        Err(_) => said.note(false),
+    }
+    said
+}
+
+/// Whether the version, help and words that are not text are told so.
+fn are_told(version: &str, help: &str, no_text: &str) -> bool {
+    version == "shown\nvpgdesk 0.1.0\n"
+        && help.contains("Usage: vpgdesk [COMMAND]")
+        && help.contains("docs/FORMATS.md")
+        && help.contains("retract F")
+        && no_text.starts_with("wrong\nerror: a word is not text in UTF-8\n")
+}
+
+/// The texts of help, of the version and of words that are not UTF-8.
+#[test]
+fn told_texts(rt: HostRuntime) -> Result<(), Fail> {
+    let version = taken(rt.alloc(), "--version");
+    let help = taken(rt.alloc(), "--help");
+    let no_text = told_of_no_text(rt.alloc());
+    let are_told = are_told(version.text(), help.text(), no_text.text());
+    assert!(rt; are_told);
+    Ok(())
+}

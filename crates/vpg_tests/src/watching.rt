@@ -1,0 +1,3 @@
+//! Tests of sheets, presses and watches.
+mod sheets;
+mod steps;
