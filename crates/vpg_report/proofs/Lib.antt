@@ -6,3 +6,5 @@ pub mod LeastHarvests
 pub mod OneText
 pub mod OneRun
 pub mod Results
+pub mod Draws
+pub mod Runs

@@ -4,3 +4,6 @@ pub mod Output
 pub mod Results
 pub mod Run
 pub mod Settling
+pub mod Draws
+pub mod Ends
+pub mod Runs

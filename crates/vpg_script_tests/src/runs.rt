@@ -8,7 +8,7 @@ use std::sync::Wait;
 use std::test::*;
 use std::thread::Threads;
 use vpg_family::{Family, Fault, line_of};
-use vpg_running::{DIAGRAM, End, GAME, end_of, refused_line, run_script};
+use vpg_report::{DIAGRAM, End, GAME, end_of, refused_line, run_script};
 use vpg_script::{Device, Sink, Source};
 use vpg_serving::{Ending, Manner};
 

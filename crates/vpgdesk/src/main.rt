@@ -31,7 +31,7 @@ use vpg_family::{
     read_family, read_script, read_texts,
 };
 use vpg_names::VertexNames;
-use vpg_running::{
+use vpg_report::{
     DIAGRAM, End, GAME, drawn_after, end_of, ended, refused_line, run_script, status,
 };
 use vpg_script::{Device, Sink, Source};

@@ -1,6 +1,8 @@
 //! Orders that are made, and those that are refused.
 
-use crate::lifting::given::{OPTIONS, decisions_of, diagram_of, game_of, given, let_go, order_of, small};
+use crate::lifting::given::{
+    OPTIONS, decisions_of, diagram_of, game_of, given, let_go, order_of, small,
+};
 use std::process::Abort;
 use std::sync::Arc;
 use std::test::*;

@@ -2,15 +2,15 @@
 ghost use Rattle.std.specs.Arc.{arc_value};
 ghost use Rattle.std.specs.Prelude.{◌≡◌, ◌≤◌, ◌⊎◌, ℕ, true, IsErrOf};
 ghost use Rattle.vpg_diagram.specs.FeatureDiagram.{feature_count};
-ghost use Rattle.vpg_running.specs.Runs.{TellsOpening, IsRun, UnlessScriptFails, UnlessOutputFails};
+ghost use Rattle.vpg_report.specs.Runs.{TellsOpening, IsRun, UnlessScriptFails, UnlessOutputFails};
 
+use crate::runs::{RunFault, run_as};
 use std::alloc::Global;
 use std::sync::Wait;
 use std::thread::Threads;
 use vpg_desk::OpenFault;
 use vpg_diagram::Diagram;
 use vpg_family::{Family, Fault, conflict};
-use vpg_report::{RunFault, run_as};
 use vpg_script::{Sink, Source};
 use vpg_serving::{Ending, Manner};
 

@@ -1,8 +1,8 @@
 -- The status that the program ends with.
 use Rattle.std.specs.Prelude.{ℕ, List, ◌++◌, Result, Ok, Err, codes}
 use Rattle.std.specs.Fmt.{decimal}
-use Rattle.vpg_running.specs.declared.ending.End.{End}
-use Rattle.vpg_running.specs.declared.ending.End.TheVariants as ends
+use Rattle.vpg_report.specs.declared.ending.End.{End}
+use Rattle.vpg_report.specs.declared.ending.End.TheVariants as ends
 use Rattle.vpg_family.specs.declared.fault.Fault.{Fault}
 use Rattle.vpg_serving.specs.declared.serving.Ending.{Ending}
 use Rattle.vpg_serving.specs.declared.serving.Ending.TheVariants as endings

@@ -1,7 +1,7 @@
 //! How the program ends.
 ghost use Rattle.std.specs.Prelude.{◌≡◌, Ok, Err, IfOk, IfErr};
 ghost use Rattle.std.specs.Process.{exit_status};
-ghost use Rattle.vpg_running.specs.Ends.{ended, status_of, refused_text};
+ghost use Rattle.vpg_report.specs.Ends.{ended, status_of, refused_text};
 
 use std::alloc::{AllocError, Global};
 use std::process::ExitCode;

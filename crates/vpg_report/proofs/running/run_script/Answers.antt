@@ -3,9 +3,9 @@ use Rattle.std.specs.Arc.{arc_value}
 use Rattle.std.proofs.lemmas.Result.{err_from_is_err_and}
 use Rattle.vpg_diagram.specs.DiagramText.{NamedDiagram}
 use Rattle.vpg_report.specs.declared.runs.RunFault.{RunFault}
-use Rattle.vpg_running.specs.Runs.{TellsOpening, Ends}
-use Rattle.vpg_running.proofs.Runs.{nothing_ran, run_of_opening}
-use Rattle.vpg_running.proofs.running.run_script.Goals as goal
+use Rattle.vpg_report.specs.Runs.{TellsOpening, Ends}
+use Rattle.vpg_report.proofs.Runs.{nothing_ran, run_of_opening}
+use Rattle.vpg_report.proofs.running.run_script.Goals as goal
 
 pub returns-in_err-diagram-clause-output : goal.returns-in_err-diagram-clause-output
 returns-in_err-diagram-clause-output g c =

@@ -2,7 +2,7 @@
 ghost use Rattle.std.specs.Arc.{arc_value};
 ghost use Rattle.std.specs.Prelude.{◌≡◌, IfOk};
 ghost use Rattle.vpg_diagram.specs.FeatureDiagram.{feature_count};
-ghost use Rattle.vpg_running.specs.Draws.{drawing_script, AreWritten, IsDrawnAfter};
+ghost use Rattle.vpg_report.specs.Draws.{drawing_script, AreWritten, IsDrawnAfter};
 
 use crate::running::run_script;
 use std::alloc::{AllocError, Global};

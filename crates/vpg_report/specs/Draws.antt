@@ -6,7 +6,7 @@ use Rattle.vpg_serving.specs.declared.serving.Manner.{Manner}
 use Rattle.vpg_serving.specs.declared.serving.Ending.{Ending}
 use Rattle.vpg_family.specs.Pages.{IsRedrawn}
 use Rattle.vpg_family.specs.declared.drawing.Subject.{Subject}
-use Rattle.vpg_running.specs.Runs.{IsRun}
+use Rattle.vpg_report.specs.Runs.{IsRun}
 
 -- a script with a line `draw` behind it
 abbrev pub drawing_script : List ℕ → List ℕ

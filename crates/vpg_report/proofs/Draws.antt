@@ -5,8 +5,8 @@ use Rattle.vpg_game.specs.Game.{NamedGame}
 use Rattle.vpg_serving.specs.declared.serving.Ending.{Ending}
 use Rattle.vpg_family.specs.Pages.{IsRedrawn}
 use Rattle.vpg_family.specs.declared.drawing.Subject.{Subject}
-use Rattle.vpg_running.specs.Runs.{IsRun}
-use Rattle.vpg_running.specs.Draws.{drawing_script, plain, AreWritten, IsDrawnAfter}
+use Rattle.vpg_report.specs.Runs.{IsRun}
+use Rattle.vpg_report.specs.Draws.{drawing_script, plain, AreWritten, IsDrawnAfter}
 
 -- devices that hold the script and nothing before the run, and what was written after it
 pub is_written : (diagram : NamedDiagram) (game : NamedGame) (script written : List ℕ) (ending : Ending) (input rest before after : Option (List ℕ))
