@@ -6,7 +6,7 @@ use Rattle.vpg_measure.specs.Orders.{OrderView, order_table}
 use Rattle.vpg_measure.specs.TwoGames.{top_for}
 use Rattle.vpg_verdict.specs.declared.which.Which.{Which}
 use Rattle.vpg_verdict.specs.declared.which.Which.TheVariants.{Hopeful, Dual}
-use Rattle.vpg_moves.specs.Moves.{AreWinning, NoneWinsUnder, ChoicesSettleInCaution}
+use Rattle.vpg_why.specs.Moves.{AreWinning, NoneWinsUnder, ChoicesSettleInCaution}
 use Rattle.vpg_texts.specs.Scene.{Scene, scene_of, table_in}
 use Rattle.vpg_why.specs.Explained.{choices}
 use Rattle.vpg_why.specs.declared.question.Limits.{Limits}

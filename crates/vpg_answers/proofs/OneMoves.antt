@@ -10,8 +10,8 @@ use Rattle.vpg_measure.specs.Least.{IsLeastTable}
 use Rattle.vpg_measure.specs.Lifts.{AreChoices}
 use Rattle.vpg_measure.specs.TwoGames.{levels_for}
 use Rattle.vpg_verdict.specs.declared.which.Which.{Which}
-use Rattle.vpg_moves.specs.Moves.{AreLeastMoves, AreWinning, NoneWinsUnder, NoneWins, caution_for}
-use Rattle.vpg_moves.specs.Played.{ArePlayed}
+use Rattle.vpg_why.specs.Moves.{AreLeastMoves, AreWinning, NoneWinsUnder, NoneWins, caution_for}
+use Rattle.vpg_why.specs.Played.{ArePlayed}
 use Rattle.vpg_partial.specs.declared.decision.Decision.{Decision}
 use Rattle.vpg_texts.specs.Scene.{Scene}
 use Rattle.vpg_texts.proofs.Planned.{known_is_one}

@@ -8,7 +8,7 @@ use Rattle.vpg_players.specs.declared.player.Player.{Player}
 use Rattle.vpg_game.specs.Guarded.{GuardedGame}
 use Rattle.vpg_verdict.specs.declared.which.Which.{Which}
 use Rattle.vpg_verdict.specs.declared.which.Which.TheVariants.{Hopeful, Dual}
-use Rattle.vpg_moves.specs.Reachable.{AreReachable}
+use Rattle.vpg_why.specs.Reachable.{AreReachable}
 use Rattle.vpg_partial.specs.declared.decision.Decision.{Decision}
 use Rattle.vpg_texts.specs.Changed.{verdicts_by}
 use Rattle.vpg_texts.specs.Picture.{named_game}

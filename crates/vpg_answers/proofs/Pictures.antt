@@ -13,8 +13,8 @@ use Rattle.vpg_measure.specs.TwoGames.{top_for}
 use Rattle.vpg_verdict.specs.declared.verdict.Verdict.{Verdict}
 use Rattle.vpg_verdict.specs.declared.which.Which.{Which}
 use Rattle.vpg_verdict.specs.declared.which.Which.TheVariants.{Hopeful, Dual}
-use Rattle.vpg_moves.specs.Moves.{AreWinning, NoneWinsUnder, ChoicesSettleInCaution}
-use Rattle.vpg_moves.specs.Reachable.{AreReachable}
+use Rattle.vpg_why.specs.Moves.{AreWinning, NoneWinsUnder, ChoicesSettleInCaution}
+use Rattle.vpg_why.specs.Reachable.{AreReachable}
 use Rattle.vpg_partial.specs.Known.{literal_of}
 use Rattle.vpg_partial.specs.declared.decision.Decision.{Decision}
 use Rattle.vpg_texts.specs.Changed.{verdicts_by}

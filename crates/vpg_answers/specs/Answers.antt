@@ -6,7 +6,7 @@ use Rattle.vpg_diagram.specs.declared.clause.Literal.{Literal}
 use Rattle.vpg_measure.specs.TwoGames.{top_for}
 use Rattle.vpg_verdict.specs.declared.which.Which.{Which}
 use Rattle.vpg_verdict.specs.declared.which.Which.TheVariants.{Hopeful, Dual}
-use Rattle.vpg_moves.specs.Moves.{AreWinning, NoneWinsUnder, ChoicesSettleInCaution}
+use Rattle.vpg_why.specs.Moves.{AreWinning, NoneWinsUnder, ChoicesSettleInCaution}
 use Rattle.vpg_partial.specs.KnownLaws.{IsRemaining}
 use Rattle.vpg_partial.specs.TableLaws.{AreChoicesOf, IsKnownTable}
 use Rattle.vpg_partial.specs.declared.decision.Decision.{Decision}

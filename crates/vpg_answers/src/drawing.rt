@@ -16,12 +16,11 @@ use vpg_diagram::Diagram;
 use vpg_draw::draw_part;
 use vpg_game::{GuardedGame, Player};
 use vpg_measure::{Order, PageGames, Table};
-use vpg_moves::{Moves, reachable, winning_moves};
 use vpg_names::VertexNames;
 use vpg_partial::Decision;
 use vpg_texts::verdicts_by;
 use vpg_verdict::Which;
-use vpg_why::Limits;
+use vpg_why::{Limits, Moves, reachable, winning_moves};
 
 /// The player whose moves are asked for.
 fn player(mover: Which) -> Player

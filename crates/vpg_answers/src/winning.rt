@@ -11,10 +11,9 @@ use crate::lines;
 use crate::reasons::identifier;
 use std::alloc::{AllocError, Global};
 use vpg_measure::Order;
-use vpg_moves::{Moves, winning_moves};
 use vpg_texts::blank_number;
 use vpg_verdict::Which;
-use vpg_why::Limits;
+use vpg_why::{Limits, Moves, winning_moves};
 
 /// What the lines of a player's moves begin with.
 fn word_of(mover: Which) -> &'static [u8]

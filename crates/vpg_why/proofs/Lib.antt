@@ -19,3 +19,7 @@ pub mod Examples
 pub mod Sought
 pub mod Splits
 pub mod Tops
+pub mod Caution
+pub mod Edges
+pub mod Plays
+pub mod Searching

@@ -1,20 +1,31 @@
-//! Answers about a page: why a verdict is so, what else could be decided, and a product that is won.
+//! Answers about a page: why a verdict is so, what else could be decided, a product that is won, and moves that win in
+//! every product that is left.
 //!
-//! Each answer is made from an `Order` (game, diagram, decisions and tables of a page) and changes nothing. A `Question` asks of a list
-//! of decisions whether they *alone* make it so: a vertex hopeless or sure, lost in every product, a feature known, or one more
-//! decision contradictory. What some decisions make so, more do. So `explain` can look for few: it lists decisions that suffice, of
-//! which none can be left out. There is one such list that prefers older decisions, so the answer is a function of the page.
+//! Each answer is made from an `Order` (game, diagram, decisions and tables of a page) and changes nothing. A `Question`
+//! asks of a list of decisions whether they *alone* make it so: a vertex hopeless or sure, lost in every product, a
+//! feature known, or one more decision contradictory. What some decisions make so, more do. So `explain` can look for
+//! few: it lists decisions that suffice, of which none can be left out. There is one such list that prefers older
+//! decisions, so the answer is a function of the page. Each trial goes over from the order's games to those of its
+//! decisions; what is asked of features alone makes no games.
 //!
-//! Each trial goes over from the order's games to those of its decisions; what is asked of features alone makes no games.
+//! A hopeless vertex is one from which Even wins in no product that is left, and a sure one the same for Odd. The winner
+//! may win otherwise in each product. `winning_moves` finds moves that serve in all of them at once: those by which the
+//! player wins the cautious game (`vpg_hope`), where the player has the edges that are there in each product, and the
+//! opponent all that are there in some. Its table is raised by certified bounds and, where these do not settle it, by
+//! rounds of lifts. Of the moves those are given that a play from the vertex can come to, by a search along them and all
+//! edges of the opponent. `reachable` tells which vertices can be reached over edges that may be there, by such moves or
+//! by any.
 //!
-//! The layer above uses `why`, `why_lost`, `why_known`, `why_conflict` (explanations), `find` (an example or a counterexample, or that
-//! there is none), `needs` (what all that are won have), `look_ahead`, `look_back`, `stays_without` (what one more decision, or one fewer, would do) and
-//! `repair` (what to retract). `Which::Hopeful` asks for Even, `Which::Dual` for Odd. Every answer has `Limits` of work, and says where
-//! it met one: it is then unsettled, never wrong.
+//! The layer above uses `why`, `why_lost`, `why_known`, `why_conflict` (explanations), `find` (an example or a
+//! counterexample, or that there is none), `needs` (what all that are won have), `look_ahead`, `look_back`,
+//! `stays_without` (what one more decision, or one fewer, would do), `repair` (what to retract) and `winning_moves`.
+//! `Which::Hopeful` asks for Even, `Which::Dual` for Odd. Every answer has `Limits` of work, and says where it met one:
+//! it is then unsettled, never wrong.
 //!
-//! Definitions: `specs/Suffices` (what decisions alone make so), `specs/Explained` (explanations), `specs/Products` (what holds in the
-//! products that decisions leave), `specs/Found`, `specs/Offered`, `specs/Repaired` (what the answers say). What holds of them stands
-//! in `laws`.
+//! Definitions: `specs/Suffices` (what decisions alone make so), `specs/Explained` (explanations), `specs/Products` (what
+//! holds in the products that decisions leave), `specs/Found`, `specs/Offered`, `specs/Repaired` (what the answers say),
+//! `specs/Moves`, `specs/Played` and `specs/Reachable` (moves that win, and what they come to), `specs/Searched` for the
+//! search. What holds of them stands in `laws`.
 #![tactic(auto)]
 
 mod answering;
@@ -24,10 +35,14 @@ mod forcing;
 pub mod laws;
 mod offering;
 mod question;
+mod reaching;
 mod repairing;
 mod searching;
 mod seeking;
+mod settling;
+mod stepping;
 mod telling;
+mod winning;
 
 pub use answering::suffice;
 pub use explaining::{Explanation, explain};
@@ -36,4 +51,6 @@ pub use offering::{Offer, look_ahead, look_back, stays_without};
 pub use question::{Aim, Limits, Question, Shown};
 pub use repairing::{Remedy, Retraction, repair};
 pub use searching::{Example, Found, find};
+pub use stepping::reachable;
 pub use telling::{WhyLost, why, why_conflict, why_known, why_lost};
+pub use winning::{Moves, winning_moves};

@@ -3,7 +3,7 @@ use Rattle.std.proofs.Common.{Bool, List, ◌∙◌, sym, subst, arith}
 use Rattle.vpg_guards.specs.declared.tri.Tri.{Tri}
 use Rattle.vpg_game.specs.Game.{graph_of}
 use Rattle.vpg_game.proofs.Graphs.{same_count}
-use Rattle.vpg_moves.specs.Reachable.{AreReachable}
+use Rattle.vpg_why.specs.Reachable.{AreReachable}
 use Rattle.vpg_texts.proofs.Pictured.{verdict_each}
 use Rattle.vpg_texts.proofs.Shown.{named_below}
 use Rattle.vpg_answers.proofs.Pictures.{draws_part}

@@ -1,4 +1,0 @@
-pub mod Caution
-pub mod Edges
-pub mod Plays
-pub mod Searching

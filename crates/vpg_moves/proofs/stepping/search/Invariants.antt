@@ -1,8 +1,0 @@
-use Rattle.std.proofs.Common.{length}
-use Rattle.vpg_game.specs.Game.{graph_of}
-use Rattle.vpg_moves.specs.Reachable.{MayStep}
-use Rattle.vpg_moves.proofs.Searching.{IsSearching}
-use Rattle.vpg_moves.proofs.stepping.search.Given as goal
-
-abbrev pub invariant-loop-place : goal.invariant-loop-place
-invariant-loop-place l = IsSearching (MayStep (graph_of l.game) l.known l.mover l.moves) (length l.game.vertices) l.first l.marks.items l.queue.items l.place

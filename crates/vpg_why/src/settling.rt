@@ -1,0 +1,86 @@
+//! The least progress table of an arena, and what it gives.
+ghost use Rattle.std.specs.Prelude.{◌≡◌, ◌↔◌, ◌<◌, ℕ, List, length, replicate, slice_index, IfOk, IfSome, IsNone, IsTrue};
+ghost use Rattle.vpg_game.specs.Levels.{top_of};
+ghost use Rattle.vpg_hope.specs.Strategies.{Wins};
+ghost use Rattle.vpg_measure.specs.Least.{IsLeastTable};
+ghost use Rattle.vpg_measure.specs.Lifts.{IsTableOf, IsProgressTable, IsBelowTable, AreChoices, after_rounds};
+ghost use Rattle.vpg_measure.specs.Views.{strategy_of};
+
+use crate::question::Limits;
+use std::alloc::{AllocError, Global};
+use vpg_game::Player;
+use vpg_guess::raise_by_bounds;
+use vpg_hope::Arena;
+use vpg_measure::{Shape, StrategyFault, Table, is_progress, settle_alone, strategy};
+
+// Raises a table by certified bounds and, where these do not settle it, by rounds of lifts; says whether it is a
+// progress table then.
+fn raise(
+    alloc: Global,
+    shape: &Shape,
+    dual_shape: &Shape,
+    arena: &Arena,
+    table: &mut Table,
+    limits: Limits,
+) -> Result<bool, AllocError>
+    requires { IsTableOf shape.now arena.now table.old }
+    ensures settled { IfOk result (λ settled. IsTrue settled ↔ IsProgressTable shape.now arena.now table.new) }
+    ensures table { IsTableOf shape.now arena.now table.new }
+    ensures below { (other : List ℕ) → IsTableOf shape.now arena.now other → IsProgressTable shape.now arena.now other →
+        IsBelowTable table.old other → IsBelowTable table.new other }
+    // It is one where so many rounds alone leave one.
+    ensures rounds { IfOk result (λ settled.
+        IsProgressTable shape.now arena.now (after_rounds shape.now arena.now limits.rounds table.old) →
+        IsTrue settled) }
+{
+    let settled = raise_by_bounds(alloc, shape, dual_shape, arena, table, limits.budget)?;
+    if settled {
+        return Ok(true);
+    }
+    settle_alone(shape, arena, table, limits.rounds);
+    Ok(is_progress(shape, arena, table))
+}
+
+// The least progress table of an arena, where the limits leave room for it. The other shape is that of its dual.
+pub(crate) fn least_table(
+    alloc: Global,
+    shape: &Shape,
+    dual_shape: &Shape,
+    arena: &Arena,
+    limits: Limits,
+) -> Result<Option<Table>, AllocError>
+    ensures least { IfOk result (λ found. IfSome found (λ table. IsLeastTable shape.now arena.now table)) }
+    ensures settled { IfOk result (λ found. IsNone found → IsProgressTable shape.now arena.now
+        (after_rounds shape.now arena.now limits.rounds (replicate (length arena.now) 0)) → ⊥) }
+{
+    let mut table = Table::zero(alloc, arena.vertices())?;
+    let settled = raise(alloc, shape, dual_shape, arena, &mut table, limits)?;
+    if settled { Ok(Some(table)) } else { Ok(None) }
+}
+
+// The moves of Even that the least progress table gives; nothing where the vertex is at the top there.
+pub(crate) fn moves_by(
+    alloc: Global,
+    shape: &Shape,
+    arena: &Arena,
+    table: &Table,
+    vertex: u32,
+) -> Result<Option<Vec<Option<u32>>>, AllocError>
+    requires least { IsLeastTable shape.now arena.now table.now }
+    requires vertex { vertex < length arena.now }
+    ensures chosen { IfOk result (λ found. IfSome found (λ moves.
+        AreChoices shape.now arena.now table.now moves.items)) }
+    ensures low { IfOk result (λ found. IfSome found (λ moves. slice_index table.now vertex < top_of shape.now)) }
+    ensures wins { IfOk result (λ found. IfSome found (λ moves.
+        Wins arena.now Player.Even (strategy_of moves.items) vertex)) }
+    ensures top { IfOk result (λ found. IsNone found → slice_index table.now vertex ≡ top_of shape.now) }
+{
+    if table.get(vertex) == shape.top() {
+        return Ok(None);
+    }
+    match strategy(alloc, shape, arena, table) {
+        Ok(moves) => Ok(Some(moves)),
+        Err(StrategyFault::NotSettled) => unreachable!(),
+        Err(StrategyFault::Memory) => Err(AllocError),
+    }
+}
