@@ -8,10 +8,10 @@ use Rattle.vpg_desk.specs.Book.{Harvest, Call, Reply, Decide, Order, Commit, Set
 use Rattle.vpg_desk.specs.Desk.{family_of}
 use Rattle.vpg_desk.specs.History.{Event, IsLegalFrom, book_after}
 use Rattle.vpg_desk.specs.State.{setting_between, setting_of}
-use Rattle.vpg_client.specs.Client.{ClientState, IsLogged}
-use Rattle.vpg_client.specs.Faults.{Tells, UnlessStray}
-use Rattle.vpg_client.specs.declared.fault.ClientFault.{ClientFault}
-use Rattle.vpg_client.specs.declared.fault.ClientFault.TheVariants as faults
+use Rattle.vpg_engine.specs.Client.{ClientState, IsLogged}
+use Rattle.vpg_engine.specs.Faults.{Tells, UnlessStray}
+use Rattle.vpg_engine.specs.declared.fault.ClientFault.{ClientFault}
+use Rattle.vpg_engine.specs.declared.fault.ClientFault.TheVariants as faults
 use Rattle.vpg_script.specs.Script as script
 use Rattle.vpg_script.specs.Script.{Request}
 use Rattle.vpg_engine.specs.Held.{Held, with_harvest}

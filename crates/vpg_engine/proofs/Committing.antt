@@ -13,10 +13,10 @@ use Rattle.vpg_desk.specs.Commit.{IsOrderOf, commit_refusal, handed_in}
 use Rattle.vpg_faults.specs.declared.fault.CommitFault.{CommitFault}
 use Rattle.vpg_faults.specs.declared.fault.CommitFault.TheVariants as commits
 use Rattle.vpg_desk.specs.State.{DeskState, Replies}
-use Rattle.vpg_client.specs.Client.{ClientState, IsLogged}
-use Rattle.vpg_client.specs.Faults.{Tells, CommitTells, UnlessStray}
-use Rattle.vpg_client.specs.declared.fault.ClientFault.{ClientFault}
-use Rattle.vpg_client.specs.declared.fault.ClientFault.TheVariants as faults
+use Rattle.vpg_engine.specs.Client.{ClientState, IsLogged}
+use Rattle.vpg_engine.specs.Faults.{Tells, CommitTells, UnlessStray}
+use Rattle.vpg_engine.specs.declared.fault.ClientFault.{ClientFault}
+use Rattle.vpg_engine.specs.declared.fault.ClientFault.TheVariants as faults
 use Rattle.vpg_script.specs.Script as script
 use Rattle.vpg_engine.specs.Held.{harvest_kept, without_harvest}
 use Rattle.vpg_engine.specs.Answers.{NoHarvest, own_text, refused_line, first_call, room, call_or, numbered}

@@ -10,10 +10,10 @@ use Rattle.vpg_faults.specs.declared.fault.RetractFault.{RetractFault}
 use Rattle.vpg_desk.specs.Desk.{family_of}
 use Rattle.vpg_desk.specs.State.{setting_of}
 use Rattle.vpg_faults.specs.declared.fault.DecideFault.TheVariants as decides
-use Rattle.vpg_client.specs.Client.{ClientState, IsLogged}
-use Rattle.vpg_client.specs.Faults.{Tells, UnlessStray}
-use Rattle.vpg_client.specs.declared.fault.ClientFault.{ClientFault}
-use Rattle.vpg_client.specs.declared.fault.ClientFault.TheVariants as faults
+use Rattle.vpg_engine.specs.Client.{ClientState, IsLogged}
+use Rattle.vpg_engine.specs.Faults.{Tells, UnlessStray}
+use Rattle.vpg_engine.specs.declared.fault.ClientFault.{ClientFault}
+use Rattle.vpg_engine.specs.declared.fault.ClientFault.TheVariants as faults
 use Rattle.vpg_script.specs.Script as script
 use Rattle.vpg_engine.specs.Held.{after_change}
 use Rattle.vpg_engine.specs.Answers.{NoFeature, own_text, refused_line, numbered, room, call_or, first_call}

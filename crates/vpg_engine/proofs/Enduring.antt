@@ -8,10 +8,10 @@ use Rattle.vpg_measure.specs.Orders.{HarvestView}
 use Rattle.vpg_desk.specs.Book.{Call, Refusal, Reply}
 use Rattle.vpg_desk.specs.State.{DeskState}
 use Rattle.vpg_faults.specs.declared.fault.CommitFault.{CommitFault}
-use Rattle.vpg_client.specs.Client.{ClientState, IsLogged}
-use Rattle.vpg_client.specs.Faults.{Tells, CommitTells, UnlessStray}
-use Rattle.vpg_client.specs.declared.fault.ClientFault.{ClientFault}
-use Rattle.vpg_client.specs.declared.fault.ClientFault.TheVariants.{LogFull, Refused, Stray, Memory}
+use Rattle.vpg_engine.specs.Client.{ClientState, IsLogged}
+use Rattle.vpg_engine.specs.Faults.{Tells, CommitTells, UnlessStray}
+use Rattle.vpg_engine.specs.declared.fault.ClientFault.{ClientFault}
+use Rattle.vpg_engine.specs.declared.fault.ClientFault.TheVariants.{LogFull, Refused, Stray, Memory}
 use Rattle.vpg_engine.specs.EngineFields.{IsEngine, AreOwnHarvests}
 
 -- the desk's game and diagram stay

@@ -5,7 +5,7 @@ use Rattle.std.specs.List.{remove, insert}
 use Rattle.vpg_desk.specs.Book.{Family, Book, Undo, Redo, Keep, Forget, Undone, Redone, Spent, IsReply, has_serial}
 use Rattle.vpg_desk.specs.Desk.{family_of}
 use Rattle.vpg_desk.specs.State.{setting_of}
-use Rattle.vpg_client.specs.Client.{IsLogged}
+use Rattle.vpg_engine.specs.Client.{IsLogged}
 use Rattle.vpg_script.specs.Script as script
 use Rattle.vpg_engine.specs.Held.{if_among, undo_meant, redo_meant, without}
 use Rattle.vpg_engine.specs.Answers.{NoToken, call_or, numbered, room}

@@ -1,3 +1,5 @@
+pub mod End
+pub mod Logged
 pub mod Asked
 pub mod Deciding
 pub mod Paged

@@ -21,7 +21,7 @@ use Rattle.vpg_desk.specs.Book.{Page as AsksPage, PageIs}
 use Rattle.vpg_desk.specs.Headline.{Tells}
 use Rattle.vpg_desk.specs.Setting.{IsSetting}
 use Rattle.vpg_desk.specs.State.{DeskState, setting_of, IsReached, Replies}
-use Rattle.vpg_client.specs.Client.{IsLogged}
+use Rattle.vpg_engine.specs.Client.{IsLogged}
 use Rattle.vpg_desk.proofs.Deciding.{choices_inside}
 use Rattle.vpg_desk.proofs.Reaching.{reached_well_formed}
 use Rattle.vpg_script.specs.Script as script

@@ -30,10 +30,10 @@ use Rattle.vpg_engine.specs.Made.{IsMadeBy}
 use Rattle.vpg_engine.proofs.Asked.{settle_full, commit_full, settles, keeps}
 use Rattle.vpg_desk.specs.Commit.{IsOrderOf, commit_refusal, handed_in}
 use Rattle.vpg_faults.specs.declared.fault.CommitFault.{CommitFault}
-use Rattle.vpg_client.specs.Client.{ClientState, IsLogged}
-use Rattle.vpg_client.specs.Faults.{Tells}
-use Rattle.vpg_client.specs.declared.fault.ClientFault.{ClientFault}
-use Rattle.vpg_client.specs.declared.fault.ClientFault.TheVariants.{LogFull}
+use Rattle.vpg_engine.specs.Client.{ClientState, IsLogged}
+use Rattle.vpg_engine.specs.Faults.{Tells}
+use Rattle.vpg_engine.specs.declared.fault.ClientFault.{ClientFault}
+use Rattle.vpg_engine.specs.declared.fault.ClientFault.TheVariants.{LogFull}
 use Rattle.vpg_trail.specs.Page.{Literal, Decision, same_literal, stands}
 use Rattle.vpg_engine.specs.Answers.{IsSwept, Checks, full_line, most_sweeps, room, sweeps_of, numbered, settled_text}
 use Rattle.vpg_settle.specs.Sweeping.{IsSweptOrder, Settles}

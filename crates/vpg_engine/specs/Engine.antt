@@ -3,9 +3,9 @@ use Rattle.std.specs.Prelude.{◌≡◌, ℕ, ◌+◌, List, [], ◌++◌, ⊤, 
 use Rattle.vpg_diagram.specs.DiagramText.{NamedDiagram}
 use Rattle.vpg_game.specs.Game.{NamedGame, IsAtLimit}
 use Rattle.vpg_partial.specs.KnownLaws.{HasConflictOf}
-use Rattle.vpg_client.specs.Client.{ClientState, client_of}
-use Rattle.vpg_client.specs.declared.fault.ClientFault.{ClientFault}
-use Rattle.vpg_client.specs.declared.fault.ClientFault.TheVariants.{LogFull, Refused}
+use Rattle.vpg_engine.specs.Client.{ClientState, client_of}
+use Rattle.vpg_engine.specs.declared.fault.ClientFault.{ClientFault}
+use Rattle.vpg_engine.specs.declared.fault.ClientFault.TheVariants.{LogFull, Refused}
 use Rattle.vpg_desk.specs.Book.{Call, Refusal, Reply}
 use Rattle.vpg_faults.specs.declared.fault.OpenFault.{OpenFault}
 use Rattle.vpg_faults.specs.declared.fault.OpenFault.TheVariants.{AtLimit, Conflict, Memory}

@@ -12,7 +12,7 @@ use Rattle.vpg_desk.specs.Book.{Harvest}
 use Rattle.vpg_desk.specs.Commit.{handed_in}
 use Rattle.vpg_desk.specs.State.{DeskState}
 use Rattle.vpg_office.specs.Token.{Held as Token}
-use Rattle.vpg_client.specs.Client.{ClientState}
+use Rattle.vpg_engine.specs.Client.{ClientState}
 use Rattle.vpg_engine.specs.Answers.{room}
 use Rattle.vpg_engine.specs.Engine.{EngineState}
 use Rattle.vpg_engine.specs.Serials.{serials}

@@ -1,3 +1,5 @@
+pub mod Client
+pub mod Faults
 pub mod Answers
 pub mod Engine
 pub mod EngineFields

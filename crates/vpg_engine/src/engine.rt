@@ -8,13 +8,15 @@ ghost use Rattle.vpg_desk.specs.Book as book;
 ghost use Rattle.vpg_desk.specs.Commit.{IsOrderOf};
 ghost use Rattle.vpg_desk.specs.State.{IsOpened};
 ghost use Rattle.vpg_office.specs.Faults.{never_refused};
-ghost use Rattle.vpg_client.specs.Client.{IsLogged};
-ghost use Rattle.vpg_client.specs.Faults.{Tells};
+ghost use Rattle.vpg_engine.specs.Client.{IsLogged};
+ghost use Rattle.vpg_engine.specs.Faults.{Tells};
 ghost use Rattle.vpg_engine.specs.Answers.{IsOwn};
 ghost use Rattle.vpg_engine.specs.Engine.{AnswersTo, SweepsTo, IsOpenFault, deciding, engine_of};
 ghost use Rattle.vpg_script.specs.Script.{Retract, Undo as Undoes, Redo as Redoes, Keep, Forget, Lift, Harvest as Harvests, Commit, Settle, Look, Changed, Known};
 ghost use Rattle.vpg_script.specs.View.{lookup_shown, request_shown};
 
+use crate::client::Client;
+use crate::fault::{ClientFault, Returned};
 use crate::held::{
     hold_redo, hold_redone, hold_strayed, hold_undo, hold_undone, put_back_unspent, redo_place,
     return_harvest, take_harvest, undo_place,
@@ -25,7 +27,6 @@ use std::marker::Model;
 use std::sync::{Arc, Wait};
 use std::thread::Threads;
 use vpg_board::OpenGate;
-use vpg_client::{Client, ClientFault, Returned};
 use vpg_desk::OpenFault;
 use vpg_diagram::Diagram;
 use vpg_game::GuardedGame;

@@ -1,16 +1,16 @@
 //! The tokens and harvests that the engine holds.
 ghost use Rattle.std.specs.Prelude.{◌≡◌, ◌+◌, ◌-◌, ◌<◌, ◌≤◌, ◌==◌, ◌++◌, ◌∷◌, [], ℕ, length, max, position, slice_get, slice_index_or, vec_len, vec_capacity, slice_set, Some, None, OnOk, IfSome, IfNone};
 ghost use Rattle.std.specs.List.{reduce, remove, insert};
-ghost use Rattle.vpg_client.specs.Faults.{UnlessStray};
+ghost use Rattle.vpg_engine.specs.Faults.{UnlessStray};
 ghost use Rattle.vpg_office.specs.Token.{Held};
 ghost use Rattle.vpg_engine.specs.Answers.{numbered};
 ghost use Rattle.vpg_engine.specs.Engine.{IsPlaceOf};
 ghost use Rattle.vpg_engine.specs.Held.{undo_meant, redo_meant, harvest_kept};
 ghost use Rattle.vpg_engine.specs.Serials.{serials};
 
+use crate::fault::{ClientFault, Token};
 use crate::lines;
 use std::alloc::AllocError;
-use vpg_client::{ClientFault, Token};
 use vpg_desk::CommitFault;
 use vpg_measure::Harvest;
 use vpg_office::{Redo, Terms, Undo};

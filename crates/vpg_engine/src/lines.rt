@@ -6,7 +6,7 @@ ghost use Rattle.vpg_engine.specs.Answers.{full_line, numbered, own_text, refuse
 ghost use Rattle.vpg_engine.specs.Engine.{TellsFault, TellsRefusal, own_of};
 ghost use Rattle.vpg_texts.specs.Text.{blank_number, blank_name};
 
-use vpg_client::ClientFault;
+use crate::fault::ClientFault;
 use vpg_desk::{CommitFault, DecideFault, RedoFault, RetractFault, UndoFault};
 use vpg_guards::Names;
 use vpg_serving::ServeFault;

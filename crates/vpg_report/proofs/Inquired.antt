@@ -9,10 +9,10 @@ use Rattle.vpg_game.specs.Game.{NamedGame, NamedVertex, vertex_ids}
 use Rattle.vpg_measure.specs.Orders.{OrderView, IsOrder}
 use Rattle.vpg_desk.specs.Book.{Call, Order, Ordered, Refusal, Reply}
 use Rattle.vpg_desk.specs.Commit.{IsOrderOf}
-use Rattle.vpg_client.specs.Client.{IsLogged}
-use Rattle.vpg_client.specs.Faults.{Tells}
-use Rattle.vpg_client.specs.declared.fault.ClientFault.{ClientFault}
-use Rattle.vpg_client.specs.declared.fault.ClientFault.TheVariants.{LogFull}
+use Rattle.vpg_engine.specs.Client.{IsLogged}
+use Rattle.vpg_engine.specs.Faults.{Tells}
+use Rattle.vpg_engine.specs.declared.fault.ClientFault.{ClientFault}
+use Rattle.vpg_engine.specs.declared.fault.ClientFault.TheVariants.{LogFull}
 use Rattle.vpg_answers.specs.Answers.{IsAnswer, IsWithin, Appends}
 use Rattle.vpg_answers.specs.declared.query.Query.{Query}
 use Rattle.vpg_script.specs.Script as script

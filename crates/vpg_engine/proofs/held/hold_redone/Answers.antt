@@ -1,8 +1,8 @@
 use Rattle.std.proofs.Common.{◌≡◌, refl, ap, ◌∙◌}
 use Rattle.std.specs.List.{insert}
 use Rattle.vpg_office.specs.Token.{Held}
-use Rattle.vpg_client.specs.declared.fault.Token.{Token}
-use Rattle.vpg_client.specs.declared.fault.Token.TheVariants as tokens
+use Rattle.vpg_engine.specs.declared.fault.Token.{Token}
+use Rattle.vpg_engine.specs.declared.fault.Token.TheVariants as tokens
 use Rattle.vpg_engine.proofs.held.hold_redone.Goals as goal
 
 -- a token is of one kind

@@ -4,8 +4,8 @@ use Rattle.vpg_measure.specs.Orders.{order_table, harvest_table}
 use Rattle.vpg_desk.specs.Book.{Order, Commit, Settled}
 use Rattle.vpg_desk.specs.Commit.{commit_refusal, handed_in}
 use Rattle.vpg_office.specs.Faults.{never_refused}
-use Rattle.vpg_client.specs.Client.{ClientState}
-use Rattle.vpg_client.specs.Faults.{Tells}
+use Rattle.vpg_engine.specs.Client.{ClientState}
+use Rattle.vpg_engine.specs.Faults.{Tells}
 use Rattle.vpg_engine.specs.EngineFields.{engine_in}
 use Rattle.vpg_settle.specs.Sweeping.{IsSweptOrder}
 use Rattle.vpg_engine.proofs.Asked.{on_view_by, both_on, first_full}
