@@ -22,4 +22,4 @@ pub mod Tops
 pub mod Caution
 pub mod Edges
 pub mod Plays
-pub mod Searching
+pub mod SearchSteps

@@ -1,7 +1,7 @@
 use Rattle.std.proofs.Common.{◌≡◌, ◌∙◌, List, ℕ, sym, subst, true, false, slice_set}
 use Rattle.vpg_features.proofs.Noted.{any_default}
 use Rattle.vpg_why.specs.Searched.{AreNoted}
-use Rattle.vpg_why.proofs.Searching.{noted_new}
+use Rattle.vpg_why.proofs.SearchSteps.{noted_new}
 use Rattle.vpg_why.proofs.reaching.note.Goals as goal
 
 pub returns-in_ok-push : goal.returns-in_ok-push

@@ -4,7 +4,7 @@ use Rattle.vpg_hope.specs.Strategies.{AllowsMove}
 use Rattle.vpg_players.specs.declared.player.Player.{Player}
 use Rattle.vpg_why.specs.Searched.{AreNoted}
 use Rattle.vpg_measure.specs.Views.{strategy_of}
-use Rattle.vpg_why.proofs.Searching.{searching_begun, nothing_next, visited_next, searched, queued_inside, searched_plays}
+use Rattle.vpg_why.proofs.SearchSteps.{searching_begun, nothing_next, visited_next, searched, queued_inside, searched_plays}
 use Rattle.vpg_why.proofs.reaching.search.Goals as goal
 use Rattle.vpg_why.proofs.reaching.search.Goals.{then-place-len+in_ok-visit, else-place-len}
 

@@ -2,7 +2,7 @@ use Rattle.std.proofs.Common.{length}
 use Rattle.vpg_players.specs.declared.player.Player.{Player}
 use Rattle.vpg_hope.specs.Strategies.{AllowsMove}
 use Rattle.vpg_measure.specs.Views.{strategy_of}
-use Rattle.vpg_why.proofs.Searching.{IsSearching}
+use Rattle.vpg_why.proofs.SearchSteps.{IsSearching}
 use Rattle.vpg_why.proofs.reaching.search.Given as goal
 
 abbrev pub invariant-loop-place : goal.invariant-loop-place

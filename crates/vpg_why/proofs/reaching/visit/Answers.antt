@@ -1,7 +1,7 @@
 use Rattle.std.proofs.Common.{refl, sym, arith, ◌∙◌}
 use Rattle.vpg_hope.specs.Arena.{vertex_at}
 use Rattle.vpg_measure.specs.Views.{strategy_of}
-use Rattle.vpg_why.proofs.Searching.{noted_begun, allowed_next, refused_next, all_noted}
+use Rattle.vpg_why.proofs.SearchSteps.{noted_begun, allowed_next, refused_next, all_noted}
 use Rattle.vpg_why.proofs.reaching.visit.Goals as goal
 use Rattle.vpg_why.proofs.reaching.visit.Goals.{then-allows+in_ok-note, else-allows}
 

@@ -1,6 +1,6 @@
 use Rattle.vpg_hope.specs.Arena.{vertex_at}
 use Rattle.vpg_measure.specs.Views.{strategy_of}
-use Rattle.vpg_why.proofs.Searching.{HaveNoted}
+use Rattle.vpg_why.proofs.SearchSteps.{HaveNoted}
 use Rattle.vpg_why.proofs.reaching.visit.Given as goal
 
 -- the successors so far

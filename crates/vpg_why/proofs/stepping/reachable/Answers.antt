@@ -1,4 +1,4 @@
-use Rattle.vpg_why.proofs.Searching.{begun, blank_queued}
+use Rattle.vpg_why.proofs.SearchSteps.{begun, blank_queued}
 use Rattle.vpg_why.proofs.stepping.reachable.Goals as goal
 
 pub note-requires-clause-queued : goal.note-requires-clause-queued

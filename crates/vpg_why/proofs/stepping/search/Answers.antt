@@ -4,7 +4,7 @@ use Rattle.vpg_why.specs.Reachable.{MayStep}
 use Rattle.vpg_game.specs.Game.{graph_of}
 use Rattle.vpg_game.proofs.Graphs.{same_count}
 use Rattle.vpg_why.specs.Searched.{AreNoted}
-use Rattle.vpg_why.proofs.Searching.{searching_begun, nothing_next, visited_next, searched, queued_inside}
+use Rattle.vpg_why.proofs.SearchSteps.{searching_begun, nothing_next, visited_next, searched, queued_inside}
 use Rattle.vpg_why.proofs.stepping.search.Goals as goal
 use Rattle.vpg_why.proofs.stepping.search.Goals.{then-place-len+in_ok-visit, else-place-len}
 

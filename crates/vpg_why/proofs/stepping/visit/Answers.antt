@@ -5,7 +5,7 @@ use Rattle.vpg_game.specs.Game.{graph_of, vertex_in}
 use Rattle.vpg_measure.specs.Views.{strategy_of}
 use Rattle.vpg_why.specs.Searched.{AreNoted}
 use Rattle.vpg_why.proofs.Edges.{edge_in}
-use Rattle.vpg_why.proofs.Searching.{taken_begun, taken_next, untaken_next, all_taken}
+use Rattle.vpg_why.proofs.SearchSteps.{taken_begun, taken_next, untaken_next, all_taken}
 use Rattle.vpg_why.proofs.stepping.visit.Goals as goal
 use Rattle.vpg_why.proofs.stepping.visit.Goals.{then-may_take+in_ok-note, else-may_take}
 

@@ -1,6 +1,6 @@
 use Rattle.vpg_game.specs.Game.{graph_of, vertex_in}
 use Rattle.vpg_measure.specs.Views.{strategy_of}
-use Rattle.vpg_why.proofs.Searching.{HaveTaken}
+use Rattle.vpg_why.proofs.SearchSteps.{HaveTaken}
 use Rattle.vpg_why.proofs.stepping.visit.Given as goal
 
 -- the edges so far
