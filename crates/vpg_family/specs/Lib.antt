@@ -3,3 +3,4 @@ pub mod Families
 pub mod Faults
 pub mod Pages
 pub mod Pictures
+pub mod Warned

@@ -5,10 +5,10 @@ ghost use Rattle.vpg_family.specs.Families.{IsFamilyFault};
 use crate::family::{read_diagram, read_game};
 use crate::fault::Fault;
 use crate::files::Paths;
+use crate::writing::{File, put_warned};
 use std::alloc::{AllocError, Global};
 use vpg_diagram::Diagram;
 use vpg_game::GuardedGame;
-use vpg_warn::{File, put_warned};
 
 /// Lines of warnings of a family that was read from these texts.
 fn warned(

@@ -1,6 +1,6 @@
 //! Warnings, and where they stand.
 ghost use Rattle.std.specs.Prelude.{◌≡◌, All};
-ghost use Rattle.vpg_warn.specs.Warned.{StandsWithin};
+ghost use Rattle.vpg_family.specs.Warned.{StandsWithin};
 
 use std::alloc::{AllocError, Global};
 

@@ -7,7 +7,7 @@ use Rattle.vpg_diagram.proofs.Lists.{All-map}
 use Rattle.vpg_partial.specs.Known.{literal_of}
 use Rattle.vpg_partial.specs.TableLaws.{AreChoicesOf}
 use Rattle.vpg_partial.specs.declared.decision.Decision.{Decision}
-use Rattle.vpg_warn.proofs.products.closure_of.Goals as goal
+use Rattle.vpg_family.proofs.products.closure_of.Goals as goal
 
 choices_below : (lines : List Line) (decisions : List Decision) (n : ℕ) → n ≡ feature_count lines → All (λ d. d.feature < n) decisions → AreChoicesOf lines (map literal_of decisions)
 choices_below lines decisions n e below =

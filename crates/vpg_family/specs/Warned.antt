@@ -1,6 +1,6 @@
 -- Where warnings of a text stand. This project's own.
 use Rattle.std.specs.Prelude.{ℕ, ◌≤◌}
-use Rattle.vpg_warn.specs.declared.warnings.Warning.{Warning}
+use Rattle.vpg_family.specs.declared.warnings.Warning.{Warning}
 
 -- a warning stands at a byte of a text of this length, or at its end
 abbrev pub StandsWithin : ℕ → Warning → Type 0
