@@ -1,4 +1,8 @@
-//! What stands between a script and a person at a terminal.
+//! What stands between the program and a person: the words that it is called with, and a script that is typed.
+//!
+//! `read` takes the words, the program's name among them, and gives a `Task` and whether its faults are explained; or
+//! what is told in place of one, as `clap` writes it: help, the version, or what is wrong with the words.
+//! `docs/FORMATS.md` lists words and options. No contract says which words ask for what: tests do.
 //!
 //! `Typed` is a script that is typed in: it hands each line on as it comes, meets `help` and `quit` itself, and hands
 //! lines of its own on behind some answers: why a decision is refused, and what a settled page shows of the vertex
@@ -16,8 +20,15 @@ mod following;
 mod hearing;
 mod help;
 mod naming;
+mod reading;
+mod task;
 mod typing;
+mod usage;
+mod verbs;
 
 pub use hearing::{Ear, Heard};
 pub use naming::{Named, named_text};
+pub use reading::{not_text, read};
+pub use task::{Asked, Task};
 pub use typing::{Setting, Typed};
+pub use usage::command_list;

@@ -36,8 +36,7 @@ use vpg_report::{
 };
 use vpg_script::{Device, Sink, Source};
 use vpg_serving::{Ending, Manner};
-use vpg_terminal::{Ear, Heard, Named, Setting, Typed};
-use vpg_words::{Asked, Task, command_list, not_text, read};
+use vpg_terminal::{Asked, Ear, Heard, Named, Setting, Task, Typed, command_list, not_text, read};
 
 /// Each line is answered, and a fault ends the script.
 const PLAIN: Manner = Manner {

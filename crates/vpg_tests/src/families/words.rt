@@ -5,7 +5,7 @@ use clap::error::ErrorKind;
 use std::alloc::Global;
 use std::test::*;
 use vpg_family::Subject;
-use vpg_words::{Asked, Task, not_text, read};
+use vpg_terminal::{Asked, Task, not_text, read};
 
 /// Words behind the program's name, with one blank between them, and behind ` = ` how they are taken.
 ///

@@ -1,5 +1,5 @@
 //! The commands of the program, and their arguments.
-use crate::help::{
+use crate::usage::{
     DIAGRAM_HELP, DRAWN_SCRIPT_HELP, EXPLAIN_HELP, FEATURE_HELP, FEATURES_HELP, GAME_HELP,
     KEEP_GOING_HELP, LIFTERS_HELP, NAMES_HELP, SCRIPT_HELP, STRICT_HELP,
 };

@@ -1,6 +1,6 @@
 //! How words are read.
-use crate::help::{ABOUT, AFTER, SHORT_AFTER};
 use crate::task::{Asked, Task};
+use crate::usage::{ABOUT, AFTER, SHORT_AFTER};
 use crate::verbs::{Argument, Kind, VERBS, Verb};
 use clap::builder::ValueParser;
 use clap::error::ErrorKind;
