@@ -378,7 +378,8 @@ def writes_otherwise(folder, body, log):
     """Whether a program, run unproved over its data, ends and writes something else than its stored output."""
     data = sorted(os.listdir(f"{folder}/data")) if os.path.isdir(f"{folder}/data") else []
     words = [word for name in data for word in ("--data", f"{name}=data/{name}")]
-    ran = subprocess.run(["rt", "try", "--seconds", "600", *words], cwd=folder, stdin=subprocess.DEVNULL, capture_output=True, text=True)
+    command = ["rt", "try", "--seconds", "600", *words]
+    ran = subprocess.run(command, cwd=folder, stdin=subprocess.DEVNULL, capture_output=True, text=True)
     log.write(f"{body.name}\n{ran.stdout}\n{ran.stderr}\n{'=' * 100}\n")
     return "run=ended" in ran.stderr and ran.stdout != read(f"{folder}/stdout").decode()
 
