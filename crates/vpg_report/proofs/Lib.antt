@@ -7,4 +7,4 @@ pub mod OneText
 pub mod OneRun
 pub mod Results
 pub mod Draws
-pub mod Runs
+pub mod RunEnds

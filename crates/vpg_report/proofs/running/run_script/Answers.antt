@@ -4,7 +4,7 @@ use Rattle.std.proofs.lemmas.Result.{err_from_is_err_and}
 use Rattle.vpg_diagram.specs.DiagramText.{NamedDiagram}
 use Rattle.vpg_report.specs.declared.runs.RunFault.{RunFault}
 use Rattle.vpg_report.specs.Runs.{TellsOpening, Ends}
-use Rattle.vpg_report.proofs.Runs.{nothing_ran, run_of_opening}
+use Rattle.vpg_report.proofs.RunEnds.{nothing_ran, run_of_opening}
 use Rattle.vpg_report.proofs.running.run_script.Goals as goal
 
 pub returns-in_err-diagram-clause-output : goal.returns-in_err-diagram-clause-output
