@@ -1,14 +1,11 @@
-//! Tests of the libraries: of what lifters, desks, offices and their watchers do, and of families and the words that
-//! the program is called with.
+//! Tests of the libraries from progress measures up to offices: of what lifters, desks, sessions and watchers do.
 //!
-//! A crate that has tests is proved once more with them, and loads all libraries for that. So the tests of all crates
-//! below the runs of scripts stand here, in one crate that has nothing else.
+//! A crate that has tests is proved once more with them, and reads all that is proved below it for that. So the tests
+//! of these crates stand here, in one crate that has nothing else.
 #![tactic(auto)]
 
 #[cfg(test)]
 mod desks;
-#[cfg(test)]
-mod families;
 #[cfg(test)]
 mod lifting;
 #[cfg(test)]

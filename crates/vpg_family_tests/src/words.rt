@@ -1,5 +1,5 @@
 //! What the words of the command line ask for.
-use crate::families::said::Said;
+use crate::said::Said;
 use clap::Error;
 use clap::error::ErrorKind;
 use std::alloc::Global;

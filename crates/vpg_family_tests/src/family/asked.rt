@@ -5,7 +5,7 @@ ghost use Rattle.vpg_diagram.specs.FeatureDiagram.{feature_count};
 
 use super::PATHS;
 use super::rows::{Row, TABLES, row_of};
-use crate::families::said::Said;
+use crate::said::Said;
 use std::alloc::{AllocError, Global};
 use std::test::*;
 use vpg_family::{Family, Fault, Pictured, Subject, Texts, drawn, linted, redrawn};

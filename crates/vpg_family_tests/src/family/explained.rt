@@ -1,6 +1,6 @@
 //! What is said of files that are refused.
 use super::{DIAGRAM, GAME, PATHS};
-use crate::families::said::Said;
+use crate::said::Said;
 use std::alloc::Global;
 use std::fs;
 use std::test::*;

@@ -1,6 +1,6 @@
 //! Which fault of which file is told first.
 use super::{DIAGRAM, GAME};
-use crate::families::said::Said;
+use crate::said::Said;
 use std::alloc::Global;
 use std::fs;
 use std::test::*;

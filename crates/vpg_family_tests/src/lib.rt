@@ -1,0 +1,15 @@
+//! Tests of families in two files, of the words that the program is called with, of lines that are typed, and of names
+//! beside answers.
+//!
+//! A crate that has tests is proved once more with them, so the tests of the crates below stand here, in a crate that
+//! has nothing else.
+#![tactic(auto)]
+
+#[cfg(test)]
+mod family;
+#[cfg(test)]
+mod said;
+#[cfg(test)]
+mod typing;
+#[cfg(test)]
+mod words;
