@@ -208,10 +208,11 @@ pub mod shim {
 // The crates stand here.
 
 use shim::{Arena, Global, GuardedGame, Player};
-use vpg_guess::ground::{Groundwork, TableGround, shape_in};
+use vpg_guess::ground::{Groundwork, shape_in};
 use vpg_measure::lifts::settle_alone;
 use vpg_measure::{Shape, Table, is_progress};
 use vpg_regions::Budget;
+use vpg_values::TableGround;
 
 const BUDGET: u64 = 1 << 27;
 
