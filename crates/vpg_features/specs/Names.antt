@@ -70,4 +70,5 @@ index_of names name = position (λ n. bytes_eq name n) names
 -- a map has the index of each text, and nothing else
 pub record ArePlaces {A : Type 0} (texts : List (String A)) (entries : List (String A × ℕ)) : Type 0 where
   pub found : All (λ e. slice_get (map string_bytes texts) e.1 ≡ Some (string_bytes e.0)) entries
-  pub held : (text : String A) (i : ℕ) → slice_get texts i ≡ Some text → lookup (λ k. bytes_eq (string_bytes text) (string_bytes k)) entries ≡ Some i
+  pub held : (text : String A) (i : ℕ) → slice_get texts i ≡ Some text →
+      lookup (λ k. bytes_eq (string_bytes text) (string_bytes k)) entries ≡ Some i

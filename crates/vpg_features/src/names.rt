@@ -53,7 +53,7 @@ impl Names {
     {
         Ok(Names {
             names: Vec::new(alloc),
-            places: HashMap::with_capacity(alloc, 0)?,
+            places: HashMap::new(alloc),
         })
     }
 
