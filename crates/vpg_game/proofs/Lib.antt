@@ -13,3 +13,4 @@ pub mod Graphs
 pub mod Written
 pub mod Named
 pub mod NamingSteps
+pub mod Places

@@ -5,10 +5,10 @@ ghost use Rattle.vpg_game.specs.Naming.{features_named};
 ghost use Rattle.vpg_game.specs.Refused.{IsRefused};
 
 use crate::fault::GameFault;
+use crate::ids::Ids;
 use crate::making::make;
 use crate::reading::read_entries;
 use crate::vertex::Vertex;
-use indexmap::IndexSet;
 use std::alloc::Global;
 use std::marker::Model;
 use vpg_edges::Edge;
@@ -20,7 +20,7 @@ pub const HIGHEST_PRIORITY: u32 = 65_536;
 
 /// A guarded game. Vertices are numbered in the order of the file, features in the order of their names.
 pub struct GuardedGame {
-    pub(crate) ids: IndexSet<u32>,
+    pub(crate) ids: Ids,
     pub(crate) vertices: Vec<Vertex>,
     pub(crate) features: usize,
     pub(crate) tops: (u64, u64),

@@ -9,13 +9,14 @@
 //! The definitions stand in `specs/`: `Players`; `Guarded`, games over any kind of guard and their duals; `Levels`, the
 //! odd priorities that occur and the number of the top measure (Jurdzinski 2000); `Grammar`, the texts as a relation;
 //! `Game`, the game that entries spell, and what every game keeps; `Refused`, why a text is no game; `Writing`; `Laws`.
-//! `Spelled`, `Reading`, `Building` and `Coding` serve these and the proofs.
+//! `Spelled`, `Reading`, `Building`, `Coding` and `Ids` serve these and the proofs.
 #![tactic(auto)]
 
 mod dual;
 mod entry;
 mod fault;
 mod game;
+mod ids;
 pub mod laws;
 mod levels;
 mod making;
