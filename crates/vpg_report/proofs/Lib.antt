@@ -1,4 +1,4 @@
-pub mod End
+pub mod Fronts
 pub mod Logged
 pub mod Asked
 pub mod Deciding

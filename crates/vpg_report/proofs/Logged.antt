@@ -20,7 +20,7 @@ use Rattle.vpg_office.specs.Token.{Held}
 use Rattle.vpg_office.specs.declared.fault.Fault.{Fault}
 use Rattle.vpg_office.proofs.Calling.{page_is}
 use Rattle.vpg_office.proofs.Stories.{book_more}
-use Rattle.vpg_report.proofs.End.{none_of}
+use Rattle.vpg_report.proofs.Fronts.{none_of}
 use Rattle.vpg_report.specs.Client.{ClientState, IsLogged, client_after, page_of}
 use Rattle.vpg_report.specs.Faults.{Tells, CommitTells, Sorts, IsAbsent, UnlessStray}
 use Rattle.vpg_report.specs.declared.fault.ClientFault.{ClientFault}

@@ -3,7 +3,7 @@ use Rattle.vpg_desk.specs.Book.{opened}
 use Rattle.vpg_desk.specs.History.{Event, book_after}
 use Rattle.vpg_office.specs.Fronts.{family_between}
 use Rattle.vpg_report.specs.Client.{ClientState}
-use Rattle.vpg_report.proofs.End.{same_front}
+use Rattle.vpg_report.proofs.Fronts.{same_front}
 use Rattle.vpg_report.proofs.client.Client.end.Goals as goal
 
 pub returns : goal.returns
