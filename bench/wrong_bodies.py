@@ -376,7 +376,8 @@ def is_failing(crate, body, log):
 
 def writes_otherwise(folder, body, log):
     """Whether a program, run unproved over its data, ends and writes something else than its stored output."""
-    data = sorted(os.listdir(f"{folder}/data")) if os.path.isdir(f"{folder}/data") else []
+    top = f"{folder}/data"
+    data = sorted(os.path.relpath(f"{at}/{name}", top) for at, _, names in os.walk(top) for name in names)
     words = [word for name in data for word in ("--data", f"{name}=data/{name}")]
     command = ["rt", "try", "--seconds", "600", *words]
     ran = subprocess.run(command, cwd=folder, stdin=subprocess.DEVNULL, capture_output=True, text=True)
