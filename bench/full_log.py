@@ -1,5 +1,5 @@
 #!/usr/bin/env python3
-"""Scripts that fill the log of a run: where `refused LogFull` begins, and what memory the log takes.
+"""Scripts that fill the log of a run: where `refused LogFull` begins, how long each takes, what memory the log takes.
 
     python3 bench/full_log.py VPGDESK
 
@@ -8,6 +8,7 @@ Each script begins with commands of the built-in family, fills the log up to som
 import subprocess
 import sys
 import tempfile
+import time
 
 ROOM = 1_048_576
 FULL = "refused LogFull"
@@ -44,14 +45,16 @@ def tried(program, first, left, last):
         lines.append("show")
         made += 1
     lines += [LIFT] * ((ROOM - left - made) // 2) + [line for line, _ in last]
+    began = time.monotonic()
     ran = subprocess.run([program], input="\n".join(lines), capture_output=True, text=True)
+    seconds = time.monotonic() - began
     told = ran.stdout.split("\n")[:-1]
     early = FULL in told[: -len(last)]
     wanted = [answer for _, answer in last]
     if ran.returncode or ran.stderr or early or told[-len(last) :] != wanted:
         print(f"WRONG: {first} with {left} left: {told[-len(last):]}, not {wanted}; status {ran.returncode} {ran.stderr}")
         return False
-    print(f"as told: {first} with {left} left")
+    print(f"as told, in {seconds:.1f} s: {first} with {left} left")
     return True
 
 

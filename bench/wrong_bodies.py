@@ -92,10 +92,14 @@ def read(path):
 
 
 def interface(text):
-    """A source file without the bodies of its functions and its comments: what the proofs of a crate above see of it."""
+    """
+    A source file without the bodies of its functions, its comments, and the functions that no other crate can call: what
+    the proofs of a crate above see of it.
+    """
     lines, kept, at = [it for it in text.split("\n") if not it.lstrip().startswith("//")], [], 0
     while at < len(lines):
         found = re.match(r"( *)(?:pub(?:\([a-z]+\))? )?fn ", lines[at])
+        begin, is_own = len(kept), re.match(r" *pub\([a-z]+\) fn |fn ", lines[at])
         kept.append(lines[at])
         at += 1
         if not found or kept[-1].endswith((";", "}")):
@@ -113,7 +117,9 @@ def interface(text):
             while at < len(lines) and lines[at] not in (f"{found[1]}}}", ends[1]):
                 at += 1
             at += 1
-    return "\n".join(kept)
+        if is_own:
+            del kept[begin:]
+    return "\n".join(it for it in kept if it.strip())
 
 
 def text_of(crate, edit):

@@ -11,14 +11,14 @@ use Rattle.vpg_desk.specs.Lawful.{IsLawful, HandsIn, AllHandIn}
 use Rattle.vpg_script.specs.Script as script
 use Rattle.vpg_script.specs.Script.{Said, Request, said}
 use Rattle.vpg_serving.specs.Output.{Speaks, Answered}
-use Rattle.vpg_engine.specs.Held.{Held, undo_meant, redo_meant, harvest_kept, after_change, after_undo, after_redo, after_keep, after_forget, with_harvest, without_harvest, with_seen}
+use Rattle.vpg_report.specs.Held.{Held, undo_meant, redo_meant, harvest_kept, after_change, after_undo, after_redo, after_keep, after_forget, with_harvest, without_harvest, with_seen}
 use Rattle.vpg_texts.specs.Scene.{Scene}
 use Rattle.vpg_texts.specs.Sights.{has_vertices}
-use Rattle.vpg_engine.specs.Answers.{Own, NoFeature, NoToken, NoHarvest, NoVertex, vertex_of, call_or, page_if, full_line, Rest, Ends, Follows, Makes, Asks, TellsSettled, AsksSettled, TellsAdded, Sweeps, Keeps, Lifts, TellsChanged, TellsUndone, TellsRedone, TellsSpent, Sees, TellsNamed, TellsPage, verdicts_on, TellsVerdicts}
-use Rattle.vpg_report.specs.Answers.{query_of, order_or, first_call, TellsAnswer, Continues, Begins, Serves}
+use Rattle.vpg_report.specs.Answers.{Own, NoFeature, NoToken, NoHarvest, NoVertex, vertex_of, call_or, page_if, full_line, Rest, Ends, Follows, Makes, Asks, TellsSettled, AsksSettled, TellsAdded, Sweeps, Keeps, Lifts, TellsChanged, TellsUndone, TellsRedone, TellsSpent, Sees, TellsNamed, TellsPage, verdicts_on, TellsVerdicts}
+use Rattle.vpg_report.specs.Requests.{query_of, order_or, first_call, TellsAnswer, Continues, Begins, Serves}
 use Rattle.vpg_answers.specs.declared.query.Query.{Query}
 use Rattle.vpg_report.specs.Run.{Between, begun, calling, answering, Asked, asking, AnswersAreHistories}
-use Rattle.vpg_engine.specs.Setting.{setting_in}
+use Rattle.vpg_report.specs.Setting.{setting_in}
 
 -- ---- lists of events
 

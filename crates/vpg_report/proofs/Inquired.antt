@@ -9,20 +9,20 @@ use Rattle.vpg_game.specs.Game.{NamedGame, NamedVertex, vertex_ids}
 use Rattle.vpg_measure.specs.Orders.{OrderView, IsOrder}
 use Rattle.vpg_desk.specs.Book.{Call, Order, Ordered, Refusal, Reply}
 use Rattle.vpg_desk.specs.Commit.{IsOrderOf}
-use Rattle.vpg_engine.specs.Client.{IsLogged}
-use Rattle.vpg_engine.specs.Faults.{Tells}
-use Rattle.vpg_engine.specs.declared.fault.ClientFault.{ClientFault}
-use Rattle.vpg_engine.specs.declared.fault.ClientFault.TheVariants.{LogFull}
+use Rattle.vpg_report.specs.Client.{IsLogged}
+use Rattle.vpg_report.specs.Faults.{Tells}
+use Rattle.vpg_report.specs.declared.fault.ClientFault.{ClientFault}
+use Rattle.vpg_report.specs.declared.fault.ClientFault.TheVariants.{LogFull}
 use Rattle.vpg_answers.specs.Answers.{IsAnswer, IsWithin, Appends}
 use Rattle.vpg_answers.specs.declared.query.Query.{Query}
 use Rattle.vpg_script.specs.Script as script
 use Rattle.vpg_texts.specs.Scene.{scene_of}
-use Rattle.vpg_engine.specs.Answers.{Own, Rest, full_line, own_text, refused_line, room}
-use Rattle.vpg_engine.specs.Engine.{EngineState, scene_at}
-use Rattle.vpg_engine.proofs.Asked.{unasked_by, asked_by, log_full_by}
-use Rattle.vpg_engine.proofs.Enduring.{unless_stray_any}
-use Rattle.vpg_report.specs.Answers.{Continues, answer_limits, first_call, order_or, query_of}
-use Rattle.vpg_report.specs.Engine.{AnswersTo}
+use Rattle.vpg_report.specs.Answers.{Own, Rest, full_line, own_text, refused_line, room}
+use Rattle.vpg_report.specs.Engine.{EngineState, scene_at}
+use Rattle.vpg_report.proofs.Asked.{unasked_by, asked_by, log_full_by}
+use Rattle.vpg_report.proofs.Enduring.{unless_stray_any}
+use Rattle.vpg_report.specs.Requests.{Continues, answer_limits, first_call, order_or, query_of}
+use Rattle.vpg_report.specs.Server.{AnswersTo}
 
 pub vertex_within : (vertices : List NamedVertex) (id : ℕ) (found : Option ℕ) → IfSome found (λ v. slice_get (vertex_ids vertices) v ≡ Some id) → IfSome found (λ v. v < length vertices)
 vertex_within vertices id None h = tt

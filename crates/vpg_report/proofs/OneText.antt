@@ -16,11 +16,11 @@ use Rattle.vpg_desk.specs.Lawful.{harvested}
 use Rattle.vpg_script.specs.Script as script
 use Rattle.vpg_script.specs.Script.{Said, Request, said}
 use Rattle.vpg_serving.specs.Output.{Speaks, Answered}
-use Rattle.vpg_engine.specs.Held.{Held, undo_meant, redo_meant, harvest_kept, after_change, after_undo, after_redo, after_keep, after_forget, with_harvest, without_harvest, with_seen}
+use Rattle.vpg_report.specs.Held.{Held, undo_meant, redo_meant, harvest_kept, after_change, after_undo, after_redo, after_keep, after_forget, with_harvest, without_harvest, with_seen}
 use Rattle.vpg_texts.specs.Scene.{Scene, UnderKnown, TellsFeature, table_in}
 use Rattle.vpg_texts.specs.Sights.{has_vertices}
-use Rattle.vpg_engine.specs.Answers.{Own, NoFeature, NoToken, NoHarvest, NoVertex, Checks, IsOf, IsLifted, vertex_of, call_or, page_if, full_line, settled_text, Rest, Ends, Follows, Makes, Asks, TellsSettled, AsksSettled, TellsAdded, Sweeps, Keeps, Lifts, TellsChanged, TellsUndone, TellsRedone, TellsSpent, Sees, TellsNamed, TellsPage, verdicts_on, TellsVerdicts}
-use Rattle.vpg_report.specs.Answers.{query_of, answer_limits, order_or, first_call, TellsAnswer, Continues, Begins}
+use Rattle.vpg_report.specs.Answers.{Own, NoFeature, NoToken, NoHarvest, NoVertex, Checks, IsOf, IsLifted, vertex_of, call_or, page_if, full_line, settled_text, Rest, Ends, Follows, Makes, Asks, TellsSettled, AsksSettled, TellsAdded, Sweeps, Keeps, Lifts, TellsChanged, TellsUndone, TellsRedone, TellsSpent, Sees, TellsNamed, TellsPage, verdicts_on, TellsVerdicts}
+use Rattle.vpg_report.specs.Requests.{query_of, answer_limits, order_or, first_call, TellsAnswer, Continues, Begins}
 use Rattle.vpg_answers.specs.Answers.{IsAnswer, HasDoubt}
 use Rattle.vpg_answers.specs.declared.query.Query.{Query}
 use Rattle.vpg_answers.proofs.One.{answers_are_one}
@@ -30,8 +30,8 @@ use Rattle.vpg_texts.proofs.Planned.{known_is_one}
 use Rattle.vpg_texts.proofs.Seen.{seen_one}
 use Rattle.vpg_report.proofs.Replies.{reply_one}
 use Rattle.vpg_report.proofs.LeastHarvests.{same_harvests, checked_are_one, settling_are_one}
-use Rattle.vpg_engine.proofs.Settling.{none_missing}
-use Rattle.vpg_engine.specs.Setting.{setting_in}
+use Rattle.vpg_report.proofs.Settling.{none_missing}
+use Rattle.vpg_report.specs.Setting.{setting_in}
 
 -- ---- texts of a page
 

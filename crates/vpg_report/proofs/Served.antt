@@ -3,9 +3,9 @@ use Rattle.std.proofs.Common.{◌≡◌, ℕ, List, ◌++◌, Result, Ok, Err, a
 use Rattle.std.specs.Prelude.{OnOk}
 use Rattle.vpg_diagram.specs.DiagramText.{NamedDiagram}
 use Rattle.vpg_game.specs.Game.{NamedGame}
-use Rattle.vpg_engine.specs.Answers.{IsOwn}
-use Rattle.vpg_engine.specs.Engine.{EngineState, SweepsTo, scene_at, between_of}
-use Rattle.vpg_report.specs.Engine.{AnswersTo}
+use Rattle.vpg_report.specs.Answers.{IsOwn}
+use Rattle.vpg_report.specs.Engine.{EngineState, SweepsTo, scene_at, between_of}
+use Rattle.vpg_report.specs.Server.{AnswersTo}
 use Rattle.vpg_report.specs.Run.{answering}
 use Rattle.vpg_script.specs.Script as script
 use Rattle.vpg_script.specs.Script.{Request}

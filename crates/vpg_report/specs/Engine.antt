@@ -1,28 +1,90 @@
--- What is asked of the page, by places, and how an office isn't opened.
-use Rattle.std.specs.Prelude.{◌≡◌, ℕ, ◌+◌, List, Result, Ok, Err}
+-- What the engine does with a request.
+use Rattle.std.specs.Prelude.{◌≡◌, ℕ, ◌+◌, List, [], ◌++◌, ⊤, ◌==◌, Bool, true, false, position, Option, Some, None, Result}
 use Rattle.vpg_diagram.specs.DiagramText.{NamedDiagram}
-use Rattle.vpg_game.specs.Game.{NamedGame}
+use Rattle.vpg_game.specs.Game.{NamedGame, IsAtLimit}
+use Rattle.vpg_partial.specs.KnownLaws.{HasConflictOf}
+use Rattle.vpg_report.specs.Client.{ClientState, client_of}
+use Rattle.vpg_report.specs.declared.fault.ClientFault.{ClientFault}
+use Rattle.vpg_report.specs.declared.fault.ClientFault.TheVariants.{LogFull, Refused}
+use Rattle.vpg_desk.specs.Book.{Call, Refusal, Reply}
 use Rattle.vpg_faults.specs.declared.fault.OpenFault.{OpenFault}
-use Rattle.vpg_faults.specs.declared.fault.OpenFault.TheVariants.{Memory}
-use Rattle.vpg_answers.specs.declared.query.Query.{Query}
-use Rattle.vpg_engine.specs.Answers.{Own}
-use Rattle.vpg_engine.specs.Engine.{EngineState, IsOpenFault, AnswersBy, own_of, scene_at}
-use Rattle.vpg_engine.specs.declared.lines.Missing.{Missing}
-use Rattle.vpg_report.specs.Answers.{Continues, first_call}
+use Rattle.vpg_faults.specs.declared.fault.OpenFault.TheVariants.{AtLimit, Conflict, Memory}
+use Rattle.vpg_report.specs.Answers.{Own, NoFeature, NoVertex, Rest, first_call, Continues, full_line, refused_line, refusal_text}
+use Rattle.vpg_report.specs.declared.lines.Missing.{Missing}
+use Rattle.vpg_report.specs.declared.lines.Missing.TheVariants.{Vertex, Feature}
+use Rattle.vpg_report.specs.Held.{Held, nothing_held}
+use Rattle.vpg_report.specs.Line.{Between, beginning}
+use Rattle.vpg_report.specs.Made.{AreMadeBy}
+use Rattle.vpg_report.specs.Setting.{setting_in}
+use Rattle.vpg_texts.specs.Scene.{Scene, scene_of}
+use Rattle.vpg_script.specs.Script as script
 use Rattle.vpg_script.specs.Script.{Request}
 
--- what is asked by places, or what is missing
-abbrev pub IsQuery : Result Query Own → Result Query Missing → Type 0
-IsQuery asked (Ok query) = asked ≡ Ok query
-IsQuery asked (Err missing) = asked ≡ Err (own_of missing)
+-- the client of an office, and what is held beside it
+pub record EngineState : Type 0 where
+  pub client : ClientState
+  pub held : Held
 
--- A text is appended that answers the request, also where it asks about the page; game and diagram stay.
-abbrev pub AnswersTo : EngineState → Request → List ℕ → List ℕ → EngineState → Type 0
-AnswersTo old request before after new =
-    AnswersBy old request.label (first_call (scene_at old) old.held request.command)
-    (Continues (scene_at old) old.held (old.client.calls + 1) request.label request.command) before after new
+abbrev pub scene_at : EngineState → Scene
+scene_at state = scene_of state.client.desk.game state.client.desk.diagram
 
--- why an office isn't opened, but for out of memory, which is reported otherwise
-abbrev pub IsOpenRefusal : NamedGame → NamedDiagram → OpenFault → Type 0
-IsOpenRefusal game diagram Memory = ⊥
-IsOpenRefusal game diagram fault = IsOpenFault game diagram fault
+abbrev pub between_of : EngineState → Between
+between_of state = record { book = state.client.desk.book; calls = state.client.calls; held = state.held }
+
+-- an engine whose office was opened
+abbrev pub engine_of : NamedGame → NamedDiagram → EngineState
+engine_of game diagram = record { client = client_of game diagram; held = nothing_held }
+
+-- A line begins with this call and goes on so after its reply, or is refused without a call. A text is appended that
+-- answers it; game and diagram stay.
+pub record AnswersBy (old : EngineState) (label : ℕ) (first : Result Call Own) (P : Reply → Rest)
+    (before after : List ℕ) (new : EngineState) : Type 0 where
+  pub text : List ℕ
+  pub answer : beginning (scene_at old) label first P (between_of old) text (between_of new)
+  pub appended : after ≡ before ++ text
+  pub game : new.client.desk.game ≡ old.client.desk.game
+  pub diagram : new.client.desk.diagram ≡ old.client.desk.diagram
+
+-- A text is appended with which the engine answers the request; game and diagram stay.
+pub record AnswersTo (old : EngineState) (request : Request) (before after : List ℕ) (new : EngineState) : Type 0 where
+  pub by : AnswersBy old request.label (first_call (scene_at old) old.held request.command)
+      (Continues (scene_at old) old.held (old.client.calls + 1) request.label request.command) before after new
+
+-- The same, where what is committed or kept was made by sweeps of this many lifters.
+pub record SweepsTo (old : EngineState) (lifters : ℕ) (request : Request) (before after : List ℕ)
+    (new : EngineState) : Type 0 where
+  pub answers : AnswersTo old request before after new
+  pub made : AreMadeBy (setting_in (scene_at old)) lifters request.command answers.by.answer.0 new.held
+
+-- the command that decides the feature of a name in or out
+abbrev pub deciding : Bool → List ℕ → script.Command
+deciding true name = script.Select name
+deciding false name = script.Exclude name
+
+-- what an inquiry names that game or diagram lack
+abbrev pub own_of : Missing → Own
+own_of Vertex = NoVertex
+own_of Feature = NoFeature
+
+-- the place of the first serial that is the one meant
+abbrev pub IsPlaceOf : Option ℕ → List ℕ → Option ℕ → Type 0
+IsPlaceOf meant serials None = meant ≡ None
+IsPlaceOf meant serials (Some place) = (s : ℕ) × ((meant ≡ Some s) × (position (λ n. n == s) serials ≡ Some place))
+
+-- The answer to a refused call; out of memory has none.
+abbrev pub TellsRefusal : List (List ℕ) → Option Refusal → List ℕ → List ℕ → Type 0
+TellsRefusal names None before after = ⊥
+TellsRefusal names (Some refusal) before after = after ≡ before ++ refused_line (refusal_text names refusal)
+
+-- The answer to a call that the client doesn't make: that the log is full, or the desk's refusal; a stray and out of
+-- memory have none.
+abbrev pub TellsFault : {F : Type 0} → List (List ℕ) → (F → Option Refusal) → ClientFault F → List ℕ → List ℕ → Type 0
+TellsFault names refusal LogFull before after = after ≡ before ++ full_line
+TellsFault names refusal (Refused fault) before after = TellsRefusal names (refusal fault) before after
+TellsFault names refusal _ before after = ⊥
+
+-- why an office isn't opened
+abbrev pub IsOpenFault : NamedGame → NamedDiagram → OpenFault → Type 0
+IsOpenFault game diagram AtLimit = IsAtLimit game
+IsOpenFault game diagram (Conflict f) = (¬ IsAtLimit game) × HasConflictOf diagram.lines [] × (f ≡ 0)
+IsOpenFault game diagram Memory = ⊤

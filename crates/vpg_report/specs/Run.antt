@@ -3,13 +3,13 @@ use Rattle.std.specs.Prelude.{◌≡◌, ℕ, ◌+◌, List, [], ◌++◌, lengt
 use Rattle.vpg_desk.specs.History.{Event, IsLegalFrom, book_after}
 use Rattle.vpg_desk.specs.Desk.{family_of}
 use Rattle.vpg_desk.specs.State.{IsHistoryOf}
-use Rattle.vpg_engine.specs.Held.{Held, nothing_held}
-use Rattle.vpg_engine.specs.Made.{AreMadeBy}
-pub use Rattle.vpg_engine.specs.Run.{Between, begun}
-use Rattle.vpg_engine.specs.Setting.{setting_in}
+use Rattle.vpg_report.specs.Held.{Held, nothing_held}
+use Rattle.vpg_report.specs.Made.{AreMadeBy}
+pub use Rattle.vpg_report.specs.Line.{Between, begun}
+use Rattle.vpg_report.specs.Setting.{setting_in}
 use Rattle.vpg_serving.specs.Output.{Machine, Answered}
 use Rattle.vpg_texts.specs.Scene.{Scene}
-use Rattle.vpg_report.specs.Answers.{Serves}
+use Rattle.vpg_report.specs.Requests.{Serves}
 
 -- A request makes calls, each with the reply that the book gives at that point, is answered with this text, and leaves
 -- the book after them.

@@ -7,7 +7,7 @@ use Rattle.vpg_desk.specs.State.{IsOpened}
 use Rattle.vpg_faults.specs.declared.fault.OpenFault.{OpenFault}
 use Rattle.vpg_faults.specs.declared.fault.OpenFault.TheVariants as opens
 use Rattle.vpg_family.specs.Families.{TellsConflict}
-use Rattle.vpg_report.specs.Engine.{IsOpenRefusal}
+use Rattle.vpg_report.specs.Server.{IsOpenRefusal}
 use Rattle.vpg_report.specs.Output.{OutcomeAs}
 use Rattle.vpg_report.specs.Results.{Opens}
 use Rattle.vpg_report.specs.Run.{answering, begun}

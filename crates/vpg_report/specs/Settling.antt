@@ -4,8 +4,8 @@ use Rattle.std.specs.Prelude.{◌≡◌, ℕ, List, IfSome, Option, Some, Result
 use Rattle.std.specs.List.{AllByRecursion}
 use Rattle.vpg_answers.specs.Answers.{HasDoubt}
 use Rattle.vpg_desk.specs.Desk.{family_of}
-use Rattle.vpg_engine.specs.Answers.{Checks, settled_text}
-use Rattle.vpg_engine.specs.Held.{Held}
+use Rattle.vpg_report.specs.Answers.{Checks, settled_text}
+use Rattle.vpg_report.specs.Held.{Held}
 use Rattle.vpg_serving.specs.Output.{Machine, Answered}
 use Rattle.vpg_report.specs.Output.{Outcome}
 use Rattle.vpg_report.specs.Results.{IsThrough}
@@ -13,7 +13,7 @@ use Rattle.vpg_report.specs.Run.{Between, begun, calling}
 use Rattle.vpg_script.specs.Script as script
 use Rattle.vpg_texts.specs.Scene.{Scene}
 use Rattle.vpg_report.specs.declared.runs.RunFault.{RunFault}
-use Rattle.vpg_engine.specs.Setting.{setting_in}
+use Rattle.vpg_report.specs.Setting.{setting_in}
 
 -- a settle is answered `settled`, and what is asked of the page without a doubt: no limit was met
 abbrev pub TellsSettle : script.Command → List ℕ → Type 0

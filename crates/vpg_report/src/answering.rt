@@ -1,17 +1,18 @@
 //! A server of scripts: an engine, and what is asked of the page beside it.
 ghost use Rattle.std.specs.Prelude.{◌≡◌, OnOk};
-ghost use Rattle.vpg_report.specs.Engine.{AnswersTo};
+ghost use Rattle.vpg_report.specs.Server.{AnswersTo};
 ghost use Rattle.vpg_report.specs.Run.{answering};
-ghost use Rattle.vpg_engine.specs.Engine.{between_of, scene_at};
+ghost use Rattle.vpg_report.specs.Engine.{between_of, scene_at};
 ghost use Rattle.vpg_script.specs.Script.{Ask};
 ghost use Rattle.vpg_script.specs.View.{inquiry_shown, request_shown};
 
 use crate::asking::query_of;
+use crate::engine::Engine;
+use crate::lines::{put_missing, put_unanswered};
 use std::alloc::Global;
 use std::sync::Wait;
 use std::thread::Threads;
 use vpg_answers::Limits;
-use vpg_engine::{Engine, put_missing, put_unanswered};
 use vpg_office::Terms;
 use vpg_script::{Command, Inquiry, Request};
 use vpg_serving::{ServeFault, Server};

@@ -3,14 +3,14 @@ ghost use Rattle.std.specs.Prelude.{◌≡◌, ◌<◌, ◌==◌, length, positi
 ghost use Rattle.vpg_answers.specs.Answers.{IsWithin};
 ghost use Rattle.vpg_game.specs.Game.{vertex_ids};
 ghost use Rattle.vpg_features.specs.Names.{index_of};
-ghost use Rattle.vpg_report.specs.Answers.{query_of};
-ghost use Rattle.vpg_report.specs.Engine.{IsQuery};
+ghost use Rattle.vpg_report.specs.Requests.{query_of};
+ghost use Rattle.vpg_report.specs.Server.{IsQuery};
 ghost use Rattle.vpg_script.specs.View.{inquiry_shown};
 ghost use Rattle.vpg_texts.specs.Scene.{scene_of};
 
+use crate::lines::Missing;
 use vpg_answers::Query;
 use vpg_diagram::Diagram;
-use vpg_engine::Missing;
 use vpg_game::GuardedGame;
 use vpg_guards::Names;
 use vpg_script::Inquiry;

@@ -1,8 +1,8 @@
 use Rattle.std.proofs.Common.{◌∙◌, sym}
 use Rattle.vpg_office.specs.Faults.{never_refused}
 use Rattle.vpg_script.specs.View.{inquiry_shown}
-use Rattle.vpg_engine.specs.Engine.{own_of}
-use Rattle.vpg_engine.proofs.Asked.{both_on}
+use Rattle.vpg_report.specs.Engine.{own_of}
+use Rattle.vpg_report.proofs.Asked.{both_on}
 use Rattle.vpg_report.proofs.Inquired.{ask_answers, full_answers, missing_answers, on_ok, within_order}
 use Rattle.vpg_report.proofs.answering.ask.Goals as goal
 

@@ -2,8 +2,8 @@ use Rattle.std.proofs.Common.{◌∙◌, sym, ap}
 use Rattle.vpg_answers.specs.declared.query.Query.TheVariants as queries
 use Rattle.vpg_script.specs.View.{inquiry_shown}
 use Rattle.vpg_texts.specs.Scene.{scene_of}
-use Rattle.vpg_engine.specs.Answers.{NoVertex}
-use Rattle.vpg_report.specs.Answers.{query_or, query_of}
+use Rattle.vpg_report.specs.Answers.{NoVertex}
+use Rattle.vpg_report.specs.Requests.{query_or, query_of}
 use Rattle.vpg_report.proofs.asking.query_of.Goals as goal
 
 pub returns-in-None-clause-query : goal.returns-in-None-clause-query

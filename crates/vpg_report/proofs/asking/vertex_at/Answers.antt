@@ -1,7 +1,7 @@
 use Rattle.std.proofs.Common.{sym}
 use Rattle.vpg_game.specs.Game.{vertex_ids}
 use Rattle.vpg_report.proofs.Inquired.{vertex_within}
-use Rattle.vpg_engine.proofs.Places.{vertex_found}
+use Rattle.vpg_report.proofs.Places.{vertex_found}
 use Rattle.vpg_report.proofs.asking.vertex_at.Goals as goal
 
 pub returns-clause-vertex : goal.returns-clause-vertex

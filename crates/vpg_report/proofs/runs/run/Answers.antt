@@ -1,7 +1,7 @@
 use Rattle.std.proofs.Common.{refl, false}
 use Rattle.std.specs.Arc.{arc_value}
 use Rattle.vpg_texts.specs.Scene.{scene_of}
-use Rattle.vpg_report.specs.Engine.{IsOpenRefusal}
+use Rattle.vpg_report.specs.Server.{IsOpenRefusal}
 use Rattle.vpg_report.specs.Run.{answering, begun}
 use Rattle.vpg_serving.specs.declared.serving.Ending.{Ending}
 use Rattle.vpg_report.specs.declared.runs.RunFault.TheVariants as stops

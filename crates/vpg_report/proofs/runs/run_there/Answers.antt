@@ -7,8 +7,8 @@ use Rattle.vpg_serving.specs.Manners.{MannerOutcome}
 use Rattle.vpg_serving.specs.declared.serving.Ending.{Ending}
 use Rattle.vpg_serving.proofs.MannerLemmas.{went_nothing}
 use Rattle.vpg_texts.specs.Scene.{scene_of}
-use Rattle.vpg_engine.specs.Engine.{EngineState, between_of, scene_at}
-use Rattle.vpg_report.specs.Engine.{IsOpenRefusal}
+use Rattle.vpg_report.specs.Engine.{EngineState, between_of, scene_at}
+use Rattle.vpg_report.specs.Server.{IsOpenRefusal}
 use Rattle.vpg_report.specs.Output.{OutcomeAs}
 use Rattle.vpg_report.specs.Results.{UnlessRead, UnlessWrite}
 use Rattle.vpg_report.specs.Run.{answering, begun}

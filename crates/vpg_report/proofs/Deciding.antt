@@ -1,0 +1,78 @@
+-- The answers to decides and retractions.
+use Rattle.std.proofs.Common.{◌≡◌, ℕ, ◌+◌, ◌<◌, Bool, List, ◌++◌, length, Option, Some, None, Ok, refl, sym, ap, ◌∙◌, subst}
+use Rattle.std.specs.Prelude.{codes, slice_get, IfSome}
+use Rattle.std.proofs.lemmas.Option.{slice_get_within}
+use Rattle.vpg_features.specs.Names.{index_of}
+use Rattle.vpg_desk.specs.Book.{Family, Book, Decide, Retract, Changed, Refused, Refusal, Conflict, RefusesDecide, IsReply}
+use Rattle.vpg_desk.specs.Faults.{decide_refusal, retract_refusal}
+use Rattle.vpg_faults.specs.declared.fault.DecideFault.{DecideFault}
+use Rattle.vpg_faults.specs.declared.fault.RetractFault.{RetractFault}
+use Rattle.vpg_desk.specs.Desk.{family_of}
+use Rattle.vpg_desk.specs.State.{setting_of}
+use Rattle.vpg_faults.specs.declared.fault.DecideFault.TheVariants as decides
+use Rattle.vpg_report.specs.Client.{ClientState, IsLogged}
+use Rattle.vpg_report.specs.Faults.{Tells, UnlessStray}
+use Rattle.vpg_report.specs.declared.fault.ClientFault.{ClientFault}
+use Rattle.vpg_report.specs.declared.fault.ClientFault.TheVariants as faults
+use Rattle.vpg_script.specs.Script as script
+use Rattle.vpg_report.specs.Held.{after_change}
+use Rattle.vpg_report.specs.Answers.{NoFeature, own_text, refused_line, numbered, room, call_or, first_call}
+use Rattle.vpg_report.specs.Engine.{EngineState, scene_at, deciding, TellsFault, AnswersTo}
+use Rattle.vpg_report.proofs.Asked.{unasked, asked, unanswered, named_first, continues_decided}
+
+module _ (old : EngineState) (session : ℕ) (name : List ℕ) where
+  pub decide_unknown : (value : Bool) (before after : List ℕ) → index_of old.client.desk.diagram.names name ≡ None → after ≡ before ++ refused_line (own_text NoFeature) →
+      AnswersTo old (record { label = session; command = deciding value name }) before after old
+  decide_unknown value before after none appended =
+      unasked old session (deciding value name) NoFeature before after (named_first (scene_at old) old.held value name ∙ ap (λ (x : Option ℕ). call_or NoFeature (λ f. Decide f value) x) none) appended
+
+  pub retract_unknown : (before after : List ℕ) → index_of old.client.desk.diagram.names name ≡ None → after ≡ before ++ refused_line (own_text NoFeature) →
+      AnswersTo old (record { label = session; command = script.Retract name }) before after old
+  retract_unknown before after none appended = unasked old session (script.Retract name) NoFeature before after (ap (λ (x : Option ℕ). call_or NoFeature Retract x) none) appended
+
+  module _ (limit : ℕ) (limit_is : limit ≡ room) (new : EngineState) (f : ℕ) (before after : List ℕ) (found : index_of old.client.desk.diagram.names name ≡ Some f) where
+    decide_first : (value : Bool) → first_call (scene_at old) old.held (deciding value name) ≡ Ok (Decide f value)
+    decide_first value = named_first (scene_at old) old.held value name ∙ ap (λ (x : Option ℕ). call_or NoFeature (λ f. Decide f value) x) found
+
+    pub decided : (value : Bool) (s : ℕ) → IsLogged limit old.client session (Decide f value) (Changed s) new.client → new.held ≡ after_change old.held s → after ≡ before ++ numbered (codes "done") s →
+        AnswersTo old (record { label = session; command = deciding value name }) before after new
+    decided value s logged held appended =
+        asked limit limit_is session old new (deciding value name) (Decide f value) (Changed s) (numbered (codes "done") s) before after (decide_first value) logged
+        (continues_decided (scene_at old) old.held new.held (old.client.calls + 1) session s value name held) appended
+
+    pub decide_refused : (value : Bool) (fault : ClientFault DecideFault) (names : List (List ℕ)) → Tells limit decide_refusal old.client session (Decide f value) new.client fault →
+        UnlessStray fault (new.held ≡ old.held) → names ≡ new.client.desk.diagram.names → TellsFault names decide_refusal fault before after →
+        AnswersTo old (record { label = session; command = deciding value name }) before after new
+    decide_refused value fault names tells held names_are told =
+        unanswered limit limit_is session decide_refusal old new (deciding value name) (Decide f value) fault names before after (decide_first value) tells held names_are told
+
+    pub retracted : (s : ℕ) → IsLogged limit old.client session (Retract f) (Changed s) new.client → new.held ≡ after_change old.held s → after ≡ before ++ numbered (codes "done") s →
+        AnswersTo old (record { label = session; command = script.Retract name }) before after new
+    retracted s logged held appended =
+        asked limit limit_is session old new (script.Retract name) (Retract f) (Changed s) (numbered (codes "done") s) before after (ap (λ (x : Option ℕ). call_or NoFeature Retract x) found) logged
+        (refl, refl, held) appended
+
+    pub retract_refused : (fault : ClientFault RetractFault) (names : List (List ℕ)) → Tells limit retract_refusal old.client session (Retract f) new.client fault →
+        UnlessStray fault (new.held ≡ old.held) → names ≡ new.client.desk.diagram.names → TellsFault names retract_refusal fault before after →
+        AnswersTo old (record { label = session; command = script.Retract name }) before after new
+    retract_refused fault names tells held names_are told =
+        unanswered limit limit_is session retract_refusal old new (script.Retract name) (Retract f) fault names before after (ap (λ (x : Option ℕ). call_or NoFeature Retract x) found) tells held names_are told
+
+-- a conflict names the feature itself
+pub conflict_is_own : (family : Family) (book : Book) (f g : ℕ) (value : Bool) → IsReply family book (Decide f value) (Refused (Conflict g)) → g ≡ f
+conflict_is_own family book f g value (None, (refuses, told)) = absurd (cc told)
+conflict_is_own family book f g value (Some r, (refuses, told)) = go r refuses (cc told)
+  where
+    go : (r : Refusal) → RefusesDecide family book f value (Some r) → Conflict g ≡ r → g ≡ f
+    go r refuses is = (subst (λ (x : Refusal). RefusesDecide family book f value (Some x)) (sym is) refuses).3
+
+-- what the client tells of a conflict names a feature that has a name
+pub conflict_within : (limit : ℕ) (old new : ClientState) (session f g : ℕ) (value : Bool) (fault : ClientFault DecideFault) → Tells limit decide_refusal old session (Decide f value) new fault →
+    fault ≡ faults.Refused (decides.Conflict g) → (names : List (List ℕ)) (name : List ℕ) → slice_get names f ≡ Some name → g < length names
+conflict_within limit old new session f g value fault tells is names name found =
+    subst (λ (n : ℕ). n < length names) (sym (own (subst (λ (x : ClientFault DecideFault). Tells limit decide_refusal old session (Decide f value) new x) is tells))) (slice_get_within names f name found)
+  where
+    own : Tells limit decide_refusal old session (Decide f value) new (faults.Refused (decides.Conflict g)) → g ≡ f
+    own (r, (same, logged)) =
+        conflict_is_own (family_of (setting_of old.desk)) old.desk.book f g value
+        (subst (λ (x : Option Refusal). IfSome x (λ y. IsReply (family_of (setting_of old.desk)) old.desk.book (Decide f value) (Refused y))) (sym same) logged.step.step.0)

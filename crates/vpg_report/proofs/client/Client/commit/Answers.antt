@@ -1,0 +1,42 @@
+use Rattle.std.proofs.Common.{◌≡◌, Some, length}
+use Rattle.std.specs.Prelude.{true}
+use Rattle.vpg_desk.specs.Book as book
+use Rattle.vpg_desk.specs.Commit.{IsOrderOf, handed_in}
+use Rattle.vpg_office.specs.Story.{IsOf}
+use Rattle.vpg_report.proofs.Logged.{number_is, step_made, on_made, all_commit_told, comes_back, absent_commit_tells, given_back}
+use Rattle.vpg_report.specs.Client.{client_after}
+use Rattle.vpg_report.specs.Faults.{Sorts}
+use Rattle.vpg_report.proofs.client.Client.commit.Goals as goal
+
+pub returns-clause-accepted : goal.returns-clause-accepted
+returns-clause-accepted g c =
+    let game = g.L.Terms.game in
+    let diagram = g.L.Terms.diagram in
+    let front = c.self.inside.front in
+    let new = c.commit-answer.new.front in
+    let by = number_is c.seat.new.sessions.items c.in-Ok.place c.index_mut.result.now c.args.label c.in-Ok.ensures.within c.index_mut.ensures.value c.in-Ok.ensures.number in
+    step_made game diagram g.L.Terms.limit front new c.args.label c.index_mut.result.now by c.args.self.now c.self.view_is c.len-calls.result c.len-calls.ensures.length c.handed_in.result c.commit-answer.result (book.Commit (handed_in true c.args.harvest)) (λ added. book.Added added) c.handed_in.ensures.made c.handed_in.ensures.more c.handed_in.ensures.fits c.commit-answer.ensures.done
+
+pub returns-clause-ours : goal.returns-clause-ours
+returns-clause-ours g c =
+    on_made c.handed_in.result c.commit-answer.result (IsOf g.L.Terms.game g.L.Terms.diagram c.args.harvest.order) (IsOrderOf c.args.self.now.desk c.args.harvest.order) c.handed_in.ensures.made c.commit-answer.ensures.ours (λ ours. coe 0 1 (k. IsOrderOf (c.self.view_is k).desk c.args.harvest.order) ours)
+
+pub returns-clause-fault : goal.returns-clause-fault
+returns-clause-fault g c =
+    let game = g.L.Terms.game in
+    let diagram = g.L.Terms.diagram in
+    let front = c.self.inside.front in
+    let new = c.commit-answer.new.front in
+    let by = number_is c.seat.new.sessions.items c.in-Ok.place c.index_mut.result.now c.args.label c.in-Ok.ensures.within c.index_mut.ensures.value c.in-Ok.ensures.number in
+    all_commit_told game diagram g.L.Terms.limit front new c.args.label c.index_mut.result.now by c.args.self.now c.self.view_is c.len-calls.result c.len-calls.ensures.length c.handed_in.result c.commit-answer.result (λ b. b.fault) (λ r. r.fault) (λ r b. r.value ≡ Some b.value) c.args.harvest c.handed_in.ensures.fits c.handed_in.ensures.fault c.commit-answer.ensures.fault
+
+pub returns-clause-back : goal.returns-clause-back
+returns-clause-back g c =
+    comes_back c.handed_in.result c.commit-answer.result (λ r. r.fault) (λ r. r.value) (λ r b. Sorts c.len-calls.result (length c.commit-answer.new.front) b.fault r.fault) (λ t. Some t) (λ b. b.value) c.args.harvest c.handed_in.ensures.fault c.commit-answer.ensures.back
+
+pub returns-in-Err-clause-fault : goal.returns-in-Err-clause-fault
+returns-in-Err-clause-fault g c =
+    absent_commit_tells g.L.Terms.limit c.args.self.now (client_after g.L.Terms.game g.L.Terms.diagram c.self.inside.front) c.args.label c.args.harvest c.in-Err.fault c.self.view_is c.in-Err.ensures.absent
+
+pub returns-in-Err-clause-back : goal.returns-in-Err-clause-back
+returns-in-Err-clause-back g c = given_back c.in-Err.fault (Some c.args.harvest)

@@ -1,0 +1,46 @@
+use Rattle.std.proofs.Common.{◌≡◌, None, Option, length}
+use Rattle.vpg_office.specs.Token.{Held}
+use Rattle.vpg_desk.specs.Book as book
+use Rattle.vpg_desk.specs.Faults.{decide_refusal}
+use Rattle.vpg_report.proofs.Logged.{number_is, token_made, token_stands, all_told, same_back, absent_tells, given_back}
+use Rattle.vpg_report.specs.Faults.{Sorts}
+use Rattle.vpg_report.specs.Client.{client_after}
+use Rattle.vpg_report.proofs.client.Client.decide.Goals as goal
+
+pub returns-clause-accepted : goal.returns-clause-accepted
+returns-clause-accepted g c =
+    let game = g.L.Terms.game in
+    let diagram = g.L.Terms.diagram in
+    let front = c.self.inside.front in
+    let new = c.decide-answer.new.front in
+    let by = number_is c.seat.new.sessions.items c.in-Ok.place c.index_mut.result.now c.args.label c.in-Ok.ensures.within c.index_mut.ensures.value c.in-Ok.ensures.number in
+    token_made game diagram g.L.Terms.limit front new c.args.label c.index_mut.result.now by c.args.self.now c.self.view_is c.len-calls.result c.len-calls.ensures.length (book.Decide c.args.feature c.args.value) (λ t. book.Changed t.serial) c.answered.result c.decide-answer.result c.answered.ensures.made c.answered.ensures.more c.answered.ensures.fits c.decide-answer.ensures.done
+
+pub returns-clause-token : goal.returns-clause-token
+returns-clause-token g c =
+    let game = g.L.Terms.game in
+    let diagram = g.L.Terms.diagram in
+    let front = c.self.inside.front in
+    let new = c.decide-answer.new.front in
+    let by = number_is c.seat.new.sessions.items c.in-Ok.place c.index_mut.result.now c.args.label c.in-Ok.ensures.within c.index_mut.ensures.value c.in-Ok.ensures.number in
+    token_stands game diagram g.L.Terms.limit front new c.args.label c.index_mut.result.now by c.args.self.now c.self.view_is c.len-calls.result c.len-calls.ensures.length (book.Decide c.args.feature c.args.value) (λ t. book.Changed t.serial) c.answered.result c.decide-answer.result c.answered.ensures.made c.answered.ensures.more c.decide-answer.ensures.done
+
+pub returns-clause-fault : goal.returns-clause-fault
+returns-clause-fault g c =
+    let game = g.L.Terms.game in
+    let diagram = g.L.Terms.diagram in
+    let front = c.self.inside.front in
+    let new = c.decide-answer.new.front in
+    let by = number_is c.seat.new.sessions.items c.in-Ok.place c.index_mut.result.now c.args.label c.in-Ok.ensures.within c.index_mut.ensures.value c.in-Ok.ensures.number in
+    all_told game diagram g.L.Terms.limit front new c.args.label c.index_mut.result.now by c.args.self.now c.self.view_is c.len-calls.result c.len-calls.ensures.length c.answered.result c.decide-answer.result (λ e. e) (λ r. r.fault) (λ r e. r.value ≡ None) decide_refusal (book.Decide c.args.feature c.args.value) c.answered.ensures.fits c.answered.ensures.fault c.decide-answer.ensures.fault
+
+pub returns-clause-back : goal.returns-clause-back
+returns-clause-back g c =
+    same_back c.answered.result c.decide-answer.result (λ r. r.fault) (λ r. r.value) (λ r e. Sorts c.len-calls.result (length c.decide-answer.new.front) e r.fault) None c.answered.ensures.fault
+
+pub returns-in-Err-clause-fault : goal.returns-in-Err-clause-fault
+returns-in-Err-clause-fault g c =
+    absent_tells g.L.Terms.limit decide_refusal c.args.self.now (client_after g.L.Terms.game g.L.Terms.diagram c.self.inside.front) c.args.label (book.Decide c.args.feature c.args.value) c.in-Err.fault c.self.view_is c.in-Err.ensures.absent
+
+pub returns-in-Err-clause-back : goal.returns-in-Err-clause-back
+returns-in-Err-clause-back g c = given_back {X = Option Held} c.in-Err.fault None

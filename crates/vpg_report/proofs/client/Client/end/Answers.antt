@@ -1,0 +1,14 @@
+use Rattle.std.proofs.Common.{◌≡◌, List, length, ap, ◌∙◌, arith}
+use Rattle.vpg_desk.specs.Book.{opened}
+use Rattle.vpg_desk.specs.History.{Event, book_after}
+use Rattle.vpg_office.specs.Fronts.{family_between}
+use Rattle.vpg_report.specs.Client.{ClientState}
+use Rattle.vpg_report.proofs.Fronts.{same_front}
+use Rattle.vpg_report.proofs.client.Client.end.Goals as goal
+
+pub returns : goal.returns
+returns g c =
+    let F = family_between g.L.Terms.game g.L.Terms.diagram in
+    let lengths : length c.end-further.new.front ≡ length c.self.inside.front = omega (arith, c.len.ensures.length, c.len-calls.ensures.length, c.if-len-calls.false) in
+    let same = same_front c.self.inside.front c.end-further.new.front c.end-further.ensures.begins lengths in
+    c.end-further.ensures.further ∙ ap (λ (l : List Event). (book_after F opened l).tokens) same ∙ ap (λ (s : ClientState). s.desk.book.tokens) c.self.view_is

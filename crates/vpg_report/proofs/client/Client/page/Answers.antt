@@ -1,0 +1,100 @@
+use Rattle.std.proofs.Common.{◌≡◌, length, ap, ◌∙◌}
+use Rattle.vpg_game.specs.Game.{graph_of}
+use Rattle.vpg_trail.specs.Page.{Hopeful, Dual, table_of, decisions_of}
+use Rattle.vpg_desk.specs.Book as book
+use Rattle.vpg_desk.specs.Desk.{family_of}
+use Rattle.vpg_desk.specs.Headline.{Tells as PageTells}
+use Rattle.vpg_desk.specs.History.{book_after}
+use Rattle.vpg_desk.specs.Lawful.{PageIsBelow}
+use Rattle.vpg_desk.specs.Setting.{IsSetting}
+use Rattle.vpg_desk.specs.State.{IsReached, setting_of, setting_between}
+use Rattle.vpg_office.specs.Faults.{never_refused}
+use Rattle.vpg_office.specs.Fronts.{family_between}
+use Rattle.vpg_report.proofs.Logged.{number_is, step_made, of_present, look_told, absent_tells}
+use Rattle.vpg_report.specs.Client.{client_after}
+use Rattle.vpg_report.proofs.client.Client.page.Goals as goal
+
+pub returns-clause-accepted : goal.returns-clause-accepted
+returns-clause-accepted g c =
+    let game = g.L.Terms.game in
+    let diagram = g.L.Terms.diagram in
+    let front = c.self.inside.front in
+    let new = c.page-answer.new.front in
+    let by = number_is c.seat.new.sessions.items c.in-Ok.place c.index_mut.result.now c.args.label c.in-Ok.ensures.within c.index_mut.ensures.value c.in-Ok.ensures.number in
+    step_made game diagram g.L.Terms.limit front new c.args.label c.index_mut.result.now by c.args.self.now c.self.view_is c.len-calls.result c.len-calls.ensures.length c.looked.result c.page-answer.result book.Page (λ r. book.PageIs r.entries) c.looked.ensures.made c.looked.ensures.more c.looked.ensures.fits c.page-answer.ensures.done
+
+pub returns-clause-decisions : goal.returns-clause-decisions
+returns-clause-decisions g c =
+    let game = g.L.Terms.game in
+    let diagram = g.L.Terms.diagram in
+    let front = c.self.inside.front in
+    let new = c.page-answer.new.front in
+    let by = number_is c.seat.new.sessions.items c.in-Ok.place c.index_mut.result.now c.args.label c.in-Ok.ensures.within c.index_mut.ensures.value c.in-Ok.ensures.number in
+    of_present game diagram g.L.Terms.limit front new c.args.label c.index_mut.result.now by c.args.self.now c.self.view_is c.len-calls.result c.len-calls.ensures.length c.looked.result c.page-answer.result (λ r. r.entries) (λ r. r.decisions ≡ decisions_of r.entries) (λ r. r.decisions ≡ decisions_of c.args.self.now.desk.book.present) c.looked.ensures.made c.looked.ensures.more c.looked.ensures.fits c.page-answer.ensures.done c.page-answer.ensures.decisions (λ r said same stays. said ∙ ap decisions_of same)
+
+pub returns-clause-hopeful : goal.returns-clause-hopeful
+returns-clause-hopeful g c =
+    let game = g.L.Terms.game in
+    let diagram = g.L.Terms.diagram in
+    let front = c.self.inside.front in
+    let new = c.page-answer.new.front in
+    let by = number_is c.seat.new.sessions.items c.in-Ok.place c.index_mut.result.now c.args.label c.in-Ok.ensures.within c.index_mut.ensures.value c.in-Ok.ensures.number in
+    of_present game diagram g.L.Terms.limit front new c.args.label c.index_mut.result.now by c.args.self.now c.self.view_is c.len-calls.result c.len-calls.ensures.length c.looked.result c.page-answer.result (λ r. r.entries) (λ r. r.hopeful ≡ table_of Hopeful r.entries (length (graph_of game))) (λ r. r.hopeful ≡ table_of Hopeful c.args.self.now.desk.book.present (length (graph_of c.args.self.now.desk.game))) c.looked.ensures.made c.looked.ensures.more c.looked.ensures.fits c.page-answer.ensures.done c.page-answer.ensures.hopeful (λ r said same stays. said ∙ (λ k. table_of Hopeful (same k) (length (graph_of (c.self.view_is k).desk.game))))
+
+pub returns-clause-dual : goal.returns-clause-dual
+returns-clause-dual g c =
+    let game = g.L.Terms.game in
+    let diagram = g.L.Terms.diagram in
+    let front = c.self.inside.front in
+    let new = c.page-answer.new.front in
+    let by = number_is c.seat.new.sessions.items c.in-Ok.place c.index_mut.result.now c.args.label c.in-Ok.ensures.within c.index_mut.ensures.value c.in-Ok.ensures.number in
+    of_present game diagram g.L.Terms.limit front new c.args.label c.index_mut.result.now by c.args.self.now c.self.view_is c.len-calls.result c.len-calls.ensures.length c.looked.result c.page-answer.result (λ r. r.entries) (λ r. r.dual ≡ table_of Dual r.entries (length (graph_of game))) (λ r. r.dual ≡ table_of Dual c.args.self.now.desk.book.present (length (graph_of c.args.self.now.desk.game))) c.looked.ensures.made c.looked.ensures.more c.looked.ensures.fits c.page-answer.ensures.done c.page-answer.ensures.dual (λ r said same stays. said ∙ (λ k. table_of Dual (same k) (length (graph_of (c.self.view_is k).desk.game))))
+
+pub returns-clause-below : goal.returns-clause-below
+returns-clause-below g c =
+    let game = g.L.Terms.game in
+    let diagram = g.L.Terms.diagram in
+    let front = c.self.inside.front in
+    let new = c.page-answer.new.front in
+    let by = number_is c.seat.new.sessions.items c.in-Ok.place c.index_mut.result.now c.args.label c.in-Ok.ensures.within c.index_mut.ensures.value c.in-Ok.ensures.number in
+    of_present game diagram g.L.Terms.limit front new c.args.label c.index_mut.result.now by c.args.self.now c.self.view_is c.len-calls.result c.len-calls.ensures.length c.looked.result c.page-answer.result (λ r. r.entries) (λ r. PageIsBelow (family_between game diagram) r.entries) (λ _. PageIsBelow (family_of (setting_of c.args.self.now.desk)) c.args.self.now.desk.book.present) c.looked.ensures.made c.looked.ensures.more c.looked.ensures.fits c.page-answer.ensures.done c.page-answer.ensures.below (λ r said same stays. coe 0 1 (k. PageIsBelow (family_of (setting_of (c.self.view_is k).desk)) (same k)) said)
+
+pub returns-clause-tells : goal.returns-clause-tells
+returns-clause-tells g c =
+    let game = g.L.Terms.game in
+    let diagram = g.L.Terms.diagram in
+    let front = c.self.inside.front in
+    let new = c.page-answer.new.front in
+    let by = number_is c.seat.new.sessions.items c.in-Ok.place c.index_mut.result.now c.args.label c.in-Ok.ensures.within c.index_mut.ensures.value c.in-Ok.ensures.number in
+    of_present game diagram g.L.Terms.limit front new c.args.label c.index_mut.result.now by c.args.self.now c.self.view_is c.len-calls.result c.len-calls.ensures.length c.looked.result c.page-answer.result (λ r. r.entries) (λ r. PageTells (setting_between game diagram) r.entries) (λ _. PageTells (setting_of c.args.self.now.desk) c.args.self.now.desk.book.present) c.looked.ensures.made c.looked.ensures.more c.looked.ensures.fits c.page-answer.ensures.done c.page-answer.ensures.tells (λ r said same stays. coe 0 1 (k. PageTells (setting_of (c.self.view_is k).desk) (same k)) said)
+
+pub returns-clause-setting : goal.returns-clause-setting
+returns-clause-setting g c =
+    let game = g.L.Terms.game in
+    let diagram = g.L.Terms.diagram in
+    let front = c.self.inside.front in
+    let new = c.page-answer.new.front in
+    let by = number_is c.seat.new.sessions.items c.in-Ok.place c.index_mut.result.now c.args.label c.in-Ok.ensures.within c.index_mut.ensures.value c.in-Ok.ensures.number in
+    of_present game diagram g.L.Terms.limit front new c.args.label c.index_mut.result.now by c.args.self.now c.self.view_is c.len-calls.result c.len-calls.ensures.length c.looked.result c.page-answer.result (λ r. r.entries) (λ _. IsSetting (setting_between game diagram)) (λ _. IsSetting (setting_of c.args.self.now.desk)) c.looked.ensures.made c.looked.ensures.more c.looked.ensures.fits c.page-answer.ensures.done c.page-answer.ensures.setting (λ r said same stays. coe 0 1 (k. IsSetting (setting_of (c.self.view_is k).desk)) said)
+
+pub returns-clause-reached : goal.returns-clause-reached
+returns-clause-reached g c =
+    let game = g.L.Terms.game in
+    let diagram = g.L.Terms.diagram in
+    let front = c.self.inside.front in
+    let new = c.page-answer.new.front in
+    let by = number_is c.seat.new.sessions.items c.in-Ok.place c.index_mut.result.now c.args.label c.in-Ok.ensures.within c.index_mut.ensures.value c.in-Ok.ensures.number in
+    of_present game diagram g.L.Terms.limit front new c.args.label c.index_mut.result.now by c.args.self.now c.self.view_is c.len-calls.result c.len-calls.ensures.length c.looked.result c.page-answer.result (λ r. r.entries) (λ _. IsReached (setting_between game diagram) (book_after (family_between game diagram) book.opened new)) (λ _. IsReached (setting_of c.args.self.now.desk) c.args.self.now.desk.book) c.looked.ensures.made c.looked.ensures.more c.looked.ensures.fits c.page-answer.ensures.done c.page-answer.ensures.reached (λ r said same stays. coe 0 1 (k. IsReached (setting_of (c.self.view_is k).desk) (stays k)) said)
+
+pub returns-clause-fault : goal.returns-clause-fault
+returns-clause-fault g c =
+    let game = g.L.Terms.game in
+    let diagram = g.L.Terms.diagram in
+    let front = c.self.inside.front in
+    let new = c.page-answer.new.front in
+    let by = number_is c.seat.new.sessions.items c.in-Ok.place c.index_mut.result.now c.args.label c.in-Ok.ensures.within c.index_mut.ensures.value c.in-Ok.ensures.number in
+    look_told game diagram g.L.Terms.limit front new c.args.label c.index_mut.result.now by c.args.self.now c.self.view_is c.len-calls.result c.len-calls.ensures.length never_refused book.Page c.looked.result c.page-answer.result c.looked.ensures.fits c.looked.ensures.fault c.page-answer.ensures.fault
+
+pub returns-in-Err-clause-fault : goal.returns-in-Err-clause-fault
+returns-in-Err-clause-fault g c =
+    absent_tells g.L.Terms.limit never_refused c.args.self.now (client_after g.L.Terms.game g.L.Terms.diagram c.self.inside.front) c.args.label book.Page c.in-Err.fault c.self.view_is c.in-Err.ensures.absent

@@ -1,0 +1,86 @@
+use Rattle.std.proofs.Common.{◌≡◌, ℕ, List, Option, Some, refl, sym, ap, ◌∙◌, subst, arith, None}
+use Rattle.std.specs.Prelude.{IfSome}
+use Rattle.std.specs.List.{insert}
+use Rattle.vpg_office.specs.Token.{Held as Token}
+use Rattle.vpg_office.specs.Faults.{never_refused}
+use Rattle.vpg_desk.specs.Book.{Forget}
+use Rattle.vpg_script.specs.Script as script
+use Rattle.vpg_report.specs.Held.{Held, redo_meant}
+use Rattle.vpg_report.specs.Serials.{serials}
+use Rattle.vpg_report.specs.Answers.{NoToken, call_or}
+use Rattle.vpg_report.specs.Engine.{IsPlaceOf}
+use Rattle.vpg_report.specs.EngineFields.{engine_in}
+use Rattle.vpg_report.proofs.Asked.{on_view, both_on, log_full, on_same_view, unasked}
+use Rattle.vpg_report.proofs.Enduring.{endures, stays, unless_stray}
+use Rattle.vpg_report.proofs.Places.{Stands, stands}
+use Rattle.vpg_report.proofs.Serials.{serials_removed, serials_length, serial_at}
+use Rattle.vpg_report.proofs.Exchanging.{forgotten, put_again}
+use Rattle.vpg_report.proofs.engine.Engine.forget.Goals as goal
+
+pub invariant_of-self : goal.invariant_of-self
+invariant_of-self g c =
+    let e = c.self.inside in
+    let step = c.in-Ok.ensures.accepted.step in
+    endures g.L.Terms.limit _ _ e.client.desk e.harvests.items c.self.invariant _ e.harvests.items step.game step.diagram c.self.invariant.harvests
+
+pub invariant_of-self-in-Err : goal.invariant_of-self-in-Err
+invariant_of-self-in-Err g c =
+    let e = c.self.inside in
+    let same = stays g.L.Terms.limit never_refused e.client c.args.session (Forget c.remove-token.result.serial) _ _ c.in-Err.ensures.fault in
+    endures g.L.Terms.limit _ _ e.client.desk e.harvests.items c.self.invariant _ e.harvests.items same.0 same.1 c.self.invariant.harvests
+
+pub remove-token-requires : goal.remove-token-requires
+remove-token-requires g c =
+    let e = c.self.inside in
+    let tokens = e.redos.items in
+    let at = subst (λ (ts : List Token). IsPlaceOf (redo_meant (serials ts) (Some c.args.serial)) (serials ts) (Some c.in-Some.place)) c.deref.ensures.value c.in-Some.ensures in
+    let here : Stands at.0 c.in-Some.place (serials tokens) = stands at.0 c.in-Some.place (serials tokens) at.1.1 in
+    omega (arith, serials_length tokens, here.within, e.redos.ok.0)
+
+pub returns-in-Ok : goal.returns-in-Ok
+returns-in-Ok g c =
+    let e = c.self.inside in
+    let old = engine_in e.client e.undos.items e.redos.items e.harvests.items e.seen.items in
+    let tokens = e.redos.items in
+    let at = subst (λ (ts : List Token). IsPlaceOf (redo_meant (serials ts) (Some c.args.serial)) (serials ts) (Some c.in-Some.place)) c.deref.ensures.value c.in-Some.ensures in
+    let here : Stands at.0 c.in-Some.place (serials tokens) = stands at.0 c.in-Some.place (serials tokens) at.1.1 in
+    let token = c.remove-token.result in
+    let holds : List ℕ → Held = λ ns. record { undos = old.held.undos; redos = ns; harvests = old.held.harvests; seen = old.held.seen } in
+    on_view c.numbered.result _ old _ _ _ _ _ c.self.view_is
+    (λ told. forgotten g.L.Terms.limit c.self.invariant.room_is old _ c.args.session at.0 c.in-Some.place token.serial c.args.out.now.items _ c.args.serial at.1.0 here
+    (serial_at tokens c.in-Some.place token token c.remove-token.ensures.value token.serial refl) c.in-Ok.ensures.accepted
+    (ap holds (ap serials c.remove-token.ensures.items ∙ serials_removed tokens c.in-Some.place)) told) c.numbered.ensures
+
+pub returns-in-Err : goal.returns-in-Err
+returns-in-Err g c =
+    let e = c.self.inside in
+    let old = engine_in e.client e.undos.items e.redos.items e.harvests.items e.seen.items in
+    let tokens = e.redos.items in
+    let at = subst (λ (ts : List Token). IsPlaceOf (redo_meant (serials ts) (Some c.args.serial)) (serials ts) (Some c.in-Some.place)) c.deref.ensures.value c.in-Some.ensures in
+    let here : Stands at.0 c.in-Some.place (serials tokens) = stands at.0 c.in-Some.place (serials tokens) at.1.1 in
+    let token = c.remove-token.result in
+    let holds : List ℕ → Held = λ ns. record { undos = old.held.undos; redos = ns; harvests = old.held.harvests; seen = old.held.seen } in
+    let meant = ap (λ (x : Option ℕ). call_or NoToken Forget x) (at.1.0 ∙ ap Some (sym (serial_at tokens c.in-Some.place token token c.remove-token.ensures.value token.serial refl ∙ here.serial token.serial))) in
+    let stays_held = unless_stray c.in-Err.field-0.fault _ _ c.in-Err.ensures.back
+    (λ back.
+    let again = subst (λ (v : Option Token). IfSome v (λ t. c.put_back_unspent.new.tokens.items ≡ insert c.remove-token.new.self.items c.in-Some.place t)) back c.put_back_unspent.ensures in
+    ap holds (put_again tokens c.in-Some.place token at.0 _ _ here c.remove-token.ensures.value c.remove-token.ensures.items again)) in
+    on_view c.put_unanswered.result _ old _ _ _ _ _ c.self.view_is
+    (λ told. log_full g.L.Terms.limit c.self.invariant.room_is c.args.session never_refused old _ (script.Forget c.args.serial) (Forget token.serial) c.in-Err.field-0.fault c.args.out.now.items _ meant c.in-Err.ensures.fault
+    stays_held told.0 told.1) (both_on c.put_unanswered.result _ _ c.put_unanswered.ensures.full c.put_unanswered.ensures.told)
+
+pub put_back_unspent-requires-clause-place : goal.put_back_unspent-requires-clause-place
+put_back_unspent-requires-clause-place g c =
+    let e = c.self.inside in
+    let tokens = e.redos.items in
+    let at = subst (λ (ts : List Token). IsPlaceOf (redo_meant (serials ts) (Some c.args.serial)) (serials ts) (Some c.in-Some.place)) c.deref.ensures.value c.in-Some.ensures in
+    let here : Stands at.0 c.in-Some.place (serials tokens) = stands at.0 c.in-Some.place (serials tokens) at.1.1 in
+    omega (arith, here.within, serials_length tokens, c.remove-token.ensures.len, e.redos.ok.0)
+
+pub returns-in_default : goal.returns-in_default
+returns-in_default g c =
+    let e = c.self.inside in
+    let old = engine_in e.client e.undos.items e.redos.items e.harvests.items e.seen.items in
+    let none = subst (λ (ts : List Token). IsPlaceOf (redo_meant (serials ts) (Some c.args.serial)) (serials ts) None) c.deref.ensures.value c.in_default.ensures in
+    on_same_view c.refused.result _ old _ _ _ _ c.self.view_is
+    (λ told. unasked old c.args.session (script.Forget c.args.serial) NoToken c.args.out.now.items _ (ap (λ (x : Option ℕ). call_or NoToken Forget x) none) told) c.refused.ensures

@@ -1,0 +1,98 @@
+use Rattle.std.proofs.Common.{◌≡◌, ◌∙◌, ◌≤◌, ℕ, true, refl, sym, ap, subst}
+use Rattle.vpg_verdict.specs.declared.which.Which.{Which}
+use Rattle.vpg_measure.specs.Orders.{order_table, harvest_table}
+use Rattle.vpg_desk.specs.Book.{Order, Commit, Settled}
+use Rattle.vpg_desk.specs.Commit.{commit_refusal, handed_in}
+use Rattle.vpg_office.specs.Faults.{never_refused}
+use Rattle.vpg_report.specs.Client.{ClientState}
+use Rattle.vpg_report.specs.Faults.{Tells}
+use Rattle.vpg_report.specs.EngineFields.{engine_in}
+use Rattle.vpg_settle.specs.Sweeping.{IsSweptOrder}
+use Rattle.vpg_report.proofs.Asked.{on_view_by, both_on, first_full}
+use Rattle.vpg_report.proofs.Enduring.{endures, stays}
+use Rattle.vpg_report.proofs.Settling.{sweep_answers, commit_answers, settle_answers, rounds_given}
+use Rattle.vpg_report.proofs.engine.Engine.settle.Goals as goal
+
+pub commit_own-requires : goal.commit_own-requires
+commit_own-requires g c =
+    let page = c.swept-harvest.ensures.swept.page in
+    let step = c.in-Ok.ensures.accepted.step in
+    record { ours = (page.game ∙ c.in-Ok.ensures.ours.0 ∙ sym step.game, page.diagram ∙ c.in-Ok.ensures.ours.1 ∙ sym step.diagram) }
+
+pub invariant_of-self-in-Err-commit_own : goal.invariant_of-self-in-Err-commit_own
+invariant_of-self-in-Err-commit_own g c =
+    let e = c.self.inside in
+    let step = c.in-Ok.ensures.accepted.step in
+    let then = stays g.L.Terms.limit commit_refusal c.order.new.self c.args.session (Commit (handed_in true c.swept-harvest.result.harvest)) _ _ c.in-Err-commit_own.ensures.fault in
+    endures g.L.Terms.limit _ _ e.client.desk e.harvests.items c.self.invariant _ e.harvests.items (then.0 ∙ step.game) (then.1 ∙ step.diagram) c.self.invariant.harvests
+
+pub invariant_of-self-in-Err-settled : goal.invariant_of-self-in-Err-settled
+invariant_of-self-in-Err-settled g c =
+    let e = c.self.inside in
+    let step = c.in-Ok.ensures.accepted.step in
+    let commit = c.in-Ok-commit_own.ensures.accepted.step in
+    let then = stays g.L.Terms.limit never_refused c.commit_own.new.self c.args.session Settled _ _ c.in-Err-settled.ensures.fault in
+    endures g.L.Terms.limit _ _ e.client.desk e.harvests.items c.self.invariant _ e.harvests.items (then.0 ∙ commit.game ∙ step.game) (then.1 ∙ commit.diagram ∙ step.diagram) c.self.invariant.harvests
+
+pub invariant_of-self-2 : goal.invariant_of-self-2
+invariant_of-self-2 g c =
+    let e = c.self.inside in
+    let step = c.in-Ok.ensures.accepted.step in
+    let commit = c.in-Ok-commit_own.ensures.accepted.step in
+    let then = c.in-Ok-settled.ensures.accepted.step in
+    endures g.L.Terms.limit _ _ e.client.desk e.harvests.items c.self.invariant _ e.harvests.items (then.game ∙ commit.game ∙ step.game) (then.diagram ∙ commit.diagram ∙ step.diagram) c.self.invariant.harvests
+
+pub returns-in-Err : goal.returns-in-Err
+returns-in-Err g c =
+    let e = c.self.inside in
+    let old = engine_in e.client e.undos.items e.redos.items e.harvests.items e.seen.items in
+    on_view_by c.put_unanswered.result _ old _ _ _ _ _ _ c.self.view_is
+    (λ told. first_full g.L.Terms.limit c.self.invariant.room_is c.args.session never_refused old _ c.args.lifters c.args.sweeps c.in-Err.fault c.args.out.now.items _ c.in-Err.ensures.fault refl told.0 told.1)
+    (both_on c.put_unanswered.result _ _ c.put_unanswered.ensures.full c.put_unanswered.ensures.told)
+
+pub returns-in-Err-commit_own : goal.returns-in-Err-commit_own
+returns-in-Err-commit_own g c =
+    let e = c.self.inside in
+    let old = engine_in e.client e.undos.items e.redos.items e.harvests.items e.seen.items in
+    let order = c.in-Ok.order in
+    let harvest = c.swept-harvest.result.harvest in
+    let given = c.unwrap_or.ensures ∙ rounds_given c.args.sweeps in
+    let swept_order = subst (λ (n : ℕ). IsSweptOrder order n harvest) given c.swept-harvest.ensures.swept in
+    let few = subst (λ (n : ℕ). c.swept-harvest.result.sweeps ≤ n) given c.swept-harvest.ensures.few in
+    let none = subst (λ (n : ℕ). n ≡ 0 → (which : Which) → harvest_table which harvest ≡ order_table which order) given c.swept-harvest.ensures.none in
+    on_view_by c.put_unanswered-in-Err-commit_own.result _ old _ _ _ _ _ _ c.self.view_is
+    (λ told. sweep_answers g.L.Terms.limit c.self.invariant.room_is c.args.session old _ c.order.new.self c.args.lifters c.swept-harvest.result.sweeps order harvest c.args.out.now.items _ c.in-Ok.ensures.accepted refl
+    c.args.sweeps c.in-Ok.ensures.ours c.in-Ok.ensures.order swept_order few c.swept-harvest.ensures.made none
+    c.in-Err-commit_own.field-0.fault told.0 c.in-Err-commit_own.ensures.fault told.1)
+    (both_on c.put_unanswered-in-Err-commit_own.result _ _ c.put_unanswered-in-Err-commit_own.ensures.full c.put_unanswered-in-Err-commit_own.ensures.told)
+
+pub returns-in-Err-settled : goal.returns-in-Err-settled
+returns-in-Err-settled g c =
+    let e = c.self.inside in
+    let old = engine_in e.client e.undos.items e.redos.items e.harvests.items e.seen.items in
+    let order = c.in-Ok.order in
+    let harvest = c.swept-harvest.result.harvest in
+    let given = c.unwrap_or.ensures ∙ rounds_given c.args.sweeps in
+    let swept_order = subst (λ (n : ℕ). IsSweptOrder order n harvest) given c.swept-harvest.ensures.swept in
+    let few = subst (λ (n : ℕ). c.swept-harvest.result.sweeps ≤ n) given c.swept-harvest.ensures.few in
+    let none = subst (λ (n : ℕ). n ≡ 0 → (which : Which) → harvest_table which harvest ≡ order_table which order) given c.swept-harvest.ensures.none in
+    on_view_by c.put_unanswered-in-Err-settled.result _ old _ _ _ _ _ _ c.self.view_is
+    (λ told. commit_answers g.L.Terms.limit c.self.invariant.room_is c.args.session old _ c.order.new.self c.args.lifters c.swept-harvest.result.sweeps order harvest c.args.out.now.items _ c.in-Ok.ensures.accepted refl
+    c.args.sweeps c.in-Ok.ensures.ours c.in-Ok.ensures.order swept_order few c.swept-harvest.ensures.made none
+    c.commit_own.new.self c.in-Ok-commit_own.added c.in-Ok-commit_own.ensures.accepted never_refused c.in-Err-settled.fault told.0 c.in-Err-settled.ensures.fault told.1)
+    (both_on c.put_unanswered-in-Err-settled.result _ _ c.put_unanswered-in-Err-settled.ensures.full c.put_unanswered-in-Err-settled.ensures.told)
+
+pub returns : goal.returns
+returns g c =
+    let e = c.self.inside in
+    let old = engine_in e.client e.undos.items e.redos.items e.harvests.items e.seen.items in
+    let order = c.in-Ok.order in
+    let harvest = c.swept-harvest.result.harvest in
+    let given = c.unwrap_or.ensures ∙ rounds_given c.args.sweeps in
+    let swept_order = subst (λ (n : ℕ). IsSweptOrder order n harvest) given c.swept-harvest.ensures.swept in
+    let few = subst (λ (n : ℕ). c.swept-harvest.result.sweeps ≤ n) given c.swept-harvest.ensures.few in
+    let none = subst (λ (n : ℕ). n ≡ 0 → (which : Which) → harvest_table which harvest ≡ order_table which order) given c.swept-harvest.ensures.none in
+    on_view_by c.settled-2.result _ old _ _ _ _ _ _ c.self.view_is
+    (λ told. settle_answers g.L.Terms.limit c.self.invariant.room_is c.args.session old _ c.order.new.self c.args.lifters c.swept-harvest.result.sweeps order harvest c.args.out.now.items _ c.in-Ok.ensures.accepted refl
+    c.args.sweeps c.in-Ok.ensures.ours c.in-Ok.ensures.order swept_order few c.swept-harvest.ensures.made none
+    c.commit_own.new.self c.in-Ok-commit_own.added c.in-Ok-commit_own.ensures.accepted c.in-Ok-settled.settled c.in-Ok-settled.ensures.accepted told) c.settled-2.ensures

@@ -1,0 +1,28 @@
+-- What a line of a script does to the book of an office's desk, what the engine holds, and what it writes.
+use Rattle.std.specs.Prelude.{◌≡◌, ℕ, ◌+◌, List, length, Result}
+use Rattle.vpg_desk.specs.Book.{Book, Call, Reply, opened}
+use Rattle.vpg_desk.specs.History.{Event, IsLegalFrom, book_after}
+use Rattle.vpg_desk.specs.Desk.{family_of}
+use Rattle.vpg_report.specs.Held.{Held, nothing_held}
+use Rattle.vpg_report.specs.Answers.{Begins, Own, Rest}
+use Rattle.vpg_report.specs.Setting.{setting_in}
+use Rattle.vpg_texts.specs.Scene.{Scene}
+
+-- between two lines: the book of the desk, how many calls were made on it, and what the engine holds
+pub record Between : Type 0 where
+  pub book : Book
+  pub calls : ℕ
+  pub held : Held
+
+-- before the first line
+abbrev pub begun : Between
+begun = record { book = opened; calls = 0; held = nothing_held }
+
+-- A line that begins so makes calls, each with the reply that the book gives at that point, is answered with this text,
+-- and leaves the book after them.
+abbrev pub beginning : Scene → ℕ → Result Call Own → (Reply → Rest) → Between → List ℕ → Between → Type 0
+beginning scene label first P old text new =
+    (calls : List Event) ×
+    (Begins scene old.held old.calls label P first calls text new.held ×
+    IsLegalFrom (family_of (setting_in scene)) old.book calls
+    × (new.book ≡ book_after (family_of (setting_in scene)) old.book calls) × (new.calls ≡ old.calls + length calls))

@@ -1,0 +1,165 @@
+//! What the office's answers are to a client: its front has to have grown by the one call.
+ghost use Rattle.std.specs.Prelude.{◌≡◌, ◌+◌, ◌≤◌, None, Some, Ok, length, IfOk, IfErr, OnOk, MatchResult};
+ghost use Rattle.vpg_report.specs.Faults.{Sorts};
+
+use crate::client::has_one_more;
+use crate::fault::{ClientFault, Returned, Token, sorted};
+use vpg_desk::{RedoFault, UndoFault};
+use vpg_office::{Fault, Front, Redo, Terms, Undo};
+
+/// What a session made, where the front had so many calls before the call. It comes back where the call strayed.
+pub(crate) fn answered<L: Terms, T, F: Drop>(
+    answer: Result<T, Fault<L, F>>,
+    calls: usize,
+    front: &Front<L>,
+) -> Result<T, Returned<F, Option<T>>>
+    ensures made { IfOk result (λ made. answer ≡ Ok made) }
+    ensures more { OnOk result (length front.now ≡ calls + 1) }
+    ensures fault { IfErr result
+        (λ r. MatchResult answer (λ _. r.fault ≡ ClientFault.Stray)
+        (λ fault. Sorts calls (length front.now) fault r.fault × (r.value ≡ None))) }
+    ensures fits { length front.now ≤ L.limit }
+{
+    let is_next = has_one_more(front, calls);
+    match answer {
+        Ok(made) => {
+            if is_next {
+                Ok(made)
+            } else {
+                Err(Returned {
+                    fault: ClientFault::Stray,
+                    value: Some(made),
+                })
+            }
+        }
+        Err(fault) => Err(Returned {
+            fault: sorted(fault, calls, front),
+            value: None,
+        }),
+    }
+}
+
+/// What a session saw, where the front had so many calls before the call.
+pub(crate) fn looked<L: Terms, T: Drop, F: Drop>(
+    answer: Result<T, Fault<L, F>>,
+    calls: usize,
+    front: &Front<L>,
+) -> Result<T, ClientFault<F>>
+    ensures made { IfOk result (λ made. answer ≡ Ok made) }
+    ensures more { OnOk result (length front.now ≡ calls + 1) }
+    ensures fault { IfErr result
+        (λ told. MatchResult answer (λ _. told ≡ ClientFault.Stray)
+        (λ fault. Sorts calls (length front.now) fault told)) }
+    ensures fits { length front.now ≤ L.limit }
+{
+    let is_next = has_one_more(front, calls);
+    match answer {
+        Ok(seen) => {
+            if is_next {
+                Ok(seen)
+            } else {
+                Err(ClientFault::Stray)
+            }
+        }
+        Err(fault) => Err(sorted(fault, calls, front)),
+    }
+}
+
+/// What a session answered to what it was handed, where the front had so many calls before the call. That comes back
+/// unless it was taken.
+pub(crate) fn handed_in<L: Terms, T: Drop, F: Drop, V>(
+    answer: Result<T, vpg_office::Returned<L, F, V>>,
+    calls: usize,
+    front: &Front<L>,
+) -> Result<T, Returned<F, Option<V>>>
+    ensures made { IfOk result (λ made. answer ≡ Ok made) }
+    ensures more { OnOk result (length front.now ≡ calls + 1) }
+    ensures fault { IfErr result
+        (λ r. MatchResult answer (λ _. r.fault ≡ ClientFault.Stray)
+        (λ b. Sorts calls (length front.now) b.fault r.fault × (r.value ≡ Some b.value))) }
+    ensures fits { length front.now ≤ L.limit }
+{
+    let is_next = has_one_more(front, calls);
+    match answer {
+        Ok(made) => {
+            if is_next {
+                Ok(made)
+            } else {
+                Err(Returned {
+                    fault: ClientFault::Stray,
+                    value: None,
+                })
+            }
+        }
+        Err(vpg_office::Returned { fault, value }) => Err(Returned {
+            fault: sorted(fault, calls, front),
+            value: Some(value),
+        }),
+    }
+}
+
+/// What a session answered to an undo, where the front had so many calls before the call. A token comes back with each
+/// refusal.
+pub(crate) fn undone<L: Terms>(
+    answer: Result<Redo<L>, vpg_office::Returned<L, UndoFault, Undo<L>>>,
+    calls: usize,
+    front: &Front<L>,
+) -> Result<Redo<L>, Returned<UndoFault, Token<L>>>
+    ensures made { IfOk result (λ made. answer ≡ Ok made) }
+    ensures more { OnOk result (length front.now ≡ calls + 1) }
+    ensures fault { IfErr result
+        (λ r. MatchResult answer (λ _. r.fault ≡ ClientFault.Stray)
+        (λ b. Sorts calls (length front.now) b.fault r.fault × (r.value ≡ Token.Undo b.value))) }
+    ensures fits { length front.now ≤ L.limit }
+{
+    let is_next = has_one_more(front, calls);
+    match answer {
+        Ok(made) => {
+            if is_next {
+                Ok(made)
+            } else {
+                Err(Returned {
+                    fault: ClientFault::Stray,
+                    value: Token::Redo(made),
+                })
+            }
+        }
+        Err(vpg_office::Returned { fault, value }) => Err(Returned {
+            fault: sorted(fault, calls, front),
+            value: Token::Undo(value),
+        }),
+    }
+}
+
+/// What a session answered to a redo, where the front had so many calls before the call. A token comes back with each
+/// refusal.
+pub(crate) fn redone<L: Terms>(
+    answer: Result<Undo<L>, vpg_office::Returned<L, RedoFault, Redo<L>>>,
+    calls: usize,
+    front: &Front<L>,
+) -> Result<Undo<L>, Returned<RedoFault, Token<L>>>
+    ensures made { IfOk result (λ made. answer ≡ Ok made) }
+    ensures more { OnOk result (length front.now ≡ calls + 1) }
+    ensures fault { IfErr result
+        (λ r. MatchResult answer (λ _. r.fault ≡ ClientFault.Stray)
+        (λ b. Sorts calls (length front.now) b.fault r.fault × (r.value ≡ Token.Redo b.value))) }
+    ensures fits { length front.now ≤ L.limit }
+{
+    let is_next = has_one_more(front, calls);
+    match answer {
+        Ok(made) => {
+            if is_next {
+                Ok(made)
+            } else {
+                Err(Returned {
+                    fault: ClientFault::Stray,
+                    value: Token::Undo(made),
+                })
+            }
+        }
+        Err(vpg_office::Returned { fault, value }) => Err(Returned {
+            fault: sorted(fault, calls, front),
+            value: Token::Redo(value),
+        }),
+    }
+}

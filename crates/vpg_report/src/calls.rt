@@ -1,0 +1,392 @@
+//! The calls of a client, each that of the desk under the label as session number.
+ghost use Rattle.std.specs.Arc.{arc_value};
+ghost use Rattle.std.specs.Prelude.{◌≡◌, ◌<◌, true, None, Some, length, IfOk, IfErr, OnOk};
+ghost use Rattle.vpg_game.specs.Game.{graph_of};
+ghost use Rattle.vpg_measure.specs.Games.{ArePageGames};
+ghost use Rattle.vpg_measure.specs.Orders.{IsOrder};
+ghost use Rattle.vpg_trail.specs.Page.{Hopeful, Dual, choices_of, decisions_of, table_of};
+ghost use Rattle.vpg_desk.specs.Book as book;
+ghost use Rattle.vpg_desk.specs.Commit.{IsOrderOf, commit_refusal, handed_in};
+ghost use Rattle.vpg_desk.specs.Desk.{family_of};
+ghost use Rattle.vpg_desk.specs.Faults.{decide_refusal, redo_refusal, retract_refusal, undo_refusal};
+ghost use Rattle.vpg_desk.specs.Headline.{Tells as PageTells};
+ghost use Rattle.vpg_desk.specs.Lawful.{PageIsBelow};
+ghost use Rattle.vpg_desk.specs.Setting.{IsSetting};
+ghost use Rattle.vpg_desk.specs.State.{IsReached, setting_of};
+ghost use Rattle.vpg_office.specs.Faults.{never_refused};
+ghost use Rattle.vpg_report.specs.Client.{IsLogged, page_of};
+ghost use Rattle.vpg_report.specs.Faults.{CommitTells, Tells, UnlessStray};
+
+use crate::answers::{answered, handed_in, looked, redone, undone};
+use crate::client::{Client, seat};
+use crate::fault::{ClientFault, Returned, Token};
+use std::alloc::Global;
+use std::sync::{Arc, Wait};
+use vpg_desk::{CommitFault, DecideFault, RedoFault, RetractFault, UndoFault};
+use vpg_measure::{Harvest, Order, PageGames};
+use vpg_office::{Never, Redo, Terms, Undo};
+use vpg_trail::Page;
+use vpg_verdict::Verdict;
+
+impl<L: Terms> Client<L> {
+    /// Decides a feature in or out, as `Desk::decide`. The token stands for the page that was present. It comes back
+    /// where the decision strayed.
+    pub fn decide<R: Wait>(
+        &mut self,
+        rt: &R,
+        alloc: Global,
+        label: u32,
+        feature: u16,
+        value: bool,
+    ) -> Result<Undo<L>, Returned<DecideFault, Option<Undo<L>>>>
+        ensures accepted { IfOk result
+            (λ undo. IsLogged L.limit self.old label (book.Decide feature value) (book.Changed undo.serial) self.new) }
+        ensures token { IfOk result (λ undo. page_of self.new.desk undo ≡ self.old.desk.book.present) }
+        ensures fault { IfErr result
+            (λ r. Tells L.limit decide_refusal self.old label (book.Decide feature value) self.new r.fault) }
+        ensures back { IfErr result (λ r. UnlessStray r.fault (r.value ≡ None)) }
+    {
+        let place = match seat(rt, &self.office, &self.front, &mut self.sessions, label) {
+            Ok(place) => place,
+            Err(fault) => return Err(Returned { fault, value: None }),
+        };
+        let calls = self.front.len();
+        let answer = self.sessions[place].decide(
+            rt,
+            alloc,
+            &self.office,
+            &mut self.front,
+            feature,
+            value,
+        );
+        answered(answer, calls, &self.front)
+    }
+
+    /// Takes the decision on a feature back, as `Desk::retract`. The token stands for the page that was present. It
+    /// comes back where the call strayed.
+    pub fn retract<R: Wait>(
+        &mut self,
+        rt: &R,
+        alloc: Global,
+        label: u32,
+        feature: u16,
+    ) -> Result<Undo<L>, Returned<RetractFault, Option<Undo<L>>>>
+        ensures accepted { IfOk result
+            (λ undo. IsLogged L.limit self.old label (book.Retract feature) (book.Changed undo.serial) self.new) }
+        ensures token { IfOk result (λ undo. page_of self.new.desk undo ≡ self.old.desk.book.present) }
+        ensures fault { IfErr result
+            (λ r. Tells L.limit retract_refusal self.old label (book.Retract feature) self.new r.fault) }
+        ensures back { IfErr result (λ r. UnlessStray r.fault (r.value ≡ None)) }
+    {
+        let place = match seat(rt, &self.office, &self.front, &mut self.sessions, label) {
+            Ok(place) => place,
+            Err(fault) => return Err(Returned { fault, value: None }),
+        };
+        let calls = self.front.len();
+        let answer = self.sessions[place].retract(
+            rt,
+            alloc,
+            &self.office,
+            &mut self.front,
+            feature,
+        );
+        answered(answer, calls, &self.front)
+    }
+
+    /// Takes the token's change back, as `Desk::undo`: the page that the token stands for is present again. A refusal
+    /// gives the token back; a stray gives it or the one that it was exchanged for.
+    pub fn undo<R: Wait>(
+        &mut self,
+        rt: &R,
+        alloc: Global,
+        label: u32,
+        token: Undo<L>,
+    ) -> Result<Redo<L>, Returned<UndoFault, Token<L>>>
+        ensures accepted { IfOk result
+            (λ redo. IsLogged L.limit self.old label (book.Undo token.serial) (book.Undone redo.serial) self.new) }
+        ensures restores { OnOk result (self.new.desk.book.present ≡ page_of self.old.desk token) }
+        ensures token { IfOk result (λ redo. page_of self.new.desk redo ≡ self.old.desk.book.present) }
+        ensures fault { IfErr result
+            (λ r. Tells L.limit undo_refusal self.old label (book.Undo token.serial) self.new r.fault) }
+        ensures back { IfErr result (λ r. UnlessStray r.fault (r.value ≡ Token.Undo token)) }
+    {
+        let place = match seat(rt, &self.office, &self.front, &mut self.sessions, label) {
+            Ok(place) => place,
+            Err(fault) => return Err(Returned {
+                fault,
+                value: Token::Undo(token),
+            }),
+        };
+        let calls = self.front.len();
+        let answer = self.sessions[place].undo(rt, alloc, &self.office, &mut self.front, token);
+        undone(answer, calls, &self.front)
+    }
+
+    /// Makes the token's change again, as `Desk::redo`: the page that the token stands for is present again. A refusal
+    /// gives the token back; a stray gives it or the one that it was exchanged for.
+    pub fn redo<R: Wait>(
+        &mut self,
+        rt: &R,
+        alloc: Global,
+        label: u32,
+        token: Redo<L>,
+    ) -> Result<Undo<L>, Returned<RedoFault, Token<L>>>
+        ensures accepted { IfOk result
+            (λ undo. IsLogged L.limit self.old label (book.Redo token.serial) (book.Redone undo.serial) self.new) }
+        ensures restores { OnOk result (self.new.desk.book.present ≡ page_of self.old.desk token) }
+        ensures token { IfOk result (λ undo. page_of self.new.desk undo ≡ self.old.desk.book.present) }
+        ensures fault { IfErr result
+            (λ r. Tells L.limit redo_refusal self.old label (book.Redo token.serial) self.new r.fault) }
+        ensures back { IfErr result (λ r. UnlessStray r.fault (r.value ≡ Token.Redo token)) }
+    {
+        let place = match seat(rt, &self.office, &self.front, &mut self.sessions, label) {
+            Ok(place) => place,
+            Err(fault) => return Err(Returned {
+                fault,
+                value: Token::Redo(token),
+            }),
+        };
+        let calls = self.front.len();
+        let answer = self.sessions[place].redo(rt, alloc, &self.office, &mut self.front, token);
+        redone(answer, calls, &self.front)
+    }
+
+    /// Spends a token, as `Desk::keep`. The token comes back unless it was spent.
+    pub fn keep<R: Wait>(
+        &mut self,
+        rt: &R,
+        label: u32,
+        token: Undo<L>,
+    ) -> Result<(), Returned<Never, Option<Undo<L>>>>
+        ensures accepted { OnOk result (IsLogged L.limit self.old label (book.Keep token.serial) book.Spent self.new) }
+        ensures fault { IfErr result
+            (λ r. Tells L.limit never_refused self.old label (book.Keep token.serial) self.new r.fault) }
+        ensures back { IfErr result (λ r. UnlessStray r.fault (r.value ≡ Some token)) }
+    {
+        let place = match seat(rt, &self.office, &self.front, &mut self.sessions, label) {
+            Ok(place) => place,
+            Err(fault) => return Err(Returned {
+                fault,
+                value: Some(token),
+            }),
+        };
+        let calls = self.front.len();
+        let answer = self.sessions[place].keep(rt, &self.office, &mut self.front, token);
+        handed_in(answer, calls, &self.front)
+    }
+
+    /// Spends a token, as `Desk::forget`. The token comes back unless it was spent.
+    pub fn forget<R: Wait>(
+        &mut self,
+        rt: &R,
+        label: u32,
+        token: Redo<L>,
+    ) -> Result<(), Returned<Never, Option<Redo<L>>>>
+        ensures accepted { OnOk result
+            (IsLogged L.limit self.old label (book.Forget token.serial) book.Spent self.new) }
+        ensures fault { IfErr result
+            (λ r. Tells L.limit never_refused self.old label (book.Forget token.serial) self.new r.fault) }
+        ensures back { IfErr result (λ r. UnlessStray r.fault (r.value ≡ Some token)) }
+    {
+        let place = match seat(rt, &self.office, &self.front, &mut self.sessions, label) {
+            Ok(place) => place,
+            Err(fault) => return Err(Returned {
+                fault,
+                value: Some(token),
+            }),
+        };
+        let calls = self.front.len();
+        let answer = self.sessions[place].forget(rt, &self.office, &mut self.front, token);
+        handed_in(answer, calls, &self.front)
+    }
+
+    /// What lifters take along, as `Desk::order`.
+    pub fn order<R: Wait>(
+        &mut self,
+        rt: &R,
+        alloc: Global,
+        label: u32,
+    ) -> Result<Order, ClientFault<Never>>
+        ensures accepted { IfOk result
+            (λ order. IsLogged L.limit self.old label book.Order
+            (book.Ordered order.decisions order.hopeful order.dual) self.new) }
+        ensures ours { IfOk result (λ order. IsOrderOf self.old.desk order) }
+        ensures order { IfOk result IsOrder }
+        ensures fault { IfErr result (Tells L.limit never_refused self.old label book.Order self.new) }
+    {
+        let place = match seat(rt, &self.office, &self.front, &mut self.sessions, label) {
+            Ok(place) => place,
+            Err(fault) => return Err(fault),
+        };
+        let calls = self.front.len();
+        let answer = self.sessions[place].order(rt, alloc, &self.office, &mut self.front);
+        let order = match looked(answer, calls, &self.front) {
+            Ok(order) => order,
+            Err(fault) => return Err(fault),
+        };
+        let _ = order.game();
+        Ok(order)
+    }
+
+    /// Raises the present tables to the harvest's, as `Desk::commit`. The harvest comes back unless it was committed.
+    pub fn commit<R: Wait>(
+        &mut self,
+        rt: &R,
+        alloc: Global,
+        label: u32,
+        harvest: Harvest,
+    ) -> Result<u32, Returned<CommitFault, Option<Harvest>>>
+        ensures accepted { IfOk result
+            (λ added. IsLogged L.limit self.old label (book.Commit (handed_in true harvest))
+            (book.Added added) self.new) }
+        ensures ours { OnOk result (IsOrderOf self.old.desk harvest.order) }
+        ensures fault { IfErr result (λ r. CommitTells L.limit self.old label harvest self.new r.fault) }
+        ensures back { IfErr result (λ r. UnlessStray r.fault (r.value ≡ Some harvest)) }
+    {
+        let place = match seat(rt, &self.office, &self.front, &mut self.sessions, label) {
+            Ok(place) => place,
+            Err(fault) => return Err(Returned {
+                fault,
+                value: Some(harvest),
+            }),
+        };
+        let calls = self.front.len();
+        let answer = self.sessions[place].commit(rt, alloc, &self.office, &mut self.front, harvest);
+        handed_in(answer, calls, &self.front)
+    }
+
+    /// As `commit`, of a harvest whose order has this desk's game and diagram, as those of `order` have: they are not
+    /// compared.
+    pub fn commit_own<R: Wait>(
+        &mut self,
+        rt: &R,
+        alloc: Global,
+        label: u32,
+        harvest: Harvest,
+    ) -> Result<u32, Returned<CommitFault, Option<Harvest>>>
+        requires ours { IsOrderOf self.old.desk harvest.order }
+        ensures accepted { IfOk result
+            (λ added. IsLogged L.limit self.old label (book.Commit (handed_in true harvest))
+            (book.Added added) self.new) }
+        ensures fault { IfErr result
+            (λ r. Tells L.limit commit_refusal self.old label (book.Commit (handed_in true harvest)) self.new r.fault) }
+        ensures back { IfErr result (λ r. UnlessStray r.fault (r.value ≡ Some harvest)) }
+    {
+        let place = match seat(rt, &self.office, &self.front, &mut self.sessions, label) {
+            Ok(place) => place,
+            Err(fault) => return Err(Returned {
+                fault,
+                value: Some(harvest),
+            }),
+        };
+        let calls = self.front.len();
+        let answer = self.sessions[place].commit_own(
+            rt,
+            alloc,
+            &self.office,
+            &mut self.front,
+            harvest,
+        );
+        handed_in(answer, calls, &self.front)
+    }
+
+    /// Whether both tables of the present page are progress tables.
+    pub fn settled<R: Wait>(&mut self, rt: &R, label: u32) -> Result<bool, ClientFault<Never>>
+        ensures accepted { IfOk result
+            (λ settled. IsLogged L.limit self.old label book.Settled (book.IsSettled settled) self.new) }
+        ensures fault { IfErr result (Tells L.limit never_refused self.old label book.Settled self.new) }
+    {
+        let place = match seat(rt, &self.office, &self.front, &mut self.sessions, label) {
+            Ok(place) => place,
+            Err(fault) => return Err(fault),
+        };
+        let calls = self.front.len();
+        let answer = self.sessions[place].settled(rt, &self.office, &mut self.front);
+        looked(answer, calls, &self.front)
+    }
+
+    /// What the present tables say of a vertex.
+    pub fn verdict<R: Wait>(
+        &mut self,
+        rt: &R,
+        label: u32,
+        vertex: u32,
+    ) -> Result<Verdict, ClientFault<Never>>
+        requires { vertex < length self.old.desk.game.vertices }
+        ensures accepted { IfOk result
+            (λ verdict. IsLogged L.limit self.old label (book.Verdict vertex)
+            (book.VerdictIs verdict.hopeless verdict.sure) self.new) }
+        ensures fault { IfErr result (Tells L.limit never_refused self.old label (book.Verdict vertex) self.new) }
+    {
+        let place = match seat(rt, &self.office, &self.front, &mut self.sessions, label) {
+            Ok(place) => place,
+            Err(fault) => return Err(fault),
+        };
+        let calls = self.front.len();
+        let answer = self.sessions[place].verdict(rt, &self.office, &mut self.front, vertex);
+        looked(answer, calls, &self.front)
+    }
+
+    /// The present page, as `Desk::page`.
+    pub fn page<R: Wait>(
+        &mut self,
+        rt: &R,
+        alloc: Global,
+        label: u32,
+    ) -> Result<Page, ClientFault<Never>>
+        ensures accepted { IfOk result
+            (λ page. IsLogged L.limit self.old label book.Page (book.PageIs page.entries) self.new) }
+        ensures decisions { IfOk result (λ page. page.decisions ≡ decisions_of self.old.desk.book.present) }
+        ensures hopeful { IfOk result
+            (λ page. page.hopeful ≡ table_of Hopeful self.old.desk.book.present
+            (length (graph_of self.old.desk.game))) }
+        ensures dual { IfOk result
+            (λ page. page.dual ≡ table_of Dual self.old.desk.book.present (length (graph_of self.old.desk.game))) }
+        ensures below { OnOk result (PageIsBelow (family_of (setting_of self.old.desk)) self.old.desk.book.present) }
+        ensures tells { OnOk result (PageTells (setting_of self.old.desk) self.old.desk.book.present) }
+        ensures setting { OnOk result (IsSetting (setting_of self.old.desk)) }
+        ensures reached { OnOk result (IsReached (setting_of self.old.desk) self.old.desk.book) }
+        ensures fault { IfErr result (Tells L.limit never_refused self.old label book.Page self.new) }
+    {
+        let place = match seat(rt, &self.office, &self.front, &mut self.sessions, label) {
+            Ok(place) => place,
+            Err(fault) => return Err(fault),
+        };
+        let calls = self.front.len();
+        let answer = self.sessions[place].page(rt, alloc, &self.office, &mut self.front);
+        looked(answer, calls, &self.front)
+    }
+
+    /// The present page, as `Desk::page`, with what its decisions make of the game, as `Desk::games`. Nothing is made
+    /// anew for it.
+    pub fn page_with_games<R: Wait>(
+        &mut self,
+        rt: &R,
+        alloc: Global,
+        label: u32,
+    ) -> Result<(Page, Arc<PageGames>), ClientFault<Never>>
+        ensures accepted { IfOk result
+            (λ r. IsLogged L.limit self.old label book.Page (book.PageIs r.0.entries) self.new) }
+        ensures decisions { IfOk result (λ r. r.0.decisions ≡ decisions_of self.old.desk.book.present) }
+        ensures hopeful { IfOk result
+            (λ r. r.0.hopeful ≡ table_of Hopeful self.old.desk.book.present (length (graph_of self.old.desk.game))) }
+        ensures dual { IfOk result
+            (λ r. r.0.dual ≡ table_of Dual self.old.desk.book.present (length (graph_of self.old.desk.game))) }
+        ensures games { IfOk result
+            (λ r. ArePageGames self.old.desk.game self.old.desk.diagram (choices_of self.old.desk.book.present)
+            (arc_value r.1)) }
+        ensures below { OnOk result (PageIsBelow (family_of (setting_of self.old.desk)) self.old.desk.book.present) }
+        ensures tells { OnOk result (PageTells (setting_of self.old.desk) self.old.desk.book.present) }
+        ensures setting { OnOk result (IsSetting (setting_of self.old.desk)) }
+        ensures reached { OnOk result (IsReached (setting_of self.old.desk) self.old.desk.book) }
+        ensures fault { IfErr result (Tells L.limit never_refused self.old label book.Page self.new) }
+    {
+        let place = match seat(rt, &self.office, &self.front, &mut self.sessions, label) {
+            Ok(place) => place,
+            Err(fault) => return Err(fault),
+        };
+        let calls = self.front.len();
+        let answer = self.sessions[place].page_with_games(rt, alloc, &self.office, &mut self.front);
+        looked(answer, calls, &self.front)
+    }
+}

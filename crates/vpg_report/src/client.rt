@@ -1,0 +1,150 @@
+//! The client: an office, the one front that its sessions are lent, and the sessions by their labels.
+ghost use Rattle.std.specs.Arc.{arc_value};
+ghost use Rattle.std.specs.Prelude.{◌≡◌, ◌+◌, ◌<◌, ◌≤◌, ◌↔◌, ℕ, [], length, slice_index, true, IfOk, IfErr, IfSome, OnOk};
+ghost use Rattle.vpg_diagram.specs.FeatureDiagram.{feature_count};
+ghost use Rattle.vpg_game.specs.Game.{IsAtLimit};
+ghost use Rattle.vpg_partial.specs.KnownLaws.{HasConflictOf};
+ghost use Rattle.vpg_desk.specs.State.{IsOpened};
+ghost use Rattle.vpg_report.specs.Client.{client_of};
+ghost use Rattle.vpg_report.specs.Faults.{IsAbsent};
+
+use crate::fault::ClientFault;
+use std::alloc::Global;
+use std::marker::Model;
+use std::sync::{Arc, Wait};
+use vpg_desk::OpenFault;
+use vpg_diagram::Diagram;
+use vpg_game::GuardedGame;
+use vpg_office::{Front, NotOpened, Office, Redo, Session, Site, Terms, Undo};
+
+/// The one caller of an office, for labels from 1 to 1,024. Contracts see the desk that it serves and the number of
+/// calls in the log. A client can't be let go: `end` ends it.
+pub struct Client<L: Terms> {
+    pub(crate) office: Office<L>,
+    pub(crate) front: Front<L>,
+    // that of label N at place N - 1
+    pub(crate) sessions: Vec<Session<L>>,
+}
+
+impl<L: Terms> Model for Client<L> {
+    ghost use Rattle.std.specs.Coded.{codes};
+    ghost use Rattle.vpg_game.specs.Coding.{game_code};
+    ghost use Rattle.vpg_report.specs.Client.{ClientState};
+
+    ghost Value = { ClientState };
+
+    ghost coded = { Prim.hlevel (codes, game_code) };
+
+    ghost use Rattle.vpg_report.specs.Client.{client_after};
+
+    ghost view = { λ c. client_after L.game L.diagram c.front };
+}
+
+impl<L: Terms> Client<L> {
+    /// A client of an office of its own, whose log takes `room` calls. Refused as `Office::open`; what was handed in
+    /// comes back.
+    pub fn open<R: Wait>(
+        rt: &R,
+        alloc: Global,
+        site: Site,
+        game: Arc<GuardedGame>,
+        diagram: Arc<Diagram>,
+        room: u32,
+    ) -> Result<Client<L>, NotOpened>
+        requires features { (arc_value game).features ≡ feature_count (arc_value diagram).lines }
+        requires site { (site.row ≡ L.shelves) × (site.name ≡ L.name) × (site.parts ≡ L.parts) }
+        requires of { (arc_value game ≡ L.game) × (arc_value diagram ≡ L.diagram) }
+        requires room { (room ≡ L.limit) × (1 ≤ room) × (room ≤ 1048576) }
+        ensures opened { IfOk result (λ client. client ≡ client_of L.game L.diagram) }
+        ensures fits { OnOk result (IsOpened L.game L.diagram) }
+        ensures at_limit { IfErr result (λ refused. (refused.fault ≡ OpenFault.AtLimit) ↔ IsAtLimit (arc_value game)) }
+        ensures conflict { IfErr result
+            (λ refused. (f : ℕ) → refused.fault ≡ OpenFault.Conflict f → HasConflictOf (arc_value diagram).lines [] ×
+            (f ≡ 0)) }
+        ensures game_back { IfErr result (λ refused. arc_value refused.game ≡ arc_value game) }
+        ensures diagram_back { IfErr result (λ refused. arc_value refused.diagram ≡ arc_value diagram) }
+        ensures site_back { IfErr result (λ refused. refused.site ≡ site) }
+    {
+        match Office::<L>::open(rt, alloc, site, game, diagram, room) {
+            Ok(office) => Ok(Client {
+                office,
+                front: Front::empty(),
+                sessions: Vec::new(alloc),
+            }),
+            Err(refused) => Err(refused),
+        }
+    }
+
+    /// Spends the tokens handed in, and ends the office. Answers how many further tokens are out, or `None` where the
+    /// log has calls that this client didn't make.
+    pub fn end<R: Wait>(self, rt: &R, undos: Vec<Undo<L>>, redos: Vec<Redo<L>>) -> Option<u64>
+        ensures { IfSome result (λ further. further + length undos.items + length redos.items ≡ self.desk.book.tokens) }
+    {
+        let Client {
+            office,
+            mut front,
+            sessions: _,
+        } = self;
+        let calls = front.len();
+        let further = office.end(rt, &mut front, undos, redos);
+        if front.len() != calls {
+            return None;
+        }
+        Some(further)
+    }
+}
+
+/// The place of a label's session. Where the label is new, the sessions up to it are joined. A label that no session
+/// bears strays.
+pub(crate) fn seat<L: Terms, R: Wait, F>(
+    rt: &R,
+    office: &Office<L>,
+    front: &Front<L>,
+    sessions: &mut Vec<Session<L>>,
+    label: u32,
+) -> Result<usize, ClientFault<F>>
+    ensures within { IfOk result (λ place. place < length sessions.new.items) }
+    ensures number { IfOk result (λ place. slice_index sessions.new.items place ≡ label) }
+    ensures absent { IfErr result IsAbsent }
+{
+    for _ in sessions.len()..label as usize {
+        join(rt, office, front, sessions)?;
+    }
+    let Some(place) = (label as usize).checked_sub(1) else {
+        return Err(ClientFault::Stray);
+    };
+    match sessions.get(place) {
+        Some(session) if session.number() == label => Ok(place),
+        _ => Err(ClientFault::Stray),
+    }
+}
+
+/// Joins one session more, which has to find the log as the client left it.
+fn join<L: Terms, R: Wait, F>(
+    rt: &R,
+    office: &Office<L>,
+    front: &Front<L>,
+    sessions: &mut Vec<Session<L>>,
+) -> Result<(), ClientFault<F>>
+    ensures { IfErr result IsAbsent }
+{
+    if sessions.reserve(1).is_err() {
+        return Err(ClientFault::Memory);
+    }
+    let Ok((session, log)) = office.join(rt) else {
+        return Err(ClientFault::Stray);
+    };
+    if log.len() != front.len() {
+        return Err(ClientFault::Stray);
+    }
+    sessions.push_reserved(session);
+    Ok(())
+}
+
+/// Whether the front has one call more than so many.
+pub(crate) fn has_one_more<L: Terms>(front: &Front<L>, calls: usize) -> bool
+    ensures yes { result ≡ true → length front.now ≡ calls + 1 }
+    ensures fits { length front.now ≤ L.limit }
+{
+    calls < front.len() && front.len() - calls == 1
+}

@@ -1,0 +1,561 @@
+//! The engine: an office that this run alone serves, with the tokens and harvests that a script's lines leave, which
+//! carries out what they request.
+ghost use Rattle.std.specs.Arc.{arc_value};
+ghost use Rattle.std.specs.Prelude.{◌≡◌, ◌+◌, ◌≤◌, OnOk, IfOk, IfErr, IfSome, length};
+ghost use Rattle.vpg_diagram.specs.FeatureDiagram.{feature_count};
+ghost use Rattle.vpg_measure.specs.Orders.{IsOrder};
+ghost use Rattle.vpg_desk.specs.Book as book;
+ghost use Rattle.vpg_desk.specs.Commit.{IsOrderOf};
+ghost use Rattle.vpg_desk.specs.State.{IsOpened};
+ghost use Rattle.vpg_office.specs.Faults.{never_refused};
+ghost use Rattle.vpg_report.specs.Client.{IsLogged};
+ghost use Rattle.vpg_report.specs.Faults.{Tells};
+ghost use Rattle.vpg_report.specs.Answers.{IsOwn};
+ghost use Rattle.vpg_report.specs.Engine.{AnswersTo, SweepsTo, IsOpenFault, deciding, engine_of};
+ghost use Rattle.vpg_script.specs.Script.{Retract, Undo as Undoes, Redo as Redoes, Keep, Forget, Lift, Harvest as Harvests, Commit, Settle, Look, Changed, Known};
+ghost use Rattle.vpg_script.specs.View.{lookup_shown, request_shown};
+
+use crate::client::Client;
+use crate::fault::{ClientFault, Returned};
+use crate::held::{
+    hold_redo, hold_redone, hold_strayed, hold_undo, hold_undone, put_back_unspent, redo_place,
+    return_harvest, take_harvest, undo_place,
+};
+use crate::lines;
+use std::alloc::{AllocError, Global};
+use std::marker::Model;
+use std::sync::{Arc, Wait};
+use std::thread::Threads;
+use vpg_board::OpenGate;
+use vpg_desk::OpenFault;
+use vpg_diagram::Diagram;
+use vpg_game::GuardedGame;
+use vpg_guards::Names;
+use vpg_guess::Groundwork;
+use vpg_measure::{Harvest, Order};
+use vpg_office::{Never, NotOpened, Redo, Site, Terms, Undo};
+use vpg_script::{Command, Lookup, Request};
+use vpg_serving::ServeFault;
+use vpg_settle::swept;
+use vpg_texts::{has_vertices, look_over, put_changed, put_known_over, verdicts_over};
+use vpg_verdict::{Verdict, Which};
+
+/// How many calls the log of a run's office takes.
+pub(crate) const ROOM: u32 = 1_048_576;
+
+/// The sweeps of a `harvest`, and of a `settle` without a number.
+const SWEEPS: u64 = 1_000_000;
+
+/// The client of an office, with its game and its diagram, the tokens that are held, the harvests that were kept, and
+/// the verdicts that were told last, none before the first time. Harvest K stands at place K - 1 until it is committed.
+/// What guesses make of the game alone is kept from the first of them on. Contracts see the client, and what is held.
+/// An engine can't be let go: `end` spends its tokens.
+pub struct Engine<L: Terms> {
+    game: Arc<GuardedGame>,
+    diagram: Arc<Diagram>,
+    client: Client<L>,
+    undos: Vec<Undo<L>>,
+    redos: Vec<Redo<L>>,
+    harvests: Vec<Option<Harvest>>,
+    seen: Vec<Verdict>,
+    ground: Groundwork,
+}
+
+impl<L: Terms> Model for Engine<L> {
+    ghost use Rattle.std.specs.Coded.{codes};
+    ghost use Rattle.vpg_game.specs.Coding.{game_code};
+    ghost use Rattle.vpg_report.specs.Engine.{EngineState};
+
+    ghost Value = { EngineState };
+
+    ghost coded = { Prim.hlevel (codes, game_code) };
+
+    ghost use Rattle.std.specs.Arc.{arc_value};
+    ghost use Rattle.vpg_report.specs.EngineFields.{engine_in, IsEngine};
+
+    ghost view = { λ e. engine_in e.client e.undos.items e.redos.items e.harvests.items e.seen.items };
+
+    ghost invariant = { λ e. IsEngine L.limit (arc_value e.game) (arc_value e.diagram) e.client.desk e.harvests.items };
+}
+
+/// The same game and diagram once more.
+fn shared(
+    game: &Arc<GuardedGame>,
+    diagram: &Arc<Diagram>,
+) -> Result<(Arc<GuardedGame>, Arc<Diagram>), AllocError>
+    ensures game { IfOk result (λ both. arc_value both.0 ≡ arc_value game.now) }
+    ensures diagram { IfOk result (λ both. arc_value both.1 ≡ arc_value diagram.now) }
+{
+    Ok((game.clone()?, diagram.clone()?))
+}
+
+impl<L: Terms> Engine<L> {
+    /// The names of the features.
+    fn names(&self) -> &Names
+        ensures { result.now ≡ self.now.client.desk.diagram.names }
+    {
+        self.diagram.names()
+    }
+
+    /// Decides a feature, by its name.
+    fn decide<R: Wait>(
+        &mut self,
+        rt: &R,
+        alloc: Global,
+        session: u32,
+        name: &[u8],
+        value: bool,
+        out: &mut Vec<u8>,
+    ) -> Result<(), ServeFault>
+        ensures { OnOk result (AnswersTo self.old
+            (record { label = session; command = deciding value name.now }) out.old.items out.new.items self.new) }
+    {
+        let Some(feature) = self.names().get(name) else {
+            return lines::refused(b"UnknownFeature", out);
+        };
+        self.undos.reserve(1)?;
+        match self.client.decide(rt, alloc, session, feature, value) {
+            Ok(undo) => hold_undo(&mut self.undos, undo, b"done", out),
+            Err(Returned { fault, value }) => {
+                hold_strayed(&mut self.undos, value);
+                lines::decide_refused(self.names(), fault, out)
+            }
+        }
+    }
+
+    /// Retracts a feature, by its name.
+    fn retract<R: Wait>(
+        &mut self,
+        rt: &R,
+        alloc: Global,
+        session: u32,
+        name: &[u8],
+        out: &mut Vec<u8>,
+    ) -> Result<(), ServeFault>
+        ensures { OnOk result (AnswersTo self.old
+            (record { label = session; command = Retract name.now }) out.old.items out.new.items self.new) }
+    {
+        let Some(feature) = self.names().get(name) else {
+            return lines::refused(b"UnknownFeature", out);
+        };
+        self.undos.reserve(1)?;
+        match self.client.retract(rt, alloc, session, feature) {
+            Ok(undo) => hold_undo(&mut self.undos, undo, b"done", out),
+            Err(Returned { fault, value }) => {
+                hold_strayed(&mut self.undos, value);
+                lines::retract_refused(self.names(), fault, out)
+            }
+        }
+    }
+
+    /// Undoes the change of the undo that is meant.
+    fn undo<R: Wait>(
+        &mut self,
+        rt: &R,
+        alloc: Global,
+        session: u32,
+        serial: Option<u64>,
+        out: &mut Vec<u8>,
+    ) -> Result<(), ServeFault>
+        ensures { OnOk result (AnswersTo self.old
+            (record { label = session; command = Undoes serial }) out.old.items out.new.items self.new) }
+    {
+        let Some(place) = undo_place(&self.undos, serial) else {
+            return lines::refused(b"NoToken", out);
+        };
+        self.redos.reserve(1)?;
+        let token = self.undos.remove(place);
+        match self.client.undo(rt, alloc, session, token) {
+            Ok(redo) => hold_redo(&mut self.redos, redo, b"undone", out),
+            Err(Returned { fault, value }) => {
+                hold_undone(&mut self.undos, &mut self.redos, place, value);
+                lines::undo_refused(self.names(), fault, out)
+            }
+        }
+    }
+
+    /// Redoes the change of the redo that is meant.
+    fn redo<R: Wait>(
+        &mut self,
+        rt: &R,
+        alloc: Global,
+        session: u32,
+        serial: Option<u64>,
+        out: &mut Vec<u8>,
+    ) -> Result<(), ServeFault>
+        ensures { OnOk result (AnswersTo self.old
+            (record { label = session; command = Redoes serial }) out.old.items out.new.items self.new) }
+    {
+        let Some(place) = redo_place(&self.redos, serial) else {
+            return lines::refused(b"NoToken", out);
+        };
+        self.undos.reserve(1)?;
+        let token = self.redos.remove(place);
+        match self.client.redo(rt, alloc, session, token) {
+            Ok(undo) => hold_undo(&mut self.undos, undo, b"redone", out),
+            Err(Returned { fault, value }) => {
+                hold_redone(&mut self.undos, &mut self.redos, place, value);
+                lines::redo_refused(self.names(), fault, out)
+            }
+        }
+    }
+
+    /// Spends an undo, by its serial.
+    fn keep<R: Wait>(
+        &mut self,
+        rt: &R,
+        session: u32,
+        serial: u64,
+        out: &mut Vec<u8>,
+    ) -> Result<(), ServeFault>
+        ensures { OnOk result (AnswersTo self.old
+            (record { label = session; command = Keep serial }) out.old.items out.new.items self.new) }
+    {
+        let Some(place) = undo_place(&self.undos, Some(serial)) else {
+            return lines::refused(b"NoToken", out);
+        };
+        let token = self.undos.remove(place);
+        match self.client.keep(rt, session, token) {
+            Ok(()) => lines::numbered(b"kept", serial, out),
+            Err(Returned { fault, value }) => {
+                put_back_unspent(&mut self.undos, place, value);
+                lines::put_unanswered(fault, out)
+            }
+        }
+    }
+
+    /// Spends a redo, by its serial.
+    fn forget<R: Wait>(
+        &mut self,
+        rt: &R,
+        session: u32,
+        serial: u64,
+        out: &mut Vec<u8>,
+    ) -> Result<(), ServeFault>
+        ensures { OnOk result (AnswersTo self.old
+            (record { label = session; command = Forget serial }) out.old.items out.new.items self.new) }
+    {
+        let Some(place) = redo_place(&self.redos, Some(serial)) else {
+            return lines::refused(b"NoToken", out);
+        };
+        let token = self.redos.remove(place);
+        match self.client.forget(rt, session, token) {
+            Ok(()) => lines::numbered(b"forgotten", serial, out),
+            Err(Returned { fault, value }) => {
+                put_back_unspent(&mut self.redos, place, value);
+                lines::put_unanswered(fault, out)
+            }
+        }
+    }
+
+    /// Lifts a vertex of the present page once, by its identifier, and commits what was raised.
+    fn lift<R: Wait>(
+        &mut self,
+        rt: &R,
+        alloc: Global,
+        session: u32,
+        table: Which,
+        identifier: u32,
+        out: &mut Vec<u8>,
+    ) -> Result<(), ServeFault>
+        ensures { OnOk result (AnswersTo self.old
+            (record { label = session; command = Lift table identifier }) out.old.items out.new.items self.new) }
+    {
+        let Some(v) = self.game.find(identifier) else {
+            return lines::refused(b"NoVertex", out);
+        };
+        let order = match self.client.order(rt, alloc, session) {
+            Ok(order) => order,
+            Err(fault) => return lines::put_unanswered(fault, out),
+        };
+        let harvest = Harvest::one(order, table, v);
+        let added = match self.client.commit_own(rt, alloc, session, harvest) {
+            Ok(added) => added,
+            Err(Returned { fault, value: _ }) => return lines::put_unanswered(fault, out),
+        };
+        lines::numbered(b"added", added as u64, out)
+    }
+
+    /// Sweeps the present page, and keeps what was raised.
+    fn harvest<T: Threads + Wait + Sync>(
+        &mut self,
+        rt: &T,
+        alloc: Global,
+        session: u32,
+        lifters: u32,
+        out: &mut Vec<u8>,
+    ) -> Result<(), ServeFault>
+        requires lifters { (1 ≤ lifters) × (lifters ≤ 64) }
+        ensures { OnOk result (SweepsTo self.old lifters
+            (record { label = session; command = Harvests }) out.old.items out.new.items self.new) }
+    {
+        self.harvests.reserve(1)?;
+        let order = match self.client.order(rt, alloc, session) {
+            Ok(order) => order,
+            Err(fault) => return lines::put_unanswered(fault, out),
+        };
+        let ground = &mut self.ground;
+        let harvest = swept(rt, alloc, order, SWEEPS, lifters, &OpenGate, ground).harvest;
+        self.harvests.push_reserved(Some(harvest));
+        lines::numbered(b"harvest", self.harvests.len() as u64, out)
+    }
+
+    /// Commits a kept harvest, by its number.
+    fn commit<R: Wait>(
+        &mut self,
+        rt: &R,
+        alloc: Global,
+        session: u32,
+        number: u64,
+        out: &mut Vec<u8>,
+    ) -> Result<(), ServeFault>
+        ensures { OnOk result (AnswersTo self.old
+            (record { label = session; command = Commit number }) out.old.items out.new.items self.new) }
+    {
+        let Some(harvest) = take_harvest(&mut self.harvests, number) else {
+            return lines::refused(b"NoHarvest", out);
+        };
+        match self.client.commit(rt, alloc, session, harvest) {
+            Ok(added) => lines::numbered(b"added", added as u64, out),
+            Err(Returned { fault, value }) => {
+                return_harvest(&mut self.harvests, number, &fault, value);
+                lines::commit_refused(self.names(), fault, out)
+            }
+        }
+    }
+
+    /// Sweeps the present page, this many times at most, and commits what was raised.
+    fn settle<T: Threads + Wait + Sync>(
+        &mut self,
+        rt: &T,
+        alloc: Global,
+        session: u32,
+        sweeps: Option<u64>,
+        lifters: u32,
+        out: &mut Vec<u8>,
+    ) -> Result<(), ServeFault>
+        requires lifters { (1 ≤ lifters) × (lifters ≤ 64) }
+        ensures { OnOk result (SweepsTo self.old lifters
+            (record { label = session; command = Settle sweeps }) out.old.items out.new.items self.new) }
+    {
+        let order = match self.client.order(rt, alloc, session) {
+            Ok(order) => order,
+            Err(fault) => return lines::put_unanswered(fault, out),
+        };
+        let harvest = swept(
+            rt,
+            alloc,
+            order,
+            sweeps.unwrap_or(SWEEPS),
+            lifters,
+            &OpenGate,
+            &mut self.ground,
+        )
+        .harvest;
+        let added = match self.client.commit_own(rt, alloc, session, harvest) {
+            Ok(added) => added,
+            Err(Returned { fault, value: _ }) => return lines::put_unanswered(fault, out),
+        };
+        let settled = match self.client.settled(rt, session) {
+            Ok(settled) => settled,
+            Err(fault) => return lines::put_unanswered(fault, out),
+        };
+        lines::settled(settled, added, out)
+    }
+
+    /// Shows what is looked at of the present page.
+    fn look<R: Wait>(
+        &mut self,
+        rt: &R,
+        alloc: Global,
+        session: u32,
+        lookup: &Lookup,
+        out: &mut Vec<u8>,
+    ) -> Result<(), ServeFault>
+        ensures { OnOk result (AnswersTo self.old
+            (record { label = session; command = Look (lookup_shown lookup.now) })
+            out.old.items out.new.items self.new) }
+    {
+        if !has_vertices(&self.game, lookup) {
+            return lines::put_missing(lines::Missing::Vertex, out);
+        }
+        let (page, games) = match self.client.page_with_games(rt, alloc, session) {
+            Ok(both) => both,
+            Err(fault) => return lines::put_unanswered(fault, out),
+        };
+        look_over(alloc, &games, &page, &self.game, &self.diagram, lookup, out)?;
+        Ok(())
+    }
+
+    /// Tells which verdicts of the present page are other than those told last.
+    fn changed<R: Wait>(
+        &mut self,
+        rt: &R,
+        alloc: Global,
+        session: u32,
+        out: &mut Vec<u8>,
+    ) -> Result<(), ServeFault>
+        ensures { OnOk result (AnswersTo self.old
+            (record { label = session; command = Changed }) out.old.items out.new.items self.new) }
+    {
+        let (page, games) = match self.client.page_with_games(rt, alloc, session) {
+            Ok(both) => both,
+            Err(fault) => return lines::put_unanswered(fault, out),
+        };
+        let verdicts = verdicts_over(alloc, &games, &page, &self.game)?;
+        put_changed(alloc, &self.game, &self.seen, &verdicts, out)?;
+        self.seen = verdicts;
+        Ok(())
+    }
+
+    /// Tells what the present decisions make known of a feature, by its name.
+    fn known<R: Wait>(
+        &mut self,
+        rt: &R,
+        alloc: Global,
+        session: u32,
+        name: &[u8],
+        out: &mut Vec<u8>,
+    ) -> Result<(), ServeFault>
+        ensures { OnOk result (AnswersTo self.old
+            (record { label = session; command = Known name.now }) out.old.items out.new.items self.new) }
+    {
+        let Some(feature) = self.names().get(name) else {
+            return lines::refused(b"UnknownFeature", out);
+        };
+        let (_page, games) = match self.client.page_with_games(rt, alloc, session) {
+            Ok(both) => both,
+            Err(fault) => return lines::put_unanswered(fault, out),
+        };
+        put_known_over(alloc, &games, &self.diagram, feature, out)?;
+        Ok(())
+    }
+
+    /// An engine whose office was opened, with room for 1,048,576 calls; nothing is held. Refused as `Client::open`.
+    pub fn open<R: Wait>(
+        rt: &R,
+        alloc: Global,
+        site: Site,
+        game: Arc<GuardedGame>,
+        diagram: Arc<Diagram>,
+    ) -> Result<Engine<L>, OpenFault>
+        requires features { (arc_value game).features ≡ feature_count (arc_value diagram).lines }
+        requires site { (site.row ≡ L.shelves) × (site.name ≡ L.name) × (site.parts ≡ L.parts) }
+        requires of { (arc_value game ≡ L.game) × (arc_value diagram ≡ L.diagram) }
+        requires room { L.limit ≡ 1048576 }
+        ensures opened { IfOk result (λ engine. engine ≡ engine_of (arc_value game) (arc_value diagram)) }
+        ensures fits { OnOk result (IsOpened (arc_value game) (arc_value diagram)) }
+        ensures refused { IfErr result (IsOpenFault (arc_value game) (arc_value diagram)) }
+    {
+        let Ok((own_game, own_diagram)) = shared(&game, &diagram) else {
+            return Err(OpenFault::Memory);
+        };
+        match Client::<L>::open(rt, alloc, site, game, diagram, ROOM) {
+            Ok(client) => Ok(Engine {
+                game: own_game,
+                diagram: own_diagram,
+                client,
+                undos: Vec::new(alloc),
+                redos: Vec::new(alloc),
+                harvests: Vec::new(alloc),
+                seen: Vec::new(alloc),
+                ground: Groundwork::none(),
+            }),
+            Err(refused) => Err(refused.fault),
+        }
+    }
+
+    /// Spends all tokens, and ends the office. Answers how many further tokens are out, or `None` where the log has
+    /// calls that this engine didn't make.
+    pub fn end<R: Wait>(self, rt: &R) -> Option<u64>
+        ensures { IfSome result
+            (λ further. further + length self.held.undos + length self.held.redos ≡ self.client.desk.book.tokens) }
+    {
+        let Engine {
+            game: _,
+            diagram: _,
+            client,
+            undos,
+            redos,
+            harvests: _,
+            seen: _,
+            ground: _,
+        } = self;
+        client.end(rt, undos, redos)
+    }
+
+    /// Its game.
+    pub fn game(&self) -> &GuardedGame
+        ensures { result.now ≡ self.now.client.desk.game }
+    {
+        &self.game
+    }
+
+    /// Its diagram.
+    pub fn diagram(&self) -> &Diagram
+        ensures { result.now ≡ self.now.client.desk.diagram }
+    {
+        &self.diagram
+    }
+
+    /// An order of the present page, as `Client::order`. What is held stays.
+    pub fn order<R: Wait>(
+        &mut self,
+        rt: &R,
+        alloc: Global,
+        session: u32,
+    ) -> Result<Order, ClientFault<Never>>
+        ensures accepted { IfOk result
+            (λ order. IsLogged L.limit self.old.client session book.Order
+            (book.Ordered order.decisions order.hopeful order.dual) self.new.client) }
+        ensures ours { IfOk result (λ order. IsOrderOf self.old.client.desk order) }
+        ensures order { IfOk result IsOrder }
+        ensures fault { IfErr result
+            (Tells L.limit never_refused self.old.client session book.Order self.new.client) }
+        ensures held { self.new.held ≡ self.old.held }
+        ensures room { L.limit ≡ 1048576 }
+    {
+        self.client.order(rt, alloc, session)
+    }
+
+    /// Carries a request out, sweeping with 1 to 64 lifters, and appends its answer. A question about the page is not
+    /// the engine's, and never answered: the fault is `Stray`.
+    pub fn carry_out<T: Threads + Wait + Sync>(
+        &mut self,
+        rt: &T,
+        alloc: Global,
+        lifters: u32,
+        request: &Request<'_>,
+        out: &mut Vec<u8>,
+    ) -> Result<(), ServeFault>
+        requires lifters { (1 ≤ lifters) × (lifters ≤ 64) }
+        ensures { OnOk result (IsOwn (request_shown request.now).command × SweepsTo self.old lifters
+            (request_shown request.now) out.old.items out.new.items self.new) }
+    {
+        let session = request.label;
+        match &request.command {
+            Command::Select(name) => self.decide(rt, alloc, session, *name, true, out),
+            Command::Exclude(name) => self.decide(rt, alloc, session, *name, false, out),
+            Command::Retract(name) => self.retract(rt, alloc, session, *name, out),
+            Command::Undo(serial) => self.undo(rt, alloc, session, *serial, out),
+            Command::Redo(serial) => self.redo(rt, alloc, session, *serial, out),
+            Command::Keep(serial) => self.keep(rt, session, *serial, out),
+            Command::Forget(serial) => self.forget(rt, session, *serial, out),
+            Command::Lift(table, identifier) => self.lift(
+                rt,
+                alloc,
+                session,
+                *table,
+                *identifier,
+                out,
+            ),
+            Command::Harvest => self.harvest(rt, alloc, session, lifters, out),
+            Command::Commit(number) => self.commit(rt, alloc, session, *number, out),
+            Command::Settle(sweeps) => self.settle(rt, alloc, session, *sweeps, lifters, out),
+            Command::Look(lookup) => self.look(rt, alloc, session, lookup, out),
+            Command::Changed => self.changed(rt, alloc, session, out),
+            Command::Known(name) => self.known(rt, alloc, session, *name, out),
+            Command::Ask(_) => Err(ServeFault::Stray),
+        }
+    }
+}

@@ -1,0 +1,80 @@
+//! Why a client's calls are not answered, and what comes back.
+ghost use Rattle.std.specs.Prelude.{◌≤◌, length};
+ghost use Rattle.vpg_report.specs.Faults.{Sorts};
+
+use crate::client::has_one_more;
+use std::error::Error;
+use std::fmt;
+use vpg_office::{Fault, Front, Redo, Terms, Undo};
+
+/// Why a call gives no answer. `Refused` is the desk's own refusal, which is logged.
+#[derive(Drop)]
+pub enum ClientFault<F> {
+    /// The log has as many calls as it takes.
+    LogFull,
+    Refused { fault: F },
+    /// The log has a call that this client didn't make, or a session has another number than its label's.
+    Stray,
+    Memory,
+}
+
+impl<F: fmt::Display> fmt::Display for ClientFault<F> {
+    fn fmt<W: fmt::Write>(&self, f: &mut fmt::Formatter<W>) -> fmt::Result {
+        match self {
+            ClientFault::LogFull => write!(f, "LogFull"),
+            ClientFault::Refused { fault } => write!(f, "{fault}"),
+            ClientFault::Stray => write!(f, "Stray"),
+            ClientFault::Memory => write!(f, "Memory"),
+        }
+    }
+}
+
+impl<F: fmt::Display> fmt::Debug for ClientFault<F> {
+    fn fmt<W: fmt::Write>(&self, f: &mut fmt::Formatter<W>) -> fmt::Result {
+        write!(f, "{self}")
+    }
+}
+
+impl<F: fmt::Display + Drop> Error for ClientFault<F> {}
+
+/// What a call took, or made before it strayed, comes back beside the fault.
+pub struct Returned<F, T> {
+    pub fault: ClientFault<F>,
+    pub value: T,
+}
+
+/// A token of either kind: an undo that strays may have exchanged its token already.
+pub enum Token<L: Terms> {
+    Undo(Undo<L>),
+    Redo(Redo<L>),
+}
+
+/// What the office's fault is to a client whose front had so many calls before the call.
+pub(crate) fn sorted<L: Terms, F: Drop>(
+    fault: Fault<L, F>,
+    calls: usize,
+    front: &Front<L>,
+) -> ClientFault<F>
+    ensures sorts { Sorts calls (length front.now) fault result }
+    ensures fits { length front.now ≤ L.limit }
+{
+    let has_this_call = has_one_more(front, calls);
+    match fault {
+        Fault::LogFull { front: log } => {
+            if log.len() == calls {
+                ClientFault::LogFull
+            } else {
+                ClientFault::Stray
+            }
+        }
+        Fault::Doubled { front: _log } => ClientFault::Stray,
+        Fault::Refused { fault } => {
+            if has_this_call {
+                ClientFault::Refused { fault }
+            } else {
+                ClientFault::Stray
+            }
+        }
+        Fault::Memory => ClientFault::Memory,
+    }
+}

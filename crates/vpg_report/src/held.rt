@@ -1,0 +1,197 @@
+//! The tokens and harvests that the engine holds.
+ghost use Rattle.std.specs.Prelude.{◌≡◌, ◌+◌, ◌-◌, ◌<◌, ◌≤◌, ◌==◌, ◌++◌, ◌∷◌, [], ℕ, length, max, position, slice_get, slice_index_or, vec_len, vec_capacity, slice_set, Some, None, OnOk, IfSome, IfNone};
+ghost use Rattle.std.specs.List.{reduce, remove, insert};
+ghost use Rattle.vpg_report.specs.Faults.{UnlessStray};
+ghost use Rattle.vpg_office.specs.Token.{Held};
+ghost use Rattle.vpg_report.specs.Answers.{numbered};
+ghost use Rattle.vpg_report.specs.Engine.{IsPlaceOf};
+ghost use Rattle.vpg_report.specs.Held.{undo_meant, redo_meant, harvest_kept};
+ghost use Rattle.vpg_report.specs.Serials.{serials};
+
+use crate::fault::{ClientFault, Token};
+use crate::lines;
+use std::alloc::AllocError;
+use vpg_desk::CommitFault;
+use vpg_measure::Harvest;
+use vpg_office::{Redo, Terms, Undo};
+use vpg_serving::ServeFault;
+
+/// The place of the undo that a command means: that of the serial, or without one that of the greatest.
+pub(crate) fn undo_place<L: Terms>(undos: &[Undo<L>], serial: Option<u64>) -> Option<usize>
+    ensures { IsPlaceOf (undo_meant (serials undos.now) serial) (serials undos.now) result }
+{
+    match serial {
+        Some(serial) => place_of_undo(undos, serial),
+        None => place_of_undo(undos, greatest(undos)?),
+    }
+}
+
+fn place_of_undo<L: Terms>(undos: &[Undo<L>], serial: u64) -> Option<usize>
+    ensures { result ≡ position (λ t. t.serial == serial) undos.now }
+{
+    undos.iter().position(|undo| undo.serial() == serial)
+}
+
+fn greatest<L: Terms>(undos: &[Undo<L>]) -> Option<u64>
+    ensures { result ≡ reduce max (serials undos.now) }
+{
+    undos.iter().map(|undo| undo.serial()).max()
+}
+
+/// The place of the redo that a command means: that of the serial, or without one the latest.
+pub(crate) fn redo_place<L: Terms>(redos: &[Redo<L>], serial: Option<u64>) -> Option<usize>
+    ensures { IsPlaceOf (redo_meant (serials redos.now) serial) (serials redos.now) result }
+{
+    match serial {
+        Some(serial) => place_of_redo(redos, serial),
+        None => place_of_redo(redos, redos.last()?.serial()),
+    }
+}
+
+fn place_of_redo<L: Terms>(redos: &[Redo<L>], serial: u64) -> Option<usize>
+    ensures { result ≡ position (λ t. t.serial == serial) redos.now }
+{
+    redos.iter().position(|redo| redo.serial() == serial)
+}
+
+/// Holds an undo, and tells its serial.
+pub(crate) fn hold_undo<L: Terms>(
+    undos: &mut Vec<Undo<L>>,
+    undo: Undo<L>,
+    word: &[u8],
+    out: &mut Vec<u8>,
+) -> Result<(), ServeFault>
+    requires { vec_len undos.old < vec_capacity undos.old }
+    ensures held { serials undos.new.items ≡ serials undos.old.items ++ undo.serial ∷ [] }
+    ensures told { OnOk result (out.new.items ≡ out.old.items ++ numbered word.now undo.serial) }
+{
+    let serial = undo.serial();
+    undos.push_reserved(undo);
+    lines::numbered(word, serial, out)
+}
+
+/// Holds a redo, and tells its serial.
+pub(crate) fn hold_redo<L: Terms>(
+    redos: &mut Vec<Redo<L>>,
+    redo: Redo<L>,
+    word: &[u8],
+    out: &mut Vec<u8>,
+) -> Result<(), ServeFault>
+    requires { vec_len redos.old < vec_capacity redos.old }
+    ensures held { serials redos.new.items ≡ serials redos.old.items ++ redo.serial ∷ [] }
+    ensures told { OnOk result (out.new.items ≡ out.old.items ++ numbered word.now redo.serial) }
+{
+    let serial = redo.serial();
+    redos.push_reserved(redo);
+    lines::numbered(word, serial, out)
+}
+
+/// Holds the undo of a change that strayed, where there is one.
+pub(crate) fn hold_strayed<L: Terms>(undos: &mut Vec<Undo<L>>, undo: Option<Undo<L>>)
+    requires { vec_len undos.old < vec_capacity undos.old }
+    ensures { IfNone undo (undos.new.items ≡ undos.old.items) }
+{
+    if let Some(undo) = undo {
+        undos.push_reserved(undo);
+    }
+}
+
+/// Puts a token back where it was.
+fn put_back<T>(tokens: &mut Vec<T>, place: usize, token: T)
+    requires place { place ≤ vec_len tokens.old }
+    requires room { vec_len tokens.old < vec_capacity tokens.old }
+    ensures { tokens.new.items ≡ insert tokens.old.items place token }
+{
+    match tokens.insert(place, token) {
+        Ok(()) => {}
+        Err(_full) => unreachable!(),
+    }
+}
+
+/// Puts a token back where it was, unless it was spent.
+pub(crate) fn put_back_unspent<T>(tokens: &mut Vec<T>, place: usize, token: Option<T>)
+    requires place { place ≤ vec_len tokens.old }
+    requires room { vec_len tokens.old < vec_capacity tokens.old }
+    ensures { IfSome token (λ t. tokens.new.items ≡ insert tokens.old.items place t) }
+{
+    if let Some(token) = token {
+        put_back(tokens, place, token);
+    }
+}
+
+/// Holds what an undo gave back: its own token where it was, or the redo of an undo that strayed.
+pub(crate) fn hold_undone<L: Terms>(
+    undos: &mut Vec<Undo<L>>,
+    redos: &mut Vec<Redo<L>>,
+    place: usize,
+    token: Token<L>,
+)
+    requires place { place ≤ vec_len undos.old }
+    requires room { vec_len undos.old < vec_capacity undos.old }
+    requires redo_room { vec_len redos.old < vec_capacity redos.old }
+    ensures { (undo : Held) → token ≡ Token.Undo undo → (undos.new.items ≡ insert undos.old.items place undo) ×
+        (redos.new.items ≡ redos.old.items) }
+{
+    match token {
+        Token::Undo(undo) => put_back(undos, place, undo),
+        Token::Redo(redo) => redos.push_reserved(redo),
+    }
+}
+
+/// Holds what a redo gave back: its own token where it was, or the undo of a redo that strayed.
+pub(crate) fn hold_redone<L: Terms>(
+    undos: &mut Vec<Undo<L>>,
+    redos: &mut Vec<Redo<L>>,
+    place: usize,
+    token: Token<L>,
+)
+    requires place { place ≤ vec_len redos.old }
+    requires room { vec_len redos.old < vec_capacity redos.old }
+    requires undo_room { vec_len undos.old < vec_capacity undos.old }
+    ensures { (redo : Held) → token ≡ Token.Redo redo → (redos.new.items ≡ insert redos.old.items place redo) ×
+        (undos.new.items ≡ undos.old.items) }
+{
+    match token {
+        Token::Redo(redo) => put_back(redos, place, redo),
+        Token::Undo(undo) => undos.push_reserved(undo),
+    }
+}
+
+/// The place of harvest K, where there was one.
+fn harvest_place(harvests: &[Option<Harvest>], number: u64) -> Option<usize>
+    ensures place { IfSome result (λ place. (number ≡ place + 1) × (place < length harvests.now)) }
+    ensures none { IfNone result (harvest_kept harvests.now number ≡ None) }
+{
+    if number == 0 || number > harvests.len() as u64 {
+        return None;
+    }
+    Some((number - 1) as usize)
+}
+
+/// Takes harvest K out, where it is kept.
+pub(crate) fn take_harvest(harvests: &mut Vec<Option<Harvest>>, number: u64) -> Option<Harvest>
+    ensures kept { result ≡ harvest_kept harvests.old.items number }
+    ensures gone { IfSome result (λ _. harvests.new.items ≡ slice_set harvests.old.items (number - 1) None) }
+    ensures within { IfSome result (λ _. (0 < number) × (number ≤ vec_len harvests.new)) }
+    ensures none { IfNone result (harvests.new.items ≡ harvests.old.items) }
+{
+    let place = harvest_place(harvests, number)?;
+    harvests[place].take()
+}
+
+/// Puts harvest K back, unless its commit strayed.
+pub(crate) fn return_harvest(
+    harvests: &mut Vec<Option<Harvest>>,
+    number: u64,
+    fault: &ClientFault<CommitFault>,
+    harvest: Option<Harvest>,
+)
+    requires some { 0 < number }
+    requires within { number ≤ vec_len harvests.old }
+    ensures strayed { fault.now ≡ ClientFault.Stray → harvests.new.items ≡ harvests.old.items }
+    ensures back { UnlessStray fault.now (harvests.new.items ≡ slice_set harvests.old.items (number - 1) harvest) }
+{
+    if !matches!(fault, ClientFault::Stray) {
+        harvests[(number - 1) as usize] = harvest;
+    }
+}
