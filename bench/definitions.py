@@ -101,7 +101,10 @@ def imports_of(text):
 
 
 def exported(crate):
-    """The names that a crate gives away, and the files whose public items are public; None for a program: all are."""
+    """
+    The names that a crate gives away, and the files whose public items are public; None for a program: all are, but for
+    types of one file alone.
+    """
     root = f"{ROOT}/crates/{crate}/src/lib.rt"
     if not os.path.isfile(root):
         return None
@@ -174,6 +177,9 @@ def collect():
             if crate.endswith("_tests") or "#[test]" in text:
                 continue
             is_public = (lambda name: True) if not given or path in given[1] else given[0].__contains__
+            if not given:
+                own = set(re.findall(r"(?m)^(?:struct|enum|trait) (\w+)", text))
+                is_public = lambda name, own=own: name not in own
             names, files = imports_of(text)
             contracts = contracts_of(text, is_public, ("pub ",) if given else ("pub ", "pub(crate) "))
             for word in set(re.findall(rf"{WORD}(?:\.{WORD})?", "\n".join(contracts))):

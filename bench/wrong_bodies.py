@@ -218,7 +218,8 @@ class Body:
         lines = read(edit).decode().split("\n")
         self.compiler = lines[0][len(BY_COMPILER) :].strip() if lines[0].startswith(BY_COMPILER) else ""
         self.test = lines[0][len(BY_TEST) :].strip() if lines[0].startswith(BY_TEST) else ""
-        self.test = lines[0][len(BY_ROW) :].strip() if lines[0].startswith(BY_ROW) else self.test
+        self.is_row = lines[0].startswith(BY_ROW)
+        self.test = lines[0][len(BY_ROW) :].strip() if self.is_row else self.test
         self.pairs = pairs_of(lines)
         self.why = RT.read_edit(edit, crate.folder)[1]
         self.place, self.functions = place_of(self.pairs, crate)
@@ -373,21 +374,23 @@ def is_failing(crate, body, log):
             with open(f"{top}/crates/{crate.name}/{path}", "w", encoding="utf-8") as it:
                 it.write(text)
         folder = f"{top}/crates/{above}"
-        if not test:
-            return writes_otherwise(folder, body, log)
+        if body.is_row:
+            return writes_otherwise(folder, test.split(), body, log)
         said = subprocess.run(["rt", "try", "--test"], cwd=folder, stdout=subprocess.PIPE, stderr=subprocess.STDOUT, text=True).stdout
     log.write(f"{body.name}\n{said}\n{'=' * 100}\n")
     return bool(re.search(rf"(?m)^test (\S+::)?{test} \.\.\. FAILED", said))
 
 
-def writes_otherwise(folder, body, log):
-    """Whether a program, run unproved over its data, ends and writes something else than its stored output."""
-    data = sorted(os.listdir(f"{folder}/data")) if os.path.isdir(f"{folder}/data") else []
-    words = [word for name in data for word in ("--data", f"{name}=data/{name}")]
-    command = ["rt", "try", "--seconds", "600", *words]
+def writes_otherwise(folder, words, body, log):
+    """Whether a program, run unproved over its data with these words, ends and writes what its stored output lacks."""
+    top = f"{folder}/data"
+    data = sorted(os.path.relpath(f"{at}/{name}", top) for at, _, names in os.walk(top) for name in names)
+    handed = [word for name in data for word in ("--data", f"{name}=data/{name}")]
+    command = ["rt", "try", "--seconds", "600", *handed, *(["--", *words] if words else [])]
     ran = subprocess.run(command, cwd=folder, stdin=subprocess.DEVNULL, capture_output=True, text=True)
     log.write(f"{body.name}\n{ran.stdout}\n{ran.stderr}\n{'=' * 100}\n")
-    return "run=ended" in ran.stderr and ran.stdout != read(f"{folder}/stdout").decode()
+    stored = read(f"{folder}/stdout").decode()
+    return "run=ended" in ran.stderr and (ran.stdout not in stored if words else ran.stdout != stored)
 
 
 def batches(bodies, most):

@@ -50,8 +50,9 @@ fn answer<T: Threads + Wait + Sync>(
 ) -> Result<()> {
     let mut reader = Device::reader(script);
     let mut writer = Device::writer(rt.stdout().lock());
-    match run_on(threads, alloc, family, 1, &mut reader, &mut writer) {
-        Some(ended) => Ok(ended?),
+    match run_on(threads, alloc, family, 1, None, &mut reader, &mut writer) {
+        Some(Ok(_)) => Ok(()),
+        Some(Err(fault)) => Err(fault.into()),
         None => bail!("no run"),
     }
 }

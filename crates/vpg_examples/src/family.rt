@@ -2,20 +2,16 @@
 
 ghost use Rattle.std.specs.Prelude.{◌≡◌};
 
-use crate::devices::{Gives, Takes};
 use anyhow::Result;
 use std::alloc::Global;
+use std::io::{Read, Write};
 use std::sync::{Arc, Wait};
 use std::thread::Threads;
 use vpg_diagram::Diagram;
 use vpg_game::GuardedGame;
-use vpg_report::{RunFault, run};
+use vpg_report::{DIAGRAM, GAME, RunFault, run, run_as};
 use vpg_script::{Device, Sink, Source};
-
-/// The diagram and the game of most examples.
-pub(crate) const DIAGRAM: &[u8] = b"root r\noptional r f\noptional r g\n";
-
-pub(crate) const GAME: &[u8] = b"parity 1; 0 1 0 1[f],0; 1 2 1 0[g],1;";
+use vpg_serving::{Ending, Manner};
 
 /// A game with its diagram.
 pub(crate) struct Family {
@@ -51,21 +47,27 @@ impl Family {
         Ok(Family { game, diagram })
     }
 
+    /// The family of most examples, which is built in.
+    pub(crate) fn built_in(alloc: Global) -> Result<Family> {
+        Family::read(alloc, DIAGRAM.as_bytes(), GAME.as_bytes())
+    }
+
     /// Whether nothing else has the game, as each office of it has.
     fn is_alone(&self) -> bool {
         Arc::strong_count(&self.game) == 1 && Arc::strong_count(&self.diagram) == 1
     }
 }
 
-/// Runs a script on a family. Nothing where there is no run.
+/// Runs a script on a family, in a manner where one is given. Nothing where there is no run.
 pub(crate) fn run_on<R: Threads + Wait + Sync, S: Source, T: Sink>(
     rt: &R,
     alloc: Global,
     family: &Family,
     lifters: u32,
+    manner: Option<Manner>,
     reader: &mut S,
     writer: &mut T,
-) -> Option<Result<(), RunFault>>
+) -> Option<Result<Ending, RunFault>>
     requires { S.calls reader.old ≡ 0 }
 {
     let game = Arc::try_clone(&family.game).ok()?;
@@ -74,20 +76,27 @@ pub(crate) fn run_on<R: Threads + Wait + Sync, S: Source, T: Sink>(
         return None;
     }
     let lifters = lifters.clamp(1, 64);
-    Some(run(rt, alloc, game, diagram, reader, writer, lifters))
+    Some(match manner {
+        Some(manner) => run_as(rt, alloc, game, diagram, reader, writer, lifters, manner),
+        None => match run(rt, alloc, game, diagram, reader, writer, lifters) {
+            Ok(()) => Ok(Ending::Whole),
+            Err(fault) => Err(fault),
+        },
+    })
 }
 
 /// How a run over these devices ends. Nothing where there is no run, or where its office is still there afterwards.
-pub(crate) fn outcome<R: Threads + Wait + Sync>(
+pub(crate) fn outcome<R: Threads + Wait + Sync, S: Read + Drop, T: Write + Drop>(
     rt: &R,
     alloc: Global,
     family: &Family,
     lifters: u32,
-    gives: Gives,
-    takes: Takes<'_>,
-) -> Option<Result<(), RunFault>> {
-    let mut reader = Device::reader(gives);
-    let mut writer = Device::writer(takes);
-    let ended = run_on(rt, alloc, family, lifters, &mut reader, &mut writer);
+    manner: Option<Manner>,
+    reader: S,
+    writer: T,
+) -> Option<Result<Ending, RunFault>> {
+    let mut reader = Device::reader(reader);
+    let mut writer = Device::writer(writer);
+    let ended = run_on(rt, alloc, family, lifters, manner, &mut reader, &mut writer);
     if family.is_alone() { ended } else { None }
 }

@@ -1,8 +1,9 @@
 //! Runs that memory or a device ends, and a line for each kind.
 
-use crate::family::{DIAGRAM, Family, GAME};
-use crate::scripts::MOST_BYTES;
-use crate::{devices, scripts};
+mod devices;
+mod scripts;
+
+use crate::family::Family;
 use anyhow::{Context, Result};
 use std::alloc::Global;
 use std::io;
@@ -28,9 +29,11 @@ fn fail_devices<R: Threads + Wait + Sync + Print>(
 ) -> io::Result<()> {
     let reads = devices::reads(rt, alloc, family);
     write_line(rt, "a reader that fails at each call in turn", reads)?;
-    let bytes = devices::writes(rt, alloc, family, 1);
+    let bytes = devices::writes(rt, alloc, family, 1, 1);
     write_line(rt, "a writer of a byte a call", bytes)?;
-    let answers = devices::writes(rt, alloc, family, usize::MAX);
+    let pairs = devices::writes(rt, alloc, family, usize::MAX, 2);
+    write_line(rt, "a writer of two bytes a call", pairs)?;
+    let answers = devices::writes(rt, alloc, family, 1, usize::MAX);
     write_line(rt, "a writer of an answer a call", answers)
 }
 
@@ -40,7 +43,7 @@ fn fail_with_little<R: Threads + Wait + Sync + Print>(
     heap: &mut Heap,
     family: &Family,
 ) -> Result<()> {
-    let mut got = Vec::with_capacity(heap.alloc(), MOST_BYTES)?;
+    let mut got = Vec::with_capacity(heap.alloc(), scripts::MOST_BYTES)?;
     let reads = devices::reads_with_little(rt, heap, family, &mut got);
     write_line(rt, "a reader that fails, with little memory", reads)?;
     let writes = devices::writes_with_little(rt, heap, family, &mut got);
@@ -72,6 +75,6 @@ pub(crate) fn refuse_all<R: Threads + Wait + Sync + Print>(
 ) -> Result<()> {
     let mut heap = Heap::new(alloc, words)?;
     let mut report = Report::new(alloc)?;
-    let family = Family::read(alloc, DIAGRAM, GAME)?;
+    let family = Family::built_in(alloc)?;
     refuse_of(rt, &mut heap, &mut report, &family)
 }

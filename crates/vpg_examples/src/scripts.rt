@@ -1,96 +1,216 @@
-//! Whole runs of a script with little memory.
+//! Scripts with what they answer and how they end, and a line for each table of them, or for what holds.
 
-use crate::devices::{Gives, Takes};
-use crate::family::{Family, outcome};
+mod devices;
+mod ends;
+mod manners;
+mod order;
+mod rows;
+mod runs;
+mod served;
+
+use crate::family::Family;
+use crate::scripts::rows::Worked;
+use anyhow::Result;
+use std::alloc::Global;
+use std::io;
 use std::sync::Wait;
 use std::thread::Threads;
-use vpg_report::RunFault;
-use vpg_scarce::{Heap, MOST_TRIES, Report, Told, more};
+use vpg_script::LineFault;
 
-/// A line for each command.
-const SCRIPT: &[u8] = b"\
-    exclude f\nharvest\n2: select g\ncommit 1\nlift dual 1\nundo 2\nredo 2\nundo 2\nforget 2\n\
-    retract f\nundo\nredo\nkeep 3\nkeep 1\nselect f\nselect g\nsettle\nshow\nshow 1\ntrail\nproducts\n\
-    known f\nplan\ncount\nassert 0 possible\nassert full\nretract g\nexclude f\nwhy 0\nwhy r\nwhy +f\n\
-    example 0\ncounterexample 1\noffer 0\nneeds 0\nretract f\nexclude f\nsettle\nwhy 0\nrepair 0\n";
-
-/// What it answers.
-const ANSWERS: &[u8] = b"\
-    done 1\nharvest 1\ndone 2\nadded 2\nadded 0\nundone 2\nredone 2\nundone 2\nforgotten 2\ndone 3\n\
-    undone 3\nredone 3\nkept 3\nkept 1\ndone 4\ndone 5\nsettled 3\ndecisions +f +g\nfull yes\n\
-    settled yes\n0 1 2 possible sure\n1 0 2 possible sure\n1 0 2 possible sure\nselect f 4\nselect g 5\n\
-    hopeful 0 0 1 +f +g\ndual 0 0 2 +f +g\ndual 1 0 2 +f +g\nentries 5\nin r f g\nout\nopen\nin f\n\
-    plan 0 1\nplans 1\nhopeless 0\npossible 2\nsure 2\nunsure 0\nsettled yes\nfull yes\nholds\nholds\n\
-    done 6\nrefused AlreadyDecided 4\npossible 0\nunsure 0\nin r\nrefused NoConflict\nproduct r f g\n\
-    none\noffer +g possible sure\noffer -g possible sure\noffers 2\nneeds 0\ndone 7\ndone 8\nsettled 2\n\
-    hopeless 0 -f\nunsure 0\nrepair -f\nrepairs 1\n";
-
-/// More than the answers have bytes.
-pub(crate) const MOST_BYTES: usize = 8192;
-
-/// Runs the script with so much memory: how that ends.
-fn run_within<R: Threads + Wait + Sync>(
-    rt: &R,
-    heap: &mut Heap,
-    family: &Family,
-    lifters: u32,
-    got: &mut Vec<u8>,
-    bytes: usize,
-) -> Option<Result<(), RunFault>> {
-    let gives = Gives {
-        script: SCRIPT,
-        calls: usize::MAX,
-        fails: false,
-    };
-    got.clear();
-    let takes = Takes {
-        got,
-        bytes: MOST_BYTES,
-        calls: usize::MAX,
-    };
-    heap.leave(bytes);
-    let ended = outcome(rt, heap.alloc(), family, lifters, gives, takes);
-    heap.relax();
-    ended
+/// A table of rows.
+#[derive(Clone, Copy)]
+enum Table {
+    Worked(Worked),
+    Manners,
+    Ends,
+    Faulty(LineFault),
 }
 
-/// What comes of running the script with more and more memory: each time what was written is a prefix of the answers,
-/// and at last all of them.
-fn run_often<R: Threads + Wait + Sync>(
+/// The tables with their names.
+static TABLES: [(&str, Table); 20] = [
+    ("worked scripts, settling", Table::Worked(Worked::Settling)),
+    ("worked scripts, changes", Table::Worked(Worked::Changes)),
+    ("worked scripts, harvests", Table::Worked(Worked::Harvests)),
+    (
+        "worked scripts, knowledge",
+        Table::Worked(Worked::Knowledge),
+    ),
+    ("worked scripts, plans", Table::Worked(Worked::Plans)),
+    ("worked scripts, counts", Table::Worked(Worked::Counts)),
+    (
+        "worked scripts, other verdicts",
+        Table::Worked(Worked::OtherVerdicts),
+    ),
+    ("worked scripts, pictures", Table::Worked(Worked::Pictures)),
+    (
+        "worked scripts, products left",
+        Table::Worked(Worked::ProductsLeft),
+    ),
+    (
+        "worked scripts, known features",
+        Table::Worked(Worked::Known),
+    ),
+    ("worked scripts, sights", Table::Worked(Worked::Sights)),
+    ("worked scripts, reasons", Table::Worked(Worked::Whys)),
+    ("worked scripts, examples", Table::Worked(Worked::Examples)),
+    ("worked scripts, offers", Table::Worked(Worked::Offers)),
+    (
+        "worked scripts, needs and repairs",
+        Table::Worked(Worked::NeedsAndRepairs),
+    ),
+    ("worked scripts, moves", Table::Worked(Worked::Moves)),
+    ("scripts in each manner", Table::Manners),
+    ("scripts on families, and how they end", Table::Ends),
+    (
+        "lines with other words than their command takes",
+        Table::Faulty(LineFault::Args),
+    ),
+    ("lines without a command", Table::Faulty(LineFault::Word)),
+];
+
+/// What is looked at one by one.
+#[derive(Clone, Copy)]
+enum Check {
+    WidestMeasures,
+    Order,
+    FaultyLine,
+    LongestLine,
+    LongLine,
+    Conflict,
+    BrokenDevices,
+    Manners,
+    ServedLines,
+    ServedFault,
+    ServedDevices,
+}
+
+/// The same, as lines say it.
+static CHECKS: [(&str, Check); 11] = [
+    (
+        "a vertex rises to the widest measure",
+        Check::WidestMeasures,
+    ),
+    ("each answer is written before more is read", Check::Order),
+    ("a run ends at a faulty line", Check::FaultyLine),
+    ("a line has a longest length", Check::LongestLine),
+    (
+        "a run ends where its reader fails within a long line",
+        Check::LongLine,
+    ),
+    (
+        "no office is opened on a diagram in conflict",
+        Check::Conflict,
+    ),
+    (
+        "broken devices end a script on a family",
+        Check::BrokenDevices,
+    ),
+    ("a script ends in each manner as it should", Check::Manners),
+    ("a server answers lines", Check::ServedLines),
+    (
+        "a server's script ends at a faulty line",
+        Check::ServedFault,
+    ),
+    (
+        "a server's script ends at a device that fails",
+        Check::ServedDevices,
+    ),
+];
+
+/// The place of the first row of a table that holds otherwise.
+fn first_other<R: Threads + Wait + Sync>(
     rt: &R,
-    heap: &mut Heap,
+    alloc: Global,
     family: &Family,
-    lifters: u32,
-    got: &mut Vec<u8>,
-) -> Told {
-    let mut bytes = 0;
-    for tries in 0..MOST_TRIES {
-        let ended = run_within(rt, heap, family, lifters, got, bytes);
-        if !ANSWERS.starts_with(got) {
-            return Told::Changed;
-        }
-        match ended {
-            Some(Ok(())) if got.len() < ANSWERS.len() => return Told::Changed,
-            Some(Ok(())) if tries == 0 => return Told::TakesNone,
-            Some(Ok(())) => return Told::Unchanged,
-            Some(Err(RunFault::Memory)) => bytes = more(bytes),
-            _ => return Told::Otherwise,
-        }
+    table: Table,
+) -> Option<usize> {
+    match table {
+        Table::Worked(worked) => rows::first_other(rt, alloc, worked),
+        Table::Manners => manners::first_other(rt, alloc, family),
+        Table::Ends => ends::first_other(rt, alloc),
+        Table::Faulty(fault) => served::first_other(rt, alloc, fault),
     }
-    Told::Never
 }
 
-/// Runs the script with little memory, by one lifter and by two.
-pub(crate) fn refuse<R: Threads + Wait + Sync>(
+fn holds<R: Threads + Wait + Sync>(rt: &R, alloc: Global, family: &Family, check: Check) -> bool {
+    match check {
+        Check::WidestMeasures => rows::rises_to_the_limit(rt, alloc),
+        Check::Order => order::is_kept(rt, alloc, family),
+        Check::FaultyLine => devices::ends_at_a_faulty_line(rt, alloc, family),
+        Check::LongestLine => devices::has_a_longest_line(rt, alloc, family),
+        Check::LongLine => manners::ends_in_a_long_line(rt, alloc, family),
+        Check::Conflict => devices::is_not_opened(rt, alloc),
+        Check::BrokenDevices => ends::breaks(rt, alloc),
+        Check::Manners => ends::is_told(rt, alloc),
+        Check::ServedLines => served::answers_lines(rt, alloc),
+        Check::ServedFault => served::names_the_line(rt, alloc),
+        Check::ServedDevices => served::ends_at_devices(rt, alloc),
+    }
+}
+
+/// Writes which row of a table holds otherwise, if one does.
+fn write_rows<R: Print>(rt: &R, name: &str, other: Option<usize>) -> io::Result<()> {
+    match other {
+        None => println!(rt; "{name}: as stored"),
+        Some(row) => println!(rt; "{name}: ROW {row} OTHERWISE"),
+    }
+}
+
+/// Writes whether what a line says holds.
+fn write_line<R: Print>(rt: &R, name: &str, holds: bool) -> io::Result<()> {
+    let word = if holds { "holds" } else { "DOES NOT HOLD" };
+    println!(rt; "{name}: {word}")
+}
+
+/// Writes a line for each table.
+fn write_tables<R: Threads + Wait + Sync + Print>(
     rt: &R,
-    heap: &mut Heap,
-    report: &mut Report,
+    alloc: Global,
     family: &Family,
-) -> Option<()> {
-    let mut got = Vec::with_capacity(heap.alloc(), MOST_BYTES).ok()?;
-    let told = run_often(rt, heap, family, 1, &mut got);
-    report.note(heap, "run by one lifter", told);
-    let told = run_often(rt, heap, family, 2, &mut got);
-    report.note(heap, "run by two lifters", told);
-    Some(())
+) -> io::Result<()> {
+    for (name, table) in &TABLES {
+        write_rows(rt, name, first_other(rt, alloc, family, *table))?;
+    }
+    Ok(())
+}
+
+/// Writes a line for each check.
+fn write_checks<R: Threads + Wait + Sync + Print>(
+    rt: &R,
+    alloc: Global,
+    family: &Family,
+) -> io::Result<()> {
+    for (name, check) in &CHECKS {
+        write_line(rt, name, holds(rt, alloc, family, *check))?;
+    }
+    Ok(())
+}
+
+/// Writes both.
+fn write_both<R: Threads + Wait + Sync + Print>(
+    rt: &R,
+    alloc: Global,
+    family: &Family,
+) -> Result<()> {
+    write_tables(rt, alloc, family)?;
+    write_checks(rt, alloc, family)?;
+    Ok(())
+}
+
+/// Carries out all scripts but those that are read most often, and writes a line for each table and check.
+pub(crate) fn carry_out<R: Threads + Wait + Sync + Print>(rt: &R, alloc: Global) -> Result<()> {
+    let family = Family::built_in(alloc)?;
+    write_both(rt, alloc, &family)
+}
+
+/// Has a script read as often as one may be, and writes whether no more reads are made.
+pub(crate) fn count_reads<R: Threads + Wait + Sync + Print>(rt: &R, alloc: Global) -> Result<()> {
+    let family = Family::built_in(alloc)?;
+    let holds = devices::counts_reads(rt, alloc, &family);
+    write_line(
+        rt,
+        "a script is read 16,777,216 times and no more often",
+        holds,
+    )?;
+    Ok(())
 }

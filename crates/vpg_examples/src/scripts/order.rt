@@ -1,13 +1,13 @@
 //! Each answer is written whole before more of the script is asked for.
 
-use super::runs::outcome;
+use crate::family::{Family, outcome};
 use std::alloc::Global;
 use std::io;
 use std::io::{Read, Write};
 use std::sync::Wait;
 use std::sync::atomic::{AtomicU64, Ordering};
-use std::test::*;
 use std::thread::Threads;
+use vpg_serving::Ending;
 
 const SCRIPT: &[u8] = b"exclude f\n# none\nsettle\n\nshow\n";
 
@@ -65,29 +65,25 @@ impl Write for Counts<'_> {
 }
 
 /// Runs the script, and says whether it came to its end.
-fn ends<T: Threads + Wait + Sync>(rt: &T, alloc: Global, seen: &Seen) -> bool {
+fn ends<T: Threads + Wait + Sync>(rt: &T, alloc: Global, family: &Family, seen: &Seen) -> bool {
     let reader = Looks {
         script: SCRIPT,
         line: 0,
         seen,
     };
-    match outcome(rt, alloc, reader, Counts { seen }) {
-        Some((ended, _)) => ended.is_ok(),
-        None => false,
-    }
+    outcome(rt, alloc, family, 1, None, reader, Counts { seen }) == Some(Ok(Ending::Whole))
 }
 
-#[test]
-fn an_answer_is_written_before_more_is_read(rt: HostRuntime) -> Result<(), Fail> {
+/// Whether each answer to the script is written before more of it is read.
+pub(super) fn is_kept<T: Threads + Wait + Sync>(rt: &T, alloc: Global, family: &Family) -> bool {
     let seen = Seen {
         written: AtomicU64::new(0),
         missed: AtomicU64::new(0),
     };
-    let ended = ends(&rt, rt.alloc(), &seen);
+    let ended = ends(rt, alloc, family, &seen);
     let (missed, written) = (
         seen.missed.load(Ordering::SeqCst),
         seen.written.load(Ordering::SeqCst),
     );
-    assert_eq!(rt; (ended, missed, written), (true, 0, 94));
-    Ok(())
+    ended && missed == 0 && written == 94
 }

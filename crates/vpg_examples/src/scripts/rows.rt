@@ -1,13 +1,14 @@
 //! Worked scripts, each with its whole output, by 1, 4 and 64 lifters. Lines are separated by ` / `.
-ghost use Rattle.std.specs.Prelude.{◌≤◌};
 
-use super::runs::{DIAGRAM, GAME, ends_so, put_lines};
+use super::runs::{ends_so, put_lines};
+use crate::devices::whole;
+use crate::family::Family;
 use std::alloc::Global;
 use std::fmt::Write;
-use std::process::Abort;
 use std::sync::Wait;
-use std::test::*;
 use std::thread::Threads;
+use vpg_report::{DIAGRAM, GAME};
+use vpg_serving::Ending;
 
 /// A game of one vertex that Even wins.
 const DOT: &str = "0 0 0 0;";
@@ -20,64 +21,115 @@ struct Row {
     answers: &'static str,
 }
 
-/// Whether the script ends without a fault, and answers just this.
+/// What the rows of a table are about.
+#[derive(Clone, Copy)]
+pub(super) enum Worked {
+    Settling,
+    Changes,
+    Harvests,
+    Knowledge,
+    Plans,
+    Counts,
+    OtherVerdicts,
+    Pictures,
+    ProductsLeft,
+    Known,
+    Sights,
+    Whys,
+    Examples,
+    Offers,
+    NeedsAndRepairs,
+    Moves,
+}
+
+/// Whether a script ends without a fault by so many lifters, and answers just this.
+fn is_answered_by<T: Threads + Wait + Sync>(
+    rt: &T,
+    alloc: Global,
+    family: &Family,
+    lifters: u32,
+    script: &[u8],
+    answers: &[u8],
+) -> bool {
+    let ended = Ok(Ending::Whole);
+    ends_so(
+        rt,
+        alloc,
+        family,
+        lifters,
+        None,
+        whole(script),
+        ended,
+        answers,
+    )
+}
+
+/// The same by 1, 4 and 64 lifters.
+fn is_answered_on<T: Threads + Wait + Sync>(
+    rt: &T,
+    alloc: Global,
+    family: &Family,
+    script: &str,
+    answers: &str,
+) -> bool {
+    let (mut text, mut wanted) = (Vec::new(alloc), Vec::new(alloc));
+    let done = put_lines(alloc, script, &mut text) & put_lines(alloc, answers, &mut wanted);
+    done && is_answered_by(rt, alloc, family, 1, &text, &wanted)
+        && is_answered_by(rt, alloc, family, 4, &text, &wanted)
+        && is_answered_by(rt, alloc, family, 64, &text, &wanted)
+}
+
+/// The same on the family of these texts.
 fn is_answered<T: Threads + Wait + Sync>(
     rt: &T,
     alloc: Global,
-    lifters: u32,
     diagram: &str,
     game: &str,
     script: &str,
     answers: &str,
-) -> bool
-    requires { (1 ≤ lifters) × (lifters ≤ 64) }
-{
-    let (mut text, mut wanted) = (Vec::new(alloc), Vec::new(alloc));
-    let done = put_lines(alloc, script, &mut text) & put_lines(alloc, answers, &mut wanted);
-    done && ends_so(
-        rt,
-        alloc,
-        lifters,
-        diagram,
-        game,
-        text.as_slice(),
-        Ok(()),
-        &wanted,
-    )
+) -> bool {
+    match Family::read(alloc, diagram.as_bytes(), game.as_bytes()) {
+        Ok(family) => is_answered_on(rt, alloc, &family, script, answers),
+        Err(_) => false,
+    }
 }
 
-fn holds_by<T: Threads + Wait + Sync>(rt: &T, alloc: Global, lifters: u32, row: &Row) -> bool
-    requires { (1 ≤ lifters) × (lifters ≤ 64) }
-{
-    is_answered(
-        rt,
-        alloc,
-        lifters,
-        row.diagram,
-        row.game,
-        row.script,
-        row.answers,
-    )
-}
-
-fn holds<T: Threads + Wait + Sync>(rt: &T, alloc: Global, row: &Row) -> bool {
-    holds_by(rt, alloc, 1, row) && holds_by(rt, alloc, 4, row) && holds_by(rt, alloc, 64, row)
-}
-
-/// The place of the first row that doesn't hold.
-fn first_wrong<T: Threads + Wait + Sync>(rt: &T, alloc: Global, rows: &[Row]) -> Option<usize> {
+/// The place of the first row of a table that is answered otherwise.
+pub(super) fn first_other<T: Threads + Wait + Sync>(
+    rt: &T,
+    alloc: Global,
+    table: Worked,
+) -> Option<usize> {
+    let rows = rows_of(table);
     for k in 0..rows.len() {
-        if !holds(rt, alloc, &rows[k]) {
+        let row = &rows[k];
+        if !is_answered(rt, alloc, row.diagram, row.game, row.script, row.answers) {
             return Some(k);
         }
     }
     None
 }
 
-/// Asserts that each row holds.
-fn all_hold<T: Threads + Wait + Sync + Abort + AllocGlobal>(rt: &T, rows: &[Row]) {
-    let wrong = first_wrong(rt, rt.alloc(), rows);
-    assert_eq!(rt; wrong, None);
+/// The rows of a table.
+fn rows_of(table: Worked) -> &'static [Row] {
+    match table {
+        Worked::Settling => &SETTLING,
+        Worked::Changes => &CHANGES,
+        Worked::Harvests => &HARVESTS,
+        Worked::Knowledge => &KNOWLEDGE,
+        Worked::Plans => &PLANS,
+        Worked::Counts => &COUNTS,
+        Worked::OtherVerdicts => &OTHER_VERDICTS,
+        Worked::Pictures => &PICTURES,
+        Worked::ProductsLeft => &PRODUCTS_LEFT,
+        Worked::Known => &KNOWN,
+        Worked::Sights => &SIGHTS,
+        Worked::Whys => &WHYS,
+        Worked::Examples => &EXAMPLES,
+        Worked::Offers => &OFFERS,
+        Worked::NeedsAndRepairs => &NEEDS_AND_REPAIRS,
+        Worked::Moves => &MOVES,
+    }
 }
 
 static SETTLING: [Row; 11] = [
@@ -85,25 +137,32 @@ static SETTLING: [Row; 11] = [
         diagram: DIAGRAM,
         game: GAME,
         script: "settle / show / products",
-        answers: "settled 2 / decisions / full no / settled yes / 0 1 0 possible unsure / 1 0 1 possible unsure / in r / out / open f g",
+        answers: "\
+            settled 2 / decisions / full no / settled yes / 0 1 0 possible unsure / 1 0 1 possible unsure / in r / out \
+            / open f g",
     },
     Row {
         diagram: DIAGRAM,
         game: GAME,
         script: "exclude f / settle / show / trail",
-        answers: "done 1 / settled 2 / decisions -f / full no / settled yes / 0 2 0 hopeless unsure / 1 0 1 possible unsure / exclude f 1 / hopeful 0 0 2 -f / dual 1 0 1 -f / entries 3",
+        answers: "\
+            done 1 / settled 2 / decisions -f / full no / settled yes / 0 2 0 hopeless unsure / 1 0 1 possible unsure \
+            / exclude f 1 / hopeful 0 0 2 -f / dual 1 0 1 -f / entries 3",
     },
     Row {
         diagram: DIAGRAM,
         game: GAME,
         script: "select f / settle / show",
-        answers: "done 1 / settled 3 / decisions +f / full no / settled yes / 0 1 2 possible sure / 1 0 2 possible sure",
+        answers: "\
+            done 1 / settled 3 / decisions +f / full no / settled yes / 0 1 2 possible sure / 1 0 2 possible sure",
     },
     Row {
         diagram: DIAGRAM,
         game: GAME,
         script: "exclude f / select g / select r / settle / show / products / plan",
-        answers: "done 1 / done 2 / done 3 / settled 3 / decisions -f +g +r / full yes / settled yes / 0 2 0 hopeless unsure / 1 2 1 hopeless unsure / in r g / out f / open / plans 0",
+        answers: "\
+            done 1 / done 2 / done 3 / settled 3 / decisions -f +g +r / full yes / settled yes / 0 2 0 hopeless unsure \
+            / 1 2 1 hopeless unsure / in r g / out f / open / plans 0",
     },
     Row {
         diagram: DIAGRAM,
@@ -145,7 +204,8 @@ static SETTLING: [Row; 11] = [
         diagram: DIAGRAM,
         game: "parity 1; 0 1 0 1[f & !g]; 1 2 0 1;",
         script: "select g / settle / show",
-        answers: "done 1 / settled 2 / decisions +g / full no / settled yes / 0 2 0 hopeless unsure / 1 0 2 possible sure",
+        answers: "\
+            done 1 / settled 2 / decisions +g / full no / settled yes / 0 2 0 hopeless unsure / 1 0 2 possible sure",
     },
 ];
 
@@ -154,25 +214,34 @@ static CHANGES: [Row; 11] = [
         diagram: DIAGRAM,
         game: GAME,
         script: "exclude f / settle / undo / trail / lift hopeful 0 / redo / trail / undo / trail",
-        answers: "done 1 / settled 2 / undone 1 / entries 0 / added 1 / redone 1 / exclude f 1 / hopeful 0 0 2 -f / dual 1 0 1 -f / entries 3 / undone 1 / hopeful 0 0 1 / entries 1",
+        answers: "\
+            done 1 / settled 2 / undone 1 / entries 0 / added 1 / redone 1 / exclude f 1 / hopeful 0 0 2 -f / dual 1 0 \
+            1 -f / entries 3 / undone 1 / hopeful 0 0 1 / entries 1",
     },
     Row {
         diagram: DIAGRAM,
         game: GAME,
         script: "select f / select g / settle / retract f / trail / settle / show",
-        answers: "done 1 / done 2 / settled 3 / done 3 / select g 2 / entries 1 / settled 2 / decisions +g / full no / settled yes / 0 1 0 possible unsure / 1 0 1 possible unsure",
+        answers: "\
+            done 1 / done 2 / settled 3 / done 3 / select g 2 / entries 1 / settled 2 / decisions +g / full no / \
+            settled yes / 0 1 0 possible unsure / 1 0 1 possible unsure",
     },
     Row {
         diagram: DIAGRAM,
         game: GAME,
         script: "select f / select g / settle / retract f / undo / show / trail",
-        answers: "done 1 / done 2 / settled 3 / done 3 / undone 3 / decisions +f +g / full yes / settled yes / 0 1 2 possible sure / 1 0 2 possible sure / select f 1 / select g 2 / hopeful 0 0 1 +f +g / dual 0 0 2 +f +g / dual 1 0 2 +f +g / entries 5",
+        answers: "\
+            done 1 / done 2 / settled 3 / done 3 / undone 3 / decisions +f +g / full yes / settled yes / 0 1 2 \
+            possible sure / 1 0 2 possible sure / select f 1 / select g 2 / hopeful 0 0 1 +f +g / dual 0 0 2 +f +g / \
+            dual 1 0 2 +f +g / entries 5",
     },
     Row {
         diagram: DIAGRAM,
         game: GAME,
         script: "select f / 2: select f / 2: exclude f / retract g / retract r / select x",
-        answers: "done 1 / refused AlreadyDecided 1 / refused AlreadyDecided 1 / refused NotDecided / refused NotDecided / refused UnknownFeature",
+        answers: "\
+            done 1 / refused AlreadyDecided 1 / refused AlreadyDecided 1 / refused NotDecided / refused NotDecided / \
+            refused UnknownFeature",
     },
     Row {
         diagram: DIAGRAM,
@@ -190,7 +259,9 @@ static CHANGES: [Row; 11] = [
         diagram: DIAGRAM,
         game: GAME,
         script: "select f / select g / undo / undo / redo 2 / redo / redo / undo / undo / forget 1 / redo 2",
-        answers: "done 1 / done 2 / undone 2 / undone 1 / refused NotNext 1 / redone 1 / redone 2 / undone 2 / undone 1 / forgotten 1 / refused Overtaken",
+        answers: "\
+            done 1 / done 2 / undone 2 / undone 1 / refused NotNext 1 / redone 1 / redone 2 / undone 2 / undone 1 / \
+            forgotten 1 / refused Overtaken",
     },
     Row {
         diagram: DIAGRAM,
@@ -223,13 +294,17 @@ static HARVESTS: [Row; 9] = [
         diagram: DIAGRAM,
         game: GAME,
         script: "exclude f / harvest / retract f / commit 1 / 2: exclude f / commit 1 / show",
-        answers: "done 1 / harvest 1 / done 2 / refused Outdated f / done 3 / added 2 / decisions -f / full no / settled yes / 0 2 0 hopeless unsure / 1 0 1 possible unsure",
+        answers: "\
+            done 1 / harvest 1 / done 2 / refused Outdated f / done 3 / added 2 / decisions -f / full no / settled yes \
+            / 0 2 0 hopeless unsure / 1 0 1 possible unsure",
     },
     Row {
         diagram: DIAGRAM,
         game: GAME,
         script: "exclude f / harvest / retract f / commit 1 / exclude f / commit 1 / show",
-        answers: "done 1 / harvest 1 / done 2 / refused Outdated f / done 3 / added 2 / decisions -f / full no / settled yes / 0 2 0 hopeless unsure / 1 0 1 possible unsure",
+        answers: "\
+            done 1 / harvest 1 / done 2 / refused Outdated f / done 3 / added 2 / decisions -f / full no / settled yes \
+            / 0 2 0 hopeless unsure / 1 0 1 possible unsure",
     },
     Row {
         diagram: DIAGRAM,
@@ -271,7 +346,10 @@ static HARVESTS: [Row; 9] = [
         diagram: DIAGRAM,
         game: GAME,
         script: "exclude f / harvest / select g / lift hopeful 0 / commit 1 / retract g / trail / undo / trail",
-        answers: "done 1 / harvest 1 / done 2 / added 1 / added 2 / done 3 / exclude f 1 / hopeful 0 0 2 -f / dual 1 0 1 -f / entries 3 / undone 3 / exclude f 1 / select g 2 / hopeful 0 0 1 -f +g / hopeful 0 1 2 -f / dual 1 0 1 -f / entries 5",
+        answers: "\
+            done 1 / harvest 1 / done 2 / added 1 / added 2 / done 3 / exclude f 1 / hopeful 0 0 2 -f / dual 1 0 1 -f \
+            / entries 3 / undone 3 / exclude f 1 / select g 2 / hopeful 0 0 1 -f +g / hopeful 0 1 2 -f / dual 1 0 1 -f \
+            / entries 5",
     },
 ];
 
@@ -280,7 +358,8 @@ static KNOWLEDGE: [Row; 9] = [
         diagram: DIAGRAM,
         game: GAME,
         script: "select f / select g / show",
-        answers: "done 1 / done 2 / decisions +f +g / full yes / settled no / 0 0 0 possible unsure / 1 0 0 possible unsure",
+        answers: "\
+            done 1 / done 2 / decisions +f +g / full yes / settled no / 0 0 0 possible unsure / 1 0 0 possible unsure",
     },
     Row {
         diagram: DIAGRAM,
@@ -289,43 +368,46 @@ static KNOWLEDGE: [Row; 9] = [
         answers: "refused Conflict r",
     },
     Row {
-        diagram: "root r / alternative r: a b",
+        diagram: "root r\nalternative r: a b\n",
         game: DOT,
         script: "select a / products / select b / products",
         answers: "done 1 / in r a / out b / open / refused Conflict b / in r a / out b / open",
     },
     Row {
-        diagram: "root r / group r 1 1: a b",
+        diagram: "root r\ngroup r 1 1: a b\n",
         game: DOT,
         script: "select a / products / select b / products",
         answers: "done 1 / in r a / out b / open / refused Conflict b / in r a / out b / open",
     },
     Row {
-        diagram: "root r / alternative r: a b / alternative r: c d / excludes a c / excludes a d / excludes b c / excludes b d",
+        diagram: "\
+            root r\nalternative r: a b\nalternative r: c d\nexcludes a c\nexcludes a d\nexcludes b c\nexcludes b d\n",
         game: DOT,
         script: "select a / exclude a",
         answers: "refused Conflict a / refused Conflict a",
     },
     Row {
-        diagram: "root r / or r: a b / group r 1 2: c d e",
+        diagram: "root r\nor r: a b\ngroup r 1 2: c d e\n",
         game: DOT,
         script: "exclude a / products / exclude b / select c / select d / products / select e",
-        answers: "done 1 / in r b / out a / open c d e / refused Conflict b / done 2 / done 3 / in r b c d / out a e / open / refused Conflict e",
+        answers: "\
+            done 1 / in r b / out a / open c d e / refused Conflict b / done 2 / done 3 / in r b c d / out a e / open \
+            / refused Conflict e",
     },
     Row {
-        diagram: "root r / or r: a b / group r 1 2: c d e",
+        diagram: "root r\nor r: a b\ngroup r 1 2: c d e\n",
         game: DOT,
         script: "exclude c / exclude d / products",
         answers: "done 1 / done 2 / in r e / out c d / open a b",
     },
     Row {
-        diagram: "root r / optional r p / group p 2 2: a b",
+        diagram: "root r\noptional r p\ngroup p 2 2: a b\n",
         game: DOT,
         script: "exclude a / products",
         answers: "done 1 / in r / out p a b / open",
     },
     Row {
-        diagram: "root r / group r 0 0: a",
+        diagram: "root r\ngroup r 0 0: a\n",
         game: DOT,
         script: "select a",
         answers: "refused Conflict a",
@@ -343,8 +425,12 @@ static COUNTS: [Row; 2] = [
     Row {
         diagram: DIAGRAM,
         game: GAME,
-        script: "count / select f / select g / settle / count / retract f / retract g / exclude f / 2: settle / 2: count",
-        answers: "hopeless 0 / possible 2 / sure 0 / unsure 2 / settled no / full no / done 1 / done 2 / settled 3 / hopeless 0 / possible 2 / sure 2 / unsure 0 / settled yes / full yes / done 3 / done 4 / done 5 / settled 2 / hopeless 1 / possible 1 / sure 0 / unsure 2 / settled yes / full no",
+        script: "\
+            count / select f / select g / settle / count / retract f / retract g / exclude f / 2: settle / 2: count",
+        answers: "\
+            hopeless 0 / possible 2 / sure 0 / unsure 2 / settled no / full no / done 1 / done 2 / settled 3 / \
+            hopeless 0 / possible 2 / sure 2 / unsure 0 / settled yes / full yes / done 3 / done 4 / done 5 / settled \
+            2 / hopeless 1 / possible 1 / sure 0 / unsure 2 / settled yes / full no",
     },
     Row {
         diagram: DIAGRAM,
@@ -401,7 +487,7 @@ static PICTURES: [Row; 2] = [
     },
     // What can be reached: over any edge that may be there, by Odd's moves, by Even's, and where an edge is gone.
     Row {
-        diagram: "root r / optional r a / optional r b / optional r c",
+        diagram: "root r\noptional r a\noptional r b\noptional r c\n",
         game: "0 1 1 1,2[c]; 1 1 0 0,3[a]; 2 0 1 2; 3 1 1 3; 4 0 0 4[b],5; 5 0 0 4,5[c];",
         script: "draw 1 / settle / draw 0 / draw 4 / exclude a / settle / 2: draw 1 / draw 7",
         answers: "\
@@ -434,7 +520,7 @@ static PICTURES: [Row; 2] = [
 static PRODUCTS_LEFT: [Row; 2] = [
     // d is in each product with a, though no line alone makes it known.
     Row {
-        diagram: "root r / optional r a / or a : b c / optional r d / requires b d / requires c d",
+        diagram: "root r\noptional r a\nor a : b c\noptional r d\nrequires b d\nrequires c d\n",
         game: DOT,
         script: "\
             forced / empty / select a / forced / known d / empty / select c / exclude b / forced",
@@ -445,8 +531,8 @@ static PRODUCTS_LEFT: [Row; 2] = [
     // No product has b, and no decision conflicts.
     Row {
         diagram: "\
-            root r / optional r b / or b : c d / alternative r : p q / requires c p / requires c q / requires d \
-            p / requires d q",
+            root r\noptional r b\nor b : c d\nalternative r : p q\nrequires c p\nrequires c q\nrequires d p\n\
+            requires d q\n",
         game: "parity 1; 0 1 0 1[b],0; 1 2 1 0[p],1;",
         script: "\
             forced / empty / select b / forced / empty / example 0 / select p / empty / retract b / empty / \
@@ -468,7 +554,7 @@ static KNOWN: [Row; 2] = [
     },
     // Each product has c, though it isn't known.
     Row {
-        diagram: "root r / optional r c / alternative r: a b / requires a c / requires b c",
+        diagram: "root r\noptional r c\nalternative r: a b\nrequires a c\nrequires b c\n",
         game: DOT,
         script: "known c / select a / known c / known b / retract a / known c",
         answers: "open c / done 1 / in c / out b / done 2 / open c",
@@ -524,18 +610,31 @@ static WHYS: [Row; 3] = [
     Row {
         diagram: DIAGRAM,
         game: GAME,
-        script: "why 0 / why r / why f / why +r / why -r / why -f / exclude g / exclude f / why 0 / settle / why 0 / why 1 / why f / why +f / 2: why -f / why 7 / why h / why +h / retract f / select f / settle / why 0 / why 1 / why g",
-        answers: "possible 0 / unsure 0 / in r / refused NotKnown / refused NoConflict / conflict -r / refused NoConflict / done 1 / done 2 / possible 0 / unsure 0 / settled 2 / hopeless 0 -f / unsure 0 / possible 1 / sure 1 -g / out f -f / conflict +f -f / refused NoConflict / refused NoVertex / refused UnknownFeature / refused UnknownFeature / done 3 / done 4 / settled 3 / possible 0 / sure 0 +f / possible 1 / sure 1 -g / out g -g",
+        script: "\
+            why 0 / why r / why f / why +r / why -r / why -f / exclude g / exclude f / why 0 / settle / why 0 / why 1 \
+            / why f / why +f / 2: why -f / why 7 / why h / why +h / retract f / select f / settle / why 0 / why 1 / \
+            why g",
+        answers: "\
+            possible 0 / unsure 0 / in r / refused NotKnown / refused NoConflict / conflict -r / refused NoConflict / \
+            done 1 / done 2 / possible 0 / unsure 0 / settled 2 / hopeless 0 -f / unsure 0 / possible 1 / sure 1 -g / \
+            out f -f / conflict +f -f / refused NoConflict / refused NoVertex / refused UnknownFeature / refused \
+            UnknownFeature / done 3 / done 4 / settled 3 / possible 0 / sure 0 +f / possible 1 / sure 1 -g / out g -g",
     },
     // Two decisions are needed together, and of two that suffice the older one is named.
     Row {
-        diagram: "root r / optional r a / optional r b / optional r c / optional r d / requires a d / requires b d / excludes c d",
+        diagram: "\
+            root r\noptional r a\noptional r b\noptional r c\noptional r d\nrequires a d\nrequires b d\nexcludes c d\n",
         game: "0 0 0 1[!a | !b]; 1 0 0 1;",
-        script: "select c / why d / why a / why +a / why +d / retract c / select b / select a / why d / why +c / why -d / settle / why 0 / retract b / select b / why d / settle / why 0",
-        answers: "done 1 / out d +c / out a +c / conflict +a +c / conflict +d +c / done 2 / done 3 / done 4 / in d +b / conflict +c +b / conflict -d +b / settled 2 / hopeless 0 +b +a / unsure 0 / done 5 / done 6 / in d +a / settled 2 / hopeless 0 +a +b / unsure 0",
+        script: "\
+            select c / why d / why a / why +a / why +d / retract c / select b / select a / why d / why +c / why -d / \
+            settle / why 0 / retract b / select b / why d / settle / why 0",
+        answers: "\
+            done 1 / out d +c / out a +c / conflict +a +c / conflict +d +c / done 2 / done 3 / done 4 / in d +b / \
+            conflict +c +b / conflict -d +b / settled 2 / hopeless 0 +b +a / unsure 0 / done 5 / done 6 / in d +a / \
+            settled 2 / hopeless 0 +a +b / unsure 0",
     },
     Row {
-        diagram: "root r / optional r a / optional r b / optional r c",
+        diagram: "root r\noptional r a\noptional r b\noptional r c\n",
         game: "0 0 0 1[!a & !b]; 1 0 0 1;",
         script: "select c / select b / select a / settle / why 0 / why 1",
         answers: "done 1 / done 2 / done 3 / settled 2 / hopeless 0 +b / unsure 0 / possible 1 / sure 1",
@@ -546,14 +645,22 @@ static EXAMPLES: [Row; 2] = [
     Row {
         diagram: DIAGRAM,
         game: GAME,
-        script: "example 0 / counterexample 0 / example 1 / counterexample 1 / exclude f / example 0 / 2: counterexample 0 / select g / counterexample 1 / example 7 / counterexample 7",
-        answers: "product r f g / product r g / product r f g / product r g / done 1 / none / product r g / done 2 / product r g / refused NoVertex / refused NoVertex",
+        script: "\
+            example 0 / counterexample 0 / example 1 / counterexample 1 / exclude f / example 0 / 2: counterexample 0 \
+            / select g / counterexample 1 / example 7 / counterexample 7",
+        answers: "\
+            product r f g / product r g / product r f g / product r g / done 1 / none / product r g / done 2 / product \
+            r g / refused NoVertex / refused NoVertex",
     },
     Row {
-        diagram: "root r / optional r a / optional r b / excludes a b",
+        diagram: "root r\noptional r a\noptional r b\nexcludes a b\n",
         game: "0 0 0 1[a & b],0[!a]; 1 0 0 1; 2 0 0 1[a],1[!a]; 3 0 1 1[a],1[!a],3[a & b];",
-        script: "settle / example 0 / counterexample 0 / example 2 / counterexample 2 / select a / settle / why 0 / example 0 / why 2 / counterexample 2",
-        answers: "settled 2 / product r b / product r a / product r a / none / done 1 / settled 2 / hopeless 0 +a / unsure 0 / none / possible 2 / sure 2 +a / none",
+        script: "\
+            settle / example 0 / counterexample 0 / example 2 / counterexample 2 / select a / settle / why 0 / example \
+            0 / why 2 / counterexample 2",
+        answers: "\
+            settled 2 / product r b / product r a / product r a / none / done 1 / settled 2 / hopeless 0 +a / unsure 0 \
+            / none / possible 2 / sure 2 +a / none",
     },
 ];
 
@@ -562,14 +669,22 @@ static OFFERS: [Row; 2] = [
         diagram: DIAGRAM,
         game: GAME,
         script: "offer 0 / offer 1 / select f / settle / 2: offer 0 / offer 1 / select g / offer 0 / offer 7",
-        answers: "offer +f possible sure / offer -f hopeless unsure / offer +g possible unsure / offer -g possible unsure / offers 4 / offer +f possible sure / offer -f possible unsure / offer +g possible unsure / offer -g possible sure / offers 4 / done 1 / settled 3 / offer +g possible sure / offer -g possible sure / offers 2 / offer +g possible sure / offer -g possible sure / offers 2 / done 2 / offers 0 / refused NoVertex",
+        answers: "\
+            offer +f possible sure / offer -f hopeless unsure / offer +g possible unsure / offer -g possible unsure / \
+            offers 4 / offer +f possible sure / offer -f possible unsure / offer +g possible unsure / offer -g \
+            possible sure / offers 4 / done 1 / settled 3 / offer +g possible sure / offer -g possible sure / offers 2 \
+            / offer +g possible sure / offer -g possible sure / offers 2 / done 2 / offers 0 / refused NoVertex",
     },
     // Each product has c, though it isn't known; to exclude it contradicts.
     Row {
-        diagram: "root r / optional r c / alternative r: a b / requires a c / requires b c",
+        diagram: "root r\noptional r c\nalternative r: a b\nrequires a c\nrequires b c\n",
         game: "0 0 0 1[c],2[a]; 1 1 1 1[b],0[!b]; 2 0 1;",
         script: "offer 0 / offer 2 / exclude a / settle / offer 1",
-        answers: "offer +c possible unsure / offer -c conflict / offer +a possible sure / offer -a hopeless unsure / offer +b hopeless unsure / offer -b possible sure / offers 6 / offer +c possible sure / offer -c conflict / offer +a possible sure / offer -a possible sure / offer +b possible sure / offer -b possible sure / offers 6 / done 1 / settled 4 / offers 0",
+        answers: "\
+            offer +c possible unsure / offer -c conflict / offer +a possible sure / offer -a hopeless unsure / offer \
+            +b hopeless unsure / offer -b possible sure / offers 6 / offer +c possible sure / offer -c conflict / \
+            offer +a possible sure / offer -a possible sure / offer +b possible sure / offer -b possible sure / offers \
+            6 / done 1 / settled 4 / offers 0",
     },
 ];
 
@@ -586,8 +701,7 @@ static NEEDS_AND_REPAIRS: [Row; 3] = [
     },
     Row {
         diagram: "\
-            root r / optional r a / optional r b / optional r c / optional r d / requires a d / requires b d / \
-            excludes c d",
+            root r\noptional r a\noptional r b\noptional r c\noptional r d\nrequires a d\nrequires b d\nexcludes c d\n",
         game: "0 0 0 1[!a | !b]; 1 0 0 1; 2 0 0 1[a],0[c]; 3 1 0 3;",
         script: "\
             needs 0 / needs 2 / needs 3 / repair 3 / select b / select a / repair 0 / settle / repair 0 / \
@@ -598,7 +712,7 @@ static NEEDS_AND_REPAIRS: [Row; 3] = [
     },
     // Each of two decisions is enough, so both are retracted together; the oldest stays.
     Row {
-        diagram: "root r / optional r a / optional r b / optional r c",
+        diagram: "root r\noptional r a\noptional r b\noptional r c\n",
         game: "0 0 0 1[!a & !b]; 1 0 0 1;",
         script: "\
             needs 0 / select c / select b / select a / settle / repair 0 / needs 0 / retract a / settle / \
@@ -623,7 +737,7 @@ static MOVES: [Row; 2] = [
     },
     // Moves along edges that are open are not made, but met: 0 to 2 and 4 to itself, and 1 to 3.
     Row {
-        diagram: "root r / optional r a / optional r b / optional r c",
+        diagram: "root r\noptional r a\noptional r b\noptional r c\n",
         game: "0 1 1 1,2[c]; 1 1 0 0,3[a]; 2 0 1 2; 3 1 1 3; 4 0 0 4[b],5; 5 0 0 4,5[c];",
         script: "\
             spoil 0 / plan 4 / settle / spoil 0 / spoil 1 / spoil 4 / plan 2 / plan 4 / plan 5 / exclude a / \
@@ -635,102 +749,6 @@ static MOVES: [Row; 2] = [
             plan 4 4 / plan 5 4 / plans 2 / refused NotFull",
     },
 ];
-
-#[test]
-fn settling_and_showing(rt: HostRuntime) -> Result<(), Fail> {
-    all_hold(&rt, &SETTLING);
-    Ok(())
-}
-
-#[test]
-fn changes_undone_and_redone(rt: HostRuntime) -> Result<(), Fail> {
-    all_hold(&rt, &CHANGES);
-    Ok(())
-}
-
-#[test]
-fn harvests_that_come_late(rt: HostRuntime) -> Result<(), Fail> {
-    all_hold(&rt, &HARVESTS);
-    Ok(())
-}
-
-#[test]
-fn what_decisions_make_known(rt: HostRuntime) -> Result<(), Fail> {
-    all_hold(&rt, &KNOWLEDGE);
-    Ok(())
-}
-
-#[test]
-fn plans_on_full_settled_pages(rt: HostRuntime) -> Result<(), Fail> {
-    all_hold(&rt, &PLANS);
-    Ok(())
-}
-
-#[test]
-fn verdicts_counted(rt: HostRuntime) -> Result<(), Fail> {
-    all_hold(&rt, &COUNTS);
-    Ok(())
-}
-
-#[test]
-fn other_verdicts_told(rt: HostRuntime) -> Result<(), Fail> {
-    all_hold(&rt, &OTHER_VERDICTS);
-    Ok(())
-}
-
-#[test]
-fn pictures_drawn(rt: HostRuntime) -> Result<(), Fail> {
-    all_hold(&rt, &PICTURES);
-    Ok(())
-}
-
-#[test]
-fn products_left(rt: HostRuntime) -> Result<(), Fail> {
-    all_hold(&rt, &PRODUCTS_LEFT);
-    Ok(())
-}
-
-#[test]
-fn one_feature_told(rt: HostRuntime) -> Result<(), Fail> {
-    all_hold(&rt, &KNOWN);
-    Ok(())
-}
-
-#[test]
-fn vertices_shown_and_asserted(rt: HostRuntime) -> Result<(), Fail> {
-    all_hold(&rt, &SIGHTS);
-    Ok(())
-}
-
-#[test]
-fn reasons_told(rt: HostRuntime) -> Result<(), Fail> {
-    all_hold(&rt, &WHYS);
-    Ok(())
-}
-
-#[test]
-fn products_found(rt: HostRuntime) -> Result<(), Fail> {
-    all_hold(&rt, &EXAMPLES);
-    Ok(())
-}
-
-#[test]
-fn decisions_offered(rt: HostRuntime) -> Result<(), Fail> {
-    all_hold(&rt, &OFFERS);
-    Ok(())
-}
-
-#[test]
-fn needs_and_repairs_told(rt: HostRuntime) -> Result<(), Fail> {
-    all_hold(&rt, &NEEDS_AND_REPAIRS);
-    Ok(())
-}
-
-#[test]
-fn moves_told(rt: HostRuntime) -> Result<(), Fail> {
-    all_hold(&rt, &MOVES);
-    Ok(())
-}
 
 /// Appends vertices of Even with an edge to themselves alone, each of an odd priority of its own; or answers that there
 /// was no memory.
@@ -745,18 +763,12 @@ fn put_climbers(vertices: u32, text: &mut String) -> bool {
 }
 
 /// With 62 odd priorities the top is 2^62, and the vertex of the greatest priority rises to it in two lifts.
-fn rises_to_the_limit<T: Threads + Wait + Sync>(rt: &T, alloc: Global) -> bool {
+pub(super) fn rises_to_the_limit<T: Threads + Wait + Sync>(rt: &T, alloc: Global) -> bool {
     let script =
         "lift hopeful 61 / lift hopeful 61 / lift hopeful 61 / lift hopeful 0 / lift dual 61 / trail";
-    let answers =
-        "added 1 / added 1 / added 0 / added 1 / added 0 / hopeful 61 0 2305843009213693952 / hopeful 61 2305843009213693952 4611686018427387904 / hopeful 0 0 1 / entries 3";
+    let answers = "\
+        added 1 / added 1 / added 0 / added 1 / added 0 / hopeful 61 0 2305843009213693952 / \
+        hopeful 61 2305843009213693952 4611686018427387904 / hopeful 0 0 1 / entries 3";
     let mut game = String::new(alloc);
-    put_climbers(62, &mut game)
-        && is_answered(rt, alloc, 1, DIAGRAM, game.as_str(), script, answers)
-}
-
-#[test]
-fn the_widest_measures(rt: HostRuntime) -> Result<(), Fail> {
-    assert!(rt; rises_to_the_limit(&rt, rt.alloc()));
-    Ok(())
+    put_climbers(62, &mut game) && is_answered(rt, alloc, DIAGRAM, game.as_str(), script, answers)
 }

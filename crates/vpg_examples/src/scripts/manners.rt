@@ -1,13 +1,13 @@
 //! Scripts in each manner, with what they answer and how they end.
-use super::ThenFails;
-use super::runs::{DIAGRAM, GAME, family_of, put_lines};
+
+use super::runs::{ends_so, put_lines};
+use crate::devices::{then_fails, whole};
+use crate::family::Family;
 use std::alloc::Global;
-use std::io::Read;
 use std::sync::Wait;
-use std::test::*;
 use std::thread::Threads;
-use vpg_report::{RunFault, run_as};
-use vpg_script::{Device, LineFault};
+use vpg_report::RunFault;
+use vpg_script::LineFault;
 use vpg_serving::{Ending, Manner};
 
 /// A manner, a script, what it answers, and how it ends. Lines are separated by ` / `, and the last line of the script
@@ -19,12 +19,14 @@ struct Row {
     ended: Result<Ending, RunFault>,
 }
 
-const PLAIN: Manner = Manner {
+/// Each line is answered, and a fault ends the script.
+pub(super) const PLAIN: Manner = Manner {
     is_strict: false,
     goes_on: false,
 };
 
-const STRICT: Manner = Manner {
+/// The first refusal ends the script.
+pub(super) const STRICT: Manner = Manner {
     is_strict: true,
     goes_on: false,
 };
@@ -194,75 +196,50 @@ fn put_answers(alloc: Global, row: &Row, out: &mut Vec<u8>) -> bool {
     row.answers.is_empty() || put_lines(alloc, row.answers, out)
 }
 
-/// What a run over a reader answers.
-fn answers<T: Threads + Wait + Sync, R: Read + Drop>(
+fn is_answered<T: Threads + Wait + Sync>(
     rt: &T,
     alloc: Global,
-    manner: Manner,
-    reader: R,
-) -> Option<(Result<Ending, RunFault>, Vec<u8>)> {
-    let (game, diagram) = family_of(alloc, DIAGRAM, GAME)?;
-    if game.features() != diagram.features() {
-        return None;
-    }
-    let mut reader = Device::reader(reader);
-    let mut writer = Device::writer(Vec::new(alloc));
-    let ended = run_as(
-        rt,
-        alloc,
-        game,
-        diagram,
-        &mut reader,
-        &mut writer,
-        1,
-        manner,
-    );
-    Some((ended, writer.into_writer()))
-}
-
-/// Whether a run over a reader ends so, and answers just this.
-fn ends_so<T: Threads + Wait + Sync, R: Read + Drop>(
-    rt: &T,
-    alloc: Global,
-    manner: Manner,
-    reader: R,
-    ended: Result<Ending, RunFault>,
-    wanted: &[u8],
+    family: &Family,
+    row: &Row,
 ) -> bool {
-    match answers(rt, alloc, manner, reader) {
-        Some((result, got)) => result == ended && got.as_slice() == wanted,
-        None => false,
-    }
-}
-
-fn is_answered<T: Threads + Wait + Sync>(rt: &T, alloc: Global, row: &Row) -> bool {
     let (mut script, mut wanted) = (Vec::new(alloc), Vec::new(alloc));
     let done = put_script(alloc, row, &mut script) & put_answers(alloc, row, &mut wanted);
-    done && ends_so(rt, alloc, row.manner, script.as_slice(), row.ended, &wanted)
+    let manner = Some(row.manner);
+    done && ends_so(
+        rt,
+        alloc,
+        family,
+        1,
+        manner,
+        whole(&script),
+        row.ended,
+        &wanted,
+    )
 }
 
 /// The place of the first row that is answered otherwise.
-fn first_other<T: Threads + Wait + Sync>(rt: &T, alloc: Global) -> Option<usize> {
+pub(super) fn first_other<T: Threads + Wait + Sync>(
+    rt: &T,
+    alloc: Global,
+    family: &Family,
+) -> Option<usize> {
     for k in 0..ROWS.len() {
-        if !is_answered(rt, alloc, &ROWS[k]) {
+        if !is_answered(rt, alloc, family, &ROWS[k]) {
             return Some(k);
         }
     }
     None
 }
 
-#[test]
-fn scripts_in_each_manner(rt: HostRuntime) -> Result<(), Fail> {
-    assert_eq!(rt; first_other(&rt, rt.alloc()), None);
-    Ok(())
-}
-
-/// The front of a line that is too long.
-static FRONT: [u8; 5000] = [b'#'; 5000];
-
-#[test]
-fn a_reader_that_fails_in_a_long_line(rt: HostRuntime) -> Result<(), Fail> {
-    let reader = ThenFails { bytes: &FRONT };
-    assert!(rt; ends_so(&rt, rt.alloc(), GOES_ON, reader, Err(RunFault::Read), b""));
-    Ok(())
+/// Whether a run that goes on ends where its reader fails within a line that is too long.
+pub(super) fn ends_in_a_long_line<T: Threads + Wait + Sync>(
+    rt: &T,
+    alloc: Global,
+    family: &Family,
+) -> bool {
+    let (manner, read) = (Some(GOES_ON), Err(RunFault::Read));
+    match vec![in alloc; b'#'; 5000] {
+        Ok(front) => ends_so(rt, alloc, family, 1, manner, then_fails(&front), read, b""),
+        Err(_) => false,
+    }
 }

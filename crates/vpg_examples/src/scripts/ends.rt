@@ -1,0 +1,152 @@
+//! Scripts carried out on families: what is told of their end, with which text. The family of most rows is the one that
+//! is built in.
+
+use super::manners::{PLAIN, STRICT};
+use crate::devices::{Gives, Takes, all, then_fails, whole};
+use std::alloc::{AllocError, Global};
+use std::sync::Wait;
+use std::thread::Threads;
+use vpg_family::{Family, Fault, line_of};
+use vpg_report::{DIAGRAM, End, GAME, end_of, refused_line, run_script};
+use vpg_script::Device;
+use vpg_serving::{Ending, Manner};
+
+/// A family, a script, and what is written to standard output, or else to standard error.
+struct Row {
+    diagram: &'static str,
+    game: &'static str,
+    script: &'static str,
+    written: &'static str,
+}
+
+static ROWS: [Row; 4] = [
+    Row {
+        diagram: DIAGRAM,
+        game: GAME,
+        script: "select r\nproducts",
+        written: "done 1\nin r\nout\nopen f g\n",
+    },
+    // The diagram contradicts itself. The fault of the line is told only of an office that is opened.
+    Row {
+        diagram: "root r\nmandatory r a\nexcludes r a\n",
+        game: "0 0 0 0;",
+        script: "frob",
+        written: "vpgdesk: Conflict r\n",
+    },
+    Row {
+        diagram: DIAGRAM,
+        game: GAME,
+        script: "show\nfrob",
+        written: "vpgdesk: script Line 2 Word\n",
+    },
+    Row {
+        diagram: DIAGRAM,
+        game: GAME,
+        script: "# none\r\nundo x\nfrob",
+        written: "vpgdesk: script Line 2 Args\n",
+    },
+];
+
+/// How a script ends on a family of these texts.
+fn ending<T: Threads + Wait + Sync>(
+    rt: &T,
+    alloc: Global,
+    texts: (&str, &str),
+    manner: Manner,
+    gives: Gives<'_>,
+    takes: Takes<'_>,
+) -> Result<Ending, Fault> {
+    let mut reader = Device::reader(gives);
+    let mut writer = Device::writer(takes);
+    match Family::read(alloc, texts.0.as_bytes(), texts.1.as_bytes()) {
+        Ok(family) => run_script(rt, alloc, family, &mut reader, &mut writer, 1, manner),
+        Err(fault) => Err(fault),
+    }
+}
+
+/// What a row writes.
+fn written<T: Threads + Wait + Sync>(
+    rt: &T,
+    alloc: Global,
+    row: &Row,
+) -> Result<Vec<u8>, AllocError> {
+    let mut got = Vec::new(alloc);
+    let texts = (row.diagram, row.game);
+    let script = whole(row.script.as_bytes());
+    match ending(rt, alloc, texts, PLAIN, script, all(&mut got)) {
+        Ok(_) => Ok(got),
+        Err(fault) => line_of(alloc, &fault),
+    }
+}
+
+/// Whether this is the text.
+fn is_text(text: Result<Vec<u8>, AllocError>, wanted: &str) -> bool {
+    match text {
+        Ok(text) => text.as_slice() == wanted.as_bytes(),
+        Err(_) => false,
+    }
+}
+
+/// The place of the first row that doesn't hold.
+pub(super) fn first_other<T: Threads + Wait + Sync>(rt: &T, alloc: Global) -> Option<usize> {
+    for k in 0..ROWS.len() {
+        if !is_text(written(rt, alloc, &ROWS[k]), ROWS[k].written) {
+            return Some(k);
+        }
+    }
+    None
+}
+
+/// How a script ends whose answers go to a broken device.
+fn unwritten<T: Threads + Wait + Sync>(
+    rt: &T,
+    alloc: Global,
+    script: &str,
+) -> Result<Ending, Fault> {
+    let mut got = Vec::new(alloc);
+    let broken = Takes {
+        got: &mut got,
+        bytes: usize::MAX,
+        calls: 0,
+    };
+    let script = whole(script.as_bytes());
+    ending(rt, alloc, (DIAGRAM, GAME), PLAIN, script, broken)
+}
+
+/// How a script ends that comes from a broken device.
+fn unread<T: Threads + Wait + Sync>(rt: &T, alloc: Global) -> Result<Ending, Fault> {
+    let mut got = Vec::new(alloc);
+    let broken = then_fails(b"");
+    ending(rt, alloc, (DIAGRAM, GAME), PLAIN, broken, all(&mut got))
+}
+
+/// Whether broken devices end a script. Where nothing is written a broken device is no failure.
+pub(super) fn breaks<T: Threads + Wait + Sync>(rt: &T, alloc: Global) -> bool {
+    matches!(unread(rt, alloc), Err(Fault::Read))
+        && matches!(
+            unwritten(rt, alloc, "# none\nshow\nfrob"),
+            Err(Fault::Write)
+        )
+        && unwritten(rt, alloc, "# none\n").is_ok()
+}
+
+/// What a script ends with in a manner, on the family that is built in. Nothing where it fails.
+fn end<T: Threads + Wait + Sync>(
+    rt: &T,
+    alloc: Global,
+    script: &str,
+    manner: Manner,
+) -> Option<End> {
+    let mut got = Vec::new(alloc);
+    let script = whole(script.as_bytes());
+    end_of(ending(rt, alloc, (DIAGRAM, GAME), manner, script, all(&mut got))).ok()
+}
+
+/// Whether scripts end in each manner as they should, and what is told of a refusal.
+pub(super) fn is_told<T: Threads + Wait + Sync>(rt: &T, alloc: Global) -> bool {
+    let refused = end(rt, alloc, "show\nundo\nfrob", STRICT);
+    matches!(end(rt, alloc, "show", STRICT), Some(End::Done))
+        && matches!(end(rt, alloc, "assert full", PLAIN), Some(End::Failed))
+        && matches!(refused, Some(End::Refused { line: 2 }))
+        && is_text(refused_line(alloc, 20), "vpgdesk: script Line 20 Refused\n")
+}
