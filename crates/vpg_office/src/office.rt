@@ -271,6 +271,7 @@ impl<L: Terms> Shared<Row, L, Log<L>> {
     {
         let Shared { row, log, of: _ } = self;
         let log = log.into_inner();
+        // the number is that of the whole log, whatever the front that was lent has seen
         log.catches_up(rt, &row, front);
         let tokens = log.tokens();
         if tokens == 0 {

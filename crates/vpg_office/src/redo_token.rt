@@ -54,7 +54,9 @@ impl<L: Terms> Redo<L> {
 
     /// The serial of the change.
     pub fn serial(&self) -> u64
-        ensures { result ≡ self.now.serial }
+        ensures serial { result ≡ self.now.serial }
+        // The history of the token ends with the call that gave it.
+        ensures own { EndsWith (λ reply. IsTrue (gives_redo self.now.serial reply)) self.now.history }
     {
         self.token.serial()
     }

@@ -19,9 +19,12 @@ use vpg_game::GuardedGame;
 /// What is done with an office, whatever ties its parts together.
 pub trait Work<R> {
     ghost use Rattle.std.specs.Arc.{arc_value};
-    ghost use Rattle.std.specs.Prelude.{◌≡◌, []};
+    ghost use Rattle.std.specs.Prelude.{◌≡◌, ℕ, []};
 
     type Answer;
+
+    /// How many calls the log of its office takes.
+    ghost room: { Self → ℕ };
 
     /// Works with the office of this game and diagram, and ends it. The front has seen nothing.
     fn work<L: Terms + Send + Sync>(
@@ -33,7 +36,8 @@ pub trait Work<R> {
         diagram: Arc<Diagram>,
     ) -> Self::Answer
         requires of { (arc_value game ≡ L.game) × (arc_value diagram ≡ L.diagram) }
-        requires fresh { front ≡ [] };
+        requires fresh { front ≡ [] }
+        requires room { L.limit ≡ room self };
 }
 
 /// Work that isn't begun, since no office is opened, with what was handed in.
@@ -45,8 +49,8 @@ pub struct NotBegun<W> {
     pub work: W,
 }
 
-/// Opens an office whose log takes `room` calls, and hands it to the work. Refused as `Office::open`; what was handed
-/// in comes back.
+/// Opens an office whose log takes `room` calls, as many as the work counts on, and hands it to the work. Refused as
+/// `Office::open`; what was handed in comes back.
 pub fn with_office<R: Wait, W: Work<R>>(
     rt: &R,
     alloc: Global,
@@ -57,6 +61,7 @@ pub fn with_office<R: Wait, W: Work<R>>(
 ) -> Result<W::Answer, NotBegun<W>>
     requires features { (arc_value game).features ≡ feature_count (arc_value diagram).lines }
     requires room { (1 ≤ room) × (room ≤ 1048576) }
+    requires counts_on { W.room work ≡ room }
     ensures at_limit { IfErr result (λ refused. (refused.fault ≡ OpenFault.AtLimit) ↔ IsAtLimit (arc_value game)) }
     ensures conflict { IfErr result
         (λ refused. (f : ℕ) → refused.fault ≡ OpenFault.Conflict f → HasConflictOf (arc_value diagram).lines [] ×
@@ -106,6 +111,7 @@ fn with_site<L: Terms + Send + Sync, R: Wait, W: Work<R>>(
     requires of { (arc_value game ≡ L.game) × (arc_value diagram ≡ L.diagram) }
     requires owners { (arc_value owners.0 ≡ L.game) × (arc_value owners.1 ≡ L.diagram) }
     requires room { (room ≡ L.limit) × (1 ≤ room) × (room ≤ 1048576) }
+    requires counts_on { W.room work ≡ room }
     ensures at_limit { IfErr result (λ refused. (refused.fault ≡ OpenFault.AtLimit) ↔ IsAtLimit (arc_value game)) }
     ensures conflict { IfErr result
         (λ refused. (f : ℕ) → refused.fault ≡ OpenFault.Conflict f → HasConflictOf (arc_value diagram).lines [] ×

@@ -248,6 +248,8 @@ fn close<L: Terms, R: Wait>(
 impl<R: Wait> Work<R> for Try<'_> {
     type Answer = Outcome;
 
+    ghost room = { λ it. 100 };
+
     fn work<L: Terms + Send + Sync>(
         self,
         rt: &R,

@@ -25,6 +25,8 @@ pub const G: u16 = 2;
 impl<R: Wait + Abort + AllocGlobal> Work<R> for Day {
     type Answer = ();
 
+    ghost room = { λ day. day.room };
+
     fn work<L: Terms + Send + Sync>(
         self,
         rt: &R,

@@ -8,7 +8,7 @@ use Rattle.vpg_office.proofs.Calling.{entered_extends, leaves_tells, prefix_more
 use Rattle.vpg_office.proofs.session.Session.keep.Goals as goal
 
 pub make-requires-clause-asked : goal.make-requires-clause-asked
-make-requires-clause-asked g c = λ k. ask.Keep (c.serial.ensures k)
+make-requires-clause-asked g c = λ k. ask.Keep (c.serial.ensures.serial k)
 
 pub returns-in-Ok-clause-done : goal.returns-in-Ok-clause-done
 returns-in-Ok-clause-done g c = entered_extends c.in-Ok.ensures.made.1.0 c.in-Ok.ensures.made.1.1.1.0

@@ -13,7 +13,7 @@ use Rattle.vpg_office.proofs.Swinging.{undone_back}
 use Rattle.vpg_office.proofs.session.Session.undo.Goals as goal
 
 pub make-requires-clause-asked : goal.make-requires-clause-asked
-make-requires-clause-asked g c = λ k. ask.Undo (c.serial-serial.ensures k)
+make-requires-clause-asked g c = λ k. ask.Undo (c.serial-serial.ensures.serial k)
 
 pub of-requires-clause-share : goal.of-requires-clause-share
 of-requires-clause-share g c = (c.in-Ok.ensures.made.1.1.1.1.0, c.in-Ok.ensures.made.1.1.1.1.1.0)
@@ -28,7 +28,7 @@ returns-in-Ok-clause-done g c =
 
 pub returns-in-Ok-clause-goes_back : goal.returns-in-Ok-clause-goes_back
 returns-in-Ok-clause-goes_back g c =
-    let held = coe 0 1 (k. IsLastGiven c.in-Ok.ensures.made.0 (c.serial-serial.ensures k) ((c.copy.ensures.same ∙ (λ j. (c.token.view_is j).history)) k)) c.in-Ok.ensures.made.1.1.0.1 in
+    let held = coe 0 1 (k. IsLastGiven c.in-Ok.ensures.made.0 (c.serial-serial.ensures.serial k) ((c.copy.ensures.same ∙ (λ j. (c.token.view_is j).history)) k)) c.in-Ok.ensures.made.1.1.0.1 in
     undone_back (family_between g.L.Terms.game g.L.Terms.diagram) c.in-Ok.ensures.made.0 c.make.new.front c.args.token.history c.args.self.now c.args.token.serial c.in-Ok.issued.token c.in-Ok.ensures.made.1.1.1.1.1.1.0
     held c.in-Ok.ensures.made.1.1.1.1.1.1.1 c.in-Ok.ensures.made.1.1.1.0.is c.in-Ok.ensures.made.1.1.1.0.history.legal
 
