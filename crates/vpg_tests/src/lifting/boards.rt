@@ -3,7 +3,8 @@
 ghost use Rattle.std.specs.Prelude.{◌≡◌};
 ghost use Rattle.std.specs.Thread.{IsSync};
 
-use crate::lifting::given::{OPTIONS, given, let_go, row_of};
+use crate::given::{DIAGRAM, given, require};
+use crate::lifting::given::{let_go, row_of};
 use std::process::Abort;
 use std::sync::Wait;
 use std::test::*;
@@ -27,7 +28,7 @@ fn board_of<R: Abort + AllocGlobal>(rt: &R, order: Order) -> (Board, Seat)
 {
     match Board::open(rt.alloc(), order) {
         Ok(opened) => opened,
-        Err(_) => panic!(rt; "no board"),
+        Err(_) => rt.panic("no board"),
     }
 }
 
@@ -227,15 +228,16 @@ fn sits(board: &Board, seat: &mut Seat, sitting: Sitting) -> bool
 /// The harvest of a board whose seat does so.
 pub(crate) fn seated<R: Abort + AllocGlobal>(rt: &R, order: Order, sitting: Sitting) -> Harvest {
     let (board, mut seat) = board_of(rt, order);
-    assert!(rt; sits(&board, &mut seat, sitting));
+    require(rt, sits(&board, &mut seat, sitting), "a sitting");
     given(rt, board.close(rt.alloc(), seat))
 }
 
 #[test]
 fn four_seats_in_four_threads_claim_each_place_once(rt: HostRuntime) {
-    let (board, seat) = board_of(&rt, row_of(&rt, OPTIONS, 62, false));
+    let (board, seat) = board_of(&rt, row_of(&rt, DIAGRAM, 62, false));
     let (seat, noted) = claims_of_four(&rt, &board, seat);
     let all = (1u64 << 62) - 1;
-    assert!(rt; noted.hopeful == all && noted.dual == all && noted.claims == 124);
+    let is_all = noted.hopeful == all && noted.dual == all && noted.claims == 124;
+    require(&rt, is_all, "claims of four");
     let_go(given(&rt, board.close(rt.alloc(), seat)).again());
 }
