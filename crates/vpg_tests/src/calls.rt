@@ -153,17 +153,8 @@ pub trait Calls {
     /// The serial of the change whose token is held there, 0 where none is.
     fn serial(&mut self, at: At) -> u64;
 
-    /// Takes an order, which is lifted as the call says, or hands the harvest in that is held.
+    /// Makes a call that is logged, takes no token and gives none.
     fn asks<R: Wait + Abort + AllocGlobal>(
-        &mut self,
-        rt: &R,
-        office: &Self::Office,
-        by: By,
-        call: Call,
-    ) -> Answer;
-
-    /// What is said of the page.
-    fn says<R: Wait + Abort + AllocGlobal>(
         &mut self,
         rt: &R,
         office: &Self::Office,
@@ -260,18 +251,12 @@ pub fn answered<S: Calls, R: Wait + Abort + AllocGlobal>(
         Call::EarlyCalls | Call::Sizes => hand.looks(rt, by, call),
         Call::JoinAll => Answer::Is(join_all(rt, office, hand)),
         Call::WatchAll => Answer::Is(watch_all(rt, office, hand)),
-        Call::Settled | Call::SettledEarly | Call::Page(_) => hand.says(rt, office, by, call),
         _ => hand.asks(rt, office, by, call),
     }
 }
 
 /// A call of a session, and what it gives.
 pub type Step = (By, Call, Answer);
-
-/// Whether a token was to be given, and was.
-fn is_any_token(answer: Answer, gives: Answer) -> bool {
-    matches!((answer, gives), (Answer::Token(_), Answer::AnyToken))
-}
 
 /// Makes each call, which has to give what it says.
 pub fn carry_out<S: Calls, R: Wait + Abort + AllocGlobal>(
@@ -286,7 +271,8 @@ pub fn carry_out<S: Calls, R: Wait + Abort + AllocGlobal>(
     for k in 0..steps.len() {
         let (by, call, gives) = steps[k];
         let answer = answered(rt, office, hand, by, call);
-        require_at(rt, answer == gives || is_any_token(answer, gives), name, k);
+        let is_token = matches!((answer, gives), (Answer::Token(_), Answer::AnyToken));
+        require_at(rt, is_token || answer == gives, name, k);
     }
 }
 

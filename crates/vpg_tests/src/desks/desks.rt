@@ -209,29 +209,17 @@ impl Calls for Table {
     ) -> Answer {
         let Table { desk, harvest, .. } = self;
         let order = match call {
+            Call::Settled => return Is(desk.settled()),
+            Call::Page(text) => {
+                let page = given(rt, desk.page(rt.alloc()));
+                return Is(is_text(rt.alloc(), &page, text));
+            }
             Call::Commit => return committed(rt, desk, harvest),
             Call::Other(other) => other_desk(rt, other).order(rt.alloc()),
             _ => desk.order(rt.alloc()),
         };
         hold_harvest(harvest, harvest_of(rt, given(rt, order), call));
         Done
-    }
-
-    fn says<R: Wait + Abort + AllocGlobal>(
-        &mut self,
-        rt: &R,
-        _office: &(),
-        _by: By,
-        call: Call,
-    ) -> Answer {
-        match call {
-            Call::Settled => Is(self.desk.settled()),
-            Call::Page(text) => {
-                let page = given(rt, self.desk.page(rt.alloc()));
-                Is(is_text(rt.alloc(), &page, text))
-            }
-            _ => Answer::NoCall,
-        }
     }
 
     fn verdict<R: Wait + Abort>(&mut self, rt: &R, _office: &(), _by: By, vertex: u32) -> Answer {

@@ -214,21 +214,14 @@ fn claims_of_four<R: Threads + Wait + Sync>(rt: &R, board: &Board, seat: Seat) -
     (seat, both(first, last))
 }
 
-/// Whether a seat does so.
-fn sits(board: &Board, seat: &mut Seat, sitting: Sitting) -> bool
-    requires { seat.old.board ≡ board.now }
-    ensures { seat.new.board ≡ board.now }
-{
-    match sitting {
-        Sitting::Lifts(answers) => lifts_answer(board, seat, answers),
-        Sitting::Splits => splits_stop(board, seat),
-    }
-}
-
 /// The harvest of a board whose seat does so.
 pub(crate) fn seated<R: Abort + AllocGlobal>(rt: &R, order: Order, sitting: Sitting) -> Harvest {
     let (board, mut seat) = board_of(rt, order);
-    require(rt, sits(&board, &mut seat, sitting), "a sitting");
+    let sits = match sitting {
+        Sitting::Lifts(answers) => lifts_answer(&board, &mut seat, answers),
+        Sitting::Splits => splits_stop(&board, &mut seat),
+    };
+    require(rt, sits, "a sitting");
     given(rt, board.close(rt.alloc(), seat))
 }
 

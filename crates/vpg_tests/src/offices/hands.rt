@@ -9,10 +9,7 @@ use std::process::Abort;
 use std::sync::Wait;
 use std::test::*;
 use vpg_measure::Harvest;
-use vpg_office::{
-    Fault, Front, Never, NoWatch, Office, Redo, Returned, Session, Terms, TooManySessions, Undo,
-    read,
-};
+use vpg_office::{Fault, Front, Never, Office, Redo, Returned, Session, Terms, Undo, read};
 use vpg_watch::{Watch, WatchFault};
 
 /// A session with its front.
@@ -272,15 +269,23 @@ impl<L: Terms> Calls for Hand<L> {
         call: Call,
     ) -> Answer {
         let alloc = rt.alloc();
-        let Sitting { seats, harvest, .. } = &mut self.sitting;
+        let seats = &mut self.sitting.seats;
         let seat = seats.get_mut(by as usize).expect(rt, "no session");
+        let harvest = &mut self.sitting.harvest;
+        let Seat { session, front } = seat;
         match call {
+            Call::Settled => settled(rt, session.settled(rt, office, front)),
+            Call::SettledEarly => {
+                let early = &mut self.sitting.early;
+                settled(rt, session.settled(rt, office, early))
+            }
+            Call::Page(text) => {
+                let page = given(rt, session.page(rt, alloc, office, front));
+                Answer::Is(is_text(alloc, &page, text))
+            }
             Call::Commit => {
                 let taken = harvest.take().expect(rt, "no harvest");
-                match seat
-                    .session
-                    .commit(rt, alloc, office, &mut seat.front, taken)
-                {
+                match session.commit(rt, alloc, office, front, taken) {
                     Ok(added) => Answer::Added(added),
                     Err(Returned { fault, value }) => {
                         hold_harvest(harvest, value);
@@ -289,30 +294,10 @@ impl<L: Terms> Calls for Hand<L> {
                 }
             }
             _ => {
-                let order = given(rt, seat.session.order(rt, alloc, office, &mut seat.front));
+                let order = given(rt, session.order(rt, alloc, office, front));
                 hold_harvest(harvest, harvest_of(rt, order, call));
                 Answer::Done
             }
-        }
-    }
-
-    fn says<R: Wait + Abort + AllocGlobal>(
-        &mut self,
-        rt: &R,
-        office: &Office<L>,
-        by: By,
-        call: Call,
-    ) -> Answer {
-        let Sitting { seats, early, .. } = &mut self.sitting;
-        let seat = seats.get_mut(by as usize).expect(rt, "no session");
-        match call {
-            Call::Settled => settled(rt, seat.session.settled(rt, office, &mut seat.front)),
-            Call::SettledEarly => settled(rt, seat.session.settled(rt, office, early)),
-            Call::Page(text) => {
-                let said = seat.session.page(rt, rt.alloc(), office, &mut seat.front);
-                Answer::Is(is_text(rt.alloc(), &given(rt, said), text))
-            }
-            _ => Answer::NoCall,
         }
     }
 
@@ -343,12 +328,11 @@ impl<L: Terms> Calls for Hand<L> {
                     given(rt, self.sitting.watches.push(watch));
                     Answer::Done
                 }
-                Err(NoWatch::NoPlace) => Answer::NoPlace,
-                Err(NoWatch::Memory) => rt.panic("no memory"),
+                Err(_) => Answer::NoPlace,
             },
             Call::Join => match office.join(rt) {
                 Ok((session, front)) => Answer::Joined(session.number(), front.len()),
-                Err(TooManySessions) => Answer::NoPlace,
+                Err(_) => Answer::NoPlace,
             },
             Call::Meet => match self.sitting.seats.as_mut_slice() {
                 [one, two] => {

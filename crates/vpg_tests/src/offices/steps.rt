@@ -58,11 +58,6 @@ fn undos_of<L: Terms, R: Abort + AllocGlobal>(rt: &R, held: Held<L>) -> Vec<Undo
     undos
 }
 
-/// Which session lends its front as an office ends.
-fn lender(closes: bool) -> By {
-    if closes { By::One } else { By::Two }
-}
-
 /// Ends an office: closes it with no token out, or ends it with the first token, where that is held, and no other out.
 pub fn end<L: Terms, R: Wait + Abort + AllocGlobal>(
     rt: &R,
@@ -70,8 +65,9 @@ pub fn end<L: Terms, R: Wait + Abort + AllocGlobal>(
     hand: &mut Hand<L>,
     closes: bool,
 ) {
-    let at = lender(closes) as usize;
-    let seat = hand.sitting.seats.get_mut(at).expect(rt, "no session");
+    let lender = if closes { By::One } else { By::Two };
+    let seats = &mut hand.sitting.seats;
+    let seat = seats.get_mut(lender as usize).expect(rt, "no session");
     if closes {
         given(rt, office.close(rt, &mut seat.front));
     } else {
@@ -83,7 +79,7 @@ pub fn end<L: Terms, R: Wait + Abort + AllocGlobal>(
 
 /// Whether the front that was lent as a day ended has all calls, and a watch reads nothing.
 fn is_over<S: Calls>(rt: &impl Abort, hand: &mut S, day: Day) -> bool {
-    let by = lender(day.closes);
+    let by = if day.closes { By::One } else { By::Two };
     let seen = hand.looks(rt, by, Call::Sees);
     hand.looks(rt, by, Call::Calls) == Answer::Has(day.calls)
         && matches!(seen, Answer::NoSheet | Answer::NoWatch)
@@ -95,19 +91,6 @@ const BEGIN: &[Step] = &[
     (By::Two, Call::Number, Answer::Joined(2, 0)),
 ];
 
-/// Makes a day's calls before the office can't be closed.
-fn begin<S: Calls, R: Wait + Abort + AllocGlobal>(
-    rt: &R,
-    office: &S::Office,
-    hand: &mut S,
-    day: Day,
-)
-    requires { S.vertices ≡ 2 }
-{
-    carry_out(rt, office, hand, day.name, BEGIN);
-    carry_out(rt, office, hand, day.name, day.before);
-}
-
 /// Two sessions make a day's calls on an office, which is ended then: the front has all calls, and a watch reads
 /// nothing.
 fn spend<L: Terms, R: Wait + Abort + AllocGlobal>(rt: &R, office: Office<L>, day: Day)
@@ -115,7 +98,8 @@ fn spend<L: Terms, R: Wait + Abort + AllocGlobal>(rt: &R, office: Office<L>, day
 {
     let mut hand = hand_of(rt, joined(rt, &office));
     given(rt, hand.sitting.seats.push(joined(rt, &office)));
-    begin(rt, &office, &mut hand, day);
+    carry_out(rt, &office, &mut hand, day.name, BEGIN);
+    carry_out(rt, &office, &mut hand, day.name, day.before);
     let office = if day.before.is_empty() {
         office
     } else {

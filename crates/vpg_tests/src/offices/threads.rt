@@ -335,7 +335,7 @@ fn is_left<S: Calls, R: Wait + Abort + AllocGlobal>(
     }
     match rush.page {
         Some(text) => {
-            hand.says(rt, office, By::One, Call::Page(text)) == Answer::Is(true)
+            hand.asks(rt, office, By::One, Call::Page(text)) == Answer::Is(true)
                 && calls(rt, hand) == rush.calls.saturating_add(1)
         }
         None => true,
