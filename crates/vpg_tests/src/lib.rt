@@ -5,10 +5,16 @@
 #![tactic(auto)]
 
 #[cfg(test)]
+mod calls;
+#[cfg(test)]
 mod desks;
+#[cfg(test)]
+mod given;
 #[cfg(test)]
 mod lifting;
 #[cfg(test)]
 mod offices;
+#[cfg(test)]
+mod pages;
 #[cfg(test)]
 mod watching;

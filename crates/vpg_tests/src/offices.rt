@@ -1,9 +1,8 @@
 //! Tests of offices.
-mod calls;
 mod changes;
+mod hands;
 mod logs;
 mod offices;
-mod pages;
 mod steps;
 mod threads;
 mod watchers;

@@ -3,8 +3,9 @@ ghost use Rattle.std.specs.Prelude.{◌≡◌, [], ◌∷◌, length};
 ghost use Rattle.vpg_trail.specs.Page.{Decided, Lifted, Hopeful};
 ghost use Rattle.vpg_trail.specs.Shown.{entry_of};
 
+use crate::given::{require, require_at};
+use crate::pages::are_text;
 use std::alloc::{AllocError, Global};
-use std::fmt::Write;
 use std::process::Abort;
 use std::sync::Arc;
 use std::test::*;
@@ -42,79 +43,12 @@ const SECOND: Literal = Literal {
     value: true,
 };
 
-// ---- entries as a text, such as `-1; hopeful 0 0 2 -1;`
-
-/// A text that is written. What finds no memory is noted, and told once the text is whole.
-#[derive(Drop)]
-struct Line {
-    text: String,
-    lacks: bool,
-}
-
-impl Line {
-    fn put(&mut self, words: &str) {
-        self.lacks |= self.text.push_str(words).is_err();
-    }
-
-    /// Writes a number behind these words.
-    fn number(&mut self, words: &str, number: u64) {
-        self.lacks |= write!(self.text, "{words}{number}").is_err();
-    }
-}
-
-fn put_choice(line: &mut Line, value: bool, feature: u16) {
-    line.number(if value { " +" } else { " -" }, feature as u64);
-}
-
-fn put_assumed(line: &mut Line, under: &Assumed) {
-    for literal in under.literals() {
-        put_choice(line, literal.value, literal.feature);
-    }
-}
-
-fn put_entry(line: &mut Line, entry: &Entry) {
-    match entry {
-        Entry::Decide(decision) => put_choice(line, decision.value, decision.feature),
-        Entry::Lift {
-            table,
-            vertex,
-            old,
-            new,
-            under,
-        } => {
-            let table = match table {
-                Which::Hopeful => " hopeful ",
-                Which::Dual => " dual ",
-            };
-            line.number(table, *vertex as u64);
-            line.number(" ", *old);
-            line.number(" ", *new);
-            put_assumed(line, under);
-        }
-    }
-    line.put(";");
-}
-
-fn put_entries(line: &mut Line, entries: &[Entry]) {
-    for entry in entries {
-        put_entry(line, entry);
-    }
-}
-
-/// Whether entries are this text.
-fn are(alloc: Global, entries: &[Entry], expected: &str) -> bool {
-    let mut line = Line {
-        text: String::new(alloc),
-        lacks: false,
-    };
-    put_entries(&mut line, entries);
-    !line.lacks && line.text.as_str() == expected
-}
-
 /// Whether the trail has these entries and tables.
 fn is_trail(alloc: Global, trail: &Trail, entries: &str, hopeful: &[u64], dual: &[u64]) -> bool {
     let (first, second) = trail.tables();
-    first.values() == hopeful && second.values() == dual && are(alloc, trail.entries(), entries)
+    first.values() == hopeful
+        && second.values() == dual
+        && are_text(alloc, trail.entries(), entries)
 }
 
 fn assumed(rt: &impl Abort, alloc: Global, literals: &[Literal]) -> Arc<Assumed> {
@@ -212,7 +146,7 @@ fn does(rt: &impl Abort, alloc: Global, trail: &mut Trail, deed: &Deed) -> bool 
 fn made(rt: &impl Abort, alloc: Global, deeds: &[Deed]) -> Trail {
     let mut trail = Trail::open(alloc, 2).expect(rt, "no memory");
     for deed in deeds {
-        assert!(rt; does(rt, alloc, &mut trail, deed));
+        require(rt, does(rt, alloc, &mut trail, deed), "a deed of a trail");
     }
     trail
 }
@@ -235,7 +169,8 @@ const ONE_DECISION: &[Deed] = &[
 ];
 
 /// The entries of the trail of two decisions.
-const TWO_TEXT: &str = " -1; +2; hopeful 0 0 1 -1 +2; hopeful 0 1 2 -1; dual 1 0 1 -1;";
+const TWO_TEXT: &str =
+    "exclude f 1 by 1 / select g 2 by 1 / hopeful 0 0 1 -f +g / hopeful 0 1 2 -f / dual 1 0 1 -f / ";
 
 /// A trail, what is done with it, and its entries and tables then.
 type Row = (
@@ -251,7 +186,7 @@ const ROWS: &[Row] = &[
     (
         TWO_DECISIONS,
         Deed::Retract(2, false),
-        " -1; hopeful 0 0 2 -1; dual 1 0 1 -1;",
+        "exclude f 1 by 1 / hopeful 0 0 2 -f / dual 1 0 1 -f / ",
         &[2, 0],
         &[0, 1],
     ),
@@ -265,7 +200,7 @@ const ROWS: &[Row] = &[
     (
         ONE_DECISION,
         Deed::Retract(1, false),
-        " hopeful 0 0 1; dual 1 0 1;",
+        "hopeful 0 0 1 / dual 1 0 1 / ",
         &[1, 0],
         &[0, 1],
     ),
@@ -277,10 +212,9 @@ fn holds(rt: &impl Abort, alloc: Global, (deeds, then, entries, hopeful, dual): 
     does(rt, alloc, &mut trail, then) && is_trail(alloc, &trail, entries, hopeful, dual)
 }
 
-#[test]
-fn entries_are_kept(rt: HostRuntime) {
-    for row in ROWS {
-        assert!(rt; holds(&rt, rt.alloc(), row));
+fn all_hold<R: Abort + AllocGlobal>(rt: &R) {
+    for k in 0..ROWS.len() {
+        require_at(rt, holds(rt, rt.alloc(), &ROWS[k]), "trails", k);
     }
 }
 
@@ -313,8 +247,14 @@ fn is_exchanged(rt: &impl Abort, alloc: Global) -> bool {
     let mut trail = Trail::open(alloc, 2).expect(rt, "no memory");
     assert!(rt; trail.append(Entry::Decide(OUT)).is_ok());
     let cut = exchange(rt, alloc, &mut trail);
-    are(alloc, &cut, " hopeful 0 0 2;")
-        && is_trail(alloc, &trail, " -1; hopeful 0 0 1;", &[1, 0], &[0, 0])
+    are_text(alloc, &cut, "hopeful 0 0 2 / ")
+        && is_trail(
+            alloc,
+            &trail,
+            "exclude f 1 by 1 / hopeful 0 0 1 / ",
+            &[1, 0],
+            &[0, 0],
+        )
         && trail.entries().len() == 2
         && trail.level(0) == 0
         && trail.level(2) == 1
@@ -325,7 +265,7 @@ fn is_exchanged(rt: &impl Abort, alloc: Global) -> bool {
 fn is_copied(rt: &impl Abort, alloc: Global, entries: &[Entry]) -> bool {
     let copy = Entries::copy_of(alloc, entries).expect(rt, "no memory");
     let copy = Entries::new(copy.into_vec());
-    are(alloc, copy.as_slice(), TWO_TEXT)
+    are_text(alloc, copy.as_slice(), TWO_TEXT)
 }
 
 /// Whether the decisions among entries are both, as a list and back, and the second is found in its place, and one of
@@ -365,13 +305,17 @@ fn are_lifts(rt: &impl Abort, alloc: Global) -> bool {
     let values = Table::of(Vec::from_slice(alloc, &[2, 0, 1]).expect(rt, "no memory"));
     assert!(rt; values.values().len() == 3);
     let lifts = lifts_to(rt, alloc, &values);
-    are(alloc, &lifts, " dual 0 0 2 -1; dual 2 0 1 -1;")
+    are_text(alloc, &lifts, "dual 0 0 2 -f / dual 2 0 1 -f / ")
 }
 
 #[test]
-fn lists_are_as_made(rt: HostRuntime) {
+fn trails_are_as_made(rt: HostRuntime) {
     let alloc = rt.alloc();
+    all_hold(&rt);
     let trail = made(&rt, alloc, TWO_DECISIONS);
-    assert!(rt; is_exchanged(&rt, alloc) && are_held(&rt, alloc) && are_lifts(&rt, alloc));
-    assert!(rt; is_copied(&rt, alloc, trail.entries()) && are_both(&rt, alloc, trail.entries()));
+    require(&rt, is_exchanged(&rt, alloc), "a splice");
+    require(&rt, are_held(&rt, alloc), "what is assumed");
+    require(&rt, are_lifts(&rt, alloc), "lifts");
+    require(&rt, is_copied(&rt, alloc, trail.entries()), "a copy");
+    require(&rt, are_both(&rt, alloc, trail.entries()), "decisions");
 }

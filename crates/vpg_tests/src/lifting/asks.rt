@@ -4,8 +4,9 @@ ghost use Rattle.std.specs.Prelude.{◌≡◌};
 ghost use Rattle.vpg_measure.specs.Lifts.{IsTableOf};
 ghost use Rattle.vpg_measure.specs.Orders.{IsRaised, order_levels, order_arena};
 
+use crate::given::{given, require_at};
 use crate::lifting::asks::Ask::{Bounds, Ends, Guess, Lifts, Plan};
-use crate::lifting::given::{ROOT, copy_of, given, is_table, let_go, order_from, row_of, small};
+use crate::lifting::given::{ROOT, copy_of, is_table, let_go, order_from, row_of, small};
 use std::process::Abort;
 use std::test::*;
 use vpg_guess::raise_by_bounds;
@@ -135,35 +136,21 @@ fn is_guessed<R: Abort + AllocGlobal>(
     )
 }
 
-/// Whether a table is answered so. Bounds are asked of a hopeful game.
-fn is_answer<R: Abort + AllocGlobal>(
-    rt: &R,
-    order: &Order,
-    which: Which,
-    table: &mut Table,
-    ended: Outcome,
-    ask: Ask,
-) -> bool
-    requires { IsTableOf (order_levels which order.now) (order_arena which order.now) table.old }
-{
-    let (shape, arena) = (order.shape(which), order.arena(which));
-    match ask {
-        Ends(outcome) => ended == outcome,
-        Lifts(values) => lifts_to(shape, arena, table, values),
-        Plan(plan) => is_planned(rt, shape, arena, table, plan),
-        Bounds(bounds, ranks, answer) => {
-            let dual = order.shape(Dual);
-            raised_by(rt, shape, dual, arena, table, bounds, ranks) == answer
-        }
-        Guess(budget, settled) => is_guessed(rt, order, which, table, budget) == settled,
-    }
-}
-
-/// Whether a row is answered so.
+/// Whether a row is answered so. Bounds are asked of a hopeful game.
 fn is_row<R: Abort + AllocGlobal>(rt: &R, order: &Order, row: Row) -> bool {
     let (which, rounds, ask, values) = row;
     let (mut table, ended) = settled(rt, order, which, rounds);
-    let answered = is_answer(rt, order, which, &mut table, ended, ask);
+    let (shape, arena) = (order.shape(which), order.arena(which));
+    let answered = match ask {
+        Ends(outcome) => ended == outcome,
+        Lifts(values) => lifts_to(shape, arena, &mut table, values),
+        Plan(plan) => is_planned(rt, shape, arena, &table, plan),
+        Bounds(bounds, ranks, answer) => {
+            let dual = order.shape(Dual);
+            raised_by(rt, shape, dual, arena, &mut table, bounds, ranks) == answer
+        }
+        Guess(budget, settled) => is_guessed(rt, order, which, &mut table, budget) == settled,
+    };
     match values {
         Some(values) => answered && table.values() == values,
         None => answered,
@@ -173,7 +160,7 @@ fn is_row<R: Abort + AllocGlobal>(rt: &R, order: &Order, row: Row) -> bool {
 /// Asks all rows of an order, and stops at one that is answered in another way.
 fn ask_all<R: Abort + AllocGlobal>(rt: &R, order: Order, rows: &[Row]) {
     for k in 0..rows.len() {
-        assert!(rt; is_row(rt, &order, rows[k]), "at {k}");
+        require_at(rt, is_row(rt, &order, rows[k]), "asks", k);
     }
     let_go(order);
 }

@@ -3,7 +3,8 @@
 ghost use Rattle.std.specs.Prelude.{◌≡◌};
 ghost use Rattle.std.specs.Thread.{IsSync};
 
-use crate::lifting::given::{OPTIONS, given, let_go, row_of};
+use crate::given::{DIAGRAM, given, require};
+use crate::lifting::given::{let_go, row_of};
 use std::process::Abort;
 use std::sync::Wait;
 use std::test::*;
@@ -27,7 +28,7 @@ fn board_of<R: Abort + AllocGlobal>(rt: &R, order: Order) -> (Board, Seat)
 {
     match Board::open(rt.alloc(), order) {
         Ok(opened) => opened,
-        Err(_) => panic!(rt; "no board"),
+        Err(_) => rt.panic("no board"),
     }
 }
 
@@ -213,29 +214,23 @@ fn claims_of_four<R: Threads + Wait + Sync>(rt: &R, board: &Board, seat: Seat) -
     (seat, both(first, last))
 }
 
-/// Whether a seat does so.
-fn sits(board: &Board, seat: &mut Seat, sitting: Sitting) -> bool
-    requires { seat.old.board ≡ board.now }
-    ensures { seat.new.board ≡ board.now }
-{
-    match sitting {
-        Sitting::Lifts(answers) => lifts_answer(board, seat, answers),
-        Sitting::Splits => splits_stop(board, seat),
-    }
-}
-
 /// The harvest of a board whose seat does so.
 pub(crate) fn seated<R: Abort + AllocGlobal>(rt: &R, order: Order, sitting: Sitting) -> Harvest {
     let (board, mut seat) = board_of(rt, order);
-    assert!(rt; sits(&board, &mut seat, sitting));
+    let sits = match sitting {
+        Sitting::Lifts(answers) => lifts_answer(&board, &mut seat, answers),
+        Sitting::Splits => splits_stop(&board, &mut seat),
+    };
+    require(rt, sits, "a sitting");
     given(rt, board.close(rt.alloc(), seat))
 }
 
 #[test]
 fn four_seats_in_four_threads_claim_each_place_once(rt: HostRuntime) {
-    let (board, seat) = board_of(&rt, row_of(&rt, OPTIONS, 62, false));
+    let (board, seat) = board_of(&rt, row_of(&rt, DIAGRAM, 62, false));
     let (seat, noted) = claims_of_four(&rt, &board, seat);
     let all = (1u64 << 62) - 1;
-    assert!(rt; noted.hopeful == all && noted.dual == all && noted.claims == 124);
+    let is_all = noted.hopeful == all && noted.dual == all && noted.claims == 124;
+    require(&rt, is_all, "claims of four");
     let_go(given(&rt, board.close(rt.alloc(), seat)).again());
 }

@@ -1,4 +1,4 @@
-//! Games, decisions and orders that the tests start from.
+//! Decisions and orders that the tests start from.
 
 ghost use Rattle.std.specs.Prelude.{◌≡◌, ◌↔◌, ◌<◌, map, replicate, IsTrue, All};
 ghost use Rattle.vpg_diagram.specs.FeatureDiagram.{feature_count};
@@ -6,6 +6,7 @@ ghost use Rattle.vpg_partial.specs.Known.{literal_of};
 ghost use Rattle.vpg_partial.specs.TableLaws.{AreChoicesOf};
 ghost use Rattle.vpg_measure.specs.Lifts.{IsTableOf};
 
+use crate::given::{DIAGRAM, GAME, diagram_of, game_of, given};
 use std::process::Abort;
 use std::sync::Arc;
 use std::test::*;
@@ -16,35 +17,7 @@ use vpg_measure::laws::orders::zeros_are_opening;
 use vpg_measure::{Order, Refused, Shape, Table};
 use vpg_partial::Decision;
 
-const SMALL: &[u8] = b"parity 1; 0 1 0 1[f],0; 1 2 1 0[g],1;";
-
-pub(crate) const OPTIONS: &[u8] = b"root r\noptional r f\noptional r g\n";
-
 pub(crate) const ROOT: &[u8] = b"root r\n";
-
-/// What a call gave that isn't refused. It stops a test that is refused.
-pub(crate) fn given<T, F>(rt: &impl Abort, answer: Result<T, F>) -> T {
-    match answer {
-        Ok(given) => given,
-        Err(_) => panic!(rt; "refused"),
-    }
-}
-
-/// The diagram of a text, to be shared.
-pub(crate) fn diagram_of<R: Abort + AllocGlobal>(rt: &R, text: &[u8]) -> Arc<Diagram> {
-    let diagram = given(rt, Diagram::read(rt.alloc(), text));
-    given(rt, Arc::new(rt.alloc(), diagram))
-}
-
-/// The game of a text, with the diagram's features, to be shared.
-pub(crate) fn game_of<R: Abort + AllocGlobal>(
-    rt: &R,
-    diagram: &Diagram,
-    text: &[u8],
-) -> Arc<GuardedGame> {
-    let game = given(rt, GuardedGame::read(rt.alloc(), text, diagram.names()));
-    given(rt, Arc::new(rt.alloc(), game))
-}
 
 /// Decisions with serials from 1, each of a feature, in or out.
 pub(crate) fn decisions_of<R: Abort + AllocGlobal>(
@@ -87,20 +60,14 @@ fn fit(game: &GuardedGame, diagram: &Diagram, decisions: &[Decision]) -> bool
 fn zeros<R: Abort + AllocGlobal>(rt: &R, vertices: u32) -> Table
     ensures { result ≡ replicate vertices 0 }
 {
-    match Table::zero(rt.alloc(), vertices) {
-        Ok(table) => table,
-        Err(_) => panic!(rt; "no memory"),
-    }
+    Table::zero(rt.alloc(), vertices).expect(rt, "no memory")
 }
 
 /// A copy of a table.
 pub(crate) fn copy_of<R: Abort + AllocGlobal>(rt: &R, table: &Table) -> Table
     ensures { result ≡ table.now }
 {
-    match table.copy(rt.alloc()) {
-        Ok(copy) => copy,
-        Err(_) => panic!(rt; "no memory"),
-    }
+    table.copy(rt.alloc()).expect(rt, "no memory")
 }
 
 /// The order of decisions with two tables of zeros, or why there is none, where game, diagram and decisions fit
@@ -136,7 +103,7 @@ pub(crate) fn order_from<R: Abort + AllocGlobal>(
 
 /// The order of the game of two vertices with these decisions: feature 1 is `f`, feature 2 is `g`.
 pub(crate) fn small<R: Abort + AllocGlobal>(rt: &R, choices: &[(u16, bool)]) -> Order {
-    order_from(rt, OPTIONS, SMALL, choices)
+    order_from(rt, DIAGRAM, GAME, choices)
 }
 
 /// The order without decisions of a game of so many vertices of Even, of the priorities 1, 3, 5 and so on. Each has one

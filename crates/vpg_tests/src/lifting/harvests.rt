@@ -2,9 +2,11 @@
 
 ghost use Rattle.std.specs.Prelude.{◌≤◌};
 
+use crate::calls::lifted;
+use crate::given::{given, require};
 use crate::lifting::asks::{BUDGET, settled};
 use crate::lifting::boards::{Sitting, seated};
-use crate::lifting::given::{given, let_go, small};
+use crate::lifting::given::{let_go, small};
 use crate::lifting::harvests::How::{Alone, AtOnce, Bounds, Given, One, Seated};
 use std::process::Abort;
 use std::sync::Wait;
@@ -48,6 +50,14 @@ fn handed_in<R: Abort + AllocGlobal>(rt: &R, order: Order, rounds: u64) -> Harve
     Harvest::of(order, hopeful.into_values(), dual.into_values())
 }
 
+/// As many lifters as a sweep may have.
+fn few(rt: &impl Abort, lifters: u32) -> u32
+    ensures { (1 ≤ result) × (result ≤ 64) }
+{
+    assert!(rt; 1 <= lifters && lifters <= 64);
+    lifters
+}
+
 /// The harvest of an order raised so.
 fn harvest<G: Gate + Sync, R: Threads + Wait + Abort + AllocGlobal + Sync>(
     rt: &R,
@@ -56,10 +66,7 @@ fn harvest<G: Gate + Sync, R: Threads + Wait + Abort + AllocGlobal + Sync>(
     how: How,
 ) -> Harvest {
     match how {
-        One(which, v) => {
-            assert!(rt; (v as usize) < order.game().vertices());
-            Harvest::one(order, which, v)
-        }
+        One(which, vertex) => lifted(rt, order, which, vertex),
         Alone(rounds) => Harvest::alone(order, rounds),
         Given(rounds) => handed_in(rt, order, rounds),
         Bounds => given(
@@ -71,18 +78,14 @@ fn harvest<G: Gate + Sync, R: Threads + Wait + Abort + AllocGlobal + Sync>(
             harvest_by_bounds_at_once(rt, rt.alloc(), order, &mut Groundwork::none(), BUDGET),
         ),
         Seated(sitting) => seated(rt, order, sitting),
-        How::Sweep(lifters) => {
-            assert!(rt; 1 <= lifters && lifters <= 64);
-            sweep(rt, rt.alloc(), order, lifters, gate)
-        }
+        How::Sweep(lifters) => { sweep(rt, rt.alloc(), order, few(rt, lifters), gate) }
         How::Swept(lifters) => {
-            assert!(rt; 1 <= lifters && lifters <= 64);
             swept(
                 rt,
                 rt.alloc(),
                 order,
                 1,
-                lifters,
+                few(rt, lifters),
                 gate,
                 &mut Groundwork::none(),
             )
@@ -118,7 +121,7 @@ fn raised<G: Gate + Sync, R: Threads + Wait + Abort + AllocGlobal + Sync>(
 ) -> Order {
     let (how, tables, settled) = turn;
     let harvest = harvest(rt, gate, order, how);
-    assert!(rt; is_so(&harvest, tables, before, settled));
+    require(rt, is_so(&harvest, tables, before, settled), "a harvest");
     harvest.again()
 }
 

@@ -1,13 +1,11 @@
 //! Orders that are made, and those that are refused.
 
-use crate::lifting::given::{
-    OPTIONS, decisions_of, diagram_of, game_of, given, let_go, order_of, small,
+use crate::given::{
+    ALTERNATIVE, CONTRADICTORY, DIAGRAM, Lone, diagram_of, lone_game, require, require_at,
 };
+use crate::lifting::given::{decisions_of, let_go, order_of, small};
 use std::process::Abort;
-use std::sync::Arc;
 use std::test::*;
-use vpg_diagram::Diagram;
-use vpg_game::GuardedGame;
 use vpg_measure::{Order, OrderFault, Refused};
 use vpg_verdict::Which;
 
@@ -32,37 +30,6 @@ fn is_order_of<R: Abort + AllocGlobal>(rt: &R, order: &Order, choices: &[(u16, b
 
 const BOTH: &[(u16, bool)] = &[(2, true), (1, false)];
 
-#[test]
-fn orders(rt: HostRuntime) {
-    let order = small(&rt, BOTH);
-    assert!(rt; is_order_of(&rt, &order, BOTH));
-    let_go(order);
-}
-
-const ALTERNATIVE: &[u8] = b"root r\nalternative r: a b\n";
-
-const CONTRADICTORY: &[u8] = b"root r\nmandatory r a\nexcludes r a\n";
-
-/// A game of one vertex.
-#[derive(Clone, Copy)]
-enum Lone {
-    /// Of priority 0.
-    Zero,
-    /// Of priority 65,536, which only a dual has: that of the game of the greatest priority.
-    AtLimit,
-}
-
-fn lone_game<R: Abort + AllocGlobal>(rt: &R, diagram: &Diagram, game: Lone) -> Arc<GuardedGame> {
-    match game {
-        Lone::Zero => game_of(rt, diagram, b"0 0 0 0;"),
-        Lone::AtLimit => {
-            let highest = game_of(rt, diagram, b"0 65535 0 0;");
-            let dual = given(rt, highest.dual(rt.alloc()));
-            given(rt, Arc::new(rt.alloc(), dual))
-        }
-    }
-}
-
 /// An order that is refused.
 #[derive(Clone, Copy)]
 struct Refusal {
@@ -78,7 +45,7 @@ fn refused<R: Abort + AllocGlobal>(rt: &R, refusal: &Refusal) -> Refused {
     let diagram = diagram_of(rt, refusal.diagram);
     let game = lone_game(rt, &diagram, refusal.game);
     match order_of(rt, game, diagram, decisions_of(rt, refusal.choices)) {
-        Ok(_) => panic!(rt; "not refused"),
+        Ok(_) => rt.panic("not refused"),
         Err(refused) => refused,
     }
 }
@@ -100,7 +67,12 @@ fn is_refused<R: Abort + AllocGlobal>(rt: &R, refused: &Refused, refusal: &Refus
 fn are_refused<R: Abort + AllocGlobal>(rt: &R) {
     for k in 0..REFUSED.len() {
         let refused = refused(rt, &REFUSED[k]);
-        assert!(rt; is_refused(rt, &refused, &REFUSED[k]), "at {k}");
+        require_at(
+            rt,
+            is_refused(rt, &refused, &REFUSED[k]),
+            "refused orders",
+            k,
+        );
     }
 }
 
@@ -109,7 +81,7 @@ fn are_refused<R: Abort + AllocGlobal>(rt: &R) {
 const REFUSED: &[Refusal] = &[
     Refusal {
         game: Lone::AtLimit,
-        diagram: OPTIONS,
+        diagram: DIAGRAM,
         features: 3,
         choices: &[(1, true), (0, true)],
         fault: OrderFault::AtLimit,
@@ -146,5 +118,8 @@ const REFUSED: &[Refusal] = &[
 
 #[test]
 fn no_order_with_a_conflict(rt: HostRuntime) {
+    let order = small(&rt, BOTH);
+    require(&rt, is_order_of(&rt, &order, BOTH), "an order");
+    let_go(order);
     are_refused(&rt);
 }

@@ -1,7 +1,8 @@
 //! Sweeps of the game of two vertices by 1 to 64 lifters, and lifters that wait for one another.
 
+use crate::given::require_at;
 use crate::lifting::harvests::How::{Sweep, Swept};
-use crate::lifting::harvests::{How, Turn, in_turn};
+use crate::lifting::harvests::{Turn, in_turn};
 use std::process::Abort;
 use std::sync::Wait;
 use std::sync::atomic::{AtomicU64, Ordering};
@@ -77,49 +78,90 @@ impl Gate for Meeting {
     }
 }
 
-/// A turn that settles the small game without decisions.
-fn settles(how: How) -> Turn {
-    (how, [[1, 0], [0, 1]], true)
+/// The tables of the small game without decisions, settled.
+const SETTLED: [[u64; 2]; 2] = [[1, 0], [0, 1]];
+
+const BY_TWO: Turn = (Sweep(2), SETTLED, true);
+
+const BY_FOUR: Turn = (Sweep(4), SETTLED, true);
+
+/// Sweeps of the small game.
+struct Row {
+    until: Until,
+    turns: &'static [Turn],
+    /// Which lifters come: one bit for each.
+    come: u64,
+    /// How many first claims go on in time, where lifters wait for one another.
+    passed: Option<u64>,
 }
 
-/// Which lifters came where turns have settled the small game, and how many first claims went on in time.
-fn met<R: Threads + Wait + Abort + AllocGlobal + Sync>(
-    rt: &R,
-    until: Until,
-    turns: &[Turn],
-) -> (u64, u64) {
+/// A second sweep leaves the tables as they are. A sweep has as many lifters as were asked for.
+const ROWS: &[Row] = &[
+    Row {
+        until: Until::Relay,
+        turns: &[BY_TWO, BY_TWO],
+        come: 3,
+        passed: Some(2),
+    },
+    Row {
+        until: Until::All(4),
+        turns: &[BY_FOUR, BY_FOUR],
+        come: 15,
+        passed: Some(4),
+    },
+    Row {
+        until: Until::Now,
+        turns: &[(Swept(1), SETTLED, true)],
+        come: 1,
+        passed: None,
+    },
+    Row {
+        until: Until::Now,
+        turns: &[(Swept(2), SETTLED, true)],
+        come: 3,
+        passed: None,
+    },
+    Row {
+        until: Until::Now,
+        turns: &[(Swept(4), SETTLED, true)],
+        come: 15,
+        passed: None,
+    },
+    Row {
+        until: Until::Now,
+        turns: &[(Swept(64), SETTLED, true)],
+        come: u64::MAX,
+        passed: None,
+    },
+];
+
+/// Sweeps the small game, and stops where others come, or go on, than have to.
+fn meet<R: Threads + Wait + Abort + AllocGlobal + Sync>(rt: &R, row: &Row, k: usize) {
     let meeting = Meeting {
-        until,
+        until: row.until,
         come: AtomicU64::new(0),
         passed: AtomicU64::new(0),
         lifted: AtomicU64::new(0),
     };
-    in_turn(rt, &meeting, &[], turns);
-    (
-        meeting.come.load(Ordering::SeqCst),
-        meeting.passed.load(Ordering::SeqCst),
-    )
+    in_turn(rt, &meeting, &[], row.turns);
+    let passed = meeting.passed.load(Ordering::SeqCst);
+    let come = meeting.come.load(Ordering::SeqCst);
+    require_at(rt, come == row.come, "lifters that come", k);
+    let go_on = row.passed.is_none() || row.passed == Some(passed);
+    require_at(rt, go_on, "lifters that go on", k);
 }
 
-// A second sweep leaves it so.
-#[test]
-fn one_sweep_settles_the_small_game(rt: HostRuntime) {
-    for lifters in 1..65 {
-        in_turn(&rt, &OpenGate, &[], &[settles(Sweep(lifters)); 2]);
+fn all_meet<R: Threads + Wait + Abort + AllocGlobal + Sync>(rt: &R) {
+    for k in 0..ROWS.len() {
+        meet(rt, &ROWS[k], k);
     }
 }
 
 #[test]
-fn lifters_wait_for_one_another(rt: HostRuntime) {
-    let two = met(&rt, Until::Relay, &[settles(Sweep(2)); 2]);
-    let four = met(&rt, Until::All(4), &[settles(Sweep(4)); 2]);
-    assert!(rt; two == (3, 2) && four == (15, 4));
-}
-
-#[test]
 fn a_sweep_has_as_many_lifters_as_were_asked_for(rt: HostRuntime) {
-    for (lifters, come) in [(1, 1), (2, 3), (4, 15), (64, u64::MAX)] {
-        let met = met(&rt, Until::Now, &[settles(Swept(lifters))]);
-        assert!(rt; met.0 == come);
+    all_meet(&rt);
+    for lifters in 1..65 {
+        let turn = (Sweep(lifters), SETTLED, true);
+        in_turn(&rt, &OpenGate, &[], &[turn, turn]);
     }
 }

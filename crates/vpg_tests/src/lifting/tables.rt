@@ -1,6 +1,7 @@
 //! Tables and shapes by themselves.
 
-use crate::lifting::given::{OPTIONS, copy_of, diagram_of, game_of, given};
+use crate::given::{DIAGRAM, diagram_of, game_of, given, require, require_at};
+use crate::lifting::given::copy_of;
 use std::process::Abort;
 use std::test::*;
 use vpg_game::top_within_limit;
@@ -8,7 +9,7 @@ use vpg_measure::{Shape, Table, prog};
 
 /// The shape of a game without guards.
 fn shape_of<R: Abort + AllocGlobal>(rt: &R, text: &[u8]) -> Shape {
-    let diagram = diagram_of(rt, OPTIONS);
+    let diagram = diagram_of(rt, DIAGRAM);
     let game = game_of(rt, &diagram, text);
     given(rt, Shape::of(rt.alloc(), &game))
 }
@@ -29,17 +30,16 @@ fn have_progs<R: Abort>(rt: &R, shape: &Shape) {
     for k in 0..PROGS.len() {
         let (priority, value, least) = PROGS[k];
         assert!(rt; value <= shape.top());
-        assert!(rt; prog(shape, priority, value) == least, "at {k}");
+        require_at(rt, prog(shape, priority, value) == least, "progs", k);
     }
 }
 
-// Two vertices of priority 1 and one of priority 3: the radices are 3 and 2.
-#[test]
-fn progs(rt: HostRuntime) {
-    let top = given(&rt, top_within_limit(rt.alloc(), &[1, 1, 3]));
-    let shape = shape_of(&rt, b"0 1 0 0; 1 1 0 1; 2 3 0 2;");
-    assert!(rt; top == Some(6) && shape.top() == 6);
-    have_progs(&rt, &shape);
+/// Two vertices of priority 1 and one of priority 3: the radices are 3 and 2.
+fn is_shaped<R: Abort + AllocGlobal>(rt: &R) -> bool {
+    let top = given(rt, top_within_limit(rt.alloc(), &[1, 1, 3]));
+    let shape = shape_of(rt, b"0 1 0 0; 1 1 0 1; 2 3 0 2;");
+    have_progs(rt, &shape);
+    top == Some(6) && shape.top() == 6
 }
 
 /// Gives a vertex of a table this value.
@@ -68,6 +68,7 @@ fn are_tables<R: Abort + AllocGlobal>(rt: &R) -> bool {
 }
 
 #[test]
-fn tables(rt: HostRuntime) {
-    assert!(rt; are_tables(&rt));
+fn tables_and_shapes(rt: HostRuntime) {
+    require(&rt, is_shaped(&rt), "a shape");
+    require(&rt, are_tables(&rt), "tables");
 }

@@ -1,15 +1,17 @@
 //! Calls of one or two sessions in one thread: what they change, and what refuses them.
 
-use crate::offices::calls::Answer::{
-    Added, Done, Has, Is, NotCommitted, NotDecided, NotRedone, NotRetracted, NotUndone, Says, Token,
+use crate::calls::Answer::{
+    Added, Done, Forgotten, Has, Is, Kept, NotCommitted, NotDecided, NotRedone, NotRetracted,
+    NotUndone, Says, Token,
 };
-use crate::offices::calls::At::{First, Second, Third};
-use crate::offices::calls::Call::{
+use crate::calls::At::{First, Second, Third};
+use crate::calls::By::{One, Two};
+use crate::calls::Call::{
     Calls, Commit, Decide, Forget, Keep, Lift, Order, Page, Redo, Retract, Settled, Undo, Verdict,
 };
-use crate::offices::offices::{F, G, on_each};
-use crate::offices::steps::By::{One, Two};
-use crate::offices::steps::{Day, Step};
+use crate::calls::Step;
+use crate::given::{F, G};
+use crate::offices::steps::Day;
 use vpg_desk::{CommitFault, DecideFault, RedoFault, RetractFault, UndoFault};
 
 /// One session lifts an opened office's page and looks at it.
@@ -50,7 +52,7 @@ const REFUSE: &[Step] = &[
         NotDecided(DecideFault::UnknownFeature),
     ),
     (One, Calls, Has(6)),
-    (One, Keep(First), Done),
+    (One, Keep(First), Kept),
 ];
 
 /// A harvest is outdated, and is taken once its decision stands again, which another session made.
@@ -73,9 +75,9 @@ const OUTDATE: &[Step] = &[
     (Two, Settled, Is(true)),
     (Two, Verdict(0), Says(true, false)),
     (Two, Verdict(1), Says(false, false)),
-    (One, Keep(First), Done),
-    (One, Keep(Second), Done),
-    (One, Keep(Third), Done),
+    (One, Keep(First), Kept),
+    (One, Keep(Second), Kept),
+    (One, Keep(Third), Kept),
     (One, Calls, Has(13)),
 ];
 
@@ -100,7 +102,7 @@ const TURN: &[Step] = &[
         Page("0 decided / hopeful 0 0 1 / 1 0 / 0 0 / "),
         Is(true),
     ),
-    (One, Forget(First), Done),
+    (One, Forget(First), Forgotten),
     (One, Calls, Has(12)),
 ];
 
@@ -127,9 +129,9 @@ const RETRACT_AND_UNDO: &[Step] = &[
     (Two, Undo(Third), Token(3)),
     (One, Verdict(0), Says(false, true)),
     (One, Page(LIFTED), Is(true)),
-    (Two, Forget(Third), Done),
-    (Two, Keep(Second), Done),
-    (One, Keep(First), Done),
+    (Two, Forget(Third), Forgotten),
+    (Two, Keep(Second), Kept),
+    (One, Keep(First), Kept),
     (One, Calls, Has(16)),
 ];
 
@@ -142,9 +144,9 @@ const SEAL: &[Step] = &[
         Undo(First),
         NotUndone(UndoFault::NotNewest { newest: 2 }),
     ),
-    (Two, Keep(Second), Done),
+    (Two, Keep(Second), Kept),
     (One, Undo(First), NotUndone(UndoFault::Sealed)),
-    (One, Keep(First), Done),
+    (One, Keep(First), Kept),
     (One, Calls, Has(6)),
 ];
 
@@ -154,8 +156,8 @@ const OVERTAKE: &[Step] = &[
     (One, Undo(First), Token(1)),
     (Two, Decide(Second, G, true), Token(2)),
     (One, Redo(First), NotRedone(RedoFault::Overtaken)),
-    (One, Forget(First), Done),
-    (Two, Keep(Second), Done),
+    (One, Forget(First), Forgotten),
+    (Two, Keep(Second), Kept),
     (Two, Calls, Has(6)),
 ];
 
@@ -171,13 +173,13 @@ const TOKENS: &[Step] = &[
     (Two, Undo(Second), Token(2)),
     (One, Undo(First), Token(1)),
     (Two, Redo(Second), NotRedone(RedoFault::NotNext { next: 1 })),
-    (One, Forget(First), Done),
+    (One, Forget(First), Forgotten),
     (Two, Redo(Second), NotRedone(RedoFault::Overtaken)),
-    (Two, Forget(Second), Done),
+    (Two, Forget(Second), Forgotten),
     (Two, Calls, Has(9)),
 ];
 
-const DAYS: &[Day] = &[
+pub const DAYS: &[Day] = &[
     Day {
         name: "a page is settled",
         room: 10,
@@ -243,8 +245,3 @@ const DAYS: &[Day] = &[
         closes: true,
     },
 ];
-
-#[test]
-fn sessions_change_pages(rt: HostRuntime) {
-    on_each(&rt, DAYS);
-}

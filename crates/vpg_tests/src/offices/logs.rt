@@ -1,13 +1,14 @@
 //! What logs take: calls up to their room, one call of a session since the front that it lends, and 1,024 sessions.
 
-use crate::offices::calls::Answer::{Doubled, Full, Has, Is, Says, Token};
-use crate::offices::calls::At::First;
-use crate::offices::calls::Call::{
+use crate::calls::Answer::{Doubled, Full, Has, Is, Joined, Says, Token};
+use crate::calls::At::First;
+use crate::calls::By::{One, Two};
+use crate::calls::Call::{
     Calls, Decide, EarlyCalls, Join, JoinAll, Meet, Page, Settled, SettledEarly, Verdict,
 };
-use crate::offices::offices::{F, on_each};
-use crate::offices::steps::By::{One, Two};
-use crate::offices::steps::{Day, Step};
+use crate::calls::Step;
+use crate::given::F;
+use crate::offices::steps::Day;
 
 /// Two sessions fill a log of room 4. Then it refuses, and the other front meets the one of all calls.
 const FILL: &[Step] = &[
@@ -29,7 +30,7 @@ const FILL: &[Step] = &[
     (Two, Calls, Has(4)),
     (Two, Settled, Full(4)),
     (One, Meet, Has(4)),
-    (One, Join, Has(4)),
+    (One, Join, Joined(3, 4)),
 ];
 
 /// The front that was lent has all calls, though the office can't be closed.
@@ -37,30 +38,21 @@ const FILLED: &[Step] = &[(One, EarlyCalls, Has(4)), (Two, Calls, Has(4))];
 
 const JOIN_ALL: &[Step] = &[(One, JoinAll, Is(true))];
 
-const LOG_FILLS: &[Day] = &[Day {
-    name: "a log fills",
-    room: 4,
-    calls: 4,
-    before: FILL,
-    steps: FILLED,
-    closes: false,
-}];
-
-#[test]
-fn a_log_fills(rt: HostRuntime) {
-    on_each(&rt, LOG_FILLS);
-}
-
-const LAST_SESSION: &[Day] = &[Day {
-    name: "the last session is the 1,024th",
-    room: 1,
-    calls: 0,
-    before: &[],
-    steps: JOIN_ALL,
-    closes: true,
-}];
-
-#[test]
-fn the_last_session_is_the_1024th(rt: HostRuntime) {
-    on_each(&rt, LAST_SESSION);
-}
+pub const DAYS: &[Day] = &[
+    Day {
+        name: "a log fills",
+        room: 4,
+        calls: 4,
+        before: FILL,
+        steps: FILLED,
+        closes: false,
+    },
+    Day {
+        name: "the last session is the 1,024th",
+        room: 1,
+        calls: 0,
+        before: &[],
+        steps: JOIN_ALL,
+        closes: true,
+    },
+];

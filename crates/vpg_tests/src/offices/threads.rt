@@ -3,15 +3,13 @@
 //! These offices are opened by `Office::open` itself: what is handed to threads is not yet proved below a method of a
 //! trait, as that of `Work` is.
 ghost use Rattle.std.specs.Arc.{arc_value};
-ghost use Rattle.std.specs.Prelude.{◌≡◌, ◌≤◌, length};
+ghost use Rattle.std.specs.Prelude.{◌≡◌, ◌≤◌};
 ghost use Rattle.vpg_diagram.specs.FeatureDiagram.{feature_count};
 
-use crate::offices::calls::{
-    Answer, At, Call, Held, Seat, asked, is_nothing, joined, made, none_kept, serial_of,
-};
-use crate::offices::offices::{DIAGRAM, F, GAME, family};
-use crate::offices::steps::close;
-use crate::offices::watchers::{told, watched};
+use crate::calls::{Answer, At, By, Call, Calls, hold_harvest};
+use crate::given::{DIAGRAM, F, GAME, family, given, require};
+use crate::offices::hands::{Seat, free, hand_of, joined};
+use crate::offices::steps::end;
 use std::marker::Brand;
 use std::process::Abort;
 use std::sync::atomic::{AtomicU64, Ordering};
@@ -23,6 +21,7 @@ use vpg_board::{Gate, sweep};
 use vpg_desk::DecideFault;
 use vpg_diagram::Diagram;
 use vpg_game::GuardedGame;
+use vpg_measure::Harvest;
 use vpg_office::{Front, Office, Site, Terms, may_be_shared};
 use vpg_watch::Watch;
 
@@ -45,6 +44,12 @@ enum Task {
 
 /// What sessions do at once on an office, each in a thread of its own.
 struct Rush {
+    name: &'static str,
+    diagram: &'static [u8],
+    /// How many calls the log takes.
+    room: u32,
+    /// How often this is done, each time on an office of its own.
+    times: u32,
     tasks: &'static [Task],
     /// What comes of them, or in the other order.
     gives: &'static [Answer],
@@ -59,46 +64,6 @@ struct Rush {
     is_late: bool,
 }
 
-/// Opens an office, on which sessions work at once, and closes it then.
-fn open_and_run<L: Terms + Send + Sync, R: Threads + Wait + Abort + AllocGlobal + Sync>(
-    rt: &R,
-    site: Site,
-    game: Arc<GuardedGame>,
-    diagram: Arc<Diagram>,
-    room: u32,
-    rush: &Rush,
-)
-    requires features { (arc_value game).features ≡ feature_count (arc_value diagram).lines }
-    requires site { (site.row ≡ L.shelves) × (site.name ≡ L.name) × (site.parts ≡ L.parts) }
-    requires of { (arc_value game ≡ L.game) × (arc_value diagram ≡ L.diagram) }
-    requires room { (room ≡ L.limit) × (1 ≤ room) × (room ≤ 1048576) }
-{
-    assert!(rt; game.vertices() == 2);
-    let Ok(office) = Office::<L>::open(rt, rt.alloc(), site, game, diagram, room) else {
-        panic!(rt; "no office")
-    };
-    make_rush(rt, &office, rush);
-    let mut last = joined(rt, &office);
-    assert!(rt; is_left(rt, &office, &mut last, rush));
-    close(rt, office, &mut last.front);
-}
-
-/// Sessions work at once on an office on this diagram, whose log takes so many calls.
-fn on_shared_office<R: Threads + Wait + Abort + AllocGlobal + Sync>(
-    rt: &R,
-    diagram: &[u8],
-    room: u32,
-    rush: &Rush,
-)
-    requires { (1 ≤ room) × (room ≤ 1048576) }
-{
-    let (game, diagram) = family(rt, GAME, diagram);
-    let Ok(site) = Site::new(rt.alloc()) else {
-        panic!(rt; "no memory")
-    };
-    open_and_run::<Brand, R>(rt, site, game, diagram, room, rush);
-}
-
 /// Where the calls of a session stand in the log.
 #[derive(Clone, Copy)]
 struct Places {
@@ -109,7 +74,7 @@ struct Places {
 impl Places {
     /// Notes the call that a front of this length ends with. It stands behind the one noted before.
     fn note(&mut self, rt: &impl Abort, length: usize) {
-        assert!(rt; self.last < length);
+        require(rt, self.last < length, "a place behind the last");
         self.last = length;
         self.sum = self.sum.saturating_add(length as u64);
     }
@@ -124,22 +89,30 @@ fn call_of(feature: u16, before: u32) -> Call {
     }
 }
 
+/// How many calls the front has.
+fn calls<S: Calls>(rt: &impl Abort, hand: &mut S) -> usize {
+    match hand.looks(rt, By::One, Call::Calls) {
+        Answer::Has(calls) => calls,
+        _ => rt.panic("no front"),
+    }
+}
+
 /// So many rounds, and the sum of the places of their calls, from 1.
-fn rounds<L: Terms, R: Wait + Abort + AllocGlobal>(
+fn rounds<S: Calls, R: Wait + Abort + AllocGlobal>(
     rt: &R,
-    office: &Office<L>,
-    seat: &mut Seat<L>,
+    office: &S::Office,
+    hand: &mut S,
     feature: u16,
     count: u32,
 ) -> u64 {
     let mut places = Places { last: 0, sum: 0 };
-    let mut held = Held::Nothing;
     for before in 0..count.saturating_mul(4) {
-        let answer = made(rt, office, seat, &mut held, call_of(feature, before));
-        assert!(rt; matches!(answer, Answer::Token(_) | Answer::Done));
-        places.note(rt, seat.front.len());
+        let call = call_of(feature, before);
+        let answer = hand.changes(rt, office, By::One, At::First, call);
+        let is_made = matches!(answer, Answer::Token(_) | Answer::Kept);
+        require(rt, is_made, "a call in rounds");
+        places.note(rt, calls(rt, hand));
     }
-    is_nothing(rt, held);
     places.sum
 }
 
@@ -183,70 +156,63 @@ impl Gate for Shared {
 
 /// Decides, unless another was first: the serial of the change, or why there is none. Where another commits late, that
 /// is between its order and its commit.
-fn decide<L: Terms, R: Wait + Abort + AllocGlobal>(
+fn decide<S: Calls, R: Wait + Abort + AllocGlobal>(
     rt: &R,
-    office: &Office<L>,
-    seat: &mut Seat<L>,
+    office: &S::Office,
+    hand: &mut S,
     value: bool,
     shared: &Shared,
 ) -> Answer {
-    let mut held = Held::Nothing;
-    assert!(rt; is_set(&shared.ordered));
-    let answer = made(
-        rt,
-        office,
-        seat,
-        &mut held,
-        Call::Decide(At::First, F, value),
-    );
+    require(rt, is_set(&shared.ordered), "an order was taken");
+    let call = Call::Decide(At::First, F, value);
+    let answer = hand.changes(rt, office, By::One, At::First, call);
     shared.decided.store(1, Ordering::SeqCst);
-    assert!(rt; is_set(&shared.committed));
-    if serial_of(&held) != 0 {
-        made(rt, office, seat, &mut held, Call::Keep(At::First));
+    require(rt, is_set(&shared.committed), "a harvest was committed");
+    if matches!(answer, Answer::Token(_)) {
+        hand.changes(rt, office, By::One, At::First, Call::Keep(At::First));
     }
-    is_nothing(rt, held);
     answer
 }
 
-/// Takes an order, which is swept while another session decides, and commits the harvest: how many entries that added.
-fn commit_late<L: Terms, R: Threads + Wait + Abort + AllocGlobal + Sync>(
+/// The order of a harvest of which nothing was lifted, once it is swept.
+fn swept<R: Threads + Wait + Abort + AllocGlobal + Sync>(
     rt: &R,
-    office: &Office<L>,
-    seat: &mut Seat<L>,
+    held: &mut Option<Harvest>,
+    shared: &Shared,
+) {
+    let bare = held.take().expect(rt, "no harvest");
+    hold_harvest(held, sweep(rt, rt.alloc(), bare.again(), 1, shared));
+}
+
+/// Takes an order, which is swept while another session decides, and commits the harvest: how many entries that added.
+fn commit_late<S: Calls, R: Threads + Wait + Abort + AllocGlobal + Sync>(
+    rt: &R,
+    office: &S::Office,
+    hand: &mut S,
     shared: &Shared,
 ) -> Answer {
-    let Seat { session, front } = seat;
-    let order = match session.order(rt, rt.alloc(), office, front) {
-        Ok(order) => order,
-        Err(_) => panic!(rt; "no order"),
-    };
+    hand.asks(rt, office, By::One, Call::Bare);
     shared.ordered.store(1, Ordering::SeqCst);
-    let harvest = sweep(rt, rt.alloc(), order, 1, shared);
-    assert!(rt; shared.passed.load(Ordering::SeqCst) == 1);
-    let added = match session.commit(rt, rt.alloc(), office, front, harvest) {
-        Ok(added) => added,
-        Err(_) => panic!(rt; "not taken"),
-    };
-    assert!(rt; front.len() == 3);
+    swept(rt, hand.harvest(), shared);
+    let has_passed = shared.passed.load(Ordering::SeqCst) == 1;
+    require(rt, has_passed, "the lifter went on");
+    let answer = hand.asks(rt, office, By::One, Call::Commit);
+    require(rt, calls(rt, hand) == 3, "a commit that comes third");
     shared.committed.store(1, Ordering::SeqCst);
-    Answer::Added(added)
+    answer
 }
 
 /// Reads until the rounds have ended, and then once more: what is read last. No sheet is of fewer calls than the one
 /// before.
-fn read_on<L: Terms, R: Wait + Abort>(
-    rt: &R,
-    watch: &mut Option<Watch<Front<L>>>,
-    shared: &Shared,
-) -> Answer {
+fn read_on<S: Calls, R: Wait + Abort>(rt: &R, hand: &mut S, shared: &Shared) -> Answer {
     let mut last = 0;
     for _ in rt.forever() {
         let has_ended = shared.ended.load(Ordering::SeqCst) != 0;
-        let answer = told(rt, watch);
+        let answer = hand.looks(rt, By::One, Call::Sees);
         let Answer::Sheet(at, _) = answer else {
-            panic!(rt; "no sheet")
+            rt.panic("no sheet")
         };
-        assert!(rt; last <= at);
+        require(rt, last <= at, "a sheet behind the last");
         last = at;
         if has_ended {
             return answer;
@@ -256,7 +222,28 @@ fn read_on<L: Terms, R: Wait + Abort>(
     unreachable!()
 }
 
-/// A session at work, with a watch where it reads.
+/// What comes of a session's task.
+fn work<S: Calls, R: Threads + Wait + Abort + AllocGlobal + Sync>(
+    rt: &R,
+    office: &S::Office,
+    hand: &mut S,
+    task: Task,
+    shared: &Shared,
+) -> Answer {
+    match task {
+        Task::Rounds(feature, count) => {
+            let sum = rounds(rt, office, hand, feature, count);
+            shared.places.fetch_add(sum, Ordering::SeqCst);
+            shared.ended.store(1, Ordering::SeqCst);
+            Answer::Done
+        }
+        Task::Decide(value) => decide(rt, office, hand, value, shared),
+        Task::CommitLate => commit_late(rt, office, hand, shared),
+        Task::Read => read_on(rt, hand, shared),
+    }
+}
+
+/// A session, with a watch where it reads.
 #[derive(Drop)]
 struct Job<L: Terms> {
     seat: Seat<L>,
@@ -265,24 +252,20 @@ struct Job<L: Terms> {
 }
 
 /// What comes of a job.
-fn work<L: Terms, R: Threads + Wait + Abort + AllocGlobal + Sync>(
+fn done<L: Terms, R: Threads + Wait + Abort + AllocGlobal + Sync>(
     rt: &R,
     office: &Office<L>,
     job: Job<L>,
     shared: &Shared,
 ) -> Answer {
-    let mut job = job;
-    match job.task {
-        Task::Rounds(feature, count) => {
-            let sum = rounds(rt, office, &mut job.seat, feature, count);
-            shared.places.fetch_add(sum, Ordering::SeqCst);
-            shared.ended.store(1, Ordering::SeqCst);
-            Answer::Done
-        }
-        Task::Decide(value) => decide(rt, office, &mut job.seat, value, shared),
-        Task::CommitLate => commit_late(rt, office, &mut job.seat, shared),
-        Task::Read => read_on(rt, &mut job.watch, shared),
+    let Job { seat, watch, task } = job;
+    let mut hand = hand_of(rt, seat);
+    if let Some(watch) = watch {
+        given(rt, hand.sitting.watches.push(watch));
     }
+    let answer = work(rt, office, &mut hand, task, shared);
+    free(rt, hand);
+    answer
 }
 
 /// A session for each task. Where no thread can be made, the last goes first.
@@ -294,7 +277,7 @@ fn jobs_of<L: Terms, R: Wait + Abort + AllocGlobal>(
     let mut jobs = Vec::new(rt.alloc());
     for task in tasks {
         let watch = match task {
-            Task::Read => watched(rt, office),
+            Task::Read => Some(given(rt, office.watch(rt, rt.alloc()))),
             _ => None,
         };
         let job = Job {
@@ -302,10 +285,7 @@ fn jobs_of<L: Terms, R: Wait + Abort + AllocGlobal>(
             watch,
             task: *task,
         };
-        match jobs.push(job) {
-            Ok(()) => {}
-            Err(_) => panic!(rt; "no memory"),
-        }
+        given(rt, jobs.push(job));
     }
     jobs
 }
@@ -317,60 +297,100 @@ fn at_once<L: Terms + Send + Sync, R: Threads + Wait + Abort + AllocGlobal + Syn
     jobs: Vec<Job<L>>,
     shared: &Shared,
 ) -> Vec<Answer> {
-    match thread::map_vec(rt, jobs, &|job| work(rt, office, job, shared)) {
-        Ok(answers) => answers,
-        Err(_) => panic!(rt; "no memory"),
-    }
+    given(
+        rt,
+        thread::map_vec(rt, jobs, &|job| done(rt, office, job, shared)),
+    )
 }
 
-/// Sessions work at once: each call in rounds stands at a place of its own, behind those that its session made before.
-fn make_rush<L: Terms + Send + Sync, R: Threads + Wait + Abort + AllocGlobal + Sync>(
-    rt: &R,
-    office: &Office<L>,
-    rush: &Rush,
-) {
-    may_be_shared(office);
-    let passes = !rush.is_late as u64;
-    let shared = Shared {
+/// What sessions share before they begin.
+fn shared_for(is_late: bool) -> Shared {
+    let passes = !is_late as u64;
+    Shared {
         ended: AtomicU64::new(0),
         places: AtomicU64::new(0),
         ordered: AtomicU64::new(passes),
         committed: AtomicU64::new(passes),
         decided: AtomicU64::new(0),
         passed: AtomicU64::new(0),
-    };
-    let jobs = jobs_of(rt, office, rush.tasks);
-    let answers = at_once(rt, office, jobs, &shared);
-    let found = answers.as_slice();
-    assert!(rt; found == rush.gives || found == rush.or);
-    assert!(rt; shared.places.load(Ordering::SeqCst) == rush.sum);
+    }
+}
+
+/// Whether this came of a rush: each call in rounds stood at a place of its own, behind those that its session made
+/// before.
+fn are_given(rush: &Rush, answers: &[Answer], shared: &Shared) -> bool {
+    (answers == rush.gives || answers == rush.or)
+        && shared.places.load(Ordering::SeqCst) == rush.sum
 }
 
 /// Whether the log is as it has to be behind a rush. To look at the page is one further call.
-fn is_left<L: Terms, R: Wait + Abort + AllocGlobal>(
+fn is_left<S: Calls, R: Wait + Abort + AllocGlobal>(
     rt: &R,
-    office: &Office<L>,
-    seat: &mut Seat<L>,
+    office: &S::Office,
+    hand: &mut S,
     rush: &Rush,
-) -> bool
-    requires { length L.game.vertices ≡ 2 }
-{
-    if seat.front.len() != rush.calls {
+) -> bool {
+    if calls(rt, hand) != rush.calls {
         return false;
     }
     match rush.page {
         Some(text) => {
-            let mut kept = none_kept(seat);
-            asked(rt, office, seat, &mut kept, Call::Page(text)) == Answer::Is(true)
-                && seat.front.len() == rush.calls.saturating_add(1)
+            hand.asks(rt, office, By::One, Call::Page(text)) == Answer::Is(true)
+                && calls(rt, hand) == rush.calls.saturating_add(1)
         }
         None => true,
+    }
+}
+
+/// Opens an office, on which sessions work at once, and closes it then.
+fn open_and_run<L: Terms + Send + Sync, R: Threads + Wait + Abort + AllocGlobal + Sync>(
+    rt: &R,
+    site: Site,
+    game: Arc<GuardedGame>,
+    diagram: Arc<Diagram>,
+    room: u32,
+    rush: &Rush,
+)
+    requires features { (arc_value game).features ≡ feature_count (arc_value diagram).lines }
+    requires site { (site.row ≡ L.shelves) × (site.name ≡ L.name) × (site.parts ≡ L.parts) }
+    requires of { (arc_value game ≡ L.game) × (arc_value diagram ≡ L.diagram) }
+    requires room { (room ≡ L.limit) × (1 ≤ room) × (room ≤ 1048576) }
+{
+    let office = given(
+        rt,
+        Office::<L>::open(rt, rt.alloc(), site, game, diagram, room),
+    );
+    may_be_shared(&office);
+    let shared = shared_for(rush.is_late);
+    let answers = at_once(rt, &office, jobs_of(rt, &office, rush.tasks), &shared);
+    require(rt, are_given(rush, answers.as_slice(), &shared), rush.name);
+    let mut hand = hand_of(rt, joined(rt, &office));
+    require(rt, is_left(rt, &office, &mut hand, rush), rush.name);
+    end(rt, office, &mut hand, true);
+    free(rt, hand);
+}
+
+/// Sessions work at once on an office of their own.
+fn rush_once<R: Threads + Wait + Abort + AllocGlobal + Sync>(rt: &R, rush: &Rush) {
+    assert!(rt; 1 <= rush.room && rush.room <= 10_000);
+    let (game, diagram) = family(rt, GAME, rush.diagram);
+    let site = Site::new(rt.alloc()).expect(rt, "no memory");
+    open_and_run::<Brand, R>(rt, site, game, diagram, rush.room, rush);
+}
+
+fn make_rush<R: Threads + Wait + Abort + AllocGlobal + Sync>(rt: &R, rush: &Rush) {
+    for _ in 0..rush.times {
+        rush_once(rt, rush);
     }
 }
 
 const EMPTY: &str = "0 decided / 0 0 / 0 0 / ";
 
 const TWO: &Rush = &Rush {
+    name: "two threads decide and retract",
+    diagram: DIAGRAM,
+    room: 1000,
+    times: 1,
     tasks: &[Task::Rounds(1, 100), Task::Rounds(2, 100)],
     gives: &[Answer::Done; 2],
     or: &[],
@@ -380,12 +400,11 @@ const TWO: &Rush = &Rush {
     is_late: false,
 };
 
-#[test]
-fn two_threads_decide_and_retract(rt: HostRuntime) {
-    on_shared_office(&rt, DIAGRAM, 1000, TWO);
-}
-
 const EIGHT: &Rush = &Rush {
+    name: "eight threads keep order",
+    diagram: WIDE,
+    room: 8001,
+    times: 1,
     tasks: &[
         Task::Rounds(1, 250),
         Task::Rounds(2, 250),
@@ -404,15 +423,14 @@ const EIGHT: &Rush = &Rush {
     is_late: false,
 };
 
-#[test]
-fn eight_threads_keep_order(rt: HostRuntime) {
-    on_shared_office(&rt, WIDE, 8001, EIGHT);
-}
-
 const SECOND: Answer = Answer::NotDecided(DecideFault::AlreadyDecided { serial: 1 });
 
 /// Two sessions decide one feature, each its own way: one is the first, and the other is told so.
 const RACE: &Rush = &Rush {
+    name: "two threads decide one feature",
+    diagram: DIAGRAM,
+    room: 10,
+    times: 20,
     tasks: &[Task::Decide(true), Task::Decide(false)],
     gives: &[Answer::Token(1), SECOND],
     or: &[SECOND, Answer::Token(1)],
@@ -422,17 +440,14 @@ const RACE: &Rush = &Rush {
     is_late: false,
 };
 
-#[test]
-fn two_threads_decide_one_feature(rt: HostRuntime) {
-    for _ in 0..20 {
-        on_shared_office(&rt, DIAGRAM, 10, RACE);
-    }
-}
-
 const LAST_SHEET: Answer = Answer::Sheet(1999, false);
 
 /// Eight watches read 1,000 changes and end with the last.
 const WATCHED: &Rush = &Rush {
+    name: "eight watches never go back",
+    diagram: DIAGRAM,
+    room: 2000,
+    times: 1,
     tasks: &[
         Task::Read,
         Task::Read,
@@ -462,14 +477,13 @@ const WATCHED: &Rush = &Rush {
     is_late: false,
 };
 
-#[test]
-fn eight_watches_never_go_back(rt: HostRuntime) {
-    on_shared_office(&rt, DIAGRAM, 2000, WATCHED);
-}
-
 /// A harvest comes after another session decided: it is taken, and the page has both. The two wait for each other, so
 /// each needs a thread of its own.
 const LATE: &Rush = &Rush {
+    name: "a harvest comes late",
+    diagram: DIAGRAM,
+    room: 10,
+    times: 1,
     tasks: &[Task::CommitLate, Task::Decide(false)],
     gives: &[Answer::Added(2), Answer::Token(1)],
     or: &[],
@@ -479,7 +493,11 @@ const LATE: &Rush = &Rush {
     is_late: true,
 };
 
+const RUSHES: &[&Rush] = &[TWO, EIGHT, RACE, WATCHED, LATE];
+
 #[test]
-fn a_harvest_comes_late(rt: HostRuntime) {
-    on_shared_office(&rt, DIAGRAM, 10, LATE);
+fn sessions_work_at_once(rt: HostRuntime) {
+    for rush in RUSHES {
+        make_rush(&rt, rush);
+    }
 }

@@ -2,6 +2,7 @@
 ghost use Rattle.std.specs.Prelude.{◌≡◌, ◌≤◌};
 ghost use Rattle.std.specs.Thread.{IsSync};
 
+use crate::given::{given, require, require_at};
 use crate::watching::sheets::Step::{Clear, Publish, Reads, Watches};
 use crate::watching::steps::{Steps, Told, sheet, sheet_of, told};
 use std::process::Abort;
@@ -19,7 +20,7 @@ fn opened<R: Wait + Abort + AllocGlobal>(rt: &R) -> Press<Steps>
         Ok(press) => press,
         Err(sheet) => match Press::open(rt, rt.alloc(), sheet) {
             Ok(press) => press,
-            Err(_) => panic!(rt; "no press"),
+            Err(_) => rt.panic("no press"),
         },
     }
 }
@@ -37,7 +38,7 @@ fn add_watches<R: Abort>(
         let Ok(watch) = press.watch() else {
             break;
         };
-        assert!(rt; watches.push(watch).is_ok());
+        given(rt, watches.push(watch));
     }
     watches.len()
 }
@@ -63,8 +64,8 @@ fn publish<R: Wait + Abort + AllocGlobal>(
 {
     let before = read_at(watches, 0);
     if let Err(sheet) = press.publish(rt, sheet(rt, count)) {
-        assert!(rt; read_at(watches, 0) == before);
-        assert!(rt; press.publish(rt, sheet).is_ok());
+        require(rt, read_at(watches, 0) == before, "what is read stays");
+        require(rt, press.publish(rt, sheet).is_ok(), "a sheet");
     }
 }
 
@@ -121,7 +122,8 @@ fn carry_out<R: Wait + Abort + AllocGlobal>(
 {
     let mut shown = 0;
     for k in 0..steps.len() {
-        assert!(rt; is_so(rt, press, watches, steps[k], &mut shown), "at {k}");
+        let holds = is_so(rt, press, watches, steps[k], &mut shown);
+        require_at(rt, holds, "steps with a press", k);
     }
 }
 
@@ -131,8 +133,13 @@ fn on_press<R: Wait + Abort + AllocGlobal>(rt: &R, steps: &[Step]) {
     let mut watches = Vec::new(rt.alloc());
     carry_out(rt, &mut press, &mut watches, steps);
     press.close(rt);
-    assert!(rt; !watches.is_empty());
-    assert!(rt; read_at(&mut watches, 0).is_none() && read_at(&mut watches, 0).is_none());
+    require(rt, !watches.is_empty(), "a watch is left");
+    require(rt, read_at(&mut watches, 0).is_none(), "nothing is read");
+    require(
+        rt,
+        read_at(&mut watches, 0).is_none(),
+        "nothing is read again",
+    );
 }
 
 /// What three watches read, of which the third is made after the first sheet that is published, and the second is not
@@ -156,13 +163,6 @@ const TWO: &[Step] = &[Watches(1, 1), Publish(2), Reads(0, (2, false, true))];
 
 /// There are 64 places and no more, and one again once the watches are gone.
 const PLACES: &[Step] = &[Watches(100, 64), Clear, Watches(1, 1)];
-
-#[test]
-fn watches_read_what_is_shown(rt: HostRuntime) {
-    on_press(&rt, THREE);
-    on_press(&rt, TWO);
-    on_press(&rt, PLACES);
-}
 
 /// How many sheets are published while four watches read.
 const SHEETS: u32 = 100;
@@ -235,12 +235,22 @@ fn publish_and_read<R: Threads + Wait + AllocGlobal + Sync>(
     )
 }
 
-#[test]
-fn reads_of_four_threads_never_go_back(rt: HostRuntime) {
-    let mut press = opened(&rt);
+/// Whether four watches read on while sheets are published.
+fn are_read<R: Threads + Wait + Abort + AllocGlobal + Sync>(rt: &R) -> bool
+    requires { IsSync R.row }
+{
+    let mut press = opened(rt);
     let mut watches = Vec::new(rt.alloc());
-    add_watches(&rt, &mut press, &mut watches, 4);
-    let read = publish_and_read(&rt, &mut press, watches);
-    press.close(&rt);
-    assert!(rt; read == (100, true));
+    add_watches(rt, &mut press, &mut watches, 4);
+    let read = publish_and_read(rt, &mut press, watches);
+    press.close(rt);
+    read == (100, true)
+}
+
+#[test]
+fn watches_read_what_is_shown(rt: HostRuntime) {
+    on_press(&rt, THREE);
+    on_press(&rt, TWO);
+    on_press(&rt, PLACES);
+    require(&rt, are_read(&rt), "four watches read on");
 }

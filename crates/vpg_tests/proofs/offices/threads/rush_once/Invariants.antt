@@ -1,5 +1,5 @@
 use Rattle.std.specs.Arc.{arc_value}
-use Rattle.vpg_tests.proofs.offices.threads.on_shared_office.Given as goal
+use Rattle.vpg_tests.proofs.offices.threads.rush_once.Given as goal
 
 -- the row and the ledger that were just made
 abbrev pub ghosts-open_and_run-L-Terms : goal.ghosts-open_and_run-L-Terms

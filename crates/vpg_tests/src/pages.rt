@@ -1,4 +1,4 @@
-//! Pages as texts.
+//! Pages and entries as texts, such as `select f 1 by 1 / hopeful 0 0 2 +f / `.
 use std::alloc::Global;
 use std::fmt::{Display, Write};
 use vpg_measure::Table;
@@ -13,6 +13,18 @@ struct Line {
 }
 
 impl Line {
+    fn new(alloc: Global) -> Line {
+        Line {
+            text: String::new(alloc),
+            lacks: false,
+        }
+    }
+
+    /// Whether this text was written, and all of it found memory.
+    fn is(&self, text: &str) -> bool {
+        !self.lacks && self.text.as_str() == text
+    }
+
     /// Writes a word or a number, and a space behind it.
     fn put<T: Display + Copy>(&mut self, word: T) {
         self.lacks |= write!(self.text, "{word} ").is_err();
@@ -92,14 +104,18 @@ fn put_table(line: &mut Line, table: &Table) {
 
 /// Whether a page is this text: its decisions, its entries, and its two tables.
 pub fn is_text(alloc: Global, page: &Page, text: &str) -> bool {
-    let mut line = Line {
-        text: String::new(alloc),
-        lacks: false,
-    };
+    let mut line = Line::new(alloc);
     line.put(page.decisions.as_slice().len());
     line.put("decided /");
     put_entries(&mut line, page.entries.as_slice());
     put_table(&mut line, &page.hopeful);
     put_table(&mut line, &page.dual);
-    !line.lacks && line.text.as_str() == text
+    line.is(text)
+}
+
+/// Whether entries are this text.
+pub fn are_text(alloc: Global, entries: &[Entry], text: &str) -> bool {
+    let mut line = Line::new(alloc);
+    put_entries(&mut line, entries);
+    line.is(text)
 }

@@ -1,0 +1,297 @@
+//! Calls at a desk or an office, and what they give.
+//!
+//! What is generic over `Calls` names no type of an office. A function whose signature names one takes the prover
+//! seconds, so there are few.
+ghost use Rattle.std.specs.Prelude.{◌≡◌};
+
+use crate::given::{require, require_at};
+use std::process::Abort;
+use std::sync::Wait;
+use std::test::*;
+use vpg_desk::{CommitFault, DecideFault, RedoFault, RetractFault, UndoFault};
+use vpg_measure::{Harvest, Order};
+use vpg_verdict::Which;
+
+/// Which of two sessions makes a call.
+#[derive(Clone, Copy)]
+pub enum By {
+    One,
+    Two,
+}
+
+/// Where a token is held.
+#[derive(Clone, Copy)]
+pub enum At {
+    First,
+    Second,
+    Third,
+}
+
+/// Another family than that of most examples.
+#[derive(Clone, Copy)]
+pub enum Other {
+    /// One vertex over the same features.
+    Game,
+    /// The same game over a diagram of one clause more.
+    Diagram,
+}
+
+/// A call.
+#[derive(Clone, Copy)]
+pub enum Call {
+    /// These two give a token, which is held there.
+    Decide(At, u16, bool),
+    Retract(At, u16),
+    /// These spend the token that is held there for another, which is held in its place.
+    Undo(At),
+    Redo(At),
+    Keep(At),
+    Forget(At),
+    /// An order, which is lifted until both tables are settled: the harvest that is held then.
+    Order,
+    /// An order of which this vertex of the first table is lifted once: the harvest that is held then.
+    Lift(u32),
+    /// An order of which nothing is lifted: the harvest that is held then.
+    Bare,
+    /// Hands the harvest in that is held, which comes back where it isn't taken.
+    Commit,
+    Settled,
+    /// As `Settled`, by the front with which the first session began.
+    SettledEarly,
+    Verdict(u32),
+    /// Whether the page is this text.
+    Page(&'static str),
+    /// A further watch. Those before stay.
+    Watch,
+    /// Lets all watches go.
+    Unwatch,
+    /// What the last watch reads.
+    Sees,
+    /// How many calls the front has.
+    Calls,
+    /// How many the front has with which the first session began.
+    EarlyCalls,
+    /// The number of the session, and how many calls its front has.
+    Number,
+    /// The same of a further session.
+    Join,
+    /// How many calls the front has once it met that of the second session.
+    Meet,
+    /// Whether all further sessions are numbered from 3, and the 1,025th alone is refused.
+    JoinAll,
+    /// Whether there are 64 watches and no more, until they are let go.
+    WatchAll,
+    /// An order of a desk on another family, which is lifted until both tables are settled: the harvest that is held
+    /// then.
+    Other(Other),
+    /// How many vertices the game of the harvest that is held has, and how many clauses its diagram.
+    Sizes,
+    /// Closes a desk, which comes back where tokens are out.
+    Close,
+}
+
+/// What a call gave.
+#[derive(Clone, Copy, PartialEq)]
+pub enum Answer {
+    Done,
+    /// A token that was kept or forgotten.
+    Kept,
+    Forgotten,
+    /// There is no such call, or none with the token that is held.
+    NoCall,
+    /// A token of this serial.
+    Token(u64),
+    /// A token, of whichever serial.
+    AnyToken,
+    /// So many entries.
+    Added(u32),
+    Is(bool),
+    /// Whether the vertex is hopeless, and whether it is sure.
+    Says(bool, bool),
+    /// Of how many calls the sheet is, and whether it is settled.
+    Sheet(u32, bool),
+    NoSheet,
+    NoWatch,
+    /// There is no place for a further session or watch.
+    NoPlace,
+    /// So many calls, or tokens that are out.
+    Has(usize),
+    /// So many vertices, and so many clauses.
+    Sizes(usize, usize),
+    /// A session of this number, and so many calls.
+    Joined(u32, usize),
+    /// The log is full, and has so many calls.
+    Full(usize),
+    /// The session made a call since, and the log has so many.
+    Doubled(usize),
+    NotDecided(DecideFault),
+    NotRetracted(RetractFault),
+    NotUndone(UndoFault),
+    NotRedone(RedoFault),
+    NotCommitted(CommitFault),
+}
+
+/// Sessions at work at an office, or at a desk.
+pub trait Calls {
+    ghost use Rattle.std.specs.Prelude.{ℕ, ◌<◌};
+
+    type Office;
+
+    /// How many vertices the office's game has.
+    ghost vertices: { ℕ };
+
+    /// Makes a call that gives a token, which is held there, or spends the one that is held there.
+    fn changes<R: Wait + Abort + AllocGlobal>(
+        &mut self,
+        rt: &R,
+        office: &Self::Office,
+        by: By,
+        at: At,
+        call: Call,
+    ) -> Answer;
+
+    /// The serial of the change whose token is held there, 0 where none is.
+    fn serial(&mut self, at: At) -> u64;
+
+    /// Makes a call that is logged, takes no token and gives none.
+    fn asks<R: Wait + Abort + AllocGlobal>(
+        &mut self,
+        rt: &R,
+        office: &Self::Office,
+        by: By,
+        call: Call,
+    ) -> Answer;
+
+    /// What is said of a vertex.
+    fn verdict<R: Wait + Abort>(
+        &mut self,
+        rt: &R,
+        office: &Self::Office,
+        by: By,
+        vertex: u32,
+    ) -> Answer
+        requires { vertex < vertices };
+
+    /// Makes a call that is not logged.
+    fn visits<R: Wait + Abort + AllocGlobal>(
+        &mut self,
+        rt: &R,
+        office: &Self::Office,
+        by: By,
+        call: Call,
+    ) -> Answer;
+
+    /// Looks at what sessions have, also once the office has ended.
+    fn looks<R: Abort>(&mut self, rt: &R, by: By, call: Call) -> Answer;
+
+    /// The harvest that is held.
+    fn harvest(&mut self) -> &mut Option<Harvest>;
+}
+
+/// Whether all further sessions are numbered from 3, and the 1,025th alone is refused.
+fn join_all<S: Calls, R: Wait + Abort + AllocGlobal>(
+    rt: &R,
+    office: &S::Office,
+    hand: &mut S,
+) -> bool {
+    for number in 3..1025u32 {
+        let joined = hand.visits(rt, office, By::One, Call::Join);
+        require(rt, joined == Answer::Joined(number, 0), "a further session");
+    }
+    hand.visits(rt, office, By::One, Call::Join) == Answer::NoPlace
+}
+
+/// Whether there are 64 watches and no more, until they are let go.
+fn watch_all<S: Calls, R: Wait + Abort + AllocGlobal>(
+    rt: &R,
+    office: &S::Office,
+    hand: &mut S,
+) -> bool {
+    for _ in 0..64u32 {
+        let watched = hand.visits(rt, office, By::One, Call::Watch);
+        require(rt, watched == Answer::Done, "a further watch");
+    }
+    let last = hand.visits(rt, office, By::One, Call::Watch);
+    hand.looks(rt, By::One, Call::Unwatch);
+    last == Answer::NoPlace && hand.visits(rt, office, By::One, Call::Watch) == Answer::Done
+}
+
+/// Undoes or redoes a change. Behind that a token of the same serial is held, also where it is refused.
+fn turned<S: Calls, R: Wait + Abort + AllocGlobal>(
+    rt: &R,
+    office: &S::Office,
+    hand: &mut S,
+    by: By,
+    at: At,
+    call: Call,
+) -> Answer {
+    let before = hand.serial(at);
+    let answer = hand.changes(rt, office, by, at, call);
+    require(rt, hand.serial(at) == before, "a token of the same serial");
+    answer
+}
+
+/// Makes a call: what it gave.
+pub fn answered<S: Calls, R: Wait + Abort + AllocGlobal>(
+    rt: &R,
+    office: &S::Office,
+    hand: &mut S,
+    by: By,
+    call: Call,
+) -> Answer
+    requires { S.vertices ≡ 2 }
+{
+    match call {
+        Call::Decide(at, ..) | Call::Retract(at, _) => hand.changes(rt, office, by, at, call),
+        Call::Undo(at) | Call::Redo(at) => turned(rt, office, hand, by, at, call),
+        Call::Keep(at) | Call::Forget(at) => hand.changes(rt, office, by, at, call),
+        Call::Verdict(vertex) if vertex < 2 => hand.verdict(rt, office, by, vertex),
+        Call::Watch | Call::Join | Call::Meet | Call::Close => hand.visits(rt, office, by, call),
+        Call::Unwatch | Call::Sees | Call::Number | Call::Calls => hand.looks(rt, by, call),
+        Call::EarlyCalls | Call::Sizes => hand.looks(rt, by, call),
+        Call::JoinAll => Answer::Is(join_all(rt, office, hand)),
+        Call::WatchAll => Answer::Is(watch_all(rt, office, hand)),
+        _ => hand.asks(rt, office, by, call),
+    }
+}
+
+/// A call of a session, and what it gives.
+pub type Step = (By, Call, Answer);
+
+/// Makes each call, which has to give what it says.
+pub fn carry_out<S: Calls, R: Wait + Abort + AllocGlobal>(
+    rt: &R,
+    office: &S::Office,
+    hand: &mut S,
+    name: &str,
+    steps: &[Step],
+)
+    requires { S.vertices ≡ 2 }
+{
+    for k in 0..steps.len() {
+        let (by, call, gives) = steps[k];
+        let answer = answered(rt, office, hand, by, call);
+        let is_token = matches!((answer, gives), (Answer::Token(_), Answer::AnyToken));
+        require_at(rt, is_token || answer == gives, name, k);
+    }
+}
+
+/// Holds a harvest. Whoever lets one go himself takes the prover seconds.
+pub fn hold_harvest(held: &mut Option<Harvest>, harvest: Harvest) {
+    *held = Some(harvest);
+}
+
+/// The harvest of an order of which one vertex is lifted once.
+pub fn lifted(rt: &impl Abort, order: Order, which: Which, vertex: u32) -> Harvest {
+    assert!(rt; (vertex as usize) < order.game().vertices());
+    Harvest::one(order, which, vertex)
+}
+
+/// The harvest of an order of which one vertex is lifted, or nothing, or which is lifted until both tables are settled.
+pub fn harvest_of(rt: &impl Abort, order: Order, call: Call) -> Harvest {
+    match call {
+        Call::Lift(vertex) => lifted(rt, order, Which::Hopeful, vertex),
+        Call::Bare => Harvest::alone(order, 0),
+        _ => Harvest::alone(order, 1000),
+    }
+}
