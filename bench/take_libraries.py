@@ -1,0 +1,61 @@
+#!/usr/bin/env python3
+"""Takes libraries that a run of the gate built in another checkout, for checks of the crates above them.
+
+    python3 bench/take_libraries.py FOLDER        FOLDER is the top of the other checkout
+
+A gate leaves the libraries that it built in crates/*/out/rlib, as statements without their proofs, and does not mark
+them as built; so a later `rt check` would build each anew, half an hour for the upper crates. Here those are copied and
+marked whose text, and that of all crates below, is the same in both checkouts and older than the library. Take them all
+from one run: statements fit only the libraries that they were built over. The gate itself begins from nothing whatever
+stands there.
+"""
+import importlib.machinery
+import importlib.util
+import os
+import shutil
+import sys
+
+sys.dont_write_bytecode = True
+LOADER = importlib.machinery.SourceFileLoader("rt", os.path.realpath(shutil.which("rt")))
+SPEC = importlib.util.spec_from_loader("rt", LOADER)
+RT = importlib.util.module_from_spec(SPEC)
+LOADER.exec_module(RT)
+
+ROOT = os.path.dirname(os.path.dirname(os.path.abspath(__file__)))
+
+
+def crates_at(top):
+    """The crates of a checkout by name."""
+    os.chdir(top)
+    return {it.name: it for it in RT.rtlib.crates_below(top)}
+
+
+def is_made(crate):
+    """Whether the checkout has a library of the crate, and no file of the crate is younger."""
+    made = f"{crate.folder}/out/rlib/{crate.name}.rlib"
+    if not os.path.isdir(made):
+        return False
+    return all(os.path.getmtime(it) < os.path.getmtime(made) for it in RT.rtlib.files_of(crate.folder))
+
+
+def main(words):
+    if len(words) != 1:
+        sys.exit(__doc__)
+    theirs = crates_at(os.path.abspath(words[0]))
+    made = {name for name, crate in theirs.items() if all(map(is_made, [crate, *crate.below()]))}
+    taken, left = [], []
+    for name, crate in crates_at(ROOT).items():
+        if name not in made or theirs[name].stamp() != crate.stamp():
+            left.append(name)
+            continue
+        kept = f"{crate.folder}/out/rlib"
+        shutil.rmtree(kept, ignore_errors=True)
+        shutil.copytree(f"{theirs[name].folder}/out/rlib", kept)
+        with open(f"{kept}/stamp", "w", encoding="utf-8") as it:
+            it.write(crate.stamp())
+        taken.append(name)
+    print(f"taken: {' '.join(sorted(taken)) or 'none'}")
+    print(f"left: {' '.join(sorted(left)) or 'none'}")
+
+
+main(sys.argv[1:])
