@@ -1,14 +1,16 @@
 #!/usr/bin/env python3
 """Tries wrong bodies on a copy of the repository, and writes what became of each into bench/wrong_bodies.tsv.
 
-    python3 bench/wrong_bodies.py [CRATE..] [--only WORD] [--gate | --outside] [--together NUMBER] [--room FOLDER] [--table FILE]
+    python3 bench/wrong_bodies.py [CRATE..] [--only WORD] [--gate | --outside] [--together NUMBER] [--beside NUMBER] [--room FOLDER] [--table FILE]
+    python3 bench/wrong_bodies.py --stale [CRATE..] [--only WORD] [--gate | --outside]
     python3 bench/wrong_bodies.py --rule [CRATE..] [--outside]
 
 A wrong body is a file of crates/CRATE/must-fail (tried by the gate) or crates/CRATE/wrong-bodies (outside it); with no CRATE all crates are tried, lowest
 first. --only takes those whose name holds the word. Wrong bodies of different functions are tried in one check, up to eight (--together), since each function
-is proved by itself; what is not told apart so is tried alone. What was tried on the same text (the crate's, and the contracts and definitions below it) is not
-tried again, so a run that was broken off goes on where it ended. The copy is made in a folder that is removed, or in --room, where what was proved stays for
-the next run. Kept work (out/) of the checkout is copied, so that little is proved again; the checkout itself is only read, but for the table.
+is proved by itself; what is not told apart so is tried alone. So many checks run side by side (--beside, or one). What was tried on the same text (the crate's,
+and the contracts and definitions below it) is not tried again, so a run that was broken off goes on where it ended; --stale tries nothing, and names what is
+left to try. The copy is made in a folder that is removed, or in --room, where what was proved stays for the next run. Kept work (out/) of the checkout is copied,
+so that little is proved again; the checkout itself is only read, but for the table.
 
 What the table says of a wrong body:
 
@@ -29,11 +31,13 @@ not by `name`, and `goal` is none of a loop, a call or a step. --rule tries noth
 outside it) with what refused it, those that break the rule last, and exits with 1 where there are any.
 """
 import argparse
+import concurrent.futures
 import datetime
 import fcntl
 import hashlib
 import importlib.machinery
 import importlib.util
+import multiprocessing
 import os
 import re
 import resource
@@ -52,6 +56,8 @@ ROOT = os.path.dirname(os.path.dirname(os.path.abspath(__file__)))
 FOLDERS = {"gate": "must-fail", "outside": "wrong-bodies"}
 COLUMNS = ["crate", "edit", "where", "date", "commit", "text", "verdict", "seen", "function", "goal", "seconds"]
 ROUNDS = 8
+# How many wrong bodies a share has, about, where several run side by side.
+SHARE = 14
 SIGNED = re.compile(r"(?:(?:pub|abbrev|unfoldable|opaque) )*([^\s(){},]+) :(?:\s|$)")
 GONE = re.compile(r"has no field|is not in scope|has no `|was not admitted")
 BY_COMPILER = "# refused by the compiler: "
@@ -464,12 +470,16 @@ def main():
     asked.add_argument("--gate", action="store_true")
     asked.add_argument("--outside", action="store_true")
     asked.add_argument("--rule", action="store_true")
+    asked.add_argument("--stale", action="store_true")
     asked.add_argument("--together", type=int, default=8, metavar="NUMBER")
+    asked.add_argument("--beside", type=int, default=1, metavar="NUMBER")
     asked.add_argument("--room", metavar="FOLDER")
     asked.add_argument("--table", default=f"{ROOT}/bench/wrong_bodies.tsv", metavar="FILE")
     asked = asked.parse_args()
     if asked.rule:
         return ruled(asked)
+    if asked.stale:
+        return told_stale(asked)
     with tempfile.TemporaryDirectory(prefix="wrong-bodies-") as made:
         room = os.path.abspath(asked.room) if asked.room else made
         os.makedirs(room, exist_ok=True)
@@ -490,9 +500,8 @@ def broken(row):
 def ruled(asked):
     """Tells of each wrong body what refused it, and whether that was on the present text."""
     part = "outside" if asked.outside else "gate"
-    crates = {it.name: it for it in RT.rtlib.crates_below(ROOT)}
     rows, told = rows_of(asked.table), []
-    for crate in sorted(crates.values(), key=lambda it: len(it.below())):
+    for crate in crates_at(ROOT):
         folder = f"{crate.folder}/{FOLDERS[part]}"
         for name in sorted(os.listdir(folder) if os.path.isdir(folder) and (not asked.crates or crate.name in asked.crates) else []):
             row = rows.get((crate.name, name[: -len(".edit")]), {"verdict": "untried", "text": ""})
@@ -506,49 +515,138 @@ def ruled(asked):
     return 1 if count else 0
 
 
-def tried_all(asked, room):
-    commit = subprocess.run(["git", "-C", ROOT, "rev-parse", "--short", "HEAD"], stdout=subprocess.PIPE, text=True).stdout.strip()
-    copied(room)
-    os.chdir(room)
-    RT.rtlib.guarded()
-    crates = sorted(RT.rtlib.crates_below(room), key=lambda it: len(it.below()))
-    parts = [part for part in FOLDERS if not (asked.gate or asked.outside) or getattr(asked, part)]
-    edits, names = {}, {}
+def crates_at(top):
+    """The crates of a checkout, lowest first."""
+    return sorted(RT.rtlib.crates_below(top), key=lambda it: len(it.below()))
+
+
+def named(crates):
+    """Each wrong body's place in the table: its crate's number, its file, and whether the gate tries it."""
+    found = {}
     for at, crate in enumerate(crates):
         for part in FOLDERS:
             folder = f"{crate.folder}/{FOLDERS[part]}"
-            found = [it for it in sorted(os.listdir(folder) if os.path.isdir(folder) else []) if it.endswith(".edit")]
-            names.update({(crate.name, it[: -len(".edit")]): (at, it, part) for it in found})
-            edits.setdefault(crate.name, []).extend((part, f"{folder}/{it}") for it in found if part in parts and asked.only in it)
-    write_row(asked.table, None, names)
-    loud = []
-    for crate in crates:
-        if asked.crates and crate.name not in asked.crates:
-            continue
-        rows = rows_of(asked.table)
-        left = []
-        for part, edit in edits.get(crate.name, []):
-            name, text = os.path.basename(edit)[: -len(".edit")], text_of(crate, edit)
-            row = rows.get((crate.name, name))
+            for edit in sorted(os.listdir(folder) if os.path.isdir(folder) else []):
+                if edit.endswith(".edit"):
+                    found[crate.name, edit.removesuffix(".edit")] = (at, edit, part)
+    return found
+
+
+def left_of(crates, asked):
+    """The wrong bodies of each crate that are asked for, and that the table has not on the present text."""
+    rows, left = rows_of(asked.table), {}
+    for (of, name), (at, edit, part) in named(crates).items():
+        is_asked = asked.only in name and (not asked.crates or of in asked.crates)
+        if is_asked and (getattr(asked, part) or not asked.gate and not asked.outside):
+            path, row = f"{crates[at].folder}/{FOLDERS[part]}/{edit}", rows.get((of, name))
+            text = text_of(crates[at], path)
             if not row or row["text"] != text or row["verdict"] == "bad":
-                left.append(Body(crate, name, part, edit, text))
-        if not left:
-            continue
-        print(f"== {crate.name}: {len(left)} wrong bodies", flush=True)
-        kept = f"{crate.folder}/out/incremental"
-        os.makedirs(kept, exist_ok=True)
-        if any(dep.build_rlib(["--jobs", "1"], anew=False) for dep in crate.below()) or RT.checked(crate, {}, ["--jobs", "1"], kept).returncode:
-            print(f"{crate.name}: IT IS NOT PROVED AS IT STANDS, so none of its wrong bodies was tried", flush=True)
-            loud.append(crate.name)
-            continue
-        with open(f"{room}/said-{crate.name}", "a", encoding="utf-8") as log:
-            for body, said in try_all(crate, left, kept, asked.together, log):
-                row = [crate.name, body.name, body.part, datetime.date.today().isoformat(), commit, body.text, *said, f"{body.seconds:.0f}"]
-                write_row(asked.table, dict(zip(COLUMNS, row)), names)
-                print(f"{crate.name} {body.name}: {' '.join(it for it in said if it)} ({body.seconds:.0f} s)", flush=True)
-                if said[0] in ("PROVED", "bad"):
-                    print(f"{'*' * 20} {said[0]}: {crate.name} {body.name}", flush=True)
-                    loud.append(f"{crate.name}/{body.name}")
+                left.setdefault(of, []).append(Body(crates[at], name, part, path, text))
+    return left
+
+
+def told_stale(asked):
+    """Names each wrong body that is left to try on the present text, and exits with 1 where there are any."""
+    left = [it for those in left_of(crates_at(ROOT), asked).values() for it in those]
+    for it in left:
+        print(f"{it.crate.name} {it.name}")
+    print(f"{len(left)} wrong bodies have no row on the present text")
+    return 1 if left else 0
+
+
+# The run's, which its processes have from the start.
+LANES = None
+
+
+def carried_out(kind, *given):
+    return getattr(LANES, kind)(*given)
+
+
+class Lanes:
+    """
+    What a run has to do, as tasks that wait for one another: the libraries below a crate, a check of the crate as it
+    stands, and its wrong bodies in shares, each over its own copy of what that check proved. Tasks run in processes of
+    their own, so that each counts its own seconds.
+    """
+
+    def __init__(self, asked, room, crates, left):
+        self.asked, self.room, self.left = asked, room, left
+        self.crates, self.names = {it.name: it for it in crates}, named(crates)
+        self.commit = subprocess.run(["git", "-C", ROOT, "rev-parse", "--short", "HEAD"], stdout=subprocess.PIPE, text=True).stdout.strip()
+        wanted = [it for it in crates if it.name in left]
+        below = {dep.name for it in wanted for dep in it.below()}
+        self.waits = {("check", it.name): [("library", dep.name) for dep in it.below()] for it in wanted}
+        for name in below:
+            own = [("check", name)] if name in left else []
+            self.waits["library", name] = [*own, *[("library", dep.name) for dep in self.crates[name].below()]]
+
+    def kept(self, name, of="incremental"):
+        return f"{self.crates[name].folder}/out/{of}"
+
+    def library(self, name):
+        return not self.crates[name].build_rlib(["--jobs", "1"], anew=False), []
+
+    def check(self, name):
+        os.makedirs(self.kept(name), exist_ok=True)
+        return not RT.checked(self.crates[name], {}, ["--jobs", "1"], self.kept(name)).returncode, []
+
+    def share(self, name, number):
+        """Tries a share of the crate's wrong bodies, and names those that somebody has to look at."""
+        kept, loud = self.kept(name, f"kept-{number}"), []
+        shutil.rmtree(kept, ignore_errors=True)
+        RT.linked(self.kept(name), kept)
+        with open(f"{self.room}/said-{name}-{number}", "a", encoding="utf-8") as log:
+            for body, said in try_all(self.crates[name], self.shares(name)[number], kept, self.asked.together, log):
+                row = [name, body.name, body.part, datetime.date.today().isoformat(), self.commit, body.text, *said, f"{body.seconds:.0f}"]
+                write_row(self.asked.table, dict(zip(COLUMNS, row)), self.names)
+                loud += [f"{name}/{body.name}"] * (said[0] in ("PROVED", "bad"))
+                mark = f"{'*' * 20} " if said[0] in ("PROVED", "bad") else ""
+                print(f"{mark}{name} {body.name}: {' '.join(it for it in said if it)} ({body.seconds:.0f} s)", flush=True)
+        shutil.rmtree(kept, ignore_errors=True)
+        return True, loud
+
+    def shares(self, name):
+        """Cuts the crate's wrong bodies into shares, those of one function into several, since they are not tried at once."""
+        bodies = sorted(self.left[name], key=lambda it: (it.alone, it.place))
+        number = 1 if self.asked.beside == 1 else max(1, round(len(bodies) / SHARE))
+        return [bodies[at::number] for at in range(number)]
+
+    def run(self):
+        """Carries out all tasks, lowest crates first, and returns what somebody has to look at."""
+        well, running, loud, order = {}, {}, [], [*self.crates]
+        with concurrent.futures.ProcessPoolExecutor(self.asked.beside, multiprocessing.get_context("fork")) as pool:
+            while self.waits or running:
+                for key in sorted(self.waits, key=lambda it: (it[0] != "share", order.index(it[1]))):
+                    told = [well.get(it) for it in self.waits[key]]
+                    if False in told:
+                        well[key] = False
+                        del self.waits[key]
+                    elif None not in told and len(running) < self.asked.beside:
+                        running[pool.submit(carried_out, *key)] = key
+                        del self.waits[key]
+                for it in concurrent.futures.wait(running, return_when=concurrent.futures.FIRST_COMPLETED).done:
+                    key = running.pop(it)
+                    well[key], more = it.result()
+                    loud += more
+                    if key[0] == "check" and well[key]:
+                        print(f"== {key[1]}: {len(self.left[key[1]])} wrong bodies", flush=True)
+                        self.waits.update({("share", key[1], at): [key] for at in range(len(self.shares(key[1])))})
+        for name in self.left:
+            if not well["check", name]:
+                print(f"{name}: IT IS NOT PROVED AS IT STANDS, so none of its wrong bodies was tried", flush=True)
+                loud.append(name)
+        return loud
+
+
+def tried_all(asked, room):
+    copied(room)
+    os.chdir(room)
+    RT.rtlib.guarded()
+    crates = crates_at(room)
+    write_row(asked.table, None, named(crates))
+    global LANES
+    LANES = Lanes(asked, room, crates, left_of(crates, asked))
+    loud = LANES.run()
     print(f"{len(loud)} to look at: {' '.join(loud)}" if loud else "none was proved and none was bad")
     return 1 if loud else 0
 
