@@ -1,0 +1,12 @@
+pub mod Actions
+pub mod Building
+pub mod Construction
+pub mod Example
+pub mod Fixpoints
+pub mod Formulas
+pub mod Laws
+pub mod NormalForms
+pub mod Priorities
+pub mod Situations
+pub mod Systems
+pub mod Words
