@@ -1,0 +1,9 @@
+pub mod SystemText
+pub mod TextFaults
+pub mod System
+pub mod Writing
+pub mod SystemReading
+pub mod SystemView
+pub mod ReadCode
+pub mod Coding
+pub mod Laws
