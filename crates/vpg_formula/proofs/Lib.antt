@@ -1,0 +1,12 @@
+pub mod Series
+pub mod Regulars
+pub mod Phrases
+pub mod Lengths
+pub mod Coming
+pub mod Starring
+pub mod RegularCode
+pub mod Parsing
+pub mod PhraseCode
+pub mod Standings
+pub mod Entries
+pub mod EntryCode

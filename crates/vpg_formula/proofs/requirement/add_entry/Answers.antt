@@ -1,0 +1,31 @@
+use Rattle.std.proofs.Common.{◌≡◌, ◌<◌, ◌-◌, ◌∷◌, List, length, sym, subst, arith}
+use Rattle.std.proofs.lemmas.Result.{err_from_is_err_and}
+use Rattle.vpg_formula.specs.ReadCode.{texts}
+use Rattle.vpg_formula.specs.Requirements.{Marked}
+use Rattle.vpg_formula.specs.EntryCode.{entries_of, earlier_of, Goes}
+use Rattle.vpg_formula.proofs.EntryCode.{goes_fails, goes_more, item_stops, entries_added, entries_count}
+use Rattle.vpg_formula.proofs.requirement.add_entry.Goals as goal
+
+pub returns-in_err-item-clause-none : goal.returns-in_err-item-clause-none
+returns-in_err-item-clause-none c all g =
+    let p = err_from_is_err_and c.from_residual-in_err-item.result c.from_residual-in_err-item.ensures.1 in
+    let es = c.args.items.now.entries.items in
+    let name = c.args.name.now in
+    let words = texts c.args.words.now in
+    let head = rw c.deref.ensures.value at c.in_ok-formula.ensures.head in
+    let none = rw c.deref-2.ensures.value at c.in_err-item.ensures.none in
+    rw (p.1, p.2) (goes_fails c.in_err-item.field-0.0 c.args.items.now.negated (entries_of es) all (name ∷ words) g
+    (item_stops c.in_err-item.field-0.0 (64 - length (entries_of es)) (earlier_of es) name words (texts c.in_ok-formula.formula.now) head none))
+
+pub returns-clause-goes : goal.returns-clause-goes
+returns-clause-goes c all g =
+    let es = c.args.items.now.entries.items in
+    let name = c.args.name.now in
+    let words = texts c.args.words.now in
+    let item = c.in_ok-item.item in
+    let head = rw c.deref.ensures.value at c.in_ok-formula.ensures.head in
+    let small = rw c.deref.ensures.value at c.in_ok-formula.ensures.few in
+    let few : length (entries_of es) < 64 = omega (arith, small, entries_count es) in
+    let made = rw c.deref-2.ensures.value at c.in_ok-item.ensures.item in
+    rw c.in-Ok.ensures.items (subst (λ (ms : List Marked). Goes c.first_place-items.result ms all (texts c.in_ok-item.rest.now)) (sym (entries_added es item.entry))
+    (goes_more c.args.items.now.negated item.negated c.first_place-items.result (entries_of es) (item.entry.name, item.entry.formula.marks.items) name all words (texts c.in_ok-formula.formula.now) (texts c.in_ok-item.rest.now) g few head made c.first_place-items.ensures))

@@ -1,0 +1,17 @@
+pub mod Words
+pub mod Regular
+pub mod RegularGrammar
+pub mod Written
+pub mod FormulaGrammar
+pub mod Reading
+pub mod ReadCode
+pub mod Marks
+pub mod Levels
+pub mod Coding
+pub mod Heads
+pub mod PhraseCode
+pub mod Standings
+pub mod Requirements
+pub mod EntryReading
+pub mod EntryCode
+pub mod ActionCode

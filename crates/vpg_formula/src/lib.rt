@@ -1,0 +1,34 @@
+//! Requirements, read from text.
+//!
+//! A requirement is a formula of the modal mu-calculus as mCRL2 writes it, without data, or in this project's words
+//! (`always`, `after pay will serve`). `Requirements::read` reads a whole text of them, `parse_formula` one formula
+//! alone, and `parse_regular` what stands between `<` and `>`. What is read lies in a list of `Mark`s, operands first,
+//! so that nothing nests.
+//!
+//! In a whole text each name in a formula is bound there, under an even number of negations within its fixpoint, or it
+//! is an earlier entry's. `parse_formula` does not ask what names stand for.
+//!
+//! Definitions stand in `specs/`: `Words` (which words a text has), `Regular` and `RegularGrammar` (action and regular
+//! formulas), `Written` and `FormulaGrammar` (formulas), `Standings` (how the names of a formula stand), `Requirements`
+//! (whole texts), `Marks` (a formula as a list). `Reading` and `EntryReading` are the reader as functions on lists,
+//! `ReadCode`, `EntryCode` and `ActionCode` what its code keeps; only private contracts name them.
+#![tactic(auto)]
+
+mod fault;
+mod formula;
+mod head;
+mod joint;
+mod level;
+mod mark;
+mod mentions;
+mod parse;
+mod regular;
+mod requirement;
+mod stop;
+mod uses;
+mod words;
+
+pub use fault::{FormulaFault, RequirementFault};
+pub use mark::{Label, Mark, Name};
+pub use parse::{Formula, Regular, parse_formula, parse_regular};
+pub use requirement::{Entry, Requirements};

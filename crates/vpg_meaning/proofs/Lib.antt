@@ -1,0 +1,8 @@
+mod Plain
+mod Labels
+mod Substitution
+mod Paths
+mod Modalities
+mod Words
+mod Naming
+mod Meaning

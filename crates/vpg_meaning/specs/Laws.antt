@@ -1,0 +1,67 @@
+-- What is translated means what is written. This project's own, over the sources of what it names.
+use Rattle.std.specs.Prelude.{◌≡◌, ℕ, ◌<◌, ◌↔◌, List, [], ◌∷◌, ◌++◌, length, Bool, true, false}
+use Rattle.vpg_requirement.specs.Actions.{permits}
+use Rattle.vpg_requirement.specs.Systems.{PlainSystem, IsClosedSystem}
+use Rattle.vpg_requirement.specs.Fixpoints.{StateSet}
+use Rattle.vpg_requirement.specs.Formulas.{Formula, Means, IsPositive}
+use Rattle.vpg_requirement.specs.Words.{shift}
+use Rattle.vpg_formula.specs.Regular.{Regular}
+use Rattle.vpg_formula.specs.Written.{Written, named}
+use Rattle.vpg_meaning.specs.Labels.{is_named, without_blanks, admits, name_at, actions_of}
+use Rattle.vpg_meaning.specs.Paths.{HasNames, SomePath, EveryPath}
+use Rattle.vpg_meaning.specs.Translation.{diamond_along, box_along, Entry, formula_of, formulas_of}
+use Rattle.vpg_meaning.specs.Meaning.{Holds, IsWellNamed, AreWellNamed, names_behind}
+
+-- A label in quotes names the action of just these bytes, and one without quotes each action of these bytes but for
+-- blanks.
+pub record LabelsAreNames : Type 0 where
+  pub quoted : (label name : List ℕ) →
+      (is_named (record { quoted = true; name = label }) name ≡ true) ↔ (label ≡ name)
+  pub bare : (label name : List ℕ) →
+      (is_named (record { quoted = false; name = label }) name ≡ true) ↔ (without_blanks label ≡ without_blanks name)
+
+-- An action formula over numbers permits those actions whose names the written one admits.
+abbrev pub ActionsAreAdmitted : Type 0
+ActionsAreAdmitted = (names : List (List ℕ)) (x : Regular) (a : ℕ) → a < length names →
+    permits (actions_of names x) a ≡ admits x (name_at names a)
+
+-- `<R>f` holds where some path in the language of R leads to f, also inside fixpoints.
+abbrev pub DiamondMeansSomePath : Type 0
+DiamondMeansSomePath = (names : List (List ℕ)) (system : PlainSystem) (sets : List StateSet) (signs : List Bool)
+    (sign : Bool) (x : Regular) (f : Formula) → IsClosedSystem system → HasNames names system →
+    IsPositive signs sign f → (s : ℕ) → s < system.states →
+    Means system sets (diamond_along names x f) s ↔ SomePath names system x (Means system sets f) s
+
+-- `[R]f` holds where each path in the language of R leads to f, also inside fixpoints.
+abbrev pub BoxMeansEveryPath : Type 0
+BoxMeansEveryPath = (names : List (List ℕ)) (system : PlainSystem) (sets : List StateSet) (signs : List Bool)
+    (sign : Bool) (x : Regular) (f : Formula) → IsClosedSystem system → HasNames names system →
+    IsPositive signs sign f → (s : ℕ) → s < system.states →
+    Means system sets (box_along names x f) s ↔ EveryPath names system x (Means system sets f) s
+
+-- A formula that comes to stand inside one more fixpoint means what it meant, and so does one that stands alone, inside
+-- any fixpoints.
+pub record SubstitutionIsSound : Type 0 where
+  pub shifted : (system : PlainSystem) (set : StateSet) (sets : List StateSet) (f : Formula) (s : ℕ) →
+      Means system (set ∷ sets) (shift 0 f) s ↔ Means system sets f s
+  pub alone : (system : PlainSystem) (sets : List StateSet) (sign : Bool) (f : Formula) → IsPositive [] sign f →
+      (s : ℕ) → Means system sets f s ↔ Means system [] f s
+
+-- Behind an entry its name stands for its formula.
+abbrev pub EntriesStandForFormulas : Type 0
+EntriesStandForFormulas = (names : List (List ℕ)) (entries : List Entry) (e : Entry) →
+    formula_of names (formulas_of names (entries ++ e ∷ [])) [] (named e.name)
+    ≡ formula_of names (formulas_of names entries) [] e.written
+
+-- Each variable of a written formula that is well named has its fixpoint, under an even number of negations.
+abbrev pub WellNamedIsPositive : Type 0
+WellNamedIsPositive = (names : List (List ℕ)) (entries : List Entry) (f : Written) → AreWellNamed [] entries →
+    IsWellNamed (names_behind [] entries) [] false f →
+    IsPositive [] false (formula_of names (formulas_of names entries) [] f)
+
+-- So the formula of what is written, behind entries, holds at a state just where what is written holds there.
+abbrev pub FormulasMeanWhatIsWritten : Type 0
+FormulasMeanWhatIsWritten = (names : List (List ℕ)) (system : PlainSystem) (entries : List Entry) (f : Written) →
+    IsClosedSystem system → HasNames names system → AreWellNamed [] entries →
+    IsWellNamed (names_behind [] entries) [] false f → (s : ℕ) → s < system.states →
+    Means system [] (formula_of names (formulas_of names entries) [] f) s ↔ Holds names system entries f s

@@ -1,0 +1,5 @@
+pub mod Labels
+pub mod Paths
+pub mod Translation
+pub mod Meaning
+pub mod Laws

@@ -1,0 +1,44 @@
+//! What holds of requirements as they are written: each law is the contract of a function that does nothing.
+//!
+//! [`formulas_mean_what_is_written`] is the theorem; the others say its parts.
+ghost use Rattle.vpg_meaning.specs.Laws.{LabelsAreNames, ActionsAreAdmitted, DiamondMeansSomePath, BoxMeansEveryPath, SubstitutionIsSound, EntriesStandForFormulas, WellNamedIsPositive, FormulasMeanWhatIsWritten};
+
+/// A name in quotes is that of just these bytes, a bare one that of these bytes but for blanks.
+pub fn labels_are_names()
+    ensures { LabelsAreNames }
+{}
+
+/// An action formula permits the actions whose names it admits.
+pub fn actions_are_admitted()
+    ensures { ActionsAreAdmitted }
+{}
+
+/// A diamond over a regular formula speaks of some path in its language.
+pub fn diamond_means_some_path()
+    ensures { DiamondMeansSomePath }
+{}
+
+/// A box over a regular formula speaks of each path in its language.
+pub fn box_means_every_path()
+    ensures { BoxMeansEveryPath }
+{}
+
+/// Formulas keep their meaning where they are put into others.
+pub fn substitution_is_sound()
+    ensures { SubstitutionIsSound }
+{}
+
+/// The name of an entry stands for the entry's formula.
+pub fn entries_stand_for_formulas()
+    ensures { EntriesStandForFormulas }
+{}
+
+/// In what is well named each variable has its fixpoint, under an even number of negations.
+pub fn well_named_is_positive()
+    ensures { WellNamedIsPositive }
+{}
+
+/// The formula of a requirement holds at a state just where what is written holds there.
+pub fn formulas_mean_what_is_written()
+    ensures { FormulasMeanWhatIsWritten }
+{}
