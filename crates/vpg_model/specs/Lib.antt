@@ -1,0 +1,6 @@
+pub mod Departures
+pub mod Forms
+pub mod Laws
+pub mod Pairs
+pub mod Searching
+pub mod Sources

@@ -1,0 +1,141 @@
+//! What a game is made of: a system, and the parts of requirements.
+ghost use Rattle.std.specs.Prelude.{◌≡◌, ◌↔◌, IsTrue};
+ghost use Rattle.vpg_parts.specs.Parts.{part_at, resolved_part};
+ghost use Rattle.vpg_model.specs.Pairs.{is_permitted, pair_for, owner_of_part, priority_of_part};
+
+use std::marker::Model;
+use vpg_guards::Guard;
+use vpg_parts::{FALSE_PLACE, Part, TRUE_PLACE};
+use vpg_players::Player;
+
+/// A transition from a state that is known.
+#[derive(Drop)]
+pub struct Transition {
+    pub action: u32,
+    pub guard: Guard,
+    pub target: u32,
+}
+
+impl Model for Transition {
+    ghost use Rattle.vpg_guards.specs.View.{formula_of};
+    ghost use Rattle.vpg_model.specs.Departures.{Departure, departure_code};
+
+    ghost Value = { Departure };
+
+    ghost coded = { departure_code };
+
+    ghost view = { λ t. record { action = t.action; guard = formula_of t.guard; target = t.target } };
+}
+
+/// The transitions from a state, in file order.
+#[derive(Drop)]
+pub struct State {
+    pub transitions: Vec<Transition>,
+}
+
+impl Model for State {
+    ghost use Rattle.std.specs.Prelude.{List};
+    ghost use Rattle.std.specs.Coded.{coded_list};
+    ghost use Rattle.vpg_model.specs.Departures.{Departure, departure_code};
+
+    ghost Value = { List Departure };
+
+    ghost coded = { coded_list departure_code };
+
+    ghost view = { λ s. s.transitions.items };
+}
+
+/// The actions that a step may have, by their numbers.
+#[derive(Drop)]
+pub struct Permitted {
+    pub actions: Vec<bool>,
+}
+
+impl Model for Permitted {
+    ghost use Rattle.std.specs.Prelude.{List, Bool};
+    ghost use Rattle.std.specs.Coded.{coded_list, coded_bool};
+
+    ghost Value = { List Bool };
+
+    ghost coded = { coded_list coded_bool };
+
+    ghost view = { λ s. s.actions.items };
+}
+
+/// A system, the sets of actions that its requirements name, and the parts of these.
+#[derive(Drop)]
+pub struct Source {
+    /// Over how many features the guards are.
+    pub features: usize,
+    pub states: Vec<State>,
+    pub sets: Vec<Permitted>,
+    /// `true` and `false` stand first.
+    pub parts: Vec<Part>,
+}
+
+impl Source {
+    /// The part at a place. Where there is none, it is `false`.
+    pub(crate) fn part(&self, place: u32) -> Part
+        ensures { result ≡ part_at self.now.parts.items place }
+    {
+        match self.parts.get(place as usize) {
+            Some(part) => *part,
+            None => Part::False,
+        }
+    }
+
+    /// Whether a set has an action.
+    pub(crate) fn is_permitted(&self, set: u32, action: u32) -> bool
+        ensures { result ≡ is_permitted self.now.sets.items set action }
+    {
+        match self.sets.get(set as usize) {
+            Some(permitted) => match permitted.actions.get(action as usize) {
+                Some(is) => *is,
+                None => false,
+            },
+            None => false,
+        }
+    }
+
+    /// The vertex of a part at a state.
+    pub(crate) fn pair_for(&self, state: u32, place: u32) -> (u32, u32)
+        ensures { result ≡ pair_for self.now.parts.items state place }
+    {
+        match self.part(place) {
+            Part::True => (0, TRUE_PLACE),
+            Part::False => (0, FALSE_PLACE),
+            Part::Variable { fixpoint } => (state, fixpoint),
+            _ => (state, place),
+        }
+    }
+
+    /// The part that decides at a place: for a variable it is the fixpoint.
+    pub(crate) fn resolved_part(&self, place: u32) -> Part
+        ensures { result ≡ resolved_part self.now.parts.items place }
+    {
+        match self.part(place) {
+            Part::Variable { fixpoint } => self.part(fixpoint),
+            part => part,
+        }
+    }
+}
+
+/// Who moves at a part.
+pub(crate) fn owner(part: Part) -> Player
+    ensures { result ≡ owner_of_part part }
+{
+    match part {
+        Part::True | Part::And(_, _) | Part::EveryStep(_, _) => Player::Odd,
+        _ => Player::Even,
+    }
+}
+
+/// The priority of a part.
+pub(crate) fn priority(part: Part) -> u32
+    ensures { result ≡ priority_of_part part }
+{
+    match part {
+        Part::Fixpoint { priority, .. } => priority,
+        _ => 0,
+    }
+}
