@@ -3,7 +3,6 @@ use denote.Builtin.{unit}
 use denote.Param.Send.{IsSync, sendable, plain_send, view_sync}
 use denote.Param.SendFields.{declared_sync}
 use Rattle.std.proofs.Crossing.{crosses, send, sync, frees}
-use Rattle.std.proofs.MapsCrossing.{crosses as maps}
 use Rattle.std.specs.contracts.alloc.Global as Global
 use Rattle.std.specs.contracts.impls.GlobalAllocator.TheImpl as Heap
 use Rattle.atomic_table.proofs.owned.Table.TheSendSync as table
@@ -16,7 +15,7 @@ use Rattle.vpg_board.specs.contracts.steps.Keeps as Keeps
 use Rattle.vpg_board.specs.contracts.steps.KeepsTableRuleUnitLifterOrder.TheImpl as Rule
 
 order_sync : IsSync Order.the_row
-order_sync = search (crosses, maps, guards.crosses, sendable) depth 60 fits 20000
+order_sync = search (crosses, guards.crosses, sendable) depth 60 fits 20000
 
 pub board_sync : IsSync Board.the_row
 board_sync = view_sync Inside.the_row _ _ _ _

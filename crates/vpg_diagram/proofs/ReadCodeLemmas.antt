@@ -1,9 +1,8 @@
 -- Names that the code keeps.
-use Rattle.std.proofs.Common.{◌≡◌, ℕ, suc, ◌+◌, ◌<◌, ◌≤◌, Bool, true, false, not, ◌&&◌, ◌||◌, cond, nat_lt, List, [], ◌∷◌, ◌++◌, length, take, drop, get_or, Option, Some, None, option_map, is_some, position, bytes_eq, Bor, ◌⊎◌, inl, inr, refl, sym, ap, ap₂, ◌∙◌, subst, arith, one-add, append_assoc, append-nil}
-use Rattle.std.proofs.Common.{nat_le, Result, Ok, Err, MatchBool, IsPermutation}
+use Rattle.std.proofs.Common.{◌≡◌, ℕ, suc, ◌+◌, ◌<◌, ◌≤◌, Bool, true, false, not, ◌&&◌, ◌||◌, cond, nat_lt, List, [], ◌∷◌, ◌++◌, length, take, drop, get_or, Option, Some, None, option_map, is_some, position, bytes_eq, Bor, ◌⊎◌, inl, inr, refl, sym, ap, ap₂, ◌∙◌, arith, one-add, append_assoc, append-nil}
+use Rattle.std.proofs.Common.{nat_le, Result, Ok, Err}
 use Rattle.std.specs.List.{position_or_len, range_with_len, list_any}
 use Rattle.std.proofs.lemmas.List.{take_more, map-append}
-use Rattle.std.proofs.lemmas.List.Sorted.{list_any-IsPermutation}
 use Rattle.std.proofs.lemmas.Bool.{le-leb, lt-leb}
 use Rattle.vpg_diagram.specs.FeatureDiagram.{Line}
 use Rattle.std.proofs.lemmas.Bool.{cases_Bool, ltb-true, ltb-false, lt-ltb, le-ltb}
@@ -68,9 +67,15 @@ some_map : (o : Option ℕ) → is_some (option_map suc o) ≡ is_some o
 some_map None = refl
 some_map (Some x) = refl
 
--- the words that are seen are these
-abbrev pub HasSeen : List (Bor (List ℕ)) → List (List ℕ) → Type 0
-HasSeen keys seen = (w : List ℕ) → list_any (λ k. bytes_eq w k.now) keys ≡ is_some (place_of_name seen w)
+-- a word among those that are seen
+pub seen_place : (ks : List (Bor (List ℕ))) (w : List ℕ) → list_any (λ k. bytes_eq w k.now) ks ≡ is_some (place_of_name (texts ks) w)
+seen_place [] w = refl
+seen_place (k ∷ ks) w = go (cases_Bool (bytes_eq w k.now)) (seen_place ks w)
+  where
+    go : (bytes_eq w k.now ≡ true) ⊎ (bytes_eq w k.now ≡ false) → list_any (λ k. bytes_eq w k.now) ks ≡ is_some (place_of_name (texts ks) w) → list_any (λ k. bytes_eq w k.now) (k ∷ ks) ≡ is_some (place_of_name (texts (k ∷ ks)) w)
+    go (inl t) ih = ap (λ b. b || list_any (λ k. bytes_eq w k.now) ks) t ∙ sym (ap (λ b. is_some (cond b (Some 0) (option_map suc (place_of_name (texts ks) w)))) t)
+    go (inr f) ih =
+        ap (λ b. b || list_any (λ k. bytes_eq w k.now) ks) f ∙ (ih ∙ (sym (some_map (place_of_name (texts ks) w)) ∙ sym (ap (λ b. is_some (cond b (Some 0) (option_map suc (place_of_name (texts ks) w)))) f)))
 
 pub place_append : (xs ys : List (List ℕ)) (w : List ℕ) → is_some (place_of_name (xs ++ ys) w) ≡ (is_some (place_of_name xs w) || is_some (place_of_name ys w))
 place_append [] ys w = refl
@@ -105,12 +110,6 @@ not_true : (b : Bool) → not b ≡ true → b ≡ false
 not_true true e = absurd (cc)
 not_true false e = refl
 
-one_more : (a b : Bool) → (a || b) ≡ (b || is_some {T = ℕ} (cond a (Some 0) None))
-one_more true true = refl
-one_more true false = refl
-one_more false true = refl
-one_more false false = refl
-
 texts_more : (ws : List (Bor (List ℕ))) (i : ℕ) (d : Bor (List ℕ)) → i < length ws → texts (take (i + 1) ws) ≡ texts (take i ws) ++ (get_or ws i d).now ∷ []
 texts_more ws i d l = ap texts (take_more ws i d l) ∙ map-append (λ (w : Bor (List ℕ)). w.now) (take i ws) (get_or ws i d ∷ [])
 
@@ -122,26 +121,23 @@ module _ (names : List (List ℕ)) (ws : List (Bor (List ℕ))) (i : ℕ) (d : B
       let w = (get_or ws i d).now in
       sym (new_stops (names ++ texts (take i ws)) ws i d l (place_append names (texts (take i ws)) w ∙ or_first (is_some (place_of_name names w)) (is_some (place_of_name (texts (take i ws)) w)) e)) ∙ rest
 
-  seen_now : (keys : List (Bor (List ℕ))) → HasSeen keys (texts (take i ws)) → (b : Bool) → list_any (λ k. bytes_eq (get_or ws i d).now k.now) keys ≡ b → is_some (place_of_name (texts (take i ws)) (get_or ws i d).now) ≡ b
-  seen_now keys s b e = sym (s (get_or ws i d).now) ∙ e
+  seen_now : (keys : List (Bor (List ℕ))) → texts keys ≡ texts (take i ws) → (b : Bool) → list_any (λ k. bytes_eq (get_or ws i d).now k.now) keys ≡ b → is_some (place_of_name (texts (take i ws)) (get_or ws i d).now) ≡ b
+  seen_now keys s b e = ap (λ xs. is_some (place_of_name xs (get_or ws i d).now)) (sym s) ∙ (sym (seen_place keys (get_or ws i d).now) ∙ e)
 
-  pub is_seen : (keys : List (Bor (List ℕ))) → HasSeen keys (texts (take i ws)) → (new : Bool) → new ≡ not (list_any (λ k. bytes_eq (get_or ws i d).now k.now) keys) → new ≡ false → false ≡ are_new names (texts ws)
+  pub is_seen : (keys : List (Bor (List ℕ))) → texts keys ≡ texts (take i ws) → (new : Bool) → new ≡ not (list_any (λ k. bytes_eq (get_or ws i d).now k.now) keys) → new ≡ false → false ≡ are_new names (texts ws)
   is_seen keys s new n f =
       let w = (get_or ws i d).now in
       let t = seen_now keys s true (not_false (list_any (λ k. bytes_eq w k.now) keys) (sym n ∙ f)) in
       sym (new_stops (names ++ texts (take i ws)) ws i d l (place_append names (texts (take i ws)) w ∙ or_second (is_some (place_of_name names w)) (is_some (place_of_name (texts (take i ws)) w)) t)) ∙ rest
 
-  pub seen_more : (keys more : List (Bor (List ℕ))) → HasSeen keys (texts (take i ws)) → (new : Bool) → new ≡ true →
-      MatchBool new (IsPermutation (get_or ws i d ∷ keys) more) (more ≡ keys) → HasSeen more (texts (take (i + 1) ws))
-  seen_more keys more s new t put w =
-      let x = get_or ws i d in
-      let here : Bool = bytes_eq w x.now in
-      sym (list_any-IsPermutation (λ k. bytes_eq w k.now) (x ∷ keys) more (subst (λ b. MatchBool b (IsPermutation (x ∷ keys) more) (more ≡ keys)) t put))
-      ∙ (one_more here (list_any (λ k. bytes_eq w k.now) keys)
-      ∙ (ap (λ b. b || is_some {T = ℕ} (cond here (Some 0) None)) (s w)
-      ∙ (sym (place_append (texts (take i ws)) (x.now ∷ []) w) ∙ sym (ap (λ xs. is_some (place_of_name xs w)) (texts_more ws i d l)))))
+  pub seen_more : (keys more : List (Bor (List ℕ))) → texts keys ≡ texts (take i ws) → (new : Bool) → new ≡ not (list_any (λ k. bytes_eq (get_or ws i d).now k.now) keys) → new ≡ true →
+      more ≡ cond (list_any (λ k. bytes_eq (get_or ws i d).now k.now) keys) keys (keys ++ get_or ws i d ∷ []) → texts more ≡ texts (take (i + 1) ws)
+  seen_more keys more s new n t e =
+      let f = not_true (list_any (λ k. bytes_eq (get_or ws i d).now k.now) keys) (sym n ∙ t) in
+      ap texts (e ∙ ap (λ b. cond b keys (keys ++ get_or ws i d ∷ [])) f)
+      ∙ (map-append (λ (w : Bor (List ℕ)). w.now) keys (get_or ws i d ∷ []) ∙ (ap (λ xs. xs ++ (get_or ws i d).now ∷ []) s ∙ sym (texts_more ws i d l)))
 
-  pub rest_more : (keys : List (Bor (List ℕ))) → HasSeen keys (texts (take i ws)) → (new : Bool) → new ≡ not (list_any (λ k. bytes_eq (get_or ws i d).now k.now) keys) → new ≡ true →
+  pub rest_more : (keys : List (Bor (List ℕ))) → texts keys ≡ texts (take i ws) → (new : Bool) → new ≡ not (list_any (λ k. bytes_eq (get_or ws i d).now k.now) keys) → new ≡ true →
       is_some (place_of_name names (get_or ws i d).now) ≡ false → are_new (names ++ texts (take (i + 1) ws)) (texts (drop (i + 1) ws)) ≡ are_new names (texts ws)
   rest_more keys s new n t f =
       let w = (get_or ws i d).now in

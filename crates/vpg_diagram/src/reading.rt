@@ -8,8 +8,8 @@ ghost use Rattle.vpg_diagram.specs.FormView.{texts, view_form};
 use crate::fault::{DiagramFault, LineError, LineFault};
 use crate::line::{Line, Members};
 use crate::text::{LineForm, first_line, form_of, is_blank_line, number};
+use indexmap::IndexSet;
 use std::alloc::{AllocError, Global};
-use std::collections::HashSet;
 use vpg_features::{MOST_FEATURES, Names};
 
 /// The most rules that a diagram has.
@@ -19,7 +19,7 @@ pub const MOST_RULES: usize = 16_384;
 fn are_new(alloc: Global, names: &Names, words: &[&[u8]]) -> Result<bool, AllocError>
     ensures { IfOk result (λ new. new ≡ are_new names.now (texts words.now)) }
 {
-    let mut seen = HashSet::new(alloc);
+    let mut seen = IndexSet::with_capacity(alloc, 0)?;
     are_unseen(names, words, &mut seen)
 }
 
@@ -27,7 +27,7 @@ fn are_new(alloc: Global, names: &Names, words: &[&[u8]]) -> Result<bool, AllocE
 fn are_unseen<'a>(
     names: &Names,
     words: &[&'a [u8]],
-    seen: &mut HashSet<&'a [u8]>,
+    seen: &mut IndexSet<&'a [u8]>,
 ) -> Result<bool, AllocError>
     requires { seen.old.keys ≡ [] }
     ensures { IfOk result (λ new. new ≡ are_new names.now (texts words.now)) }

@@ -20,10 +20,9 @@ abbrev pub shape_text : Player → List ℕ
 shape_text Even = codes "diamond"
 shape_text Odd = codes "box"
 
--- hopeless, sure, neither, and both (then no product is left that both say something of)
-abbrev pub colours_text : Bool → Bool → List ℕ
-colours_text true true = codes ", fillcolor=gainsboro, color=gray50];\n"
-colours_text true false = codes ", fillcolor=mistyrose, color=firebrick];\n"
+-- hopeless, sure, and neither; no vertex of a page is both
+abbrev pub colours_text : (hopeless sure : Bool) → List ℕ
+colours_text true sure = codes ", fillcolor=mistyrose, color=firebrick];\n"
 colours_text false true = codes ", fillcolor=honeydew, color=darkgreen];\n"
 colours_text false false = codes ", fillcolor=white, color=gray40];\n"
 

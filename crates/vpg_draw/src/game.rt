@@ -28,8 +28,7 @@ pub(crate) fn colours(verdict: Verdict, out: &mut Vec<u8>) -> Result<(), AllocEr
     ensures { OnOk result (out.new.items ≡ out.old.items ++ colours_text verdict.hopeless verdict.sure) }
 {
     match (verdict.hopeless, verdict.sure) {
-        (true, true) => out.extend_from_slice(b", fillcolor=gainsboro, color=gray50];\n"),
-        (true, false) => out.extend_from_slice(b", fillcolor=mistyrose, color=firebrick];\n"),
+        (true, _) => out.extend_from_slice(b", fillcolor=mistyrose, color=firebrick];\n"),
         (false, true) => out.extend_from_slice(b", fillcolor=honeydew, color=darkgreen];\n"),
         (false, false) => out.extend_from_slice(b", fillcolor=white, color=gray40];\n"),
     }
@@ -160,9 +159,9 @@ pub(crate) fn edge_start(
     out.extend_from_slice(b"  ")?;
     number(id, out)?;
     out.extend_from_slice(b" -> ")?;
-    number(identifier(game, edge.to()), out)?;
+    number(identifier(game, edge.to), out)?;
     out.extend_from_slice(b" [")?;
-    guard_label(alloc, features, edge.guard(), out)
+    guard_label(alloc, features, &edge.guard, out)
 }
 
 /// Appends the line of an edge.
@@ -182,7 +181,7 @@ fn edge(
         ++ edge_text features.now known.now game.now.vertices id edge.now) }
 {
     edge_start(alloc, features, game, id, edge, out)?;
-    style(edge.guard().kleene(known), out)
+    style(edge.guard.kleene(known), out)
 }
 
 /// Appends the lines of the edges of a vertex.

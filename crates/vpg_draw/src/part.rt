@@ -171,8 +171,8 @@ fn edge(
 {
     let owner = game.owner(v);
     let is_listed = is_mover(mover, owner);
-    let value = edge.guard().kleene(known);
-    if is_drawn(is_listed, leads_to(listed, edge.to()), value) {
+    let value = edge.guard.kleene(known);
+    if is_drawn(is_listed, leads_to(listed, edge.to), value) {
         edge_start(alloc, features, game, identifier(game, v), edge, out)?;
         part_style(is_listed, owner, value, out)?;
     }

@@ -7,11 +7,13 @@ use std::alloc::{AllocError, Global};
 use std::marker::Model;
 use vpg_guards::Guard;
 
-/// An edge, with the guard that has to hold for it.
+/// An edge of a guarded game.
 #[derive(Drop)]
 pub struct Edge {
-    pub(crate) to: u32,
-    pub(crate) guard: Guard,
+    /// The vertex that it leads to.
+    pub to: u32,
+    /// The guard that has to hold for it.
+    pub guard: Guard,
 }
 
 impl Model for Edge {
@@ -28,20 +30,6 @@ impl Model for Edge {
 }
 
 impl Edge {
-    /// The vertex that it leads to.
-    pub fn to(&self) -> u32
-        ensures { result ≡ self.now.to }
-    {
-        self.to
-    }
-
-    /// Its guard.
-    pub fn guard(&self) -> &Guard
-        ensures { formula_of result.now ≡ self.now.guard }
-    {
-        &self.guard
-    }
-
     /// Whether two edges are the same.
     pub fn is_same(&self, other: &Edge) -> bool
         ensures { IsTrue result ↔ (self.now ≡ other.now) }

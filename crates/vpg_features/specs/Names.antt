@@ -1,11 +1,8 @@
 -- Feature names, and lists of them. This project's own.
-use Rattle.std.specs.Prelude.{◌≡◌, ◌≢◌, ℕ, ◌<◌, ◌≤◌, List, [], ◌∷◌, length, Bool, true, false, ◌||◌, ◌==◌, if◌then◌else◌, codes, Option, Some, None, slice_get, position, map, All}
+use Rattle.std.specs.Prelude.{◌≡◌, ◌≢◌, ℕ, ◌<◌, ◌≤◌, List, [], ◌∷◌, length, Bool, true, false, ◌||◌, ◌==◌, if◌then◌else◌, codes, Option, Some, None, slice_get, position}
 use Rattle.std.specs.Char.{is_ascii_alphabetic, is_ascii_alphanumeric}
 use Rattle.std.specs.List.{list_all}
-use Rattle.std.specs.Map.{lookup}
 use Rattle.std.specs.Str.{bytes_eq}
-use Rattle.std.specs.String.{string_bytes}
-use Rattle.std.specs.declared.string.String.{String}
 use Rattle.vpg_features.specs.declared.fault.NameFault.{NameFault}
 use Rattle.vpg_features.specs.declared.fault.NameFault.TheVariants as faults
 
@@ -66,9 +63,3 @@ IsRefused names name faults.Memory = IsNew names name × (length names < 512)
 -- the index of a name
 abbrev pub index_of : List (List ℕ) → List ℕ → Option ℕ
 index_of names name = position (λ n. bytes_eq name n) names
-
--- a map has the index of each text, and nothing else
-pub record ArePlaces {A : Type 0} (texts : List (String A)) (entries : List (String A × ℕ)) : Type 0 where
-  pub found : All (λ e. slice_get (map string_bytes texts) e.1 ≡ Some (string_bytes e.0)) entries
-  pub held : (text : String A) (i : ℕ) → slice_get texts i ≡ Some text →
-      lookup (λ k. bytes_eq (string_bytes text) (string_bytes k)) entries ≡ Some i

@@ -2,8 +2,8 @@
 ghost use Rattle.std.specs.Prelude.{◌≡◌, ◌<◌, ◌↔◌, [], ◌∷◌, ◌++◌, length, IsTrue, IfOk, IfErr, OnErr, IfSome, IfNone, Some, slice_get, slice_index_or, ℕ};
 
 use crate::fault::NameFault;
+use indexmap::IndexSet;
 use std::alloc::{AllocError, Global};
-use std::collections::HashMap;
 use std::marker::Model;
 use std::str;
 
@@ -15,18 +15,13 @@ pub const MOST_FEATURES: usize = 512;
 
 /// The names of features in order, each once, 512 at most. A name's index is its place, from 0.
 pub struct Names {
-    names: Vec<String>,
-    // the index of each
-    places: HashMap<String, u16>,
+    set: IndexSet<String>,
 }
 
 // Not derived, so that letting one go is one call: a derived way would be proved anew at each exit that owns one.
 impl Drop for Names {
     fn drop(self) {
-        let Names {
-            names: _,
-            places: _,
-        } = self;
+        let Names { set: _ } = self;
     }
 }
 
@@ -35,12 +30,11 @@ impl Model for Names {
 
     ghost Value = { List (List ℕ) };
 
-    ghost use Rattle.vpg_features.specs.Names.{AreNames, ArePlaces};
+    ghost use Rattle.vpg_features.specs.Names.{AreNames};
 
-    ghost view = { λ a. map string_bytes a.names.items };
+    ghost view = { λ a. map string_bytes a.set.keys };
 
-    ghost invariant = { λ a. AreNames (map string_bytes a.names.items) ×
-        ArePlaces a.names.items a.places.entries };
+    ghost invariant = { λ a. AreNames (map string_bytes a.set.keys) };
 }
 
 ghost use Rattle.std.specs.List.{list_all};
@@ -52,8 +46,7 @@ impl Names {
         ensures { IfOk result (λ names. names ≡ []) }
     {
         Ok(Names {
-            names: Vec::new(alloc),
-            places: HashMap::new(alloc),
+            set: IndexSet::with_capacity(alloc, 0)?,
         })
     }
 
@@ -62,14 +55,14 @@ impl Names {
         ensures len { result ≡ length self.now }
         ensures names { AreNames self.now }
     {
-        self.names.len()
+        self.set.len()
     }
 
     /// Whether there are no names.
     pub fn is_empty(&self) -> bool
         ensures { IsTrue result ↔ (self.now ≡ []) }
     {
-        self.names.is_empty()
+        self.set.is_empty()
     }
 
     /// Adds a name behind the others, and gives its index. A refusal changes nothing; the first reason that holds, in
@@ -93,19 +86,12 @@ impl Names {
         let Ok(text) = str::from_utf8(name) else {
             return Err(NameFault::BadName);
         };
-        let Ok(held) = String::from_str(alloc, text) else {
+        let Ok(text) = String::from_str(alloc, text) else {
             return Err(NameFault::Memory);
         };
-        let Ok(key) = String::from_str(alloc, text) else {
+        let Ok(_) = self.set.insert(text) else {
             return Err(NameFault::Memory);
         };
-        let Ok(_) = self.names.reserve(1) else {
-            return Err(NameFault::Memory);
-        };
-        let Ok(_) = self.places.insert(key, index as u16) else {
-            return Err(NameFault::Memory);
-        };
-        self.names.push_reserved(held);
         Ok(index as u16)
     }
 
@@ -116,12 +102,12 @@ impl Names {
         ensures held { (i : ℕ) → slice_get self.now i ≡ Some name.now → result ≡ Some i }
         ensures absent { IfNone result (Lacks self.now name.now) }
     {
-        let places = &self.places;
+        let set = &self.set;
         let Ok(text) = str::from_utf8(name) else {
             return None;
         };
-        match places.get(text) {
-            Some(index) => Some(*index),
+        match set.get_index_of(text) {
+            Some(index) => Some(index as u16),
             None => None,
         }
     }
@@ -132,7 +118,10 @@ impl Names {
         ensures held { slice_get self.now f ≡ Some result.now }
         ensures value { result.now ≡ slice_index_or self.now f [] }
     {
-        self.names[f as usize].as_str()
+        match self.set.get_index(f as usize) {
+            Some(name) => name.as_str(),
+            None => "",
+        }
     }
 }
 

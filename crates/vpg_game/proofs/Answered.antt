@@ -75,7 +75,7 @@ no_missing es id found missing = go missing.first
         let held = held_at (entry_ids es) e.successors k s (entry_found_at (entry_ids es) es n e found is) here in
         lacks held.0 (held.1 ∙ ap (λ (i : ℕ). Some i) same)
 
-sound_makes : (es : List SpelledEntry) (e : GameFault) → AreSound es → IsMakingFault es e → e ≡ faults.Memory
+pub sound_makes : (es : List SpelledEntry) (e : GameFault) → AreSound es → IsMakingFault es e → e ≡ faults.Memory
 sound_makes es (faults.DoubleVertex id) sound h = absurd (no_double (entry_ids es) id sound.distinct h)
 sound_makes es (faults.MissingVertex id) sound h = absurd (no_missing es id sound.found h)
 sound_makes es faults.TooWide sound h = absurd (h.wide sound.narrow)
@@ -121,3 +121,7 @@ pub texts_spell_one_game : TextsSpellOneGame
 texts_spell_one_game names text g h are s t =
     let same : s.entries ≡ t.entries = some_is s.entries t.entries (sym (text_again names are text s.entries s.spelled) ∙ text_again names are text t.entries t.spelled) in
     sym s.stands ∙ ap (game_of (length names)) same ∙ t.stands
+
+pub made_only_memory : (es : List SpelledEntry) (r : Result NamedGame GameFault) → IfErr r (IsMakingFault es) → AreSound es → IfErr r (λ e. e ≡ faults.Memory)
+made_only_memory es (Ok g) h sound = tt
+made_only_memory es (Err e) h sound = sound_makes es e sound h

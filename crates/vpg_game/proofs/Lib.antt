@@ -13,4 +13,3 @@ pub mod Graphs
 pub mod Written
 pub mod Named
 pub mod NamingSteps
-pub mod Places

@@ -1,4 +1,4 @@
--- What the parts of the code that make a game keep.
+-- Which entries are within the limits, and why entries make no game. This project's own.
 use Rattle.std.specs.Prelude.{ℕ, ◌<◌, ◌≤◌, ◌^◌, List, [], ◌∷◌, length}
 use Rattle.vpg_game.specs.declared.fault.GameFault.{GameFault}
 use Rattle.vpg_game.specs.declared.fault.GameFault.TheVariants as faults
@@ -21,17 +21,21 @@ IsResolvingFault ids es (faults.MissingVertex id) = IsFirstMissing ids es id
 IsResolvingFault ids es faults.Memory = Unit {0}
 IsResolvingFault ids es _ = ⊥
 
--- ---- entries that were read
+-- ---- the limits
 
+-- the guard of each successor is one that is written, over so many features
 abbrev pub AreReadable : ℕ → List SpelledSuccessor → Type 0
 AreReadable features [] = Unit {0}
 AreReadable features (s ∷ ss) = IsReadable features s.guard × AreReadable features ss
 
+-- each entry has an identifier below 2^32, a priority below 65,536, and guards that are written
 abbrev pub AreLimited : ℕ → List SpelledEntry → Type 0
 AreLimited features [] = Unit {0}
 AreLimited features (e ∷ es) =
     (e.id < 2 ^ 32) × (e.priority < 65536) × AreReadable features e.successors × AreLimited features es
 
+-- The entries are within the limits of a text: from 1 to 65,536 entries, at most 1,048,576 successors as named, and at
+-- most 512 features.
 pub record IsLimited (features : ℕ) (es : List SpelledEntry) : Type 0 where
   pub some : 0 < length es
   pub few : length es ≤ 65536
@@ -39,6 +43,7 @@ pub record IsLimited (features : ℕ) (es : List SpelledEntry) : Type 0 where
   pub few_features : features ≤ 512
   pub each : AreLimited features es
 
+-- why these entries make no game: the first doubled identifier, the first missing one, or a top measure above its limit
 abbrev pub IsMakingFault : List SpelledEntry → GameFault → Type 0
 IsMakingFault es (faults.DoubleVertex id) = IsFirstDouble (entry_ids es) id
 IsMakingFault es (faults.MissingVertex id) = IsMissing es id

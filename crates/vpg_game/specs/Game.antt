@@ -101,6 +101,7 @@ entry_ids entries = map (λ e. e.id) entries
 abbrev pub entry_priorities : List SpelledEntry → List ℕ
 entry_priorities entries = map (λ e. e.priority) entries
 
+-- the game over so many features that entries spell: successors are looked up by identifier
 abbrev pub game_of : ℕ → List SpelledEntry → NamedGame
 game_of features entries = record { vertices = map (vertex_of (entry_ids entries)) entries; features = features }
 
@@ -118,6 +119,7 @@ AllFound ids (e ∷ es) = AllHeld ids e.successors × AllFound ids es
 abbrev pub IsNarrow : List ℕ → Type 0
 IsNarrow priorities = (top_in priorities ≤ 2 ^ 62) × (dual_top_in priorities ≤ 2 ^ 62)
 
+-- The entries make a game: no identifier stands twice, each successor has an entry, and both tops are within the limit.
 pub record AreSound (entries : List SpelledEntry) : Type 0 where
   pub distinct : AreDistinct (entry_ids entries)
   pub found : AllFound (entry_ids entries) entries

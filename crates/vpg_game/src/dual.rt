@@ -4,9 +4,9 @@ ghost use Rattle.vpg_game.specs.Game.{vertex_ids, priorities_of, dual_vertex, du
 
 use crate::fault::DualFault;
 use crate::game::GuardedGame;
-use crate::ids::Ids;
 use crate::naming::naming_of;
 use crate::vertex::Vertex;
+use indexmap::IndexSet;
 use std::alloc::{AllocError, Global};
 
 impl GuardedGame {
@@ -51,11 +51,11 @@ fn dual_vertices(alloc: Global, vertices: &[Vertex]) -> Result<Vec<Vertex>, Allo
 }
 
 /// The identifiers of vertices, in order.
-fn identifiers(alloc: Global, vertices: &[Vertex]) -> Result<Ids, AllocError>
+fn identifiers(alloc: Global, vertices: &[Vertex]) -> Result<IndexSet<u32>, AllocError>
     requires { AreDistinct (vertex_ids vertices.now) }
     ensures { IfOk result (λ ids. ids.keys ≡ vertex_ids vertices.now) }
 {
-    let mut ids = Ids::with_capacity(alloc, vertices.len())?;
+    let mut ids = IndexSet::with_capacity(alloc, vertices.len())?;
     for vertex in vertices {
         ids.insert(vertex.id)?;
     }

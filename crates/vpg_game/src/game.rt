@@ -1,14 +1,16 @@
 //! Guarded games.
 ghost use Rattle.std.specs.Prelude.{◌≡◌, ◌<◌, ◌↔◌, Contains, IsTrue, ℕ, length, IfOk, IfErr, IfSome, MatchResult, slice_get, slice_index_or, Some};
-ghost use Rattle.vpg_game.specs.Game.{NamedGame, top_in, dual_top_in, priorities_of, vertex_ids, no_vertex, graph_of, vertex_in, IsGame, IsAtLimit, SpellsGame};
+ghost use Rattle.vpg_game.specs.Building.{IsLimited, IsMakingFault};
+ghost use Rattle.vpg_game.specs.Game.{NamedGame, top_in, dual_top_in, priorities_of, vertex_ids, no_vertex, graph_of, vertex_in, IsGame, IsAtLimit, SpellsGame, game_of, AreSound};
 ghost use Rattle.vpg_game.specs.Naming.{features_named};
 ghost use Rattle.vpg_game.specs.Refused.{IsRefused};
 
+use crate::entry::Entry;
 use crate::fault::GameFault;
-use crate::ids::Ids;
 use crate::making::make;
 use crate::reading::read_entries;
 use crate::vertex::Vertex;
+use indexmap::IndexSet;
 use std::alloc::Global;
 use std::marker::Model;
 use vpg_edges::Edge;
@@ -20,7 +22,7 @@ pub const HIGHEST_PRIORITY: u32 = 65_536;
 
 /// A guarded game. Vertices are numbered in the order of the file, features in the order of their names.
 pub struct GuardedGame {
-    pub(crate) ids: Ids,
+    pub(crate) ids: IndexSet<u32>,
     pub(crate) vertices: Vec<Vertex>,
     pub(crate) features: usize,
     pub(crate) tops: (u64, u64),
@@ -174,6 +176,28 @@ impl GuardedGame {
         let features = names.len();
         let entries = read_entries(alloc, text, names)?;
         make(alloc, entries, features)
+    }
+
+    /// Returns the game of these entries, over so many features: the one that `read` returns for a text that spells
+    /// them.
+    ///
+    /// Refusals, in their order: `DoubleVertex`; `MissingVertex`; `TooWide`, where the number of the top measure of the
+    /// game or of its dual exceeds 2^62. The first two are told for the first place among the entries.
+    pub fn of(
+        alloc: Global,
+        entries: Vec<Entry>,
+        feature_count: usize,
+    ) -> Result<GuardedGame, GameFault>
+        // The entries are within the limits of a text.
+        requires { IsLimited feature_count entries.items }
+        ensures made { IfOk result (λ game. game ≡ game_of feature_count entries.items) }
+        ensures sound { IfOk result (λ _. AreSound entries.items) }
+        // A refusal comes only where the entries show it.
+        ensures refused { IfErr result (IsMakingFault entries.items) }
+        // Sound entries make a game, unless memory runs out.
+        ensures only { AreSound entries.items → IfErr result (λ fault. fault ≡ GameFault.Memory) }
+    {
+        make(alloc, entries, feature_count)
     }
 }
 

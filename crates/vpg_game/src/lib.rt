@@ -1,22 +1,22 @@
 //! Guarded games: parity games whose edges have guards over features (FASE 2020), in a profile of PGSolver's text
 //! format.
 //!
-//! `GuardedGame::read` gives the game that a text spells, `write` its one writing, which is read as the same game, and
-//! `dual` the game with the players exchanged. The layers above go over `vertices`, `owner`, `priority` and `edges`,
-//! whose clauses speak of the game with its identifiers (`NamedGame`) and of its graph without them (`graph_of`).
+//! `GuardedGame::read` gives the game that a text spells, `of` the one of entries that a program makes, `write` its one
+//! writing, which is read as the same game, and `dual` the game with the players exchanged. The layers above go over
+//! `vertices`, `owner`, `priority` and `edges`, whose clauses speak of the game with its identifiers (`NamedGame`) and
+//! of its graph without them (`graph_of`).
 //! `laws::games_have_graphs` says what every graph keeps, and `top_within_limit` is the number of the top measure.
 //!
 //! The definitions stand in `specs/`: `Players`; `Guarded`, games over any kind of guard and their duals; `Levels`, the
 //! odd priorities that occur and the number of the top measure (Jurdzinski 2000); `Grammar`, the texts as a relation;
 //! `Game`, the game that entries spell, and what every game keeps; `Refused`, why a text is no game; `Writing`; `Laws`.
-//! `Spelled`, `Reading`, `Building`, `Coding` and `Ids` serve these and the proofs.
+//! `Building`, the limits of entries, and why some make no game. `Spelled`, `Reading` and `Coding` serve these.
 #![tactic(auto)]
 
 mod dual;
 mod entry;
 mod fault;
 mod game;
-mod ids;
 pub mod laws;
 mod levels;
 mod making;
@@ -25,6 +25,7 @@ mod reading;
 mod vertex;
 mod writing;
 
+pub use entry::{Entry, Successor};
 pub use fault::{DualFault, GameFault};
 pub use game::{GuardedGame, HIGHEST_PRIORITY};
 pub use levels::{Level, TOP_LIMIT, bound, odd_counts, top_within_limit};

@@ -9,20 +9,20 @@ ghost use Rattle.vpg_game.specs.Building.{IsNumberingFault, IsJoiningFault, IsRe
 use crate::entry::{Entry, Successor};
 use crate::fault::GameFault;
 use crate::game::GuardedGame;
-use crate::ids::Ids;
 use crate::levels::top_within_limit;
 use crate::naming::naming_of;
 use crate::vertex::Vertex;
+use indexmap::IndexSet;
 use std::alloc::{AllocError, Global};
 use vpg_edges::{Edge, join_edge};
 use vpg_guards::Index;
 
 /// The identifiers of entries, in order.
-fn numbered(alloc: Global, entries: &[Entry]) -> Result<Ids, GameFault>
+fn numbered(alloc: Global, entries: &[Entry]) -> Result<IndexSet<u32>, GameFault>
     ensures ok { IfOk result (λ ids. (ids.keys ≡ entry_ids entries.now) × AreDistinct ids.keys) }
     ensures err { IfErr result (IsNumberingFault (entry_ids entries.now)) }
 {
-    let Ok(mut ids) = Ids::with_capacity(alloc, entries.len()) else {
+    let Ok(mut ids) = IndexSet::with_capacity(alloc, entries.len()) else {
         return Err(GameFault::Memory);
     };
     for entry in entries {
@@ -38,7 +38,7 @@ fn numbered(alloc: Global, entries: &[Entry]) -> Result<Ids, GameFault>
 /// The edges that the successors of an entry name. `places` is room for one number per vertex.
 fn joined(
     alloc: Global,
-    ids: &Ids,
+    ids: &IndexSet<u32>,
     successors: Vec<Successor>,
     places: &mut [usize],
 ) -> Result<Vec<Edge>, GameFault>
@@ -62,7 +62,11 @@ fn joined(
 }
 
 /// The vertices that entries spell, their targets looked up.
-fn resolved(alloc: Global, ids: &Ids, entries: Vec<Entry>) -> Result<Vec<Vertex>, GameFault>
+fn resolved(
+    alloc: Global,
+    ids: &IndexSet<u32>,
+    entries: Vec<Entry>,
+) -> Result<Vec<Vertex>, GameFault>
     requires { length ids.now.keys ≤ 2 ^ 32 }
     ensures ok { IfOk result (λ vertices. vertices.items ≡ map (vertex_of ids.now.keys) entries.items) }
     ensures found { IfOk result (λ _. AllFound ids.now.keys entries.items) }
@@ -148,7 +152,7 @@ struct Parts {
 /// The parts of the game that entries with these identifiers spell.
 fn parts_of(
     alloc: Global,
-    ids: &Ids,
+    ids: &IndexSet<u32>,
     entries: Vec<Entry>,
     features: usize,
 ) -> Result<Parts, GameFault>

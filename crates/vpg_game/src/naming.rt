@@ -12,7 +12,7 @@ fn push_features(edges: &[Edge], features: &mut Vec<u16>) -> Result<(), AllocErr
     ensures { OnOk result (features.new.items ≡ features.old.items ++ features_named edges.now) }
 {
     for edge in edges {
-        edge.guard().push_features(features)?;
+        edge.guard.push_features(features)?;
     }
     Ok(())
 }

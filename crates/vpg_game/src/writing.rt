@@ -128,13 +128,13 @@ fn put_edge(
     requires guard { IsBelow (length names.now) edge.now.guard }
     ensures { OnOk result (out.new.items ≡ out.old.items ++ edge_text names.now vertices.now edge.now) }
 {
-    let target = &vertices[edge.to() as usize];
+    let target = &vertices[edge.to as usize];
     put_number(target.id, out)?;
-    if matches!(edge.guard(), Guard::Always) {
+    if matches!(edge.guard, Guard::Always) {
         return Ok(());
     }
     out.push(b'[')?;
-    edge.guard().write(alloc, names, out)?;
+    edge.guard.write(alloc, names, out)?;
     out.push(b']')?;
     Ok(())
 }

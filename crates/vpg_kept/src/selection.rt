@@ -96,8 +96,8 @@ impl Selection<'_> {
         ensures { OnOk result (successors.new.items ≡ successors.old.items ++ kept_under self.entry owner edges.now) }
     {
         for edge in edges {
-            if self.keeps(owner, edge.guard()) {
-                successors.push(edge.to())?;
+            if self.keeps(owner, &edge.guard) {
+                successors.push(edge.to)?;
             }
         }
         Ok(())

@@ -1,12 +1,13 @@
 -- Measures and their numbers correspond in order, and `prog_of` is the least that fits.
-use Rattle.std.proofs.Common.{ℕ, ◌≡◌, ◌+◌, ◌*◌, ◌/◌, ◌%◌, ◌<◌, ◌≤◌, ◌↔◌, ◌⊎◌, nat_lt, nat_le, ◌==◌, Bool, true, false, cond, List, [], ◌∷◌, refl, sym, ap, ◌∙◌, subst, inl, inr, eqb-true, arith}
+use Rattle.std.proofs.Common.{ℕ, ◌≡◌, ◌+◌, ◌*◌, ◌/◌, ◌%◌, ◌<◌, ◌≤◌, ◌↔◌, ◌⊎◌, nat_lt, nat_le, ◌==◌, Bool, true, false, cond, List, [], ◌∷◌, map, replicate, refl, sym, ap, ◌∙◌, subst, inl, inr, eqb-true, arith}
 use Rattle.std.proofs.lemmas.Bool.{lt-ltb, le-ltb, le-leb, eq-eqb, ne_eqb, cases_order, cases_lt, cases_Bool, cond-true, cond-false, eqb-false}
-use Rattle.std.proofs.Math.Nat.{mul-le-mul_right, mul-pos, mul-add-div_right, div-lt_iff_lt-mul, le-div_iff_mul-le, div-eq_of_lt, div-one, div-mul-le_self, mod-lt, div-add-mod', mul_assoc}
+use Rattle.std.proofs.Math.Nat.{zero-div, zero-mod, mul-le-mul_right, mul-pos, mul-add-div_right, div-lt_iff_lt-mul, le-div_iff_mul-le, div-eq_of_lt, div-one, div-mul-le_self, mod-lt, div-add-mod', mul_assoc}
+use Rattle.std.proofs.lemmas.List.Elements.{All-replicate}
 use Rattle.std.proofs.lemmas.Nat.{mul-add-lt, div-mul-add, mod-mul-add}
 use Rattle.vpg_game.specs.declared.levels.Level.{Level}
 use Rattle.vpg_game.specs.Levels.{is_odd, radix_of, top_of, lower_levels, weight_of, prog_of}
-use Rattle.vpg_measure.specs.Measures.{Measure, IsMeasure, LexBelow, LexAtMost, above, Fits, Top, Components}
-use Rattle.vpg_measure.specs.Numbers.{value_of, number_of, digits_of, measure_of}
+use Rattle.vpg_measure.specs.Measures.{Measure, zero_measure, IsMeasure, LexBelow, LexAtMost, above, Fits, Top, Components}
+use Rattle.vpg_measure.specs.Numbers.{value_of, number_of, digits_of, measure_of, AreZeroMeasures}
 use Rattle.vpg_measure.specs.NumberLaws.{MeasuresHaveNumbers, NumbersAreMeasures, OrderIsNumeric, ProgIsLeastFit, ProgIsLeastMeasure}
 
 -- one component for each level, at most its count
@@ -315,3 +316,17 @@ prog_is_least_measure ls p n hn =
           let more = (prog_is_least_fit ls p r (number_of ls m) at.0 am.0).0 there in
           (order_is_numeric ls (measure_of ls best) m best_is.0 hm).1 (omega (arith, best_is.1)));
     }
+
+zero_digits : (ls : List Level) → digits_of ls 0 ≡ map (λ place. 0) ls
+zero_digits [] = refl
+zero_digits (l ∷ ls) =
+    ap (λ k. k ∷ digits_of ls (0 % top_of ls)) (zero-div (top_of ls))
+    ∙ ap (λ k. 0 ∷ digits_of ls k) (zero-mod (top_of ls))
+    ∙ ap (λ ks. 0 ∷ ks) (zero_digits ls)
+
+-- zero is the number of the zero measure
+zero_is_zero : (ls : List Level) → measure_of ls 0 ≡ zero_measure ls
+zero_is_zero ls = measure-below ls 0 (top_pos ls) ∙ ap Components (zero_digits ls)
+
+pub zeros_are_zero_measures : (ls : List Level) (n : ℕ) → AreZeroMeasures ls (replicate n 0)
+zeros_are_zero_measures ls n = All-replicate (λ k. measure_of ls k ≡ zero_measure ls) n 0 (zero_is_zero ls)

@@ -20,8 +20,9 @@ use crate::shape::Shape;
 use crate::table::Table;
 use std::alloc::{AllocError, Global};
 use std::marker::Model;
-use std::mem;
 use std::sync::Arc;
+use std::{fmt, mem};
+use thiserror::Error;
 use vpg_diagram::Diagram;
 use vpg_game::GuardedGame;
 use vpg_hope::Arena;
@@ -77,7 +78,8 @@ impl Model for Order {
 }
 
 /// An order that is refused, with all that was handed in.
-#[derive(Drop)]
+#[derive(Drop, Error)]
+#[error("{fault}")]
 pub struct Refused {
     pub fault: OrderFault,
     pub game: Arc<GuardedGame>,
@@ -87,14 +89,27 @@ pub struct Refused {
     pub dual: Table,
 }
 
+// Written by hand: what is handed back is not shown.
+impl fmt::Debug for Refused {
+    fn fmt<W: fmt::Write>(&self, f: &mut fmt::Formatter<W>) -> fmt::Result {
+        f.debug_struct("Refused")
+            .field("fault", &self.fault)
+            .finish_non_exhaustive()
+    }
+}
+
 // Room for the two tables of a game.
-fn two_rooms(alloc: Global, game: &GuardedGame) -> Result<(Table, Table), AllocError>
+fn two_rooms(
+    alloc: Global,
+    game: &GuardedGame,
+    games: &PageGames,
+) -> Result<(Table, Table), AllocError>
     ensures hopeful { IfOk result (λ rooms. length rooms.0 ≡ length game.now.vertices) }
     ensures dual { IfOk result (λ rooms. length rooms.1 ≡ length game.now.vertices) }
 {
     let vertices = game.vertices() as u32;
-    let hopeful = Table::zero(alloc, vertices)?;
-    let dual = Table::zero(alloc, vertices)?;
+    let hopeful = Table::zero(alloc, games.shape(Which::Hopeful), vertices)?;
+    let dual = Table::zero(alloc, games.shape(Which::Dual), vertices)?;
     Ok((hopeful, dual))
 }
 
@@ -116,7 +131,7 @@ fn games_and_room(
         NamesConflict (clauses_of diagram.now.lines) (counts_of diagram.now.lines) (map literal_of decisions.now) f }
 {
     let games = PageGames::under(alloc, game, diagram, decisions)?.share(alloc)?;
-    let (hopeful, dual) = two_rooms(alloc, game)?;
+    let (hopeful, dual) = two_rooms(alloc, game, &games)?;
     Ok((games, hopeful, dual))
 }
 
@@ -206,7 +221,7 @@ impl Order {
         ensures dual { IfOk result (λ order. order.dual ≡ dual) }
         ensures order { IfOk result IsOrder }
     {
-        let (hopeful_room, dual_room) = two_rooms(alloc, &game)?;
+        let (hopeful_room, dual_room) = two_rooms(alloc, &game, &games)?;
         Ok(Order {
             game,
             diagram,

@@ -3,6 +3,8 @@ use Rattle.std.proofs.Common.{◌≡◌, ℕ, ◌-◌, ◌<◌, ◌≤◌, List,
 use Rattle.std.proofs.lemmas.List.{map_push, map-append, take-map, drop-map, length-map, get_or-map, length-take-le, take_rest}
 use Rattle.std.proofs.lemmas.List.Elements.{All-push, All-append, All-map, All-take, All-drop}
 use Rattle.std.proofs.Math.Seq.{drop-append_seam}
+use Rattle.vpg_measure.specs.Measures.{Shape}
+use Rattle.vpg_measure.specs.Numbers.{AreZeroMeasures}
 use Rattle.vpg_verdict.specs.declared.which.Which.TheVariants.{Hopeful, Dual}
 use Rattle.vpg_trail.specs.Page.{Which, Entry as Step, table_of}
 use Rattle.vpg_trail.specs.declared.entry.Entry.{Entry}
@@ -19,6 +21,12 @@ tracked_start n hopeful dual h d = record {
   hopeful_is = h ∙ sym (tables_after_entry Hopeful [] n).3;
   dual_is = d ∙ sym (tables_after_entry Dual [] n).3;
 }
+
+-- no entries give a table of zeros
+pub opened_zero : (which : Which) (n : ℕ) (entries : List Entry) (shape : Shape) (table : List ℕ) → entries ≡ [] → table ≡ replicate n 0 → AreZeroMeasures shape table →
+    AreZeroMeasures shape (table_of which (map entry_of entries) n)
+opened_zero which n entries shape table none zero measures =
+    subst (AreZeroMeasures shape) (zero ∙ sym (tables_after_entry which [] n).3 ∙ ap (λ (l : List Entry). table_of which (map entry_of l) n) (sym none)) measures
 
 pub tracked_one : (n : ℕ) (entries after : List Entry) (e : Entry) (hopeful dual next_hopeful next_dual : List ℕ) → IsTracked n (map entry_of entries) hopeful dual → VertexBelow n (entry_of e) →
     LiftStands (map entry_of entries) (entry_of e) → after ≡ entries ++ e ∷ [] → next_hopeful ≡ after_entry Hopeful hopeful (entry_of e) → next_dual ≡ after_entry Dual dual (entry_of e) → IsTracked n (map entry_of after) next_hopeful next_dual

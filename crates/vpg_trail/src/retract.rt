@@ -52,6 +52,13 @@ fn reset_entry(
     }
 }
 
+/// Returns the table that no entries give.
+fn zeros(alloc: Global, vertices: u32) -> Result<Table, AllocError>
+    ensures { IfOk result (λ table. table ≡ replicate vertices 0) }
+{
+    Ok(Table::of(vec![in alloc; 0; vertices as usize]?))
+}
+
 /// What stands after the decision at `place`, on this feature, once it is retracted: the later entries in their order,
 /// without each lift that assumed the feature, with the old values that the entries now before them give.
 pub fn kept_after(
@@ -72,8 +79,8 @@ pub fn kept_after(
         (λ kept. LiftsStandAfter [] (map entry_of entries.now) →
         LiftsStandAfter (map entry_of (take place entries.now)) (map entry_of kept.items)) }
 {
-    let mut hopeful = Table::zero(alloc, vertices)?;
-    let mut dual = Table::zero(alloc, vertices)?;
+    let mut hopeful = zeros(alloc, vertices)?;
+    let mut dual = zeros(alloc, vertices)?;
     replay(&entries[..place], &mut hopeful, &mut dual, vertices);
     let mut kept = Vec::new(alloc);
     for entry in &entries[place + 1..] {

@@ -1,5 +1,6 @@
 //! The entries of one page, with the tables that they give.
 ghost use Rattle.std.specs.Prelude.{◌≡◌, ◌+◌, ◌++◌, ◌∷◌, ◌≤◌, ◌<◌, [], length, map, take, drop, replicate, vec_len, All, IfOk, IfErr, OnOk, OnErr};
+ghost use Rattle.vpg_measure.specs.Numbers.{AreZeroMeasures};
 ghost use Rattle.vpg_trail.specs.Page.{Hopeful, Dual, table_of, decisions_of};
 ghost use Rattle.vpg_trail.specs.Shown.{entry_of, VertexBelow};
 ghost use Rattle.vpg_trail.specs.WellFormed.{LiftStands, LiftsStandAfter};
@@ -8,7 +9,7 @@ use crate::entry::Entry;
 use crate::replay::{take_all, take_all_back, take_in};
 use std::alloc::{AllocError, AllocFailed, Global};
 use std::marker::Model;
-use vpg_measure::Table;
+use vpg_measure::{Shape, Table};
 
 /// The entries of a page over a number of vertices. Its tables are those that the entries give.
 pub struct Trail {
@@ -74,15 +75,24 @@ fn count_decisions(entries: &[Entry]) -> usize
 }
 
 impl Trail {
-    /// A trail without entries; both tables are zero.
-    pub fn open(alloc: Global, vertices: u32) -> Result<Trail, AllocError>
-        ensures { IfOk result (λ trail. trail ≡ record { vertices = vertices; entries = [] }) }
+    /// Returns a trail without entries: at each vertex both tables have the zero measure of their shape.
+    pub fn open(
+        alloc: Global,
+        hopeful: &Shape,
+        dual: &Shape,
+        vertices: u32,
+    ) -> Result<Trail, AllocError>
+        ensures empty { IfOk result (λ trail. trail ≡ record { vertices = vertices; entries = [] }) }
+        ensures hopeful { IfOk result
+            (λ trail. AreZeroMeasures hopeful.now (table_of Hopeful trail.entries trail.vertices)) }
+        ensures dual { IfOk result
+            (λ trail. AreZeroMeasures dual.now (table_of Dual trail.entries trail.vertices)) }
     {
         Ok(Trail {
             vertices,
             entries: Vec::new(alloc),
-            hopeful: Table::zero(alloc, vertices)?,
-            dual: Table::zero(alloc, vertices)?,
+            hopeful: Table::zero(alloc, hopeful, vertices)?,
+            dual: Table::zero(alloc, dual, vertices)?,
         })
     }
 

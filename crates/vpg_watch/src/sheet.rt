@@ -3,10 +3,11 @@ ghost use Rattle.std.specs.Prelude.{◌≡◌, ◌^◌, ◌<◌};
 
 use crate::follows::Follows;
 use std::marker::Model;
+use std::sync::Arc;
 use vpg_verdict::Verdict;
 
 /// A verdict for each vertex, in file order. Contracts see it as a list; it is a `Vec` inside, one verdict in two
-/// bytes: packing them into bits was measured, and takes longer for 65,536 vertices.
+/// bytes.
 #[derive(Drop)]
 pub struct Verdicts {
     verdicts: Vec<Verdict>,
@@ -53,15 +54,15 @@ pub struct Sheet<F> {
     pub at: u32,
     /// Whether both tables of the page are settled.
     pub settled: bool,
-    /// What the page's tables say of each vertex.
-    pub verdicts: Verdicts,
+    /// What the page's tables say of each vertex. Sheets of pages that say the same of each vertex may share the list.
+    pub verdicts: Arc<Verdicts>,
     /// The calls that led to the page.
     pub front: F,
 }
 
 impl<F: Follows> Sheet<F> {
     /// A sheet of the front, whose `at` is the front's number of calls.
-    pub fn of(front: F, settled: bool, verdicts: Verdicts) -> Sheet<F>
+    pub fn of(front: F, settled: bool, verdicts: Arc<Verdicts>) -> Sheet<F>
         requires { F.calls front < 2 ^ 32 }
         ensures { result ≡ record { at = F.calls front; settled = settled; verdicts = verdicts; front = front } }
     {

@@ -18,7 +18,7 @@ returns-then-not-branch c =
 pub loop-word-preserved : goal.loop-word-preserved
 loop-word-preserved c = record {
   seen = seen_more c.args.names.now c.args.words.now c.loop-word.word-index no_word c.loop-word-test.true c.loop-word.invariant.rest
-      c.loop-word.seen.keys c.insert.new.self.keys c.loop-word.invariant.seen c.in_ok-insert.field-0 c.if-not-branch.false c.in_ok-insert.ensures.keys;
+      c.loop-word.seen.keys c.insert.new.self.keys c.loop-word.invariant.seen c.in_ok-insert.field-0 c.in_ok-insert.ensures.added c.if-not-branch.false c.in_ok-insert.ensures.keys;
   rest = rest_more c.args.names.now c.args.words.now c.loop-word.word-index no_word c.loop-word-test.true c.loop-word.invariant.rest
       c.loop-word.seen.keys c.loop-word.invariant.seen c.in_ok-insert.field-0 c.in_ok-insert.ensures.added c.if-not-branch.false
       (ap is_some (sym (c.get.ensures.index ∙ place_is c.args.names.now _)) ∙ (sym c.is_some.ensures ∙ c.if-is_some.false));

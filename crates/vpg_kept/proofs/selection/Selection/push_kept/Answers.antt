@@ -13,7 +13,7 @@ returns c =
 
 pub keeps-requires : goal.keeps-requires
 keeps-requires c =
-    subst (λ (guard : Formula). IsBelow (features_under c.args.self) guard) (sym (c.guard.ensures ∙ ap (λ (edge : GuardedEdge Formula). edge.guard) c.edge-item.is))
+    subst (λ (guard : Formula). IsBelow (features_under c.args.self) guard) (sym (ap (λ (edge : GuardedEdge Formula). edge.guard) (c.edge.view_is ∙ c.edge-item.is)))
     (c.requires c.loop-edge.edge-index c.edge-item.result c.loop-edge-test.true)
 
 pub loop-edge-preserved : goal.loop-edge-preserved
