@@ -20,7 +20,7 @@ use Rattle.vpg_trail.proofs.PageLemmas.{table_of-at, length-table_of}
 use Rattle.vpg_desk.specs.Book.{IsSettledPage, Settled, IsSettled, Verdict, VerdictIs}
 use Rattle.vpg_desk.specs.Desk.{family_of, IsProgressUnder}
 use Rattle.vpg_desk.specs.DeskFields.{setting_in, book_in, desk_of, IsDesk}
-use Rattle.vpg_desk.specs.Headline.{Tells, NeverWins}
+use Rattle.vpg_desk.specs.Headline.{AlwaysWins, NeverWins, Tells}
 use Rattle.vpg_desk.specs.State.{DeskState, Replies, setting_of}
 use Rattle.vpg_desk.specs.declared.desk.Desk.TheInside.{Inside}
 use Rattle.vpg_desk.proofs.Reaching.{reached_tells}
@@ -97,10 +97,20 @@ module _ (d : Inside) (i : IsDesk d) (which w : Which) (is : which ≡ w) (shape
   pub present_is_table : IsTableOf shape arena values
   present_is_table = table_is d i which shape arena values levels_are arena_is (values_told which w is d values values_are)
 
-  pub settled_told : (state : DeskState) → desk_of d ≡ state → (b : Bool) → IsTrue b ↔ IsProgressTable shape arena values → IsTrue b ↔ IsSettledTable state which
-  settled_told state viewed b told = subst (λ (s : DeskState). IsTrue b ↔ IsSettledTable s which) viewed (
+  pub tells_settled : (state : DeskState) → desk_of d ≡ state → (P : Type 0) → P ↔ IsProgressTable shape arena values → P ↔ IsSettledTable state which
+  tells_settled state viewed P told = subst (λ (s : DeskState). P ↔ IsSettledTable s which) viewed (
     (λ t. progress_under d i which shape arena values levels_are arena_is (values_told which w is d values values_are) (told.0 t)),
     (λ p. told.1 (progress_back d i which shape arena values levels_are arena_is (values_told which w is d values values_are) p)),
+  )
+
+  pub settled_told : (state : DeskState) → desk_of d ≡ state → (b : Bool) → IsTrue b ↔ IsProgressTable shape arena values → IsTrue b ↔ IsSettledTable state which
+  settled_told state viewed b told = tells_settled state viewed (IsTrue b) told
+
+  -- where the table isn't settled the page isn't
+  pub not_settled : (state : DeskState) → desk_of d ≡ state → ¬ (IsProgressTable shape arena values) → Replies state Settled (IsSettled false)
+  not_settled state viewed unlike = settled_page state false (
+    (λ t. absurd (false≢true t)),
+    (λ page. absurd (unlike ((tells_settled state viewed (IsProgressTable shape arena values) ((λ p. p), (λ p. p))).1 (page which)))),
   )
 
 -- ---- verdicts
@@ -134,3 +144,13 @@ module _ (d : Inside) (i : IsDesk d) where
 
   pub sure_told : (v x s : ℕ) → v < length (arc_value d.game).vertices → x ≡ value_at Dual v d.trail.entries → s ≡ top_for Dual (graph_of (arc_value d.game)) → IsTrue (x == s) → NeverWins (setting_in d) d.trail.entries Player.Odd v
   sure_told v x s h p q t = (tells d i).sure v (inside_graph v h) (sym p ∙ eqb-true x s t ∙ q)
+
+  pub lost_told : (v x s : ℕ) → v < length (arc_value d.game).vertices → x ≡ value_at Hopeful v d.trail.entries → s ≡ top_for Hopeful (graph_of (arc_value d.game)) → IsTrue (x == s) → AlwaysWins (setting_in d) d.trail.entries Player.Odd v
+  lost_told v x s h p q t = (tells d i).lost v (inside_graph v h) (sym p ∙ eqb-true x s t ∙ q)
+
+  pub won_told : (v x s : ℕ) → v < length (arc_value d.game).vertices → x ≡ value_at Dual v d.trail.entries → s ≡ top_for Dual (graph_of (arc_value d.game)) → IsTrue (x == s) → AlwaysWins (setting_in d) d.trail.entries Player.Even v
+  won_told v x s h p q t = (tells d i).won v (inside_graph v h) (sym p ∙ eqb-true x s t ∙ q)
+
+  pub not_both_told : (v x s y r : ℕ) → v < length (arc_value d.game).vertices → x ≡ value_at Hopeful v d.trail.entries → s ≡ top_for Hopeful (graph_of (arc_value d.game)) →
+      y ≡ value_at Dual v d.trail.entries → r ≡ top_for Dual (graph_of (arc_value d.game)) → IsTrue (x == s) × IsTrue (y == r) → ⊥
+  not_both_told v x s y r h p q m n t = (tells d i).not_both v (inside_graph v h) (sym p ∙ eqb-true x s t.0 ∙ q) (sym m ∙ eqb-true y r t.1 ∙ n)

@@ -1,9 +1,9 @@
 -- Notes along the steps of the book.
-use Rattle.std.proofs.Common.{ℕ, suc, zero, ◌<◌, ◌==◌, Bool, true, false, cond, List, [], ◌∷◌, length, take, IsTrue, arith}
-use Rattle.std.proofs.lemmas.Bool.{false≢true}
+use Rattle.std.proofs.Common.{ℕ, suc, zero, ◌∙◌, ◌<◌, ◌==◌, Bool, true, false, cond, List, [], ◌∷◌, ◌++◌, length, take, IsTrue, arith, sym, subst}
 use Rattle.vpg_trail.specs.Page.{Entry}
 use Rattle.vpg_desk.specs.Book.{Book, Kept, changed, undone, redone, kept, forgotten, in_front_of}
-use Rattle.vpg_desk.specs.Notes.{Notes, NotedAre, NotesHold}
+use Rattle.vpg_desk.specs.Notes.{Notes, NotedAre, NotesHold, GivesBack}
+use Rattle.vpg_desk.specs.Trail.{Cut, pages_over}
 
 module _ (P : List Entry → Type 0) where
   -- of fewer notes
@@ -29,10 +29,6 @@ module _ (P : List Entry → Type 0) where
       NotesHold P (record { present = note; past = notes.present ∷ notes.past; future = [] }) (changed book page)
   noted_with notes book page note p h = record { present = p; past = (h.present, h.past); future = tt }
 
-  pub noted_changed : (notes : Notes) (book : Book) (page : List Entry) → NotesHold P notes book →
-      NotesHold P (record { present = false; past = notes.present ∷ notes.past; future = [] }) (changed book page)
-  noted_changed notes book page h = noted_with notes book page false (λ t. absurd (false≢true t)) h
-
   -- undo and redo exchange the notes of the pages that they exchange
   pub noted_undone : (book : Book) (past : List Kept) (note was : Bool) (older future : List Bool) → 0 < length past → (IsTrue was → P book.present) → NotedAre P (note ∷ older) past → NotedAre P future book.future →
       NotesHold P (record { present = note; past = older; future = was ∷ future }) (undone book past)
@@ -50,3 +46,10 @@ module _ (P : List Entry → Type 0) where
 
   pub noted_forgotten : (notes : Notes) (book : Book) (n s : ℕ) → NotesHold P notes book → NotesHold P (record notes { future = take n notes.future }) (forgotten book s)
   noted_forgotten notes book n s h = record { present = h.present; past = h.past; future = noted_take n notes.future (in_front_of s book.future) (noted_front s notes.future book.future h.future) }
+
+  -- a page that is given back is so where it is noted
+  pub noted_back : (cuts : List Cut) (notes : List Bool) (place : ℕ) (kept near : List Entry) → GivesBack cuts notes place kept → NotedAre P notes (pages_over near cuts) → P (take place near ++ kept)
+  noted_back [] notes place kept near g a = absurd g
+  noted_back (cut ∷ cuts) [] place kept near g a = absurd g
+  noted_back (cut ∷ cuts) (note ∷ notes) place kept near (is, at, none, empty) a =
+      subst P (λ i. take (at i) near ++ (none ∙ sym empty) i) (a.0 is)

@@ -1,5 +1,5 @@
 -- What an accepted retract leaves.
-use Rattle.std.proofs.Common.{◌≡◌, ℕ, ◌+◌, ◌<◌, ◌≤◌, Bool, true, false, not, cond, List, [], ◌∷◌, ◌++◌, length, take, drop, filter, Option, Some, None, refl, sym, ap, ◌∙◌, subst, arith, Vec, Global}
+use Rattle.std.proofs.Common.{◌≡◌, ℕ, ◌+◌, ◌<◌, ◌≤◌, Bool, true, false, not, cond, List, [], ◌∷◌, ◌++◌, length, take, drop, filter, IsTrue, Option, Some, None, refl, sym, ap, ◌∙◌, subst, arith, Vec, Global}
 use Rattle.std.specs.Prelude.{nat_le}
 use Rattle.std.proofs.lemmas.Bool.{lt-leb, le-leb}
 use Rattle.std.specs.Arc.{arc_value}
@@ -12,14 +12,14 @@ use Rattle.vpg_desk.specs.Book.{Refusal, Refused, Changed, Retract, UnknownFeatu
 use Rattle.vpg_desk.specs.Cuts.{cuts_of, notes_of, cut_book, SuffixesBelow}
 use Rattle.vpg_desk.specs.Desk.{family_of}
 use Rattle.vpg_desk.specs.DeskFields.{setting_in, book_in, notes_in, desk_of, IsDesk}
-use Rattle.vpg_desk.specs.Notes.{NotesHold}
+use Rattle.vpg_desk.specs.Notes.{NotesHold, GivesBack}
 use Rattle.vpg_desk.specs.Setting.{HasConflict}
 use Rattle.vpg_desk.specs.State.{Replies, IsStep, IsReached}
 use Rattle.vpg_desk.specs.Trail.{StandsFor, book_of}
 use Rattle.vpg_desk.specs.declared.cuts.Cut.{Cut}
 use Rattle.vpg_desk.specs.declared.desk.Desk.TheInside.{Inside}
 use Rattle.vpg_desk.proofs.Decided.{limits}
-use Rattle.vpg_desk.proofs.Noted.{noted_changed}
+use Rattle.vpg_desk.proofs.Noted.{noted_with, noted_back}
 use Rattle.vpg_desk.proofs.Reaching.{reached_step, reached_tells}
 use Rattle.vpg_desk.proofs.Trail.{cut_is_change}
 
@@ -75,8 +75,10 @@ module _ (d : Inside) (i : IsDesk d) (f : ℕ) (accepted : Replies (desk_of d) (
     pub retracted_step : IsStep (desk_of d) session (Retract f) (Changed (d.changes + 1)) (record { game = arc_value d.game; diagram = arc_value d.diagram; book = book_of (cut_book later.items trail.entries future.items (d.changes + 1) (d.tokens + 1)) })
     retracted_step = record { step = (accepted, stands.same); game = refl; diagram = refl }
 
-    pub retracted_desk : IsDesk (record { game = d.game; diagram = d.diagram; games = games; trail = trail; past = later; future = future; changes = d.changes + 1; tokens = d.tokens + 1; is_noted = false })
-    retracted_desk = record {
+    -- with a note that the newest past page had, where that is given back
+    pub retracted_desk : (note : Bool) → (IsTrue note → GivesBack (cuts_of d.past.items) (notes_of d.past.items) place kept) →
+        IsDesk (record { game = d.game; diagram = d.diagram; games = games; trail = trail; past = later; future = future; changes = d.changes + 1; tokens = d.tokens + 1; is_noted = note })
+    retracted_desk note back = record {
       opened = i.opened;
       reached = subst (IsReached (setting_in d)) (sym stands.same) reached;
       games = subst (λ (l : List Step). ArePageGames (arc_value d.game) (arc_value d.diagram) (choices_of l) (arc_value games)) (sym (ap (λ (t : Track). t.entries) trail_is ∙ page_is)) games_are;
@@ -85,6 +87,10 @@ module _ (d : Inside) (i : IsDesk d) (f : ℕ) (accepted : Replies (desk_of d) (
       future_fits = stands.future_fits;
       past_below = subst (λ (t : Track). SuffixesBelow t.vertices later.items) (sym trail_is) (below i.past_below);
       future_below = subst (λ (l : List Cut). SuffixesBelow trail.vertices l) (sym emptied) (λ k x h. absurd (omega arith));
-      noted = coe 0 1 (k. NotesHold (IsSettledPage (family_of (setting_in d))) (record { present = false; past = sym notes k; future = notes_of (sym emptied k) }) (sym stands.same k))
-          (noted_changed (IsSettledPage (family_of (setting_in d))) (notes_in d) (book_in d) (retracted f d.trail.entries) i.noted);
+      noted = coe 0 1 (k. NotesHold (IsSettledPage (family_of (setting_in d))) (record { present = note; past = sym notes k; future = notes_of (sym emptied k) }) (sym stands.same k))
+          (noted_with (IsSettledPage (family_of (setting_in d))) (notes_in d) (book_in d) (retracted f d.trail.entries) note settled i.noted);
     }
+      where
+        settled : IsTrue note → IsSettledPage (family_of (setting_in d)) (retracted f d.trail.entries)
+        settled is = subst (IsSettledPage (family_of (setting_in d))) page_is
+            (noted_back (IsSettledPage (family_of (setting_in d))) (cuts_of d.past.items) (notes_of d.past.items) place kept d.trail.entries (back is) i.noted.past)

@@ -11,11 +11,11 @@ use Rattle.vpg_desk.specs.History.{Event, IsLegal, book_after, page_after, undo_
 use Rattle.vpg_desk.specs.Lawful.{EachPage, PageIsBelow, IsMonotone, IsLawful, HandsIn, AllHandIn}
 use Rattle.vpg_desk.proofs.UndoRedo.{legal_parts, undo_restores, redo_restores, beginning_is_legal}
 use Rattle.vpg_desk.proofs.Below.{pages_are_below, no_page_has_conflict, settled_are_equal}
-use Rattle.vpg_desk.specs.Setting.{Setting, HasConflict}
+use Rattle.vpg_desk.specs.Setting.{Setting, IsSetting, HasConflict}
 use Rattle.vpg_desk.proofs.Sound.{sound_of}
 use Rattle.vpg_measure.specs.TwoGames.{top_for}
 use Rattle.vpg_desk.specs.Desk.{family_of}
-use Rattle.vpg_desk.specs.Headline.{IsTopAt, NeverWins, Tells, HeadlineHolds, verdict_of, settled_of}
+use Rattle.vpg_desk.specs.Headline.{IsTopAt, NeverWins, VerdictMeans, Tells, HeadlineHolds, verdict_of, settled_of}
 use Rattle.vpg_desk.proofs.Family.{family_is_monotone}
 use Rattle.vpg_desk.proofs.Told.{page_tells}
 
@@ -69,6 +69,38 @@ verdict_tells setting {page} tells v inside hopeless sure e = (
   (λ h. tells.sure v inside (eqb-true (value_at Dual v page) (top_for Dual setting.game) (sym e.1 ∙ h))),
 )
 
+verdict_means : (setting : Setting) {page : List Entry} → Tells setting page → (v : ℕ) → v < length setting.game → (hopeless sure : Bool) →
+    (hopeless ≡ (value_at Hopeful v page == top_for Hopeful setting.game)) × (sure ≡ (value_at Dual v page == top_for Dual setting.game)) →
+    VerdictMeans setting page v hopeless sure
+verdict_means setting {page} tells v inside hopeless sure e = record {
+  lost = λ h. tells.lost v inside (hopeful_top h);
+  won = λ h. tells.won v inside (dual_top h);
+  not_both = λ both. tells.not_both v inside (hopeful_top both.0) (dual_top both.1);
+}
+  where
+    hopeful_top : IsTrue hopeless → value_at Hopeful v page ≡ top_for Hopeful setting.game
+    hopeful_top h = eqb-true (value_at Hopeful v page) (top_for Hopeful setting.game) (sym e.0 ∙ h)
+
+    dual_top : IsTrue sure → value_at Dual v page ≡ top_for Dual setting.game
+    dual_top h = eqb-true (value_at Dual v page) (top_for Dual setting.game) (sym e.1 ∙ h)
+
+-- what a page tells after a legal history
+pub page_tells_after : (setting : Setting) (history : List Event) → IsSetting setting → IsLegal (family_of setting) history →
+    AllHandIn (IsLawful (family_of setting)) history → Tells setting (page_after (family_of setting) history)
+page_tells_after setting history is_setting legal lawful =
+    page_tells setting (sound_of setting is_setting) (page_after (family_of setting) history)
+    (no_page_has_conflict (family_of setting) (family_is_monotone setting is_setting) history legal).present
+    (pages_are_below (family_of setting) (family_is_monotone setting is_setting) history legal lawful).present
+
+-- so the verdict that the book replies there means what it should
+pub reply_means : (setting : Setting) (history : List Event) → IsSetting setting → IsLegal (family_of setting) history →
+    AllHandIn (IsLawful (family_of setting)) history → (v : ℕ) → v < length setting.game → (hopeless sure : Bool) →
+    IsReply (family_of setting) (book_after (family_of setting) opened history) (Verdict v) (VerdictIs hopeless sure) →
+    VerdictMeans setting (page_after (family_of setting) history) v hopeless sure
+reply_means setting history is_setting legal lawful v inside hopeless sure reply =
+    verdict_means setting (page_tells_after setting history is_setting legal lawful) v inside hopeless sure
+    (refused_none_verdict (family_of setting) (book_after (family_of setting) opened history) v hopeless sure reply)
+
 -- equal tables have the same tops
 same_tops : (setting : Setting) (one other : List Entry) (which : Which) (v : ℕ) → v < length setting.game → table_of which one (length setting.game) ≡ table_of which other (length setting.game) →
     IsTopAt setting one which v ↔ IsTopAt setting other which v
@@ -84,6 +116,8 @@ headline setting history is_setting legal lawful = record {
   pages = each_from (PageIsBelow family) (λ page. ¬ (HasConflict setting (choices_of page))) (Tells setting) (λ page below fine. page_tells setting (sound_of setting is_setting) page fine below)
       (book_after family opened history) (pages_are_below family monotone history legal lawful) (no_page_has_conflict family monotone history legal);
   verdicts = λ front rest session v hopeless sure split inside. verdict_tells setting (front_page front rest (verdict_of session v hopeless sure) split) v inside hopeless sure
+      (refused_none_verdict family (book_after family opened front) v hopeless sure (reply_at family history front rest (verdict_of session v hopeless sure) legal split));
+  winners = λ front rest session v hopeless sure split inside. verdict_means setting (front_page front rest (verdict_of session v hopeless sure) split) v inside hopeless sure
       (refused_none_verdict family (book_after family opened front) v hopeless sure (reply_at family history front rest (verdict_of session v hopeless sure) legal split));
   settled = λ front rest session b split. settled_tells family (book_after family opened front) b (reply_at family history front rest (settled_of session b) legal split);
   alone = same_tables;
@@ -106,8 +140,7 @@ headline setting history is_setting legal lawful = record {
     family = family_of setting
 
     front_page : (front rest : List Event) (e : Event) → history ≡ front ++ e ∷ rest → Tells setting (page_after (family_of setting) front)
-    front_page front rest e split = page_tells setting (sound_of setting is_setting) (page_after (family_of setting) front)
-        (no_page_has_conflict (family_of setting) (family_is_monotone setting is_setting) front l).present (pages_are_below (family_of setting) (family_is_monotone setting is_setting) front l h).present
+    front_page front rest e split = page_tells_after setting front is_setting l h
       where
         l : IsLegal (family_of setting) front
         l = beginning_is_legal (family_of setting) front (e ∷ rest) (subst (IsLegal (family_of setting)) split legal)

@@ -1,5 +1,5 @@
 -- What holds of every legal history of a desk.
-use Rattle.std.specs.Prelude.{◌≡◌, ◌↔◌, ℕ, ◌<◌, Bool, Option, List, [], ◌∷◌, ◌++◌, length, map, IsTrue}
+use Rattle.std.specs.Prelude.{◌≡◌, ◌↔◌, ◌⊎◌, ℕ, ◌<◌, Bool, Option, List, [], ◌∷◌, ◌++◌, length, map, IsTrue}
 use Rattle.std.specs.Bool.{Decides}
 use Rattle.vpg_measure.specs.Lifts.{AreChoices}
 use Rattle.vpg_players.specs.declared.player.Player.{Player}
@@ -18,6 +18,8 @@ use Rattle.vpg_desk.specs.History.{Event, IsLegal, book_after, page_after, IsBef
 use Rattle.vpg_desk.specs.Lawful.{EachPage, PageIsBelow, IsLawful, harvested, AllHandIn, IsMonotone}
 use Rattle.vpg_desk.specs.Setting.{Setting, IsSetting, HasConflict}
 use Rattle.vpg_measure.specs.TwoGames.{IsTableBelow, top_for, levels_for, arena_for}
+use Rattle.vpg_determined.specs.Determined.{HasWin}
+use Rattle.vpg_determined.specs.Plays.{WinsEachPlay}
 use Rattle.vpg_desk.specs.Desk.{family_of, IsLeastUnder}
 
 -- the value is the top
@@ -33,6 +35,21 @@ abbrev pub NeverWins : Setting → List Entry → Player → ℕ → Type 0
 NeverWins setting page player v =
     (set : List Bool) → IsRemaining setting.lines (choices_of page) set → (strategy : Strategy) →
     WinsIn setting set player strategy v → ⊥
+
+-- One positional strategy of the player wins from the vertex in every product that agrees with the page's decisions,
+-- and there every play that it allows, whoever moves for the opponent and however.
+pub record AlwaysWins (setting : Setting) (page : List Entry) (player : Player) (v : ℕ) : Type 0 where
+  pub strategy : Strategy
+  pub wins : (set : List Bool) → IsRemaining setting.lines (choices_of page) set → WinsIn setting set player strategy v
+  pub plays : (set : List Bool) → IsRemaining setting.lines (choices_of page) set →
+      WinsEachPlay (product_game (truth set) setting.game) player strategy v
+
+-- What a verdict of the vertex means on the page: where it is hopeless Odd wins in every product that is left, and
+-- where it is sure Even does; it is never both.
+pub record VerdictMeans (setting : Setting) (page : List Entry) (v : ℕ) (hopeless sure : Bool) : Type 0 where
+  pub lost : IsTrue hopeless → AlwaysWins setting page Player.Odd v
+  pub won : IsTrue sure → AlwaysWins setting page Player.Even v
+  pub not_both : ¬ (IsTrue hopeless × IsTrue sure)
 
 -- the choices made at the page's table
 abbrev pub AreChoicesAt : Setting → List Tri → List Entry → Which → List (Option ℕ) → Type 0
@@ -60,6 +77,12 @@ pub record Determines (setting : Setting) (page : List Entry) (known : List Tri)
   -- and none is both
   pub not_both : (v : ℕ) → v < length setting.game → ¬ (IsTopAt setting page Hopeful v) →
       ¬ (IsTopAt setting page Dual v) → ⊥
+  -- each vertex is hopeless or sure: hopeless exactly where Odd wins, sure exactly where Even does
+  pub decided : (v : ℕ) → v < length setting.game → IsTopAt setting page Hopeful v ⊎ IsTopAt setting page Dual v
+  pub hopeless : (v : ℕ) → v < length setting.game →
+      IsTopAt setting page Hopeful v ↔ HasWin (product_game (truth set) setting.game) Player.Odd v
+  pub sure : (v : ℕ) → v < length setting.game →
+      IsTopAt setting page Dual v ↔ HasWin (product_game (truth set) setting.game) Player.Even v
 
 -- what a page says of the game: its tables are below every progress table, a settled page's are the least, and
 -- hopeless and sure mean what they say
@@ -74,6 +97,11 @@ pub record Tells (setting : Setting) (page : List Entry) : Type 0 where
   pub hopeless : (v : ℕ) → v < length setting.game → IsTopAt setting page Hopeful v →
       NeverWins setting page Player.Even v
   pub sure : (v : ℕ) → v < length setting.game → IsTopAt setting page Dual v → NeverWins setting page Player.Odd v
+  -- in every product that is left Odd wins from a hopeless vertex and Even from a sure one, settled or not
+  pub lost : (v : ℕ) → v < length setting.game → IsTopAt setting page Hopeful v → AlwaysWins setting page Player.Odd v
+  pub won : (v : ℕ) → v < length setting.game → IsTopAt setting page Dual v → AlwaysWins setting page Player.Even v
+  -- no vertex is both, with products left or none
+  pub not_both : (v : ℕ) → v < length setting.game → IsTopAt setting page Hopeful v → IsTopAt setting page Dual v → ⊥
   pub full : (known : List Tri) → IsKnownTable setting.lines (choices_of page) known →
       AreAllKnown (feature_count setting.lines) known → IsSettledPage (family_of setting) page →
       (set : List Bool) × Determines setting page known set
@@ -104,6 +132,10 @@ pub record Headline (setting : Setting) (history : List Event) : Type 0 where
       history ≡ front ++ verdict_of session v hopeless sure ∷ rest → v < length setting.game →
       (IsTrue hopeless → NeverWins setting (page_after (family_of setting) front) Player.Even v) ×
       (IsTrue sure → NeverWins setting (page_after (family_of setting) front) Player.Odd v)
+  -- and it names the winner in every product that is left
+  pub winners : (front rest : List Event) (session v : ℕ) (hopeless sure : Bool) →
+      history ≡ front ++ verdict_of session v hopeless sure ∷ rest → v < length setting.game →
+      VerdictMeans setting (page_after (family_of setting) front) v hopeless sure
   pub settled : (front rest : List Event) (session : ℕ) (b : Bool) → history ≡ front ++ settled_of session b ∷ rest →
       Decides b (IsSettledPage (family_of setting) (page_after (family_of setting) front))
   -- settled tables are those of the surviving decisions alone: whatever history led to the same choices, they are equal

@@ -1,7 +1,8 @@
 -- Notes of a book's pages: which of them are known to be so, as settled.
-use Rattle.std.specs.Prelude.{Bool, List, [], ◌∷◌, IsTrue, ⊤}
+use Rattle.std.specs.Prelude.{◌≡◌, ℕ, Bool, List, [], ◌∷◌, IsTrue, ⊤}
 use Rattle.vpg_trail.specs.Page.{Entry}
 use Rattle.vpg_desk.specs.Book.{Book, Kept}
+use Rattle.vpg_desk.specs.Trail.{Cut}
 
 -- the present page's, and those of the past and future pages, the nearest first
 pub record Notes : Type 0 where
@@ -20,3 +21,11 @@ pub record NotesHold (P : List Entry → Type 0) (notes : Notes) (book : Book) :
   pub present : IsTrue notes.present → P book.present
   pub past : NotedAre P notes.past book.past
   pub future : NotedAre P notes.future book.future
+
+-- The nearest page has a note, and is the page of the entries up to the place and then the kept ones: both have the
+-- entries up to the same place, and none after them.
+abbrev pub GivesBack : List Cut → List Bool → ℕ → List Entry → Type 0
+GivesBack [] notes place kept = ⊥
+GivesBack (cut ∷ cuts) [] place kept = ⊥
+GivesBack (cut ∷ cuts) (note ∷ notes) place kept =
+    IsTrue note × (cut.place ≡ place) × (cut.suffix ≡ []) × (kept ≡ [])

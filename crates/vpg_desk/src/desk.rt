@@ -9,7 +9,7 @@ ghost use Rattle.vpg_measure.specs.Orders.{IsOrder, IsSettledOrder};
 ghost use Rattle.vpg_trail.specs.Page.{Which as Side, Hopeful, Dual, choices_of, decisions_of, table_of};
 ghost use Rattle.vpg_desk.specs.Book.{opened, Order as AsksOrder, Ordered, Settled, IsSettled, IsSettledPage, Verdict as AsksVerdict, VerdictIs, Page as AsksPage, PageIs};
 ghost use Rattle.vpg_desk.specs.Desk.{family_of, IsLeastUnder, IsProgressUnder};
-ghost use Rattle.vpg_desk.specs.Headline.{NeverWins, Tells};
+ghost use Rattle.vpg_desk.specs.Headline.{AlwaysWins, NeverWins, Tells};
 ghost use Rattle.vpg_desk.specs.Lawful.{PageIsBelow};
 ghost use Rattle.vpg_desk.specs.Setting.{IsSetting};
 ghost use Rattle.vpg_desk.specs.State.{IsOpened, IsReached, Replies, setting_of};
@@ -183,9 +183,10 @@ impl Desk {
     }
 
     /// Whether both tables of the present page are progress tables. They are then the least ones. Once a commit of a
-    /// settled harvest has settled a page this is known of it, also when undo or redo come back to it, and still after
-    /// decisions by which no lift raises a vertex that names a feature of which something else is known then. Else it
-    /// is a pass over the kept edges, which ends at the first vertex that a lift raises.
+    /// settled harvest has settled a page this is known of it, also when undo, redo or a retraction of the newest
+    /// decision come back to it, and still after decisions by which no lift raises a vertex that names a feature of
+    /// which something else is known then. Else it is a pass over the kept edges, which ends at the first vertex that a
+    /// lift raises.
     pub fn settled(&self) -> bool
         ensures reply { Replies self.now Settled (IsSettled result) }
         ensures least { IsTrue result → (which : Side) →
@@ -215,13 +216,18 @@ impl Desk {
         }
     }
 
-    /// What the present tables say of a vertex.
+    /// What the present tables say of a vertex. Where it is hopeless Odd wins from it in every product that is left,
+    /// and where it is sure Even does, by one strategy and against every opponent. It is never both.
     pub fn verdict(&self, v: u32) -> Verdict
         requires { v < length self.now.game.vertices }
         ensures reply { Replies self.now (AsksVerdict v) (VerdictIs result.hopeless result.sure) }
         ensures hopeless { IsTrue result.hopeless →
             NeverWins (setting_of self.now) self.now.book.present Player.Even v }
         ensures sure { IsTrue result.sure → NeverWins (setting_of self.now) self.now.book.present Player.Odd v }
+        ensures lost { IsTrue result.hopeless →
+            AlwaysWins (setting_of self.now) self.now.book.present Player.Odd v }
+        ensures won { IsTrue result.sure → AlwaysWins (setting_of self.now) self.now.book.present Player.Even v }
+        ensures not_both { ¬ (IsTrue result.hopeless × IsTrue result.sure) }
     {
         Verdict {
             hopeless: self.trail.hopeful().get(v) == self.games.shape(Which::Hopeful).top(),

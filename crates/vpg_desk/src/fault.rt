@@ -3,42 +3,72 @@
 use crate::desk::Desk;
 use crate::redo_token::Redo;
 use crate::undo_token::Undo;
+use std::fmt;
 use std::sync::Arc;
+use thiserror::Error;
 use vpg_diagram::Diagram;
 use vpg_faults::{CommitFault, OpenFault, RedoFault, UndoFault};
 use vpg_game::GuardedGame;
 use vpg_measure::Harvest;
 
 /// A desk that isn't opened, with what was handed in.
-#[derive(Drop)]
+#[derive(Drop, Error)]
+#[error("{fault}")]
 pub struct OpenRefused {
     pub fault: OpenFault,
     pub game: Arc<GuardedGame>,
     pub diagram: Arc<Diagram>,
 }
 
-/// A change that isn't undone, with its token.
+// Written by hand, as those below: what is handed back is not shown.
+impl fmt::Debug for OpenRefused {
+    fn fmt<W: fmt::Write>(&self, f: &mut fmt::Formatter<W>) -> fmt::Result {
+        f.debug_struct("OpenRefused")
+            .field("fault", &self.fault)
+            .finish_non_exhaustive()
+    }
+}
+
+/// A change that isn't undone, with its token. A token is not let go, so this is no `Error`: such a value can be.
 pub struct UndoRefused {
     pub fault: UndoFault,
     pub token: Undo,
 }
 
-/// A change that isn't redone, with its token.
+/// A change that isn't redone, with its token; no `Error` either.
 pub struct RedoRefused {
     pub fault: RedoFault,
     pub token: Redo,
 }
 
 /// A desk that isn't closed since tokens of it are out, and their number.
-#[derive(Drop)]
+#[derive(Drop, Error)]
+#[error("TokensOut {tokens}")]
 pub struct TokensOut {
     pub tokens: u64,
     pub desk: Desk,
 }
 
+impl fmt::Debug for TokensOut {
+    fn fmt<W: fmt::Write>(&self, f: &mut fmt::Formatter<W>) -> fmt::Result {
+        f.debug_struct("TokensOut")
+            .field("tokens", &self.tokens)
+            .finish_non_exhaustive()
+    }
+}
+
 /// A harvest that isn't committed.
-#[derive(Drop)]
+#[derive(Drop, Error)]
+#[error("{fault}")]
 pub struct CommitRefused {
     pub fault: CommitFault,
     pub harvest: Harvest,
+}
+
+impl fmt::Debug for CommitRefused {
+    fn fmt<W: fmt::Write>(&self, f: &mut fmt::Formatter<W>) -> fmt::Result {
+        f.debug_struct("CommitRefused")
+            .field("fault", &self.fault)
+            .finish_non_exhaustive()
+    }
 }

@@ -12,7 +12,7 @@ use std::sync::Arc;
 use vpg_diagram::Diagram;
 use vpg_faults::OpenFault;
 use vpg_game::GuardedGame;
-use vpg_measure::{OrderFault, PageGames};
+use vpg_measure::{OrderFault, PageGames, Which};
 use vpg_trail::Trail;
 
 /// The games without a decision.
@@ -48,6 +48,11 @@ pub(crate) fn first_page(
     ensures conflict { (f : ℕ) → result ≡ Err (OpenFault.Conflict f) → HasConflictOf diagram.now.lines [] × (f ≡ 0) }
 {
     let games = first_games(alloc, game, diagram)?;
-    let trail = Trail::open(alloc, game.vertices() as u32)?;
+    let trail = Trail::open(
+        alloc,
+        games.shape(Which::Hopeful),
+        games.shape(Which::Dual),
+        game.vertices() as u32,
+    )?;
     Ok((games, trail))
 }

@@ -1,8 +1,9 @@
 //! Retracting a decision.
-ghost use Rattle.std.specs.Prelude.{◌≡◌, ◌+◌, ◌++◌, ◌∷◌, ◌≤◌, length, map, take, drop, All, IfOk, IfErr, OnOk, OnErr, IfSome};
+ghost use Rattle.std.specs.Prelude.{◌≡◌, ◌+◌, ◌++◌, ◌∷◌, ◌≤◌, ◌↔◌, length, map, take, drop, All, IsTrue, IfOk, IfErr, OnOk, OnErr, IfSome};
 ghost use Rattle.vpg_trail.specs.Shown.{entry_of, VertexBelow};
 ghost use Rattle.vpg_trail.specs.WellFormed.{LiftsStandAfter};
 ghost use Rattle.vpg_desk.specs.Cuts.{cuts_of, notes_of, SuffixesBelow};
+ghost use Rattle.vpg_desk.specs.Notes.{GivesBack};
 
 use crate::cuts::Cut;
 use crate::desk::{Desk, MOST_CHANGES};
@@ -11,6 +12,19 @@ use crate::undo_token::Undo;
 use std::alloc::{AllocError, Global};
 use vpg_faults::RetractFault;
 use vpg_trail::{Entry, Trail, kept_after, place_of};
+
+/// Whether a retraction gives the newest past page back, and that page is known to be settled: both have the present
+/// entries up to the place, and none after them.
+fn gives_back(past: &[Cut], place: usize, kept: &[Entry]) -> bool
+    ensures { IsTrue result ↔ GivesBack (cuts_of past.now) (notes_of past.now) place (map entry_of kept.now) }
+{
+    match past.last() {
+        Some(newest) => {
+            newest.is_noted && newest.place == place && newest.suffix.is_empty() && kept.is_empty()
+        }
+        None => false,
+    }
+}
 
 /// Puts the suffix, whose lifts stand, in place of the entries from a place on, and keeps the page before it, which was
 /// known to be settled or not, under the serial.
@@ -87,10 +101,11 @@ impl Desk {
         let games = games_of_page(alloc, &self.game, &self.diagram, before, &kept, &self.games)?;
         let serial = self.changes + 1;
         let was = self.is_noted;
+        let is_noted = gives_back(&self.past, place, &kept);
         cut_out(&mut self.past, &mut self.trail, serial, place, kept, was)?;
         self.future.clear();
         self.games = games;
-        self.is_noted = false;
+        self.is_noted = is_noted;
         self.changes = serial;
         self.tokens += 1;
         Ok(Undo::of(serial))

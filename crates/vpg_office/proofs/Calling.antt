@@ -1,5 +1,5 @@
 -- What a call of the desk means for the log.
-use Rattle.std.proofs.Common.{Result, Ok, Err, IfOk, IfErr, ◌≡◌, ℕ, ◌<◌, ◌≤◌, List, [], ◌∷◌, ◌++◌, length, drop, Option, Some, None, IfSome, refl, sym, ap, ◌∙◌, subst, arith, append_assoc, append-nil, option_map}
+use Rattle.std.proofs.Common.{Result, Ok, Err, IfOk, IfErr, ◌≡◌, ℕ, ◌<◌, ◌≤◌, Bool, List, [], ◌∷◌, ◌++◌, length, drop, Option, Some, None, IfSome, refl, sym, ap, ◌∙◌, subst, arith, append_assoc, append-nil, option_map}
 use Rattle.std.specs.Prelude.{IfNone, OnOk}
 use mathlib.Core.List.{IsPrefix}
 use Rattle.boxcar.specs.Table.{Shelves}
@@ -23,7 +23,7 @@ use Rattle.vpg_office.specs.Made.{IsEntered, IsRefused, Leaves}
 use Rattle.vpg_office.specs.Story.{IsNamed, call_of, refusal_of, reply_of}
 use Rattle.vpg_office.specs.Token.{EndsWith}
 use Rattle.vpg_office.specs.declared.asked.Answer.{Answer}
-use Rattle.vpg_office.specs.declared.asked.Answer.TheVariants.{Refused, PageIs as Paged}
+use Rattle.vpg_office.specs.declared.asked.Answer.TheVariants.{Refused, PageIs as Paged, VerdictIs as Judged}
 use Rattle.vpg_office.specs.declared.asked.Asked.{Asked}
 use Rattle.vpg_office.specs.declared.asked.Asked.TheVariants as ask
 use Rattle.vpg_office.specs.declared.asked.Cause.{Cause}
@@ -44,6 +44,10 @@ ok_all (Err e) P p = tt
 pub ok_both : {T E : Type 0} (r : Result T E) (P Q S : T → Type 0) → ((x : T) → P x → Q x → S x) → IfOk r P → IfOk r Q → IfOk r S
 ok_both (Ok x) P Q S so p q = so x p q
 ok_both (Err e) P Q S so p q = tt
+
+pub ok_then : {T E : Type 0} (r : Result T E) (P S : T → Type 0) → ((x : T) → P x → S x) → IfOk r P → IfOk r S
+ok_then (Ok x) P S so p = so x p
+ok_then (Err e) P S so p = tt
 
 pub err_then : {T E : Type 0} (r : Result T E) (P S : E → Type 0) → ((e : E) → P e → S e) → IfErr r P → IfErr r S
 err_then (Ok x) P S so p = tt
@@ -101,6 +105,12 @@ pub page_leaves : {game : NamedGame} {diagram : NamedDiagram} {log front : List 
     book_after (family_between game diagram) opened new ≡ book_after (family_between game diagram) opened log
 page_leaves {game} {diagram} {log} {front} {session} e =
     ap (book_after (family_between game diagram) opened) e.is ∙ book_more (family_between game diagram) log (event session book.Page (book.PageIs (book_after (family_between game diagram) opened log).present))
+
+-- and so does a verdict
+pub verdict_leaves : {game : NamedGame} {diagram : NamedDiagram} {log front : List Event} {session v : ℕ} {hopeless sure : Bool} {new : List Event} → IsEntered game diagram log front session (ask.Verdict v) (Judged hopeless sure) new →
+    book_after (family_between game diagram) opened new ≡ book_after (family_between game diagram) opened log
+verdict_leaves {game} {diagram} {log} {front} {session} {v} {hopeless} {sure} e =
+    ap (book_after (family_between game diagram) opened) e.is ∙ book_more (family_between game diagram) log (event session (book.Verdict v) (book.VerdictIs hopeless sure))
 
 -- and ends with it
 pub entered_ends : {game : NamedGame} {diagram : NamedDiagram} {log front : List Event} {session : ℕ} {asked : Asked} {answer : Answer} {new : List Event} (gives : Reply → Type 0) → IsEntered game diagram log front session asked answer new →

@@ -14,6 +14,7 @@ use Rattle.std.specs.contracts.impls.GlobalAllocator.TheImpl as allocator
 use Rattle.std.specs.contracts.sync.Mutex as Mutex
 use Rattle.vpg_desk.proofs.Crossing.{desk_send}
 use Rattle.vpg_watch.proofs.press.Press.TheSendSync.{the_send as press_send}
+use Rattle.vpg_watch.proofs.sheet.Verdicts.TheSendSync.{the_send as verdicts_send, the_sync as verdicts_sync}
 use Rattle.vpg_office.proofs.front.Front.TheSendSync.{the_send as front_send, the_sync as front_sync}
 use Rattle.vpg_office.proofs.purse.Purse.TheSendSync.{the_send as purse_send}
 use Rattle.vpg_office.specs.contracts.asked.Entry as Entry
@@ -25,6 +26,7 @@ use Rattle.vpg_office.specs.contracts.log.Log as Log
 use Rattle.vpg_office.specs.contracts.log.Log.TheInside as Inside
 use Rattle.vpg_office.specs.contracts.office.RowRowed.TheImpl as rowed
 use Rattle.vpg_office.specs.contracts.office.Shared as Shared
+use Rattle.vpg_office.specs.contracts.replay.Replay as Replay
 use Rattle.vpg_office.specs.declared.terms.Terms as terms
 
 pub told_send : IsSend Told.the_row
@@ -43,6 +45,9 @@ chronicle_send = search (told_send, placed_send, sendable, crosses) depth 40
 chronicle_field : IsSend (Chronicle.the_field).row
 chronicle_field = search (told_send, placed_send, sendable, crosses) depth 40
 
+replay_send : IsSend Replay.the_row
+replay_send = search (desk_send, verdicts_send, verdicts_sync, sendable, crosses) depth 40
+
 module _ (L : RattleType) (t : terms.Ghosts L.Denot) (l : ledger.Ghosts L.Denot) where
   front_sends : IsSend (Front.the_row L t l)
   front_sends = search (front_send, sendable, crosses) depth 40
@@ -57,7 +62,7 @@ module _ (L : RattleType) (t : terms.Ghosts L.Denot) (l : ledger.Ghosts L.Denot)
   calls_field = struct_send (shape (Made.the_type L t l)) calls_fields
 
   fields_send : AllSend (fields (Inside.the_type L t l))
-  fields_send = (calls_field, (search (desk_send, sendable) depth 12, (search (purse_send, sendable, crosses) depth 40, (search (press_send, front_sends, front_syncs, sendable, crosses) depth 40, (search sendable depth 12, (search sendable depth 12, tt))))))
+  fields_send = (calls_field, (search (replay_send, sendable) depth 12, (search (purse_send, sendable, crosses) depth 40, (search (press_send, front_sends, front_syncs, sendable, crosses) depth 40, (search sendable depth 12, tt)))))
 
   inside_send : IsSend (Inside.the_row L t l)
   inside_send = recorded_send (Inside.the_field L t l).row _ _ (Inside.the_type L t l).to_one (struct_send (shape (Inside.the_type L t l)) fields_send)

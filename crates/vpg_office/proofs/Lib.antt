@@ -5,6 +5,7 @@ pub mod Entering
 pub mod Given
 pub mod Opening
 pub mod Places
+mod Quiet
 pub mod Sheets
 pub mod Stories
 pub mod Swinging

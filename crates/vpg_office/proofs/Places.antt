@@ -48,7 +48,7 @@ drop-map (suc n) (t ∷ ts) = drop-map n ts
 pub shows_none : (row : Shelves) → ShowsEach row [] []
 shows_none row = record { same = refl; each = λ i p l e. absurd (some-ne-none p (sym e)) }
 
-at_place : {A : Type 0} (xs : List A) (i : ℕ) (v : A) → get_elem? xs i ≡ some v → suc i ≤ length xs
+pub at_place : {A : Type 0} (xs : List A) (i : ℕ) (v : A) → get_elem? xs i ≡ some v → suc i ≤ length xs
 at_place [] i v e = absurd (some-ne-none v (sym e))
 at_place (x ∷ xs) zero v e = omega arith
 at_place (x ∷ xs) (suc i) v e = let h = at_place xs i v e in omega arith

@@ -1,24 +1,27 @@
 -- What is published of an office's log.
-use Rattle.std.proofs.Common.{◌≡◌, ℕ, Bool, List, [], ◌∷◌, ◌++◌, length, take, refl, sym, ap, ◌∙◌, subst, ⊎_elim}
+use Rattle.std.proofs.Common.{◌≡◌, ℕ, ◌<◌, Bool, List, [], ◌∷◌, ◌++◌, length, take, refl, sym, ap, ◌∙◌, subst, arith, ⊎_elim}
+use Rattle.std.proofs.lemmas.List.{length-map}
 use mathlib.Core.Option.{some, some-ne-none}
 use lib.ListN.{get_elem?}
 use mathlib.Core.List.{IsPrefix}
 use Rattle.vpg_diagram.specs.DiagramText.{NamedDiagram}
-use Rattle.vpg_game.specs.Game.{NamedGame}
+use Rattle.vpg_game.specs.Game.{NamedGame, graph_of, unnamed}
 use Rattle.vpg_verdict.specs.declared.verdict.Verdict.{Verdict as Said}
 use Rattle.boxcar.specs.Table.{Shelves}
 use Rattle.vpg_desk.specs.Book.{Family, Book, Settled, IsSettled, Verdict, VerdictIs, opened, IsReply}
 use Rattle.vpg_desk.specs.Desk.{family_of}
-use Rattle.vpg_desk.specs.History.{Event, book_after}
-use Rattle.vpg_desk.specs.State.{DeskState, Replies, setting_of}
+use Rattle.vpg_desk.specs.History.{Event, book_after, page_after}
+use Rattle.vpg_desk.specs.Setting.{IsSetting}
+use Rattle.vpg_desk.specs.State.{DeskState, Replies, setting_between, setting_of}
+use Rattle.vpg_desk.proofs.Whole.{reply_means}
 use Rattle.vpg_office.specs.Beginnings.{from_empty}
 use Rattle.vpg_office.specs.Fronts.{IsHistory, family_between}
 use Rattle.vpg_office.specs.Locked.{IsLog}
-use Rattle.vpg_office.specs.Sheets.{AreSaid, IsSheetOf}
+use Rattle.vpg_office.specs.Sheets.{AreSaid, EachMeans, IsSheetOf}
 use Rattle.vpg_office.specs.declared.chronicle.Chronicle.{Chronicle}
 use Rattle.vpg_office.proofs.Calling.{log_history}
 use Rattle.vpg_office.proofs.Given.{take_front}
-use Rattle.vpg_office.proofs.Places.{at_end}
+use Rattle.vpg_office.proofs.Places.{at_end, at_place}
 use Rattle.vpg_office.proofs.Stories.{history_take}
 
 pub prefix_none : (f g : List Event) → f ≡ [] → IsPrefix f g
@@ -35,16 +38,30 @@ shown_history {row} {game} {diagram} {limit} {chronicle} {newest} {desk} {room} 
 
 -- ---- the sheet of a desk
 
-pub sheet_is : (game : NamedGame) (diagram : NamedDiagram) (state : DeskState) (events : List Event) (settled : Bool) (verdicts : List Said) → state.game ≡ game → state.diagram ≡ diagram →
+-- what the book replies of a vertex means what it should
+all_mean : (game : NamedGame) (diagram : NamedDiagram) (events : List Event) (verdicts : List Said) → IsSetting (setting_between game diagram) → IsHistory (family_between game diagram) events → length verdicts ≡ length game.vertices →
+    AreSaid (family_between game diagram) (book_after (family_between game diagram) opened events) verdicts → EachMeans (setting_between game diagram) (page_after (family_between game diagram) events) verdicts
+all_mean game diagram events verdicts is_setting history size each v said at =
+    let inside : v < length (graph_of game) = omega (arith, at_place verdicts v said at, size, length-map game.vertices unnamed) in
+    reply_means (setting_between game diagram) events is_setting history.legal history.lawful v inside said.hopeless said.sure (each v said at)
+
+pub sheet_is : (game : NamedGame) (diagram : NamedDiagram) (state : DeskState) (events : List Event) (settled : Bool) (verdicts : List Said) → IsSetting (setting_between game diagram) → state.game ≡ game → state.diagram ≡ diagram →
     state.book ≡ book_after (family_between game diagram) opened events → IsHistory (family_between game diagram) events → Replies state Settled (IsSettled settled) → length verdicts ≡ length state.game.vertices → AreSaid (family_of (setting_of state)) state.book verdicts →
     IsSheetOf game diagram events (length events) settled verdicts
-sheet_is game diagram state events settled verdicts g d b history replies size each = record {
+sheet_is game diagram state events settled verdicts is_setting g d b history replies size each = record {
   history = history;
   calls = refl;
   is_settled = coe 0 1 (k. IsReply (family_between (g k) (d k)) (b k) Settled (IsSettled settled)) replies;
-  size = size ∙ ap (λ (x : NamedGame). length x.vertices) g;
-  each = coe 0 1 (k. AreSaid (family_between (g k) (d k)) (b k) verdicts) each;
+  size = sized;
+  each = said;
+  means = all_mean game diagram events verdicts is_setting history sized said;
 }
+  where
+    sized : length verdicts ≡ length game.vertices
+    sized = size ∙ ap (λ (x : NamedGame). length x.vertices) g
+
+    said : AreSaid (family_between game diagram) (book_after (family_between game diagram) opened events) verdicts
+    said = coe 0 1 (k. AreSaid (family_between (g k) (d k)) (b k) verdicts) each
 
 -- ---- verdicts, one after another
 

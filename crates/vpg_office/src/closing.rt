@@ -80,7 +80,7 @@ impl<L: Terms> Log<L> {
     pub(crate) fn tokens(&self) -> u64
         ensures { result ≡ (book_after (family_between L.game L.diagram) opened self.now).tokens }
     {
-        self.desk.tokens()
+        self.desk.desk().tokens()
     }
 
     /// Spends the tokens handed in, and ends the log. Answers how many further tokens are out.
@@ -96,12 +96,12 @@ impl<L: Terms> Log<L> {
     {
         let Log {
             calls,
-            mut desk,
+            desk,
             mut purse,
             press,
             sessions: _,
-            watched: _,
         } = self;
+        let mut desk = desk.into_desk();
         keep_all(&mut desk, &mut purse, undos);
         forget_all(&mut desk, &mut purse, redos);
         let further = desk.tokens();
@@ -117,9 +117,8 @@ impl<L: Terms> Log<L> {
             purse,
             press,
             sessions: _,
-            watched: _,
         } = self;
-        let_go(rt, row, calls, desk, purse, press);
+        let_go(rt, row, calls, desk.into_desk(), purse, press);
     }
 }
 

@@ -4,39 +4,32 @@ ghost use Rattle.std.specs.Prelude.{◌≡◌};
 use crate::front::Front;
 use crate::terms::Terms;
 use std::convert::Infallible;
-use std::error::Error;
 use std::fmt;
+use thiserror::Error;
 use vpg_desk::{CommitFault, DecideFault, RedoFault, RetractFault, UndoFault};
 
 /// Why a session's call gives nothing. `Refused` is the desk's own refusal, which is logged; the others are not.
-#[derive(Drop)]
+#[derive(Drop, Error)]
+#[error_bound(F: fmt::Display)]
 pub enum Fault<L: Terms, F> {
     /// The log has as many calls as it takes.
+    #[error("LogFull")]
     LogFull { front: Front<L> },
     /// The log since the front lent has a call of this session.
+    #[error("Doubled")]
     Doubled { front: Front<L> },
+    #[error("{fault}")]
     Refused { fault: F },
+    #[error("Memory")]
     Memory,
 }
 
-impl<L: Terms, F: fmt::Display> fmt::Display for Fault<L, F> {
-    fn fmt<W: fmt::Write>(&self, f: &mut fmt::Formatter<W>) -> fmt::Result {
-        match self {
-            Fault::LogFull { .. } => f.write_str("LogFull"),
-            Fault::Doubled { .. } => f.write_str("Doubled"),
-            Fault::Refused { fault } => write!(f, "{fault}"),
-            Fault::Memory => f.write_str("Memory"),
-        }
-    }
-}
-
+// Not derived: fronts and terms have no `Debug`.
 impl<L: Terms, F: fmt::Display> fmt::Debug for Fault<L, F> {
     fn fmt<W: fmt::Write>(&self, f: &mut fmt::Formatter<W>) -> fmt::Result {
         write!(f, "{self}")
     }
 }
-
-impl<L: Terms, F: fmt::Display + Drop> Error for Fault<L, F> {}
 
 /// The refusal of a call that the desk never refuses: there is none.
 pub type Never = Infallible;

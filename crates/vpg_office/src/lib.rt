@@ -2,11 +2,11 @@
 //!
 //! A session lends a front to each call: a beginning of the log, which contracts see as a legal history of the desk
 //! (`vpg_desk`). The front grows to end with the call. Tokens carry the place of the call that gave them. `with_office`
-//! opens an office for a caller's work; `close` and `end` end it. From the first watch (`Office::watch`) on each change
-//! of the page publishes a sheet, which watches read without the lock (`read`). Definitions: `specs/Fronts.antt`
-//! (histories and how a call extends them), `specs/Faults.antt` (what a refused call tells), `specs/Token.antt`,
-//! `specs/Sheets.antt` (what a sheet tells); what lies under the lock is in `specs/Kept.antt`, `specs/Locked.antt` and
-//! `specs/Story.antt`, and what a call does there in `specs/Made.antt`.
+//! opens an office for a caller's work; `close` and `end` end it. Each change of the page publishes a sheet, which
+//! watches (`Office::watch`) read without the lock (`read`). Definitions: `specs/Fronts.antt` (histories and how a call
+//! extends them), `specs/Faults.antt` (what a refused call tells), `specs/Token.antt`, `specs/Sheets.antt` (what a
+//! sheet tells); what lies under the lock is in `specs/Kept.antt`, `specs/Locked.antt`, `specs/Story.antt` and
+//! `specs/Told.antt`, and what a call does there in `specs/Made.antt`.
 #![tactic(auto)]
 
 mod asked;
@@ -23,6 +23,7 @@ mod office;
 mod publishing;
 mod purse;
 mod redo_token;
+mod replay;
 mod session;
 mod sharing;
 mod site;
@@ -33,7 +34,7 @@ mod work;
 
 pub use fault::{Fault, Never, Returned};
 pub use front::Front;
-pub use office::{NoWatch, NotOpened, Office, TokensOut, TooManySessions};
+pub use office::{NotOpened, Office, TokensOut, TooManySessions};
 pub use publishing::read;
 pub use redo_token::Redo;
 pub use session::Session;

@@ -19,11 +19,11 @@ use crate::chronicle::{Chronicle, Row, has_call_since};
 use crate::fault::{Fault, Returned};
 use crate::front::{Front, Place};
 use crate::purse::Purse;
+use crate::replay::{Replay, carry_out};
 use crate::terms::Terms;
 use std::alloc::Global;
 use std::marker::Model;
 use std::sync::Wait;
-use vpg_desk::Desk;
 use vpg_watch::Press;
 
 /// The calls that were made, and the history that they are.
@@ -57,12 +57,10 @@ impl Drop for Request<'_> {
 /// The log with the desk that replays it, the purse and the press. Contracts see it as the history that the log is.
 pub struct Log<L: Terms> {
     pub(crate) calls: Calls<L>,
-    pub(crate) desk: Desk,
+    pub(crate) desk: Replay,
     pub(crate) purse: Purse<L>,
     pub(crate) press: Press<Front<L>>,
     pub(crate) sessions: u32,
-    // whether there was a watch yet
-    pub(crate) watched: bool,
 }
 
 impl<L: Terms> Model for Log<L> {
@@ -231,7 +229,7 @@ impl<L: Terms> Log<L> {
 
     pub(crate) fn open(
         alloc: Global,
-        desk: Desk,
+        desk: Replay,
         purse: Purse<L>,
         room: usize,
         press: Press<Front<L>>,
@@ -255,7 +253,6 @@ impl<L: Terms> Log<L> {
             purse,
             press,
             sessions: 0,
-            watched: false,
         }
     }
 
@@ -328,7 +325,13 @@ impl<L: Terms> Log<L> {
             Ok(place) => place,
             Err(fault) => return Err(Returned { fault, value: call }),
         };
-        match call.carry_out(&mut self.desk, &mut self.purse, session) {
+        match carry_out(
+            call,
+            &request.asked,
+            &mut self.desk,
+            &mut self.purse,
+            session,
+        ) {
             Ok(made) => {
                 let Made { given, answer } = made;
                 self.calls.enter(&request, front, place, answer);

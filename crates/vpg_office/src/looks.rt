@@ -56,7 +56,9 @@ pub struct VerdictCall {
 }
 
 impl<L: Terms> Call<L> for VerdictCall {
-    ghost use Rattle.std.specs.Prelude.{◌<◌, ⊤, length};
+    ghost use Rattle.std.specs.Prelude.{◌<◌, length};
+    ghost use Rattle.vpg_desk.specs.Headline.{VerdictMeans};
+    ghost use Rattle.vpg_desk.specs.State.{setting_between};
     ghost use Rattle.vpg_office.specs.Faults.{never_refused};
     ghost use Rattle.vpg_office.specs.declared.asked.Answer.TheVariants as answer;
     ghost use Rattle.vpg_office.specs.declared.asked.Asked.TheVariants as ask;
@@ -73,7 +75,8 @@ impl<L: Terms> Call<L> for VerdictCall {
 
     ghost Takes = { λ c. c.vertex < length L.game.vertices };
 
-    ghost Gives = { λ c b r. ⊤ };
+    ghost Gives = { λ c b r.
+        VerdictMeans (setting_between L.game L.diagram) b.present c.vertex r.hopeless r.sure };
 
     fn carry_out(
         self,

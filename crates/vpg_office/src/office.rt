@@ -18,6 +18,7 @@ use crate::log::Log;
 use crate::publishing::opening_press;
 use crate::purse::Purse;
 use crate::redo_token::Redo;
+use crate::replay::Replay;
 use crate::session::Session;
 use crate::site::Site;
 use crate::terms::Terms;
@@ -29,7 +30,7 @@ use thiserror::Error;
 use vpg_desk::{Desk, OpenFault, OpenRefused};
 use vpg_diagram::Diagram;
 use vpg_game::GuardedGame;
-use vpg_watch::{Press, Watch};
+use vpg_watch::{NoPlace, Press, Watch};
 
 /// A row of calls, by its name.
 pub trait Rowed {
@@ -63,17 +64,6 @@ pub type Office<L> = Shared<Row, L, Log<L>>;
 #[derive(Clone, Copy, Debug, PartialEq, Eq, Error)]
 #[error("TooManySessions")]
 pub struct TooManySessions;
-
-/// Why there is no watch.
-#[derive(Clone, Copy, Debug, PartialEq, Eq, Error)]
-pub enum NoWatch {
-    /// There is no place for a further watch: all 64 are in use.
-    #[error("NoPlace")]
-    NoPlace,
-    /// The sheet for the first watch finds no memory.
-    #[error("Memory")]
-    Memory,
-}
 
 /// Tokens of the office are out.
 pub struct TokensOut<L: Terms> {
@@ -119,7 +109,7 @@ fn opened_desk<L: Terms, R: Wait>(
     alloc: Global,
     game: Arc<GuardedGame>,
     diagram: Arc<Diagram>,
-) -> Result<(Desk, Press<Front<L>>), OpenFault>
+) -> Result<(Replay, Press<Front<L>>), OpenFault>
     requires features { (arc_value game).features ≡ feature_count (arc_value diagram).lines }
     requires of { (arc_value game ≡ L.game) × (arc_value diagram ≡ L.diagram) }
     requires few { L.limit ≤ 1048576 }
@@ -133,10 +123,13 @@ fn opened_desk<L: Terms, R: Wait>(
         (λ fault. (f : ℕ) → fault ≡ OpenFault.Conflict f → HasConflictOf (arc_value diagram).lines [] × (f ≡ 0)) }
 {
     match Desk::open(alloc, game, diagram) {
-        Ok(desk) => match opening_press::<L, R>(rt, alloc, &desk) {
-            Ok(press) => Ok((desk, press)),
-            Err(_) => Err(OpenFault::Memory),
-        },
+        Ok(desk) => {
+            let mut desk = Replay::of(desk);
+            match opening_press::<L, R>(rt, alloc, &mut desk) {
+                Ok(press) => Ok((desk, press)),
+                Err(_) => Err(OpenFault::Memory),
+            }
+        }
         Err(refused) => Err(refused.fault),
     }
 }
@@ -207,16 +200,14 @@ impl<L: Terms> Shared<Row, L, Log<L>> {
         }
     }
 
-    /// A watch of the sheets that the office publishes: one as it opens, one of the log so far for the first watch, and
-    /// from then on one with each accepted decide, retract, undo, redo and commit, but for those that find no memory.
-    /// Its first read gives the sheet that is shown now or a later one.
-    ///
-    /// Refused: `Memory`, where there was no watch yet and its sheet finds none; `NoPlace`, where there are 64 watches.
-    pub fn watch<R: Wait>(&self, rt: &R, alloc: Global) -> Result<Watch<Front<L>>, NoWatch>
+    /// A watch of the sheets that the office publishes: one as it opens, and one with each accepted decide, retract,
+    /// undo, redo and commit, but for those that find no memory. Its first read gives the sheet that is shown now or a
+    /// later one. It takes no memory; the one refusal is that there are 64 watches.
+    pub fn watch<R: Wait>(&self, rt: &R) -> Result<Watch<Front<L>>, NoPlace>
         ensures history { IfOk result (IsHistory (family_between L.game L.diagram)) }
     {
         let mut log = self.log.lock(rt);
-        let watch = log.watch(rt, alloc);
+        let watch = log.watch();
         MutexGuard::unlock(log);
         watch
     }

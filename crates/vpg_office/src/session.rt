@@ -7,8 +7,8 @@ ghost use Rattle.vpg_desk.specs.Commit.{handed_in};
 ghost use Rattle.vpg_game.specs.Game.{graph_of};
 ghost use Rattle.vpg_measure.specs.Games.{ArePageGames};
 ghost use Rattle.vpg_trail.specs.Page.{Hopeful, Dual, choices_of, decisions_of, table_of};
-ghost use Rattle.vpg_desk.specs.Headline.{Tells as PageTells};
-ghost use Rattle.vpg_desk.specs.History.{Event, book_after};
+ghost use Rattle.vpg_desk.specs.Headline.{Tells as PageTells, VerdictMeans};
+ghost use Rattle.vpg_desk.specs.History.{Event, book_after, page_after};
 ghost use Rattle.vpg_desk.specs.Lawful.{PageIsBelow};
 ghost use Rattle.vpg_desk.specs.Setting.{IsSetting};
 ghost use Rattle.vpg_desk.specs.State.{IsReached, setting_between};
@@ -316,7 +316,8 @@ impl<L: Terms> Session<L> {
         }
     }
 
-    /// What the present tables say of a vertex.
+    /// What the present tables say of a vertex, as `Desk::verdict`. Where it is hopeless Odd wins from it in every
+    /// product that is left, and where it is sure Even does. It is never both.
     pub fn verdict<R: Wait>(
         &mut self,
         rt: &R,
@@ -328,6 +329,10 @@ impl<L: Terms> Session<L> {
         ensures done { IfOk result
             (λ r. Extends (family_between L.game L.diagram) front.old self.old (book.Verdict vertex)
             (book.VerdictIs r.hopeless r.sure) front.new) }
+        // On the page at the end of that front.
+        ensures means { IfOk result
+            (λ r. VerdictMeans (setting_between L.game L.diagram)
+            (page_after (family_between L.game L.diagram) front.new) vertex r.hopeless r.sure) }
         ensures fault { IfErr result
             (Tells (family_between L.game L.diagram) L.limit never_refused
             (book.Verdict vertex) self.old front.old front.new) }

@@ -12,4 +12,4 @@ pub returns-in-Err-opening_press-clause-conflict : goal.returns-in-Err-opening_p
 returns-in-Err-opening_press-clause-conflict g c = λ f is. absurd (cc is)
 
 pub opening_press-requires-clause-of : goal.opening_press-requires-clause-of
-opening_press-requires-clause-of g c = (c.in-Ok.ensures.game ∙ c.requires.of.0, c.in-Ok.ensures.diagram ∙ c.requires.of.1)
+opening_press-requires-clause-of g c = ((λ k. (c.of-desk.ensures k).game) ∙ c.in-Ok.ensures.game ∙ c.requires.of.0, (λ k. (c.of-desk.ensures k).diagram) ∙ c.in-Ok.ensures.diagram ∙ c.requires.of.1)

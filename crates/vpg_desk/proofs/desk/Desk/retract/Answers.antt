@@ -1,4 +1,4 @@
-use Rattle.std.proofs.Common.{◌≡◌, IfErr, Result, Ok, Err, ◌∙◌, ◌+◌, ◌<◌, ◌≤◌, ◌++◌, ℕ, List, All, [], length, map, filter, not, take, drop, sym, ap, subst, arith, false, refl}
+use Rattle.std.proofs.Common.{◌≡◌, IfErr, Result, Ok, Err, ◌∙◌, ◌+◌, ◌<◌, ◌≤◌, ◌++◌, ℕ, List, All, [], length, map, filter, not, take, drop, sym, ap, subst, arith, refl}
 use Rattle.std.specs.Arc.{arc_value}
 use Rattle.std.proofs.lemmas.List.{take-map, length-map, length-take}
 use Rattle.vpg_diagram.specs.DiagramText.{NamedDiagram}
@@ -13,6 +13,7 @@ use Rattle.vpg_desk.specs.Setting.{HasConflict}
 use Rattle.vpg_desk.specs.State.{DeskState, Replies, IsStep, setting_between}
 use Rattle.vpg_faults.specs.declared.fault.RetractFault.TheVariants.{Memory}
 use Rattle.vpg_desk.specs.Cuts.{cuts_of, notes_of, cut_book, SuffixesBelow}
+use Rattle.vpg_desk.specs.Notes.{GivesBack}
 use Rattle.vpg_desk.specs.Trail.{book_of}
 use Rattle.vpg_desk.specs.declared.cuts.Cut.{Cut}
 use Rattle.vpg_desk.proofs.Unchanged.{still_desk, on_err}
@@ -74,12 +75,14 @@ invariant_of-self-2 c =
     retracted_desk c.self.inside c.self.invariant c.args.feature (accepted (goal.at.invariant_of-self-2 c).After-vertices) c.args.session c.in-Some.place (map entry_of c.in_ok-kept.kept.items) c.in_ok-games.games c.cut_out.new.past c.cut_out.new.trail c.clear.new.self
     (omega (arith, c.in-Some.ensures.place, length-map c.entries-entries.result.now entry_of, ap length c.entries-entries.ensures.entries)) (left at c.in_ok-kept.ensures.kept) c.in_ok-cut_out.ensures.past c.in_ok-cut_out.ensures.notes c.in_ok-cut_out.ensures.below c.in_ok-cut_out.ensures.trail c.clear.ensures.items
     (coe 0 1 (k. ArePageGames (c.deref-2.ensures k) (c.deref-3.ensures k) (choices_of (shown at c.in_ok-kept.ensures.kept k)) (arc_value c.in_ok-games.games)) c.in_ok-games.ensures)
+    c.gives_back-is_noted.result
+    (λ t. coe 0 1 (k. GivesBack (cuts_of (c.deref-6.ensures.value k)) (notes_of (c.deref-6.ensures.value k)) c.in-Some.place (map entry_of (c.deref-7.ensures.value k))) (c.gives_back-is_noted.ensures.0 t))
 
 pub returns-clause-accepted : goal.returns-clause-accepted
 returns-clause-accepted c =
     let at = (goal.at.returns-clause-accepted c).After-deref-4 in
-    subst (λ (n : ℕ). IsStep c.args.self.now c.args.session (Retract c.args.feature) (Changed n) (desk_of (record { game = c.self.inside.game; diagram = c.self.inside.diagram; games = c.in_ok-games.games; trail = c.cut_out.new.trail; past = c.cut_out.new.past; future = c.clear.new.self; changes = c.self.inside.changes + 1; tokens = c.self.inside.tokens + 1; is_noted = false }))) (sym c.of.ensures)
-    (subst (λ (s : DeskState). IsStep s c.args.session (Retract c.args.feature) (Changed (c.self.inside.changes + 1)) (desk_of (record { game = c.self.inside.game; diagram = c.self.inside.diagram; games = c.in_ok-games.games; trail = c.cut_out.new.trail; past = c.cut_out.new.past; future = c.clear.new.self; changes = c.self.inside.changes + 1; tokens = c.self.inside.tokens + 1; is_noted = false }))) c.self.view_is
+    subst (λ (n : ℕ). IsStep c.args.self.now c.args.session (Retract c.args.feature) (Changed n) (desk_of (record { game = c.self.inside.game; diagram = c.self.inside.diagram; games = c.in_ok-games.games; trail = c.cut_out.new.trail; past = c.cut_out.new.past; future = c.clear.new.self; changes = c.self.inside.changes + 1; tokens = c.self.inside.tokens + 1; is_noted = c.gives_back-is_noted.result }))) (sym c.of.ensures)
+    (subst (λ (s : DeskState). IsStep s c.args.session (Retract c.args.feature) (Changed (c.self.inside.changes + 1)) (desk_of (record { game = c.self.inside.game; diagram = c.self.inside.diagram; games = c.in_ok-games.games; trail = c.cut_out.new.trail; past = c.cut_out.new.past; future = c.clear.new.self; changes = c.self.inside.changes + 1; tokens = c.self.inside.tokens + 1; is_noted = c.gives_back-is_noted.result }))) c.self.view_is
     (retracted_step c.self.inside c.self.invariant c.args.feature (accepted (goal.at.returns-clause-accepted c).After-vertices) c.args.session c.in-Some.place (map entry_of c.in_ok-kept.kept.items) c.in_ok-games.games c.cut_out.new.past c.cut_out.new.trail c.clear.new.self
     (omega (arith, c.in-Some.ensures.place, length-map c.entries-entries.result.now entry_of, ap length c.entries-entries.ensures.entries)) (left at c.in_ok-kept.ensures.kept) c.in_ok-cut_out.ensures.past c.in_ok-cut_out.ensures.notes c.in_ok-cut_out.ensures.below c.in_ok-cut_out.ensures.trail c.clear.ensures.items
     (coe 0 1 (k. ArePageGames (c.deref-2.ensures k) (c.deref-3.ensures k) (choices_of (shown at c.in_ok-kept.ensures.kept k)) (arc_value c.in_ok-games.games)) c.in_ok-games.ensures)))

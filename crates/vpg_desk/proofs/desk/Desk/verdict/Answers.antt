@@ -6,9 +6,9 @@ use Rattle.vpg_measure.specs.TwoGames.{top_for}
 use Rattle.vpg_trail.specs.Page.{Hopeful, Dual, value_at}
 use Rattle.vpg_desk.specs.Book.{Verdict, VerdictIs, IsReply}
 use Rattle.vpg_desk.specs.Desk.{family_of}
-use Rattle.vpg_desk.specs.Headline.{NeverWins}
+use Rattle.vpg_desk.specs.Headline.{AlwaysWins, NeverWins}
 use Rattle.vpg_desk.specs.State.{DeskState, setting_of}
-use Rattle.vpg_desk.proofs.Answering.{verdict_replies, hopeless_told, sure_told, table_told, value_fits, vertex_viewed}
+use Rattle.vpg_desk.proofs.Answering.{verdict_replies, hopeless_told, sure_told, lost_told, won_told, not_both_told, table_told, value_fits, vertex_viewed}
 use Rattle.vpg_desk.proofs.desk.Desk.verdict.Goals as goal
 use Rattle.vpg_desk.proofs.desk.Desk.verdict.Goals.{After-hopeful, After-dual, After-top-2}
 
@@ -42,3 +42,18 @@ pub returns-clause-sure : goal.returns-clause-sure
 returns-clause-sure c t =
     subst (λ (s : DeskState). NeverWins (setting_of s) s.book.present Player.Odd c.args.v) c.self.view_is
     (sure_told c.self.inside c.self.invariant c.args.v c.get-2.result c.top-2.result (vertex_viewed c.self.inside c.args.self.now c.args.v c.self.view_is c.requires) (second c).0 (second c).1 t)
+
+pub returns-clause-lost : goal.returns-clause-lost
+returns-clause-lost c t =
+    subst (λ (s : DeskState). AlwaysWins (setting_of s) s.book.present Player.Odd c.args.v) c.self.view_is
+    (lost_told c.self.inside c.self.invariant c.args.v c.get.result c.top.result (vertex_viewed c.self.inside c.args.self.now c.args.v c.self.view_is c.requires) (first c).0 (first c).1 t)
+
+pub returns-clause-won : goal.returns-clause-won
+returns-clause-won c t =
+    subst (λ (s : DeskState). AlwaysWins (setting_of s) s.book.present Player.Even c.args.v) c.self.view_is
+    (won_told c.self.inside c.self.invariant c.args.v c.get-2.result c.top-2.result (vertex_viewed c.self.inside c.args.self.now c.args.v c.self.view_is c.requires) (second c).0 (second c).1 t)
+
+pub returns-clause-not_both : goal.returns-clause-not_both
+returns-clause-not_both c t =
+    not_both_told c.self.inside c.self.invariant c.args.v c.get.result c.top.result c.get-2.result c.top-2.result
+    (vertex_viewed c.self.inside c.args.self.now c.args.v c.self.view_is c.requires) (first c).0 (first c).1 (second c).0 (second c).1 t

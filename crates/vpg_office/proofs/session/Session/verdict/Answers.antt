@@ -1,13 +1,20 @@
 use Rattle.std.proofs.Common.{refl, sym}
 use Rattle.vpg_desk.specs.Book as book
+use Rattle.vpg_desk.specs.Headline.{VerdictMeans}
+use Rattle.vpg_desk.specs.State.{setting_between}
 use Rattle.vpg_office.specs.Faults.{Tells, never_refused}
 use Rattle.vpg_office.specs.Fronts.{family_between}
 use Rattle.vpg_office.specs.declared.asked.Asked.TheVariants as ask
-use Rattle.vpg_office.proofs.Calling.{entered_extends, leaves_tells}
+use Rattle.vpg_office.proofs.Calling.{entered_extends, leaves_tells, verdict_leaves}
 use Rattle.vpg_office.proofs.session.Session.verdict.Goals as goal
 
 pub returns-in-Ok-clause-done : goal.returns-in-Ok-clause-done
 returns-in-Ok-clause-done g c = entered_extends c.in-Ok.ensures.made.1.0 c.in-Ok.ensures.made.1.1.1.0
+
+pub returns-in-Ok-clause-means : goal.returns-in-Ok-clause-means
+returns-in-Ok-clause-means g c =
+    let made = c.in-Ok.ensures.made in
+    coe 0 1 (k. VerdictMeans (setting_between g.L.Terms.game g.L.Terms.diagram) ((sym (verdict_leaves made.1.1.1.0)) k).present c.args.vertex c.in-Ok.verdict.hopeless c.in-Ok.verdict.sure) made.1.1.1.1
 
 pub returns-in-Err-clause-fault : goal.returns-in-Err-clause-fault
 returns-in-Err-clause-fault g c =

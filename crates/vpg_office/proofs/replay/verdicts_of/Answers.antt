@@ -3,8 +3,9 @@ use Rattle.std.proofs.Common.{sym, ◌∙◌, subst, arith}
 use Rattle.vpg_desk.specs.Desk.{family_of}
 use Rattle.vpg_desk.specs.State.{setting_of}
 use Rattle.vpg_office.specs.Sheets.{AreSaid}
+use Rattle.vpg_office.specs.Told.{AreVerdictsOf}
 use Rattle.vpg_office.proofs.Sheets.{none_said, said_more}
-use Rattle.vpg_office.proofs.publishing.verdicts_of.Goals as goal
+use Rattle.vpg_office.proofs.replay.verdicts_of.Goals as goal
 
 pub loop-v-preserved : goal.loop-v-preserved
 loop-v-preserved c =
@@ -17,6 +18,3 @@ loop-v-preserved c =
 
 pub loop-v-init : goal.loop-v-init
 loop-v-init c = grind (arith, common_steps, none_said)
-
-pub returns-clause-each : goal.returns-clause-each
-returns-clause-each c = subst (AreSaid (family_of (setting_of c.args.desk.now)) c.args.desk.now.book) (sym c.new.ensures) c.loop-v.invariant.each

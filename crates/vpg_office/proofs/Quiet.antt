@@ -1,0 +1,142 @@
+-- Entries that raise no value to the top change no verdict.
+use Rattle.std.proofs.Common.{◌≡◌, ◌⊎◌, ℕ, zero, suc, ◌+◌, ◌<◌, ◌≤◌, ◌==◌, nat_le, max, cond, Bool, true, false, ◌&&◌, ◌||◌, List, [], ◌∷◌, ◌++◌, length, map, take, drop, get_or, None, Some, refl, sym, ap, ◌∙◌, inl, inr, arith, ne_eqb, append-nil, length-append}
+use Rattle.std.specs.List.{list_any}
+use Rattle.std.proofs.Math.Seq.{drop-append_seam}
+use Rattle.std.proofs.Math.Bool.{or-true}
+use Rattle.std.proofs.lemmas.Bool.{cases_lt, false≢true, leb-false}
+use Rattle.std.proofs.lemmas.List.{drop-map}
+use Rattle.std.proofs.lemmas.List.Folds.{list_any_more}
+use Rattle.vpg_diagram.specs.DiagramText.{NamedDiagram}
+use Rattle.vpg_game.specs.Game.{NamedGame}
+use Rattle.vpg_verdict.specs.declared.verdict.Verdict.{Verdict as Said}
+use Rattle.vpg_trail.specs.Page.{Which, Hopeful, Dual, Entry, Decided, Lifted, same_table, value_at}
+use Rattle.vpg_trail.specs.Shown.{entry_of}
+use Rattle.vpg_trail.specs.declared.entry.Entry.{Entry as Written}
+use Rattle.vpg_trail.proofs.PageLemmas.{value_at-append}
+use Rattle.vpg_desk.specs.Book.{Family, Book, Reply, Verdict, VerdictIs, IsReply, after, next, is_refusal, decision, raises_of}
+use Rattle.vpg_desk.specs.Commit.{handed_in}
+use Rattle.vpg_desk.specs.Desk.{family_of}
+use Rattle.vpg_desk.specs.State.{DeskState, setting_of, setting_between}
+use Rattle.vpg_office.specs.Made.{IsMade}
+use Rattle.vpg_office.specs.Sheets.{AreSaid}
+use Rattle.vpg_office.specs.Story.{call_of, is_ours, reply_of}
+use Rattle.vpg_office.specs.Told.{AreVerdictsOf, only_appends, raises_to_top}
+use Rattle.vpg_office.specs.declared.asked.Answer.{Answer}
+use Rattle.vpg_office.specs.declared.asked.Asked.{Asked}
+use Rattle.vpg_office.specs.declared.asked.Asked.TheVariants as ask
+
+-- ---- one of many
+
+pub any_found : {X : Type 0} (test : X → Bool) (xs : List X) (i : ℕ) (x : X) → i < length xs → x ≡ get_or xs i x → test x ≡ true → list_any test xs ≡ true
+any_found test [] i x less is passes = absurd (omega arith)
+any_found test (y ∷ ys) zero x less is passes = ap (λ (b : Bool). b || list_any test ys) (ap test (sym is) ∙ passes)
+any_found test (y ∷ ys) (suc i) x less is passes = ap (λ (b : Bool). test y || b) (any_found test ys i x (omega arith) is passes) ∙ or-true (test y)
+
+pub any_not_yet : {X : Type 0} (test : X → Bool) (xs : List X) (i : ℕ) (x : X) → i < length xs → x ≡ get_or xs i x → list_any test (take i xs) ≡ false → test x ≡ false → list_any test (take (i + 1) xs) ≡ false
+any_not_yet test xs i x less is none fails = list_any_more test xs i x less ∙ ap (λ (b : Bool). b || test (get_or xs i x)) none ∙ ap test (sym is) ∙ fails
+
+pub any_map : (test : Entry → Bool) (entries : List Written) → list_any test (map entry_of entries) ≡ list_any (λ e. test (entry_of e)) entries
+any_map test [] = refl
+any_map test (e ∷ entries) = ap (λ (b : Bool). test (entry_of e) || b) (any_map test entries)
+
+-- ---- values
+
+neither : (a b : Bool) → (a || b) ≡ false → (a ≡ false) × (b ≡ false)
+neither false b e = (refl, e)
+neither true b e = absurd (false≢true (sym e))
+
+picked : (family : Family) (which table : Which) (b : Bool) (new rest : ℕ) → new < family.top table → (rest ≡ 0) ⊎ (rest < family.top which) →
+    (max (cond (same_table which table && b) new 0) rest ≡ 0) ⊎ (max (cond (same_table which table && b) new 0) rest < family.top which)
+picked family Hopeful Hopeful true new rest less (inl none) = inr (omega (arith, less, none))
+picked family Hopeful Hopeful true new rest less (inr few) = inr (omega (arith, less, few))
+picked family Hopeful Hopeful false new rest less (inl none) = inl (omega (arith, none))
+picked family Hopeful Hopeful false new rest less (inr few) = inr (omega (arith, few))
+picked family Hopeful Dual b new rest less (inl none) = inl (omega (arith, none))
+picked family Hopeful Dual b new rest less (inr few) = inr (omega (arith, few))
+picked family Dual Hopeful b new rest less (inl none) = inl (omega (arith, none))
+picked family Dual Hopeful b new rest less (inr few) = inr (omega (arith, few))
+picked family Dual Dual true new rest less (inl none) = inr (omega (arith, less, none))
+picked family Dual Dual true new rest less (inr few) = inr (omega (arith, less, few))
+picked family Dual Dual false new rest less (inl none) = inl (omega (arith, none))
+picked family Dual Dual false new rest less (inr few) = inr (omega (arith, few))
+
+below_top : (family : Family) (which : Which) (v : ℕ) (entries : List Entry) → list_any (raises_to_top family) entries ≡ false → (value_at which v entries ≡ 0) ⊎ (value_at which v entries < family.top which)
+below_top family which v [] quiet = inl refl
+below_top family which v (Decided d ∷ entries) quiet = below_top family which v entries quiet
+below_top family which v (Lifted l ∷ entries) quiet =
+    let both = neither (nat_le (family.top l.table) l.new) (list_any (raises_to_top family) entries) quiet in
+    picked family which l.table (v == l.vertex) l.new (value_at which v entries) (leb-false (family.top l.table) l.new both.0) (below_top family which v entries both.1)
+
+same_verdict : (x y top : ℕ) → (y ≡ 0) ⊎ (y < top) → (max x y == top) ≡ (x == top)
+same_verdict x y top (inl none) = ap (λ (n : ℕ). n == top) (omega (arith, none))
+same_verdict x y top (inr less) = go (cases_lt x y)
+  where
+    go : (x < y) ⊎ (y ≤ x) → (max x y == top) ≡ (x == top)
+    go (inl under) = ne_eqb (max x y) top (λ e. omega (arith, e, less, under)) ∙ sym (ne_eqb x top (λ e. omega (arith, e, less, under)))
+    go (inr over) = ap (λ (n : ℕ). n == top) (omega (arith, over))
+
+-- ---- verdicts
+
+still_said : (family : Family) (old new : Book) (tail : List Entry) (v : ℕ) (said : Said) → new.present ≡ old.present ++ tail → list_any (raises_to_top family) tail ≡ false → IsReply family old (Verdict v) (VerdictIs said.hopeless said.sure) →
+    IsReply family new (Verdict v) (VerdictIs said.hopeless said.sure)
+still_said family old new tail v said is quiet (Some r, (refuses, told)) = absurd (cc refuses)
+still_said family old new tail v said is quiet (None, (refuses, told)) = (None, (refl, told ∙ (λ k. VerdictIs (sym (same Hopeful) k) (sym (same Dual) k))))
+  where
+    same : (which : Which) → (value_at which v new.present == family.top which) ≡ (value_at which v old.present == family.top which)
+    same which =
+        ap (λ (page : List Entry). value_at which v page == family.top which) is ∙ ap (λ (n : ℕ). n == family.top which) (value_at-append which v old.present tail)
+        ∙ same_verdict (value_at which v old.present) (value_at which v tail) (family.top which) (below_top family which v tail quiet)
+
+-- ---- calls
+
+puts : (family : Family) (book : Book) (session : ℕ) (asked : Asked) (answer : Answer) → only_appends asked ≡ true → (tail : List Entry) × ((after family book session (call_of asked answer)).present ≡ book.present ++ tail)
+puts family book session (ask.Decide f value) answer is = (decision book session f value ∷ [], refl)
+puts family book session (ask.Retract f) answer is = absurd (false≢true is)
+puts family book session (ask.Undo s) answer is = absurd (false≢true is)
+puts family book session (ask.Redo s) answer is = absurd (false≢true is)
+puts family book session (ask.Keep s) answer is = ([], sym (append-nil book.present))
+puts family book session (ask.Forget s) answer is = ([], sym (append-nil book.present))
+puts family book session ask.Order answer is = ([], sym (append-nil book.present))
+puts family book session (ask.Commit harvest) answer is = (raises_of family (handed_in (is_ours answer) harvest.value) book.present, refl)
+puts family book session ask.Settled answer is = ([], sym (append-nil book.present))
+puts family book session (ask.Verdict v) answer is = ([], sym (append-nil book.present))
+puts family book session ask.Page answer is = ([], sym (append-nil book.present))
+
+appended : (family : Family) (book : Book) (session : ℕ) (asked : Asked) (answer : Answer) (reply : Reply) → only_appends asked ≡ true → (tail : List Entry) × ((next family book session (call_of asked answer) reply).present ≡ book.present ++ tail)
+appended family book session asked answer reply is = go (is_refusal reply)
+  where
+    go : (b : Bool) → (tail : List Entry) × ((cond b book (after family book session (call_of asked answer))).present ≡ book.present ++ tail)
+    go true = ([], sym (append-nil book.present))
+    go false = puts family book session asked answer is
+
+module _ {game : NamedGame} {diagram : NamedDiagram} {old new : DeskState} {session : ℕ} {asked : Asked} {answer : Answer} (made : IsMade game diagram old session asked answer new) (is : only_appends asked ≡ true) where
+  tail : (tail : List Entry) × (new.book.present ≡ old.book.present ++ tail)
+  tail =
+      let t = appended (family_of (setting_of old)) old.book session asked answer (reply_of (family_of (setting_of old)) old.book.present answer) is in
+      (t.0, ap (λ (b : Book). b.present) made.step.step.1 ∙ t.1)
+
+  -- the page has the entries of the page before
+  pub no_shorter : length old.book.present ≤ length new.book.present
+  no_shorter = omega (arith, ap length tail.1, length-append old.book.present tail.0)
+
+  family_is : family_of (setting_of new) ≡ family_of (setting_of old)
+  family_is = λ k. family_of (setting_between (made.step.game k) (made.step.diagram k))
+
+  -- where none of the others raises a value to the top, each verdict stays
+  pub still : (verdicts : List Said) → list_any (raises_to_top (family_of (setting_of new))) (drop (length old.book.present) new.book.present) ≡ false → AreVerdictsOf old verdicts → AreVerdictsOf new verdicts
+  still verdicts quiet are =
+      let rest : drop (length old.book.present) new.book.present ≡ tail.0 = ap (drop (length old.book.present)) tail.1 ∙ drop-append_seam old.book.present tail.0 in
+      let none : list_any (raises_to_top (family_of (setting_of old))) tail.0 ≡ false = coe 0 1 (k. list_any (raises_to_top (family_is k)) (rest k) ≡ false) quiet in
+      let each : AreSaid (family_of (setting_of old)) new.book verdicts = λ v said at. still_said (family_of (setting_of old)) old.book new.book tail.0 v said tail.1 none (are.each v said at) in
+      record {
+        size = are.size ∙ ap (λ (g : NamedGame). length g.vertices) (sym made.step.game);
+        each = coe 0 1 (k. AreSaid ((sym family_is) k) new.book verdicts) each;
+      }
+
+-- ---- the entries that a desk lends
+
+-- none of the last ones raises a value to the top
+pub none_of_last : (family : Family) (n : ℕ) (entries : List Written) (present : List Entry) → map entry_of entries ≡ present → list_any (λ e. raises_to_top family (entry_of e)) (drop n entries) ≡ false →
+    list_any (raises_to_top family) (drop n present) ≡ false
+none_of_last family n entries present is quiet =
+    ap (λ (l : List Entry). list_any (raises_to_top family) (drop n l)) (sym is) ∙ ap (list_any (raises_to_top family)) (drop-map entry_of n entries) ∙ any_map (raises_to_top family) (drop n entries) ∙ quiet

@@ -1,0 +1,225 @@
+//! The desk that replays the log, with what was last told of its page.
+ghost use Rattle.std.specs.Arc.{arc_value};
+ghost use Rattle.std.specs.List.{list_any};
+ghost use Rattle.std.specs.Prelude.{◌≡◌, ◌≤◌, length, drop, IfOk, IfErr, IfSome, IsTrue, IsFalse, OnErr};
+ghost use Rattle.vpg_desk.specs.Book.{Settled, IsSettled};
+ghost use Rattle.vpg_desk.specs.Desk.{family_of};
+ghost use Rattle.vpg_desk.specs.State.{IsOpened, Replies, setting_of};
+ghost use Rattle.vpg_trail.specs.Shown.{entry_of};
+ghost use Rattle.vpg_office.specs.Made.{IsMade, IsRefused};
+ghost use Rattle.vpg_office.specs.Told.{AreVerdictsOf, only_appends, raises_to_top as to_top};
+
+use crate::asked::Asked;
+use crate::calls::{Call, Made, Unmade};
+use crate::purse::Purse;
+use crate::terms::Terms;
+use std::alloc::{AllocError, Global};
+use std::marker::Model;
+use std::sync::Arc;
+use vpg_desk::Desk;
+use vpg_trail::Entry;
+use vpg_verdict::Which;
+use vpg_watch::Verdicts;
+
+/// A desk, with what was last told of its page. Contracts see the desk.
+pub struct Replay {
+    desk: Desk,
+    // the verdicts of the present page, where it says the same as when they were told
+    told: Option<Arc<Verdicts>>,
+    // a vertex of a table that a lift raised as it was last told whether the page is settled
+    raised: Option<(Which, u32)>,
+}
+
+// Not derived, so that letting one go is one call: a derived way would be proved anew at each exit that owns one.
+impl Drop for Replay {
+    fn drop(self) {
+        let Replay {
+            desk: _,
+            told: _,
+            raised: _,
+        } = self;
+    }
+}
+
+impl Model for Replay {
+    ghost use Rattle.std.specs.Coded.{codes};
+    ghost use Rattle.vpg_game.specs.Coding.{game_code};
+    ghost use Rattle.vpg_desk.specs.State.{DeskState};
+
+    ghost Value = { DeskState };
+
+    ghost coded = { Prim.hlevel (codes, game_code) };
+
+    ghost use Rattle.std.specs.Arc.{arc_value};
+    ghost use Rattle.std.specs.Prelude.{IfSome};
+    ghost use Rattle.vpg_office.specs.Told.{AreVerdictsOf};
+
+    ghost view = { λ r. r.desk };
+
+    ghost invariant = { λ r. IfSome r.told (λ told. AreVerdictsOf r.desk (arc_value told)) };
+}
+
+/// What the desk says of each vertex.
+fn verdicts_of(alloc: Global, desk: &Desk) -> Result<Verdicts, AllocError>
+    ensures { IfOk result (AreVerdictsOf desk.now) }
+{
+    let vertices = desk.game().vertices();
+    let mut verdicts = Vec::with_capacity(alloc, vertices)?;
+    for v in 0..vertices as u32 {
+        verdicts.push(desk.verdict(v))?;
+    }
+    Ok(Verdicts::new(verdicts))
+}
+
+/// Whether the entry raises a value to the desk's top.
+fn raises_to_top(desk: &Desk, entry: &Entry) -> bool
+    ensures { result ≡ to_top (family_of (setting_of desk.now)) (entry_of entry.now) }
+{
+    match entry {
+        Entry::Decide(_) => false,
+        Entry::Lift { table, new, .. } => desk.top(*table) <= *new,
+    }
+}
+
+/// Whether one of the entries does.
+fn one_raises_to_top(desk: &Desk, entries: &[Entry]) -> bool
+    ensures { result ≡ list_any (λ e. to_top (family_of (setting_of desk.now)) (entry_of e)) entries.now }
+{
+    for entry in entries {
+        if raises_to_top(desk, entry) {
+            return true;
+        }
+    }
+    false
+}
+
+/// Whether the desk only puts entries behind its page for what is asked.
+fn only_puts(asked: &Asked) -> bool
+    ensures { result ≡ only_appends asked.now }
+{
+    !matches!(
+        asked,
+        Asked::Retract { .. } | Asked::Undo { .. } | Asked::Redo { .. }
+    )
+}
+
+/// Whether the verdicts of a page with so many entries stay, of which what is asked made the desk's page: it put
+/// entries behind them, and none that raises a value to the top.
+fn verdicts_stay(desk: &Desk, asked: &Asked, before: usize) -> bool
+    requires { IsTrue (only_appends asked.now) → before ≤ length desk.now.book.present }
+    ensures appends { IsTrue result → IsTrue (only_appends asked.now) }
+    ensures quiet { IsTrue result →
+        IsFalse (list_any (to_top (family_of (setting_of desk.now))) (drop before desk.now.book.present)) }
+{
+    if !only_puts(asked) {
+        return false;
+    }
+    let (_, added) = desk.entries().split_at(before);
+    !one_raises_to_top(desk, added)
+}
+
+impl Replay {
+    pub(crate) fn of(desk: Desk) -> Replay
+        ensures { result ≡ desk }
+    {
+        Replay {
+            desk,
+            told: None,
+            raised: None,
+        }
+    }
+
+    pub(crate) fn desk(&self) -> &Desk
+        ensures { result.now ≡ self.now }
+    {
+        &self.desk
+    }
+
+    pub(crate) fn into_desk(self) -> Desk
+        ensures { result ≡ self }
+    {
+        let Replay {
+            desk,
+            told: _,
+            raised: _,
+        } = self;
+        desk
+    }
+
+    /// Whether both tables of the present page are progress tables. The vertex that a lift raised the last time is
+    /// tried first.
+    pub(crate) fn settled(&mut self) -> bool
+        ensures same { self.new ≡ self.old }
+        ensures reply { Replies self.old Settled (IsSettled result) }
+    {
+        if let Some((which, v)) = self.raised {
+            if self.desk.rises(which, v) {
+                return false;
+            }
+        }
+        self.looks_settled()
+    }
+
+    /// The same by a look at the desk.
+    fn looks_settled(&mut self) -> bool
+        ensures same { self.new ≡ self.old }
+        ensures reply { Replies self.old Settled (IsSettled result) }
+    {
+        let Some(raised) = self.desk.note() else {
+            self.raised = None;
+            return true;
+        };
+        self.raised = Some(raised);
+        false
+    }
+
+    /// What the present page says of each vertex: the list that was told before, where the page still says the same.
+    pub(crate) fn verdicts(&mut self, alloc: Global) -> Result<Arc<Verdicts>, AllocError>
+        ensures same { self.new ≡ self.old }
+        ensures are { IfOk result (λ told. AreVerdictsOf self.old (arc_value told)) }
+    {
+        if let Some(told) = &self.told {
+            return told.clone();
+        }
+        let verdicts = Arc::new(alloc, verdicts_of(alloc, &self.desk)?)?;
+        self.told = Some(verdicts.clone()?);
+        Ok(verdicts)
+    }
+}
+
+/// Carries a call out. The verdicts that were told stay those of the page where it puts entries behind that of which
+/// none raises a value to the top.
+pub(crate) fn carry_out<L: Terms, C: Call<L>>(
+    call: C,
+    asked: &Asked,
+    desk: &mut Replay,
+    purse: &mut Purse<L>,
+    session: u32,
+) -> Result<Made<C::Given>, Unmade<C::Refused, C>>
+    requires of { (desk.old.game ≡ L.game) × (desk.old.diagram ≡ L.diagram) }
+    requires opens { IsOpened L.game L.diagram }
+    requires counted { purse.old ≡ desk.old.book.tokens }
+    requires few { purse.old ≤ 1048576 }
+    requires takes { C.Takes call }
+    requires asked { asked.now ≡ C.asks call }
+    ensures made { IfOk result
+        (λ m. IsMade L.game L.diagram desk.old session (C.asks call) m.answer desk.new) }
+    ensures answer { IfOk result (λ m. m.answer ≡ C.answers m.given) }
+    ensures gives { IfOk result (λ m. C.Gives call desk.old.book m.given) }
+    ensures counted { purse.new ≡ desk.new.book.tokens }
+    ensures refused { IfErr result
+        (λ u. IfSome u.refused (λ w. IsRefused L.game L.diagram (C.refusal w.fault) desk.old (C.asks call) w.cause)) }
+    ensures same { OnErr result (desk.new ≡ desk.old) }
+    ensures back { IfErr result (λ u. u.call ≡ call) }
+{
+    let before = desk.desk.entries().len();
+    match call.carry_out(&mut desk.desk, purse, session) {
+        Ok(made) => {
+            if !verdicts_stay(&desk.desk, asked, before) {
+                desk.told = None;
+            }
+            Ok(made)
+        }
+        Err(unmade) => Err(unmade),
+    }
+}
