@@ -91,7 +91,7 @@ fn each_raised<R: Threads + Wait + Sync>(
     )
 }
 
-// The same, each within half of the budget.
+// Both tables, each by a thread and within half of the budget.
 fn both_raised_at_once<R: Threads + Wait + Sync>(
     rt: &R,
     alloc: Global,

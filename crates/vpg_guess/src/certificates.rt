@@ -3,11 +3,12 @@ ghost use Rattle.std.specs.Prelude.{IfOk};
 ghost use Rattle.vpg_measure.specs.Lifts.{IsTableOf};
 
 use crate::part::Part;
+use crate::raising::Raising;
 use std::alloc::{AllocError, Global};
 use vpg_hope::Arena;
 use vpg_measure::{Certificate, Shape, Table};
-use vpg_regions::{Budget, PerVertex};
-use vpg_values::{RankedBounds, ranked};
+use vpg_regions::PerVertex;
+use vpg_values::RankedBounds;
 
 // A table of these numbers, each cut to the top.
 #[tactic(auto, using(vpg_measure::proofs::Rounds::table_set))]
@@ -19,28 +20,11 @@ fn table_of(
 ) -> Result<Table, AllocError>
     ensures { IfOk result (λ table. IsTableOf shape.now arena.now table) }
 {
-    let mut table = Table::zero(alloc, arena.vertices())?;
+    let mut table = Table::zero(alloc, shape, arena.vertices())?;
     for v in 0..arena.vertices() {
         table.set(v, numbers.get(v).min(shape.top()));
     }
     Ok(table)
-}
-
-/// A certificate of these bounds and ranks, each cut to the top.
-pub(crate) fn certificate_of(
-    alloc: Global,
-    shape: &Shape,
-    dual_shape: &Shape,
-    arena: &Arena,
-    ranked: &RankedBounds,
-) -> Result<Certificate, AllocError>
-    ensures bounds { IfOk result (λ certificate. IsTableOf shape.now arena.now certificate.bounds) }
-    ensures ranks { IfOk result (λ certificate. IsTableOf dual_shape.now arena.now certificate.ranks) }
-{
-    Ok(Certificate {
-        bounds: table_of(alloc, shape, arena, &ranked.bounds)?,
-        ranks: table_of(alloc, dual_shape, arena, &ranked.ranks)?,
-    })
 }
 
 // Writes numbers of a part's vertices to a table, each cut to the top.
@@ -69,38 +53,38 @@ fn write_part(
 fn zeros(alloc: Global, shape: &Shape, arena: &Arena) -> Result<Table, AllocError>
     ensures { IfOk result (λ table. IsTableOf shape.now arena.now table) }
 {
-    Table::zero(alloc, arena.vertices())
+    Table::zero(alloc, shape, arena.vertices())
 }
 
-/// A certificate of the bounds and ranks of a part, and the table elsewhere.
-pub(crate) fn certificate_around(
-    alloc: Global,
-    shape: &Shape,
-    dual_shape: &Shape,
-    arena: &Arena,
-    part: &Part,
-    ranked: &RankedBounds,
-    table: &Table,
-) -> Result<Certificate, AllocError>
-    requires { IsTableOf shape.now arena.now table.now }
-    ensures bounds { IfOk result (λ certificate. IsTableOf shape.now arena.now certificate.bounds) }
-    ensures ranks { IfOk result (λ certificate. IsTableOf dual_shape.now arena.now certificate.ranks) }
-{
-    let mut bounds = table.copy(alloc)?;
-    write_part(shape, arena, part, &ranked.bounds, &mut bounds);
-    let mut ranks = zeros(alloc, dual_shape, arena)?;
-    write_part(dual_shape, arena, part, &ranked.ranks, &mut ranks);
-    Ok(Certificate { bounds, ranks })
-}
+impl Raising<'_> {
+    /// The certificate of these bounds and ranks, each cut to the top.
+    pub(crate) fn certificate_of(&self, ranked: &RankedBounds) -> Result<Certificate, AllocError>
+        ensures bounds { IfOk result
+            (λ certificate. IsTableOf self.now.levels self.now.arena certificate.bounds) }
+        ensures ranks { IfOk result
+            (λ certificate. IsTableOf self.now.dual_levels self.now.arena certificate.ranks) }
+    {
+        Ok(Certificate {
+            bounds: table_of(self.alloc, self.shape, self.arena, &ranked.bounds)?,
+            ranks: table_of(self.alloc, self.dual_shape, self.arena, &ranked.ranks)?,
+        })
+    }
 
-/// Bounds and ranks for a guess at the part that moves, or nothing where it exceeds the table nowhere.
-pub(crate) fn ranked_part(
-    alloc: Global,
-    part: &Part,
-    budget: &mut Budget,
-) -> Result<Option<RankedBounds>, AllocError> {
-    let mut share = budget.take_half();
-    let guess = part.guess(alloc, &mut share)?;
-    budget.give_back(share);
-    ranked(alloc, &part.ground, &guess, &part.table, 1, budget)
+    /// The certificate of the bounds and ranks of a part, and of the table elsewhere.
+    pub(crate) fn certificate_around(
+        &self,
+        part: &Part,
+        ranked: &RankedBounds,
+    ) -> Result<Certificate, AllocError>
+        ensures bounds { IfOk result
+            (λ certificate. IsTableOf self.now.levels self.now.arena certificate.bounds) }
+        ensures ranks { IfOk result
+            (λ certificate. IsTableOf self.now.dual_levels self.now.arena certificate.ranks) }
+    {
+        let mut bounds = self.table.copy(self.alloc)?;
+        write_part(self.shape, self.arena, part, &ranked.bounds, &mut bounds);
+        let mut ranks = zeros(self.alloc, self.dual_shape, self.arena)?;
+        write_part(self.dual_shape, self.arena, part, &ranked.ranks, &mut ranks);
+        Ok(Certificate { bounds, ranks })
+    }
 }

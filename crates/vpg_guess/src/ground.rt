@@ -1,4 +1,5 @@
-//! What guesses of one table are made over, as an arena has it.
+//! The graphs and scales that guesses of a table are made over.
+use crate::raising::Raising;
 use std::alloc::{AllocError, Global};
 use vpg_game::GuardedGame;
 use vpg_hope::Arena;
@@ -53,7 +54,7 @@ pub(crate) fn shape_in<'a>(
     Ok(kept.insert(shape))
 }
 
-/// Who moves to each vertex of an arena.
+/// The predecessors of each vertex of an arena.
 pub(crate) fn predecessors_of(alloc: Global, arena: &Arena) -> Result<Predecessors, AllocError> {
     let mut arrivals = Arrivals::none(alloc, arena.vertices())?;
     for v in 0..arena.vertices() {
@@ -100,7 +101,8 @@ pub(crate) fn scale_of(
     scale_with(alloc, shape, player, priorities, greatest)
 }
 
-/// The same for the game that has these vertices of the arena, in this order.
+/// The scale of the game that has these vertices of the arena, in this order: of its shape for Even, of the shape of
+/// its dual for Odd.
 pub(crate) fn scale_of_part(
     alloc: Global,
     arena: &Arena,
@@ -122,7 +124,7 @@ pub(crate) fn scale_of_part(
     scale_with(alloc, shape, player, priorities, greatest)
 }
 
-// That of these priorities, of which this is the greatest.
+// The scale of these priorities, of which this is the greatest.
 fn scale_with(
     alloc: Global,
     shape: &Shape,
@@ -144,7 +146,7 @@ pub(crate) fn serves(lifts: &TableGround, arena: &Arena) -> bool {
     present <= listed && listed.saturating_sub(listed / STALE) <= present
 }
 
-/// The same for another page of the game, whose arena this is.
+/// What lifts go by on another page of the game, whose arena this is: with lists of its own.
 pub(crate) fn renewed(
     alloc: Global,
     lifts: TableGround,
@@ -155,27 +157,21 @@ pub(crate) fn renewed(
     Ok(TableGround { predecessors, even })
 }
 
-/// What guesses of an arena are made over.
-pub(crate) fn ground_of(
-    alloc: Global,
-    shape: &Shape,
-    dual_shape: &Shape,
-    arena: &Arena,
-) -> Result<GuessGround, AllocError> {
-    let even = scale_of(alloc, arena, shape, Player::Even)?;
-    let predecessors = predecessors_of(alloc, arena)?;
-    ground_over(alloc, dual_shape, arena, TableGround { predecessors, even })
+/// The graph and the scales that guesses of a table are made over.
+pub(crate) fn ground_of(raising: &Raising<'_>) -> Result<GuessGround, AllocError> {
+    let even = scale_of(raising.alloc, raising.arena, raising.shape, Player::Even)?;
+    let predecessors = predecessors_of(raising.alloc, raising.arena)?;
+    ground_over(raising, TableGround { predecessors, even })
 }
 
-/// The same, with what its lifts go by.
+/// The graph and the scales that guesses of a table are made over, from what its lifts go by.
 pub(crate) fn ground_over(
-    alloc: Global,
-    dual_shape: &Shape,
-    arena: &Arena,
+    raising: &Raising<'_>,
     lifts: TableGround,
 ) -> Result<GuessGround, AllocError> {
+    let (alloc, arena) = (raising.alloc, raising.arena);
     let (predecessors, even) = lifts.into_parts();
-    let odd = scale_of(alloc, arena, dual_shape, Player::Odd)?;
+    let odd = scale_of(alloc, arena, raising.dual_shape, Player::Odd)?;
     let mut draft = Draft::with_room(alloc, arena.vertices() as usize, predecessors.edges())?;
     write_down(arena, &mut draft);
     let graph = draft.finish_with(alloc, predecessors)?;

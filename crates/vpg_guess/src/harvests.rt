@@ -4,7 +4,7 @@ ghost use Rattle.vpg_measure.specs.Lifts.{IsProgressTable, IsBelowTable, after_r
 ghost use Rattle.vpg_measure.specs.Orders.{IsSameOrder, IsHarvest, IsRaised, IsSettledHarvest, order_levels, order_arena, order_table, harvest_table};
 
 use crate::ground::{Groundwork, shape_in};
-use crate::raising::raise_within;
+use crate::raising::Raising;
 use std::alloc::{AllocError, Global};
 use vpg_measure::{Harvest, Order, Shape, Table};
 use vpg_regions::Budget;
@@ -35,16 +35,16 @@ pub(crate) fn raised(
         (λ found. IsTrue found.settled →
         IsProgressTable (order_levels which order.now) (order_arena which order.now) found.table) }
 {
-    let mut table = order.table(which).copy(alloc)?;
-    let settled = raise_within(
+    let table = order.table(which).copy(alloc)?;
+    let mut raising = Raising {
         alloc,
-        order.shape(which),
+        shape: order.shape(which),
         dual_shape,
-        order.arena(which),
-        kept,
-        &mut table,
-        budget,
-    )?;
+        arena: order.arena(which),
+        table,
+    };
+    let settled = raising.raise(kept, budget)?;
+    let table = raising.into_table();
     Ok(RaisedTable { table, settled })
 }
 

@@ -7,6 +7,8 @@
 //! guess but that it is safe and ends. What it says is taken over only as far as certificates show it
 //! (`vpg_measure::raise_to_bounds`). So the raised table stays below every progress table that it was below.
 //!
+//! A `Raising` is a table with what raising it reads; its methods lift and guess (`remaining`, `guesses`).
+//!
 //! The layer above uses `raise_by_bounds` for one table, `harvest_by_bounds` for both tables of an order, and
 //! `harvest_by_bounds_at_once` for both with a thread for each. What those make of a game is its `Groundwork`, which
 //! the layer above keeps from one page to the next.
@@ -16,6 +18,7 @@
 mod at_once;
 mod certificates;
 mod ground;
+mod guesses;
 mod harvests;
 mod part;
 mod raising;
@@ -24,5 +27,5 @@ mod rising;
 
 pub use at_once::harvest_by_bounds_at_once;
 pub use ground::Groundwork;
+pub use guesses::raise_by_bounds;
 pub use harvests::harvest_by_bounds;
-pub use raising::raise_by_bounds;

@@ -1,17 +1,17 @@
 //! The part of a game that moves, under numbers of its own: all else is taken to keep its value.
 use crate::ground::{kept_in, owner_in, priority_in, scale_of_part};
+use crate::raising::Raising;
 use std::alloc::{AllocError, Global};
 use vpg_hope::Arena;
-use vpg_measure::Shape;
 use vpg_players::Player;
 use vpg_regions::{Budget, Choices, Draft, Found, Graph, solve_part};
-use vpg_values::{Guess, GuessGround, guess_table, value_in};
+use vpg_values::{Guess, GuessGround, RankedBounds, guess_table, ranked, value_in};
 
-/// Vertices that move, and behind them the others that they move to, which have no moves here.
+/// Vertices that move, and then the others that they move to, which have no moves here.
 pub(crate) struct Part {
-    pub(crate) ground: GuessGround,
-    /// The values that the table has there.
-    pub(crate) table: Vec<u64>,
+    ground: GuessGround,
+    // the values that the table has there
+    table: Vec<u64>,
     /// The vertices, by their numbers in the whole game.
     pub(crate) vertices: Vec<u32>,
     // those that move, by their numbers here
@@ -106,7 +106,7 @@ fn number(alloc: Global, arena: &Arena, moving: &[u32]) -> Result<Numbered, Allo
     Ok(numbered)
 }
 
-// The game of a part: the vertices behind those that move have no edges.
+// The game of a part: the vertices that do not move have no edges.
 fn graph_of(
     alloc: Global,
     arena: &Arena,
@@ -137,39 +137,26 @@ fn add_edges(arena: &Arena, numbered: &Numbered, draft: &mut Draft, v: u32) {
 
 // The ground of a part.
 fn ground_of(
-    alloc: Global,
-    shape: &Shape,
-    dual_shape: &Shape,
-    arena: &Arena,
+    raising: &Raising<'_>,
     numbered: &Numbered,
     moving: usize,
 ) -> Result<GuessGround, AllocError> {
-    let even = scale_of_part(alloc, arena, shape, Player::Even, numbered.vertices.items())?;
-    let odd = scale_of_part(
-        alloc,
-        arena,
-        dual_shape,
-        Player::Odd,
-        numbered.vertices.items(),
-    )?;
+    let (alloc, arena) = (raising.alloc, raising.arena);
+    let vertices = numbered.vertices.items();
+    let even = scale_of_part(alloc, arena, raising.shape, Player::Even, vertices)?;
+    let odd = scale_of_part(alloc, arena, raising.dual_shape, Player::Odd, vertices)?;
     let graph = graph_of(alloc, arena, numbered, moving)?;
     Ok(GuessGround { graph, even, odd })
 }
 
 impl Part {
     /// The part of these vertices, each of which stands there once.
-    pub(crate) fn of(
-        alloc: Global,
-        shape: &Shape,
-        dual_shape: &Shape,
-        arena: &Arena,
-        table: &[u64],
-        moving: &[u32],
-    ) -> Result<Part, AllocError> {
-        let numbered = number(alloc, arena, moving)?;
-        let values = numbered.values(alloc, table)?;
+    pub(crate) fn of(raising: &Raising<'_>, moving: &[u32]) -> Result<Part, AllocError> {
+        let alloc = raising.alloc;
+        let numbered = number(alloc, raising.arena, moving)?;
+        let values = numbered.values(alloc, raising.table.values())?;
         let own = numbered.places_of(alloc, moving)?;
-        let ground = ground_of(alloc, shape, dual_shape, arena, &numbered, moving.len())?;
+        let ground = ground_of(raising, &numbered, moving.len())?;
         Ok(Part {
             ground,
             table: values,
@@ -178,8 +165,8 @@ impl Part {
         })
     }
 
-    /// A guess of the values of what moves, tops with them.
-    pub(crate) fn guess(&self, alloc: Global, budget: &mut Budget) -> Result<Guess, AllocError> {
+    // A guess of the values of what moves, tops with them.
+    fn guess(&self, alloc: Global, budget: &mut Budget) -> Result<Guess, AllocError> {
         let lost = self.ground.lost(alloc, &self.table)?;
         let mut share = budget.take_half();
         let regions = solve_part(alloc, &self.ground.graph, &lost, &self.moving, &mut share)?;
@@ -192,5 +179,17 @@ impl Part {
             &self.moving,
             budget,
         )
+    }
+
+    /// Bounds and ranks for a guess of the values of what moves; `None` if it exceeds the table nowhere.
+    pub(crate) fn ranked(
+        &self,
+        alloc: Global,
+        budget: &mut Budget,
+    ) -> Result<Option<RankedBounds>, AllocError> {
+        let mut share = budget.take_half();
+        let guess = self.guess(alloc, &mut share)?;
+        budget.give_back(share);
+        ranked(alloc, &self.ground, &guess, &self.table, 1, budget)
     }
 }

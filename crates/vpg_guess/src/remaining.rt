@@ -1,14 +1,13 @@
 //! Lifts of what remains: each vertex of which a successor rose, round after round in the order of the vertices.
 ghost use Rattle.std.specs.Prelude.{◌≡◌, IsTrue};
-ghost use Rattle.vpg_guess.specs.Kept.{IsRaisedFrom};
-ghost use Rattle.vpg_measure.specs.Lifts.{IsTableOf, IsProgressTable, after_rounds};
+ghost use Rattle.vpg_guess.specs.Kept.{IsRaisedFrom, IsSettled, after_round};
 
 use crate::ground::kept_in;
+use crate::raising::Raising;
 use crate::rising::would_rise;
 use std::alloc::{AllocError, Global};
 use vpg_hope::Arena;
 use vpg_measure::lifts::{Outcome, raise, settle_alone};
-use vpg_measure::{Shape, Table};
 use vpg_regions::{Budget, Found, PerVertex, VertexSet};
 use vpg_values::{LiftGround, Scale, value_in};
 
@@ -30,7 +29,7 @@ const MOST: u32 = 8;
 /// How often a vertex rises in the first turn before it is taken to climb.
 const CLIMBS: u8 = 2;
 
-/// A hurried turn ends behind so many looks for each vertex that waits, and for a few more.
+/// A hurried turn ends after so many looks for each vertex that waits, and for a few more.
 const LOOKS_EACH: u64 = 128;
 
 const FEW: u64 = 16;
@@ -48,7 +47,7 @@ pub(crate) struct Patience {
 }
 
 impl Patience {
-    // Where so many wait.
+    // How much it is while so many wait.
     fn at(self, count: usize) -> u64 {
         if !self.is_hurried {
             return self.most;
@@ -64,7 +63,7 @@ pub(crate) struct Waiting {
     waits: VertexSet,
     // so many rounds of lifts may come before the next turn; none where not all wait that are below the top
     rounds: u32,
-    // whether most still rose behind these
+    // whether most still rose after these
     is_climbing: bool,
     raises: PerVertex<u8>,
     // the last turn at whose end it moved; zero for none
@@ -109,9 +108,9 @@ impl Waiting {
         Ok(waiting)
     }
 
-    /// Those wait that a round of lifts left, which raised these vertices, in this order: what comes behind a vertex
-    /// has seen it rise.
-    pub(crate) fn behind_round(
+    /// Those wait that a round of lifts left, which raised these vertices, in this order: what comes after a vertex has
+    /// seen it rise.
+    pub(crate) fn left_by_round(
         alloc: Global,
         ground: LiftGround<'_>,
         table: &[u64],
@@ -124,7 +123,7 @@ impl Waiting {
         Ok(waiting)
     }
 
-    // Those that move to v and don't come behind it are to be looked at where that may raise them.
+    // Those that move to v and do not come after it are to be looked at where that may raise them.
     fn wake_before(&mut self, ground: LiftGround<'_>, table: &[u64], v: u32) {
         let value = value_in(table, v);
         for u in ground.predecessors.before(v) {
@@ -188,7 +187,7 @@ impl Waiting {
         self.begin_rounds();
     }
 
-    /// The same, where any wait.
+    /// If any wait, all that are below the top are to be looked at again, by rounds of lifts first.
     pub(crate) fn wake_the_rest(&mut self, ground: LiftGround<'_>, table: &[u64]) {
         if self.waits.size() > 0 {
             self.wake_all(ground, table);
@@ -331,173 +330,140 @@ fn ask(arena: &Arena, ground: LiftGround<'_>, table: &[u64]) -> Rising {
     }
 }
 
-// Lifts a vertex once, and says whether its value rose.
-fn lift_vertex(shape: &Shape, arena: &Arena, table: &mut Table, v: u32) -> bool
-    requires { IsTableOf shape.now arena.now table.old }
-    ensures { IsRaisedFrom shape.now arena.now table.old table.new }
-{
-    if v < arena.vertices() {
-        raise(shape, arena, table, v)
-    } else {
+impl Raising<'_> {
+    // Lifts a vertex once; returns whether its value rose.
+    fn lift_vertex(&mut self, v: u32) -> bool
+        ensures { IsRaisedFrom self.old self.new }
+    {
+        if v < self.arena.vertices() {
+            raise(self.shape, self.arena, &mut self.table, v)
+        } else {
+            false
+        }
+    }
+
+    /// Lifts each vertex that would rise once, in the order of the vertices; returns those that rose.
+    #[tactic(auto, using(crate::proofs::Kept::kept_self, crate::proofs::Kept::kept_then))]
+    pub(crate) fn lift_each(&mut self, even: &Scale) -> Result<Vec<u32>, AllocError>
+        ensures { IsRaisedFrom self.old self.new }
+    {
+        let mut risen = Found::none(self.alloc);
+        for v in 0..self.arena.vertices() {
+            if would_rise(even, self.arena, self.table.values(), v) && self.lift_vertex(v) {
+                risen.add(v);
+            }
+        }
+        risen.list()
+    }
+
+    // Lifts a vertex that waits, which waits no more.
+    fn look(&mut self, ground: LiftGround<'_>, waiting: &mut Waiting, v: u32, budget: &mut Budget)
+        ensures { IsRaisedFrom self.old self.new }
+    {
+        waiting.waits.remove(v);
+        budget.spend(kept_in(self.arena, v).len().saturating_add(1));
+        if would_rise(ground.even, self.arena, self.table.values(), v) && self.lift_vertex(v) {
+            waiting.wake(ground, v);
+        }
+    }
+
+    // Lifts what waits in the order of the vertices, once round.
+    #[tactic(auto, using(crate::proofs::Kept::kept_self, crate::proofs::Kept::kept_then))]
+    fn look_round(&mut self, ground: LiftGround<'_>, waiting: &mut Waiting, budget: &mut Budget)
+        ensures { IsRaisedFrom self.old self.new }
+    {
+        let mut from = 0u32;
+        for _ in 0..self.arena.vertices() {
+            let Some(v) = waiting.waits.first_from(from) else {
+                break;
+            };
+            self.look(ground, waiting, v, budget);
+            from = v.saturating_add(1);
+        }
+    }
+
+    // Lifts what waits, until nothing does, as many wait round after round, or the budget is spent.
+    #[tactic(auto, using(crate::proofs::Kept::kept_self, crate::proofs::Kept::kept_then))]
+    fn lift_waiting(
+        &mut self,
+        ground: LiftGround<'_>,
+        waiting: &mut Waiting,
+        patience: Patience,
+        budget: &mut Budget,
+    )
+        ensures { IsRaisedFrom self.old self.new }
+    {
+        let mut least = usize::MAX;
+        let mut left = budget.left();
+        for _ in 0..u64::MAX {
+            if waiting.waits.size() == 0 || waiting.is_climbing || budget.is_spent() {
+                break;
+            }
+            self.look_round(ground, waiting, budget);
+            if waiting.waits.size() < least.saturating_sub(least / FALL) {
+                least = waiting.waits.size();
+                left = budget.left();
+                waiting.falls = waiting.falls.saturating_add(1);
+            } else if budget
+                .left()
+                .saturating_add(patience.at(waiting.waits.size()))
+                < left
+            {
+                break;
+            }
+        }
+    }
+
+    /// Lifts a round, which takes no memory; returns whether it raised nothing.
+    pub(crate) fn lift_round(&mut self) -> bool
+        ensures raised { IsRaisedFrom self.old self.new }
+        ensures round { self.new.table ≡ after_round self.old }
+        ensures settled { IsTrue result → IsSettled self.new }
+    {
+        match settle_alone(self.shape, self.arena, &mut self.table, 1) {
+            Outcome::Settled => true,
+            Outcome::RanOut => false,
+        }
+    }
+
+    /// Lifts rounds, where they come first; returns whether one raised nothing. They wake nothing: all wait.
+    #[tactic(auto, using(crate::proofs::Kept::kept_self, crate::proofs::Kept::kept_then))]
+    pub(crate) fn lift_all(
+        &mut self,
+        ground: LiftGround<'_>,
+        waiting: &mut Waiting,
+        budget: &mut Budget,
+    ) -> bool
+        ensures raised { IsRaisedFrom self.old self.new }
+        ensures settled { IsTrue result → IsSettled self.new }
+    {
+        for _ in 0..ROUNDS {
+            if !waiting.asks_for_round(self.arena, ground, self.table.values()) {
+                break;
+            }
+            budget.spend(ground.looks(1) as usize);
+            if self.lift_round() {
+                return true;
+            }
+        }
         false
     }
-}
 
-/// Lifts each vertex that would rise once, in the order of the vertices, and gives those that rose.
-#[tactic(auto, using(crate::proofs::Kept::kept_then))]
-pub(crate) fn lift_each(
-    alloc: Global,
-    shape: &Shape,
-    arena: &Arena,
-    even: &Scale,
-    table: &mut Table,
-) -> Result<Vec<u32>, AllocError>
-    requires { IsTableOf shape.now arena.now table.old }
-    ensures { IsRaisedFrom shape.now arena.now table.old table.new }
-{
-    let mut risen = Found::none(alloc);
-    for v in 0..arena.vertices() {
-        if would_rise(even, arena, table.values(), v) && lift_vertex(shape, arena, table, v) {
-            risen.add(v);
-        }
+    /// Lifts until nothing waits, or so many edges and vertices were looked at, or the budget is spent; or until so
+    /// many were looked at as patience has, and as many wait as before.
+    pub(crate) fn lift_remaining(
+        &mut self,
+        ground: LiftGround<'_>,
+        waiting: &mut Waiting,
+        looks: u64,
+        patience: Patience,
+        budget: &mut Budget,
+    )
+        ensures { IsRaisedFrom self.old self.new }
+    {
+        waiting.begin_turn();
+        let mut turn = budget.take(looks);
+        self.lift_waiting(ground, waiting, patience, &mut turn);
+        budget.give_back(turn);
     }
-    risen.list()
-}
-
-// Lifts a vertex that waits, which waits no more.
-fn look(
-    shape: &Shape,
-    arena: &Arena,
-    ground: LiftGround<'_>,
-    waiting: &mut Waiting,
-    table: &mut Table,
-    v: u32,
-    budget: &mut Budget,
-)
-    requires { IsTableOf shape.now arena.now table.old }
-    ensures { IsRaisedFrom shape.now arena.now table.old table.new }
-{
-    waiting.waits.remove(v);
-    budget.spend(kept_in(arena, v).len().saturating_add(1));
-    if would_rise(ground.even, arena, table.values(), v) && lift_vertex(shape, arena, table, v) {
-        waiting.wake(ground, v);
-    }
-}
-
-// Lifts what waits in the order of the vertices, once round.
-#[tactic(auto, using(crate::proofs::Kept::kept_then))]
-fn look_round(
-    shape: &Shape,
-    arena: &Arena,
-    ground: LiftGround<'_>,
-    waiting: &mut Waiting,
-    table: &mut Table,
-    budget: &mut Budget,
-)
-    requires { IsTableOf shape.now arena.now table.old }
-    ensures { IsRaisedFrom shape.now arena.now table.old table.new }
-{
-    let mut from = 0u32;
-    for _ in 0..arena.vertices() {
-        let Some(v) = waiting.waits.first_from(from) else {
-            break;
-        };
-        look(shape, arena, ground, waiting, table, v, budget);
-        from = v.saturating_add(1);
-    }
-}
-
-// Lifts what waits, until nothing does, as many wait round after round, or the budget is spent.
-#[tactic(auto, using(crate::proofs::Kept::kept_then))]
-fn lift_waiting(
-    shape: &Shape,
-    arena: &Arena,
-    ground: LiftGround<'_>,
-    waiting: &mut Waiting,
-    table: &mut Table,
-    patience: Patience,
-    budget: &mut Budget,
-)
-    requires { IsTableOf shape.now arena.now table.old }
-    ensures { IsRaisedFrom shape.now arena.now table.old table.new }
-{
-    let mut least = usize::MAX;
-    let mut left = budget.left();
-    for _ in 0..u64::MAX {
-        if waiting.waits.size() == 0 || waiting.is_climbing || budget.is_spent() {
-            break;
-        }
-        look_round(shape, arena, ground, waiting, table, budget);
-        if waiting.waits.size() < least.saturating_sub(least / FALL) {
-            least = waiting.waits.size();
-            left = budget.left();
-            waiting.falls = waiting.falls.saturating_add(1);
-        } else if budget
-            .left()
-            .saturating_add(patience.at(waiting.waits.size()))
-            < left
-        {
-            break;
-        }
-    }
-}
-
-/// One round of lifts, which takes no memory. Says whether it raised nothing.
-pub(crate) fn lift_round(shape: &Shape, arena: &Arena, table: &mut Table) -> bool
-    requires { IsTableOf shape.now arena.now table.old }
-    ensures raised { IsRaisedFrom shape.now arena.now table.old table.new }
-    ensures round { table.new ≡ after_rounds shape.now arena.now 1 table.old }
-    ensures settled { IsTrue result → IsProgressTable shape.now arena.now table.new }
-{
-    match settle_alone(shape, arena, table, 1) {
-        Outcome::Settled => true,
-        Outcome::RanOut => false,
-    }
-}
-
-/// Rounds of lifts, where they come first. Says whether one raised nothing. They wake nothing: all wait.
-#[tactic(auto, using(crate::proofs::Kept::kept_then))]
-pub(crate) fn lift_all(
-    shape: &Shape,
-    arena: &Arena,
-    ground: LiftGround<'_>,
-    waiting: &mut Waiting,
-    table: &mut Table,
-    budget: &mut Budget,
-) -> bool
-    requires { IsTableOf shape.now arena.now table.old }
-    ensures raised { IsRaisedFrom shape.now arena.now table.old table.new }
-    ensures settled { IsTrue result → IsProgressTable shape.now arena.now table.new }
-{
-    for _ in 0..ROUNDS {
-        if !waiting.asks_for_round(arena, ground, table.values()) {
-            break;
-        }
-        budget.spend(ground.looks(1) as usize);
-        if lift_round(shape, arena, table) {
-            return true;
-        }
-    }
-    false
-}
-
-/// Lifts until nothing waits, or so many edges and vertices were looked at, or the budget is spent; or until so many
-/// were looked at as patience has, and as many wait as before.
-pub(crate) fn lift_remaining(
-    shape: &Shape,
-    arena: &Arena,
-    ground: LiftGround<'_>,
-    waiting: &mut Waiting,
-    table: &mut Table,
-    looks: u64,
-    patience: Patience,
-    budget: &mut Budget,
-)
-    requires { IsTableOf shape.now arena.now table.old }
-    ensures { IsRaisedFrom shape.now arena.now table.old table.new }
-{
-    waiting.begin_turn();
-    let mut turn = budget.take(looks);
-    lift_waiting(shape, arena, ground, waiting, table, patience, &mut turn);
-    budget.give_back(turn);
 }

@@ -1,4 +1,4 @@
-//! Which vertices lifts raise.
+//! The vertices that lifts raise.
 use crate::ground::{kept_in, owner_in, priority_in};
 use vpg_hope::Arena;
 use vpg_players::Player;

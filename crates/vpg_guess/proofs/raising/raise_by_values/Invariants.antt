@@ -1,5 +1,0 @@
-use Rattle.vpg_guess.specs.Kept.{IsRaisedFrom}
-use Rattle.vpg_guess.proofs.raising.raise_by_values.Given as goal
-
-abbrev pub invariant-loop-turn : goal.invariant-loop-turn
-invariant-loop-turn l = IsRaisedFrom l.shape l.arena l.fn.table l.table

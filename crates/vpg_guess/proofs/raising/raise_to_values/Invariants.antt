@@ -1,5 +1,0 @@
-use Rattle.vpg_guess.specs.Kept.{IsRaisedFrom}
-use Rattle.vpg_guess.proofs.raising.raise_to_values.Given as goal
-
-abbrev pub invariant-loop-weight : goal.invariant-loop-weight
-invariant-loop-weight l = IsRaisedFrom l.shape l.arena l.fn.table l.table
