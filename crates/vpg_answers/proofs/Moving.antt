@@ -1,17 +1,17 @@
 -- What is told of moves.
-use Rattle.std.proofs.Common.{◌≡◌, ℕ, ◌++◌, Option, List, refl, sym, ap, ap₂, ◌∙◌, subst, inl, inr}
+use Rattle.std.proofs.Common.{◌≡◌, ℕ, ◌++◌, Option, List, refl, sym, ap₂, ◌∙◌, subst, inl, inr}
 use Rattle.std.specs.Prelude.{slice_index}
 use Rattle.vpg_game.specs.Game.{graph_of, vertex_ids}
-use Rattle.vpg_measure.specs.Orders.{OrderView, order_table}
+use Rattle.vpg_measure.specs.Orders.{OrderView, order_table, other_table}
 use Rattle.vpg_measure.specs.TwoGames.{top_for}
 use Rattle.vpg_verdict.specs.declared.which.Which.{Which}
 use Rattle.vpg_verdict.specs.declared.which.Which.TheVariants.{Hopeful, Dual}
-use Rattle.vpg_why.specs.Moves.{AreWinning, NoneWinsUnder, ChoicesSettleInCaution}
+use Rattle.vpg_why.specs.Moves.{AreWinning, ChoicesSettleInCaution}
 use Rattle.vpg_texts.specs.Scene.{Scene, scene_of, table_in}
 use Rattle.vpg_why.specs.Explained.{choices}
 use Rattle.vpg_why.specs.declared.question.Limits.{Limits}
-use Rattle.vpg_answers.specs.Answers.{Appends, TellsMoves, TellsWinning, identifier_of, verdict_for}
-use Rattle.vpg_answers.specs.Texts.{depend_line, moves_text, moves_word, other_line, unsettled_line}
+use Rattle.vpg_answers.specs.Answers.{Appends, TellsMoves, TellsWinning, identifier_of}
+use Rattle.vpg_answers.specs.Texts.{moves_text, moves_word, other_line, unsettled_line}
 
 -- either table, as it is named in a scene
 table_is : (order : OrderView) (which : Which) → order_table which order ≡ table_in order.hopeful order.dual which
@@ -33,34 +33,29 @@ module _ (order : OrderView) (limits : Limits) (mover : Which) (vertex : ℕ) (b
     ),
   )
 
-  pub told_depend : (word : List ℕ) → word ≡ moves_word mover → NoneWinsUnder (graph_of order.game) order.diagram.lines (choices order.decisions) mover vertex →
-      after ≡ before ++ depend_line word → Appends (TellsWinning page limits mover vertex order.decisions) before after
-  told_depend word word_is none appended =
-      (depend_line (moves_word mover), (inr (inl (none, refl)), appended ∙ ap (λ (w : List ℕ). before ++ depend_line w) word_is))
-
   pub told_short : (ChoicesSettleInCaution limits.rounds (graph_of order.game) order.diagram.lines (choices order.decisions) mover → ⊥) →
       after ≡ before ++ unsettled_line → Appends (TellsWinning page limits mover vertex order.decisions) before after
-  told_short short appended = (unsettled_line, (inr (inr (short, refl)), appended))
+  told_short short appended = (unsettled_line, (inr (short, refl), appended))
 
-  module _ (verdict : Which) (verdict_is : verdict ≡ verdict_for mover) where
+  module _ (verdict : Which) (verdict_is : verdict ≡ other_table mover) where
     abbrev IsTop : List ℕ → Which → Type 0
     IsTop table which = slice_index table vertex ≡ top_for which (graph_of order.game)
 
-    top_is : IsTop (order_table verdict order) verdict → IsTop (table_in order.hopeful order.dual (verdict_for mover)) (verdict_for mover)
+    top_is : IsTop (order_table verdict order) verdict → IsTop (table_in order.hopeful order.dual (other_table mover)) (other_table mover)
     top_is high = subst (λ (w : Which). IsTop (table_in order.hopeful order.dual w) w) verdict_is
         (subst (λ (t : List ℕ). IsTop t verdict) (table_is order verdict) high)
 
-    is_top : IsTop (table_in order.hopeful order.dual (verdict_for mover)) (verdict_for mover) → IsTop (order_table verdict order) verdict
+    is_top : IsTop (table_in order.hopeful order.dual (other_table mover)) (other_table mover) → IsTop (order_table verdict order) verdict
     is_top high = subst (λ (t : List ℕ). IsTop t verdict) (sym (table_is order verdict))
         (subst (λ (w : Which). IsTop (table_in order.hopeful order.dual w) w) (sym verdict_is) high)
 
     pub told_moves : IsTop (order_table verdict order) verdict → Appends (TellsWinning page limits mover vertex order.decisions) before after →
-        Appends (TellsMoves page limits mover vertex order.decisions (table_in order.hopeful order.dual (verdict_for mover))) before after
+        Appends (TellsMoves page limits mover vertex order.decisions (table_in order.hopeful order.dual (other_table mover))) before after
     told_moves high (text, (tells, appended)) = (text, (inl (top_is high, tells), appended))
 
     pub told_no_moves : (identifier : ℕ) → identifier ≡ slice_index (vertex_ids order.game.vertices) vertex → ¬ (IsTop (order_table verdict order) verdict) →
-        after ≡ before ++ other_line verdict identifier → Appends (TellsMoves page limits mover vertex order.decisions (table_in order.hopeful order.dual (verdict_for mover))) before after
+        after ≡ before ++ other_line verdict identifier → Appends (TellsMoves page limits mover vertex order.decisions (table_in order.hopeful order.dual (other_table mover))) before after
     told_no_moves identifier same low appended = (
-      other_line (verdict_for mover) (identifier_of page vertex),
+      other_line (other_table mover) (identifier_of page vertex),
       (inr (λ high. low (is_top high), refl), appended ∙ ap₂ (λ (w : Which) (n : ℕ). before ++ other_line w n) verdict_is same),
     )

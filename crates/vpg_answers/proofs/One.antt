@@ -24,11 +24,12 @@ use Rattle.vpg_why.specs.declared.question.Question.TheVariants as asks
 use Rattle.vpg_why.proofs.Listing.{among_named}
 use Rattle.vpg_why.proofs.Monotone.{more_choices_suffice}
 use Rattle.vpg_why.proofs.FirstOnes.{first_products_are_one}
+use Rattle.vpg_measure.specs.Orders.{other_table}
 use Rattle.vpg_why.proofs.Next.{explanations_are_one}
 use Rattle.vpg_answers.specs.declared.query.Query.{Query}
 use Rattle.vpg_answers.specs.declared.query.Query.TheVariants as queries
 use Rattle.vpg_answers.specs.Texts.{verdict_word, verdict_line, other_line, lost_line, known_line, conflict_line, names_in, product_line}
-use Rattle.vpg_answers.specs.Answers.{MakeSo, IsReason, identifier_of, TellsVerdict, TellsVertex, TellsKnownBy, TellsFeature, TellsChoice, TellsProduct, TellsExample, TellsLost, TellsOfPage, TellsOfVertex, Tells, HasDoubt, lost_for, verdict_for}
+use Rattle.vpg_answers.specs.Answers.{MakeSo, IsReason, identifier_of, TellsVerdict, TellsVertex, TellsKnownBy, TellsFeature, TellsChoice, TellsProduct, TellsExample, TellsLost, TellsOfPage, TellsOfVertex, Tells, HasDoubt, lost_for}
 use Rattle.vpg_answers.specs.Laws.{AnswersAreOne}
 use Rattle.vpg_answers.proofs.OneMoves.{tells_moves_one}
 use Rattle.vpg_answers.proofs.OneOffers.{offers_one}
@@ -197,7 +198,7 @@ module _ (scene : Scene) (limits others : Limits) (decisions : List Decision) (i
   of_vertex_one questions.Repair vertex hopeful dual one other a b sure also = repair_one scene limits others vertex decisions is named hopeful one other a b sure also
   of_vertex_one (questions.Lost which) vertex hopeful dual one other a b sure also = lost_one (aims.Won which vertex) one other a b sure also
   of_vertex_one (questions.Moves mover) vertex hopeful dual one other a b sure also =
-      tells_moves_one scene limits others mover vertex decisions (table_in hopeful dual (verdict_for mover)) one other a b sure also
+      tells_moves_one scene limits others mover vertex decisions (table_in hopeful dual (other_table mover)) one other a b sure also
   of_vertex_one questions.Draw vertex hopeful dual one other a b sure also = tells_part_one scene limits others vertex decisions hopeful dual one other a b sure also
 
   of_page_one : (question : PageQuestion) (one other : List ℕ) → TellsOfPage scene limits question decisions one → TellsOfPage scene others question decisions other → ¬ (HasDoubt one) → ¬ (HasDoubt other) → one ≡ other

@@ -3,10 +3,11 @@ use Rattle.std.specs.Prelude.{◌≡◌, ◌≢◌, ℕ, ◌<◌, ⊤, ◌⊎◌
 use Rattle.vpg_guards.specs.declared.tri.Tri.{Tri}
 use Rattle.vpg_diagram.specs.FeatureDiagram.{IsDiagram}
 use Rattle.vpg_diagram.specs.declared.clause.Literal.{Literal}
+use Rattle.vpg_measure.specs.Orders.{other_table}
 use Rattle.vpg_measure.specs.TwoGames.{top_for}
 use Rattle.vpg_verdict.specs.declared.which.Which.{Which}
 use Rattle.vpg_verdict.specs.declared.which.Which.TheVariants.{Hopeful, Dual}
-use Rattle.vpg_why.specs.Moves.{AreWinning, NoneWinsUnder, ChoicesSettleInCaution}
+use Rattle.vpg_why.specs.Moves.{AreWinning, ChoicesSettleInCaution}
 use Rattle.vpg_partial.specs.KnownLaws.{IsRemaining}
 use Rattle.vpg_partial.specs.TableLaws.{AreChoicesOf, IsKnownTable}
 use Rattle.vpg_partial.specs.declared.decision.Decision.{Decision}
@@ -27,7 +28,7 @@ use Rattle.vpg_why.specs.declared.question.Question.TheVariants as asks
 use Rattle.vpg_answers.specs.declared.offers.Offered.{Offered}
 use Rattle.vpg_answers.specs.declared.query.Query.{Query}
 use Rattle.vpg_answers.specs.declared.query.Query.TheVariants as queries
-use Rattle.vpg_answers.specs.Texts.{verdict_line, other_line, lost_head, lost_line, known_line, not_known_line, conflict_line, no_conflict_line, product_line, none_line, unsettled_line, offers_text, forced_text, singles_text, several_text, moves_word, moves_text, depend_line}
+use Rattle.vpg_answers.specs.Texts.{verdict_line, other_line, lost_head, lost_line, known_line, not_known_line, conflict_line, no_conflict_line, product_line, none_line, unsettled_line, offers_text, forced_text, singles_text, several_text, moves_word, moves_text}
 use Rattle.vpg_answers.specs.Offers.{AreOffers}
 use Rattle.vpg_answers.specs.Parts.{TellsPart}
 use Rattle.vpg_answers.specs.Repairs.{AreSingles}
@@ -187,30 +188,23 @@ TellsRepair scene limits vertex decisions hopeful text =
 
 -- ---- moves
 
--- The table whose top says that the player wins whose moves are asked for: Even's for the first one, Odd's for the
--- second.
-abbrev pub verdict_for : (mover : Which) → Which
-verdict_for Hopeful = Dual
-verdict_for Dual = Hopeful
-
--- Moves that win in each product that is left; or none win against all that may still be there; or the limits leave no
--- room.
+-- Moves that win in each product that is left; or the limits leave no room.
 abbrev pub TellsWinning : Scene → Limits → (mover : Which) → (vertex : ℕ) → List Decision → (text : List ℕ) → Type 0
 TellsWinning scene limits mover vertex decisions text =
     ((moves : List (Option ℕ)) × AreWinning scene.game scene.lines (choices decisions) mover vertex moves ×
     (text ≡ moves_text (moves_word mover) scene.identifiers moves))
-    ⊎ (NoneWinsUnder scene.game scene.lines (choices decisions) mover vertex × (text ≡ depend_line (moves_word mover)))
     ⊎ (¬ (ChoicesSettleInCaution limits.rounds scene.game scene.lines (choices decisions) mover)
     × (text ≡ unsettled_line))
 
--- The page's table has the top at the vertex, so that the player wins, and these moves do it; or it hasn't.
+-- The moves are Even's for the first table, Odd's for the second. The page's other table has the top at the vertex, so
+-- that this player wins, and these moves do it; or it hasn't.
 abbrev pub TellsMoves : Scene → Limits → (mover : Which) → (vertex : ℕ) → List Decision → (table text : List ℕ) →
     Type 0
 TellsMoves scene limits mover vertex decisions table text =
-    ((slice_index table vertex ≡ top_for (verdict_for mover) scene.game)
+    ((slice_index table vertex ≡ top_for (other_table mover) scene.game)
     × TellsWinning scene limits mover vertex decisions text)
-    ⊎ (¬ (slice_index table vertex ≡ top_for (verdict_for mover) scene.game)
-    × (text ≡ other_line (verdict_for mover) (identifier_of scene vertex)))
+    ⊎ (¬ (slice_index table vertex ≡ top_for (other_table mover) scene.game)
+    × (text ≡ other_line (other_table mover) (identifier_of scene vertex)))
 
 -- ---- any
 
@@ -230,7 +224,7 @@ TellsOfVertex scene limits questions.Repair vertex decisions hopeful dual text =
 TellsOfVertex scene limits (questions.Lost which) vertex decisions hopeful dual text =
     TellsLost scene limits (aims.Won which vertex) decisions text
 TellsOfVertex scene limits (questions.Moves mover) vertex decisions hopeful dual text =
-    TellsMoves scene limits mover vertex decisions (table_in hopeful dual (verdict_for mover)) text
+    TellsMoves scene limits mover vertex decisions (table_in hopeful dual (other_table mover)) text
 TellsOfVertex scene limits questions.Draw vertex decisions hopeful dual text =
     TellsPart scene limits vertex decisions hopeful dual text
 

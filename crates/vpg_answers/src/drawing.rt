@@ -1,9 +1,12 @@
 //! Pictures of what matters at a vertex.
-ghost use Rattle.std.specs.Prelude.{◌≡◌, ◌<◌, OnOk, length};
+ghost use Rattle.std.specs.Prelude.{◌≡◌, ◌<◌, OnOk, length, slice_index};
 ghost use Rattle.vpg_answers.specs.Answers.{Appends};
 ghost use Rattle.vpg_answers.specs.Parts.{DrawsWinning, IsPartDrawn, TellsPart};
 ghost use Rattle.vpg_diagram.specs.FeatureDiagram.{feature_count};
+ghost use Rattle.vpg_game.specs.Game.{graph_of};
 ghost use Rattle.vpg_measure.specs.Games.{ArePageGames};
+ghost use Rattle.vpg_measure.specs.Orders.{order_table, other_table};
+ghost use Rattle.vpg_measure.specs.TwoGames.{top_for};
 ghost use Rattle.vpg_partial.specs.TableLaws.{AreChoicesOf};
 ghost use Rattle.vpg_texts.specs.Scene.{scene_of};
 ghost use Rattle.vpg_why.specs.Explained.{choices};
@@ -115,14 +118,16 @@ fn winning(
     limits: Limits,
     out: &mut Vec<u8>,
 ) -> Result<(), AllocError>
-    requires { vertex < length order.now.game.vertices }
+    requires vertex { vertex < length order.now.game.vertices }
+    requires verdict { slice_index (order_table (other_table mover) order.now) vertex ≡
+        top_for (other_table mover) (graph_of order.now.game) }
     ensures { OnOk result (Appends
         (DrawsWinning (scene_of order.now.game order.now.diagram) limits mover vertex order.now.decisions
         order.now.hopeful order.now.dual) out.old.items out.new.items) }
 {
     match winning_moves(alloc, order, mover, vertex, limits)? {
         Moves::Winning(moves) => drawn(alloc, order, vertex, Some(player(mover)), &moves, out),
-        Moves::Nothing => drawn(alloc, order, vertex, None, &[], out),
+        Moves::Nothing => unreachable!(),
         Moves::Unsettled => lines::unsettled(out),
     }
 }

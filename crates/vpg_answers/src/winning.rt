@@ -1,9 +1,9 @@
 //! Moves that win in every product that is left.
 ghost use Rattle.std.specs.Prelude.{◌≡◌, ◌↔◌, ◌<◌, ◌++◌, All, IfSome, IsTrue, OnOk, count_by, is_some, length, slice_index};
-ghost use Rattle.vpg_answers.specs.Answers.{Appends, TellsMoves, TellsWinning, verdict_for};
-ghost use Rattle.vpg_answers.specs.Texts.{depend_line, move_line, move_lines, moves_text, moves_word};
+ghost use Rattle.vpg_answers.specs.Answers.{Appends, TellsMoves, TellsWinning};
+ghost use Rattle.vpg_answers.specs.Texts.{move_line, move_lines, moves_text, moves_word};
 ghost use Rattle.vpg_game.specs.Game.{graph_of, vertex_ids};
-ghost use Rattle.vpg_measure.specs.Orders.{order_table};
+ghost use Rattle.vpg_measure.specs.Orders.{order_table, other_table};
 ghost use Rattle.vpg_measure.specs.TwoGames.{top_for};
 ghost use Rattle.vpg_texts.specs.Scene.{scene_of, table_in};
 
@@ -27,7 +27,7 @@ fn word_of(mover: Which) -> &'static [u8]
 
 /// The table whose top says that the player wins.
 fn verdict_for(mover: Which) -> Which
-    ensures { result ≡ verdict_for mover }
+    ensures { result ≡ other_table mover }
 {
     match mover {
         Which::Hopeful => Which::Dual,
@@ -112,14 +112,6 @@ fn tell(
     out.extend_from_slice(b"\n")
 }
 
-/// That no moves win against all that may still be there.
-fn depend(word: &[u8], out: &mut Vec<u8>) -> Result<(), AllocError>
-    ensures { OnOk result (out.new.items ≡ out.old.items ++ depend_line word.now) }
-{
-    out.extend_from_slice(word)?;
-    out.extend_from_slice(b"s depend\n")
-}
-
 /// How a player wins, where the page says so: Even for the first table, Odd for the second.
 fn winning(
     alloc: Global,
@@ -129,7 +121,9 @@ fn winning(
     limits: Limits,
     out: &mut Vec<u8>,
 ) -> Result<(), AllocError>
-    requires { vertex < length order.now.game.vertices }
+    requires vertex { vertex < length order.now.game.vertices }
+    requires verdict { slice_index (order_table (other_table mover) order.now) vertex ≡
+        top_for (other_table mover) (graph_of order.now.game) }
     ensures { OnOk result (Appends
         (TellsWinning (scene_of order.now.game order.now.diagram) limits mover vertex order.now.decisions)
         out.old.items out.new.items) }
@@ -137,7 +131,7 @@ fn winning(
     let word = word_of(mover);
     match winning_moves(alloc, order, mover, vertex, limits)? {
         Moves::Winning(moves) => tell(word, order, &moves, out),
-        Moves::Nothing => depend(word, out),
+        Moves::Nothing => unreachable!(),
         Moves::Unsettled => lines::unsettled(out),
     }
 }
@@ -155,7 +149,7 @@ pub(crate) fn moves(
     requires { vertex < length order.now.game.vertices }
     ensures { OnOk result (Appends
         (TellsMoves (scene_of order.now.game order.now.diagram) limits mover vertex order.now.decisions
-        (table_in order.now.hopeful order.now.dual (verdict_for mover))) out.old.items out.new.items) }
+        (table_in order.now.hopeful order.now.dual (other_table mover))) out.old.items out.new.items) }
 {
     let verdict = verdict_for(mover);
     if has_top(order, verdict, vertex) {

@@ -1,6 +1,7 @@
 //! The texts that show a page.
 ghost use Rattle.std.specs.Prelude.{◌≡◌, map, IfOk};
 ghost use Rattle.vpg_diagram.specs.FeatureDiagram.{feature_count};
+ghost use Rattle.vpg_game.specs.Game.{IsAtLimit};
 ghost use Rattle.vpg_measure.specs.Games.{ArePageGames};
 ghost use Rattle.vpg_partial.specs.Known.{literal_of};
 ghost use Rattle.vpg_partial.specs.KnownLaws.{HasConflictOf};
@@ -38,6 +39,7 @@ pub(crate) fn games_of(
     diagram: &Diagram,
     decisions: &[Decision],
 ) -> Result<PageGames, AllocError>
+    requires not_at_limit { ¬ IsAtLimit game.now }
     requires features { game.now.features ≡ feature_count diagram.now.lines }
     requires named { AreChoicesOf diagram.now.lines (map literal_of decisions.now) }
     requires consistent { ¬ (HasConflictOf diagram.now.lines (map literal_of decisions.now)) }
@@ -45,8 +47,8 @@ pub(crate) fn games_of(
 {
     match PageGames::under(alloc, game, diagram, decisions) {
         Ok(games) => Ok(games),
+        Err(OrderFault::AtLimit) => unreachable!(),
         Err(OrderFault::Conflict { .. }) => unreachable!(),
-        Err(OrderFault::AtLimit) => Err(AllocError),
         Err(OrderFault::Memory) => Err(AllocError),
     }
 }

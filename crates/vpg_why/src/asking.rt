@@ -72,7 +72,7 @@ pub(crate) fn is_top(
         Which::Hopeful => games.shape(Which::Dual),
         Which::Dual => &again,
     };
-    let mut table = Table::zero(alloc, arena.vertices())?;
+    let mut table = Table::zero(alloc, shape, arena.vertices())?;
     let settled = raise(alloc, shape, dual_shape, arena, &mut table, limits)?;
     if table.get(vertex) == shape.top() {
         Ok(Shown::Yes)

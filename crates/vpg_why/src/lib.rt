@@ -8,10 +8,10 @@
 //! decisions, so the answer is a function of the page. Each trial goes over from the order's games to those of its
 //! decisions; what is asked of features alone makes no games.
 //!
-//! A hopeless vertex is one from which Even wins in no product that is left, and a sure one the same for Odd. The winner
-//! may win otherwise in each product. `winning_moves` finds moves that serve in all of them at once: those by which the
-//! player wins the cautious game (`vpg_hope`), where the player has the edges that are there in each product, and the
-//! opponent all that are there in some. Its table is raised by certified bounds and, where these do not settle it, by
+//! In every product that is left Odd wins from a hopeless vertex, and Even from a sure one. `winning_moves` finds moves
+//! that serve in all of them at once: those by which the player wins the cautious game (`vpg_hope`), where the player
+//! has the edges that are there in each product, and the opponent all that are there in some. There always are such
+//! moves, since parity games are determined (`vpg_determined`). The table of that game is raised by certified bounds and, where these do not settle it, by
 //! rounds of lifts. Of the moves those are given that a play from the vertex can come to, by a search along them and all
 //! edges of the opponent. `reachable` tells which vertices can be reached over edges that may be there, by such moves or
 //! by any.

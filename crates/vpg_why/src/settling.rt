@@ -53,7 +53,7 @@ pub(crate) fn least_table(
     ensures settled { IfOk result (λ found. IsNone found → IsProgressTable shape.now arena.now
         (after_rounds shape.now arena.now limits.rounds (replicate (length arena.now) 0)) → ⊥) }
 {
-    let mut table = Table::zero(alloc, arena.vertices())?;
+    let mut table = Table::zero(alloc, shape, arena.vertices())?;
     let settled = raise(alloc, shape, dual_shape, arena, &mut table, limits)?;
     if settled { Ok(Some(table)) } else { Ok(None) }
 }

@@ -49,9 +49,9 @@ fn may_take(known: &[Tri], is_listed: bool, listed: Option<u32>, edge: &Edge) ->
     ensures { IsTrue result ↔ ((kleene known.now edge.now.guard ≢ Tri.No)
         × (IsTrue is_listed → listed ≡ Some edge.now.to)) }
 {
-    match edge.guard().kleene(known) {
+    match edge.guard.kleene(known) {
         Tri::No => false,
-        Tri::Unknown | Tri::Yes => !is_listed || leads_to(listed, edge.to()),
+        Tri::Unknown | Tri::Yes => !is_listed || leads_to(listed, edge.to),
     }
 }
 
@@ -78,7 +78,7 @@ fn visit(
     let edges = game.edges(v);
     for e in edges {
         if may_take(known, is_listed, listed, e) {
-            note(marks, queue, e.to())?;
+            note(marks, queue, e.to)?;
         }
     }
     Ok(())

@@ -1,6 +1,7 @@
 //! The text of what a page's decisions make known.
 ghost use Rattle.std.specs.Prelude.{◌≡◌, ◌++◌, ℕ, List, length, map, OnOk, OnErr};
 ghost use Rattle.vpg_diagram.specs.FeatureDiagram.{feature_count};
+ghost use Rattle.vpg_game.specs.Game.{IsAtLimit};
 ghost use Rattle.vpg_partial.specs.Known.{literal_of};
 ghost use Rattle.vpg_partial.specs.KnownLaws.{HasConflictOf};
 ghost use Rattle.vpg_partial.specs.TableLaws.{AreChoicesOf};
@@ -40,6 +41,7 @@ pub fn products(
     diagram: &Diagram,
     out: &mut Vec<u8>,
 ) -> Result<(), AllocError>
+    requires not_at_limit { ¬ IsAtLimit game.now }
     requires features { game.now.features ≡ feature_count diagram.now.lines }
     requires named { AreChoicesOf diagram.now.lines (map literal_of page.now.decisions) }
     requires consistent { ¬ (HasConflictOf diagram.now.lines (map literal_of page.now.decisions)) }

@@ -2,7 +2,7 @@
 ghost use Rattle.std.specs.Prelude.{◌≡◌, ◌≤◌, ◌↔◌, ◌++◌, ℕ, List, length, map, All, IfOk, IsTrue, OnOk, OnErr};
 ghost use Rattle.std.specs.Bool.{Decides};
 ghost use Rattle.vpg_diagram.specs.FeatureDiagram.{feature_count};
-ghost use Rattle.vpg_game.specs.Game.{graph_of};
+ghost use Rattle.vpg_game.specs.Game.{IsAtLimit, graph_of};
 ghost use Rattle.vpg_measure.specs.Games.{ArePageGames, games_levels, games_arena};
 ghost use Rattle.vpg_measure.specs.Lifts.{IsTableOf, IsProgressTable};
 ghost use Rattle.vpg_measure.specs.TwoGames.{top_for};
@@ -121,6 +121,7 @@ pub fn show(
     diagram: &Diagram,
     out: &mut Vec<u8>,
 ) -> Result<(), AllocError>
+    requires not_at_limit { ¬ IsAtLimit game.now }
     requires features { game.now.features ≡ feature_count diagram.now.lines }
     requires named { AreChoicesOf diagram.now.lines (map literal_of page.now.decisions) }
     requires consistent { ¬ (HasConflictOf diagram.now.lines (map literal_of page.now.decisions)) }

@@ -1,10 +1,11 @@
 //! The text of a plan: what Even does at a full and settled page.
-ghost use Rattle.std.specs.Prelude.{◌≡◌, ◌≤◌, ◌++◌, ℕ, List, length, map, All, IfOk, IfErr, IfSome, IfNone, OnOk, OnErr};
+ghost use Rattle.std.specs.Prelude.{◌≡◌, ◌≤◌, ◌↔◌, ◌++◌, ℕ, List, length, map, All, None, Ok, Err, IfOk, IfErr, IfSome, OnOk, OnErr};
+ghost use Rattle.vpg_guards.specs.Known.{AreAllKnown};
 ghost use Rattle.vpg_diagram.specs.FeatureDiagram.{feature_count};
 ghost use Rattle.vpg_partial.specs.Known.{literal_of};
 ghost use Rattle.vpg_partial.specs.KnownLaws.{HasConflictOf};
 ghost use Rattle.vpg_partial.specs.TableLaws.{AreChoicesOf};
-ghost use Rattle.vpg_game.specs.Game.{graph_of};
+ghost use Rattle.vpg_game.specs.Game.{IsAtLimit, graph_of};
 ghost use Rattle.vpg_measure.specs.Games.{ArePageGames};
 ghost use Rattle.vpg_measure.specs.Lifts.{IsTableOf, AreChoices};
 ghost use Rattle.vpg_measure.specs.TwoGames.{top_for};
@@ -58,24 +59,24 @@ fn choices(
     ensures chosen { IfOk result
         (λ found. IfSome found (λ chosen.
         AreChoices games.now.hopeful_levels games.now.hopeful_arena hopeful.now chosen.items)) }
-    ensures unsettled { IfOk result (λ found. IfNone found (¬ (AreSettledTables games.now hopeful.now dual.now))) }
+    ensures unsettled { (result ≡ Ok None) ↔ ¬ (AreSettledTables games.now hopeful.now dual.now) }
 {
-    let shape = games.shape(Which::Hopeful);
-    let arena = games.arena(Which::Hopeful);
-    let chosen = match strategy(alloc, shape, arena, hopeful) {
-        Ok(chosen) => chosen,
-        Err(StrategyFault::NotSettled) => return Ok(None),
-        Err(StrategyFault::Memory) => return Err(AllocError),
-    };
     if !is_settled_table(games, Which::Dual, dual) {
         return Ok(None);
     }
-    Ok(Some(chosen))
+    let shape = games.shape(Which::Hopeful);
+    let arena = games.arena(Which::Hopeful);
+    match strategy(alloc, shape, arena, hopeful) {
+        Ok(chosen) => Ok(Some(chosen)),
+        Err(StrategyFault::NotSettled) => Ok(None),
+        Err(StrategyFault::Memory) => Err(AllocError),
+    }
 }
 
 /// Appends a plan as `plan` does, over what the page's decisions make of its game: no guard is looked at.
 ///
-/// Errors as those of `plan`.
+/// Errors, in this order: `NotFull` where some feature isn't known, `NotSettled` where some table is no progress table,
+/// `Memory`. Neither of the first two takes memory.
 pub fn plan_over(
     alloc: Global,
     games: &PageGames,
@@ -98,6 +99,13 @@ pub fn plan_over(
     ensures refused { IfErr result
         (IsPlanFault (scene_of game.now diagram.now) page.now.decisions page.now.hopeful page.now.dual) }
 
+    // Want of memory takes the place of neither.
+    ensures not_full { (result ≡ Err PlanFault.NotFull) ↔
+        ¬ (AreAllKnown (length games.now.known) games.now.known) }
+    ensures not_settled { (result ≡ Err PlanFault.NotSettled) ↔
+        (AreAllKnown (length games.now.known) games.now.known ×
+        ¬ (AreSettledTables games.now page.now.hopeful page.now.dual)) }
+
     // Even wins by the choices, in the one product that remains.
     ensures wins { OnOk result (PlanWins (scene_of game.now diagram.now) page.now.decisions page.now.hopeful) }
     ensures unchanged { OnErr result (out.new.items ≡ out.old.items) }
@@ -119,7 +127,7 @@ pub fn plan_over(
 /// for each vertex.
 ///
 /// Errors, in this order: `NotFull` where some feature isn't known, `NotSettled` where some table is no progress table,
-/// `Memory`.
+/// `Memory`. To close the decisions takes memory, so want of it may come in the place of the first two.
 pub fn plan(
     alloc: Global,
     page: &Page,
@@ -127,6 +135,7 @@ pub fn plan(
     diagram: &Diagram,
     out: &mut Vec<u8>,
 ) -> Result<(), PlanFault>
+    requires not_at_limit { ¬ IsAtLimit game.now }
     requires features { game.now.features ≡ feature_count diagram.now.lines }
     requires named { AreChoicesOf diagram.now.lines (map literal_of page.now.decisions) }
     requires consistent { ¬ (HasConflictOf diagram.now.lines (map literal_of page.now.decisions)) }

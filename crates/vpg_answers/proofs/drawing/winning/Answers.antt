@@ -1,6 +1,5 @@
-use Rattle.std.proofs.Common.{◌≡◌, ◌∙◌, refl}
 use Rattle.vpg_texts.proofs.Shown.{on_ok}
-use Rattle.vpg_answers.proofs.Pictures.{draws_moves, draws_all, draws_short}
+use Rattle.vpg_answers.proofs.Pictures.{draws_moves, draws_short}
 use Rattle.vpg_answers.proofs.drawing.winning.Goals as goal
 
 pub returns-in-Winning : goal.returns-in-Winning
@@ -10,11 +9,8 @@ returns-in-Winning c =
     (λ drawn. draws_moves c.args.order.now c.args.limits c.args.vertex c.args.out.now.items c.drawn.new.out.items c.args.mover c.player.result
     c.deref.result.now c.in-Winning.moves.items c.player.ensures c.deref.ensures.value are drawn) c.drawn.ensures
 
-pub returns-in-Nothing : goal.returns-in-Nothing
-returns-in-Nothing c =
-    let none = rw c.in-Nothing.is at c.in_ok-moves.ensures.found in
-    on_ok c.drawn-in-Nothing.result _ _
-    (λ drawn. draws_all c.args.order.now c.args.limits c.args.vertex c.args.out.now.items c.drawn-in-Nothing.new.out.items c.args.mover _ refl none drawn) c.drawn-in-Nothing.ensures
+pub unreachable-requires : goal.unreachable-requires
+unreachable-requires c = c.in_ok-moves.ensures.verdict c.requires.verdict c.in-Nothing.is
 
 pub returns-in-Unsettled : goal.returns-in-Unsettled
 returns-in-Unsettled c =

@@ -2,7 +2,7 @@ use Rattle.std.proofs.Common.{◌<◌, ◌∙◌, ℕ, All, subst}
 use Rattle.std.specs.Prelude.{IfSome}
 use Rattle.vpg_game.proofs.Graphs.{same_count}
 use Rattle.vpg_texts.proofs.Shown.{on_ok}
-use Rattle.vpg_answers.proofs.Moving.{told_winning, told_depend, told_short}
+use Rattle.vpg_answers.proofs.Moving.{told_winning, told_short}
 use Rattle.vpg_answers.proofs.winning.winning.Goals as goal
 
 pub tell-requires-clause-count : goal.tell-requires-clause-count
@@ -23,12 +23,8 @@ returns-in-Winning c =
     (λ appended. told_winning c.args.order.now c.args.limits c.args.mover c.args.vertex c.args.out.now.items c.tell.new.out.items
     c.deref.result.now c.in-Winning.moves.items c.word_of-word.result.now c.deref.ensures.value c.word_of-word.ensures are appended) c.tell.ensures
 
-pub returns-in-Nothing : goal.returns-in-Nothing
-returns-in-Nothing c =
-    let none = rw c.in-Nothing.is at c.in_ok-moves.ensures.found in
-    on_ok c.depend.result _ _
-    (λ appended. told_depend c.args.order.now c.args.limits c.args.mover c.args.vertex c.args.out.now.items c.depend.new.out.items
-    c.word_of-word.result.now c.word_of-word.ensures none appended) c.depend.ensures
+pub unreachable-requires : goal.unreachable-requires
+unreachable-requires c = c.in_ok-moves.ensures.verdict c.requires.verdict c.in-Nothing.is
 
 pub returns-in-Unsettled : goal.returns-in-Unsettled
 returns-in-Unsettled c =

@@ -6,7 +6,7 @@ use Rattle.vpg_why.proofs.asking.is_top.Goals as goal
 
 pub raise-requires : goal.raise-requires
 raise-requires c = zeros_fit c.shape-shape.result.now c.arena-arena.result.now c.in_ok-table.table
-    (c.in_ok-table.ensures ∙ ap (λ n. replicate n 0) c.vertices.ensures)
+    (c.in_ok-table.ensures.zero ∙ ap (λ n. replicate n 0) c.vertices.ensures)
 
 pub get-requires : goal.get-requires
 get-requires c =
@@ -17,7 +17,7 @@ pub returns-then-get-top-clause-yes : goal.returns-then-get-top-clause-yes
 returns-then-get-top-clause-yes c e =
     top_shown c.args.order.now.game c.args.which c.args.games.now.known c.shape-shape.result.now c.arena-arena.result.now (c.shape-shape.ensures ∙ c.requires.games.1.levels c.args.which) (c.arena-arena.ensures ∙ c.requires.games.1.arena c.args.which)
     c.raise.new.table c.raise.ensures.table c.args.vertex c.requires.vertex
-    c.in_ok-table.table (c.in_ok-table.ensures ∙ ap (λ n. replicate n 0) c.vertices.ensures) c.raise.ensures.below (sym c.get.ensures ∙ c.if-get-top.true ∙ c.top.ensures.top)
+    c.in_ok-table.table (c.in_ok-table.ensures.zero ∙ ap (λ n. replicate n 0) c.vertices.ensures) c.raise.ensures.below (sym c.get.ensures ∙ c.if-get-top.true ∙ c.top.ensures.top)
 
 pub returns-then-settled-clause-no : goal.returns-then-settled-clause-no
 returns-then-settled-clause-no c e =
@@ -33,7 +33,7 @@ returns-then-settled-clause-low c e =
 
 pub returns-clause-settled : goal.returns-clause-settled
 returns-clause-settled c s e = clash (sym (c.in_ok-settled.ensures.rounds (subst (λ (t : List ℕ). IsProgressTable c.shape-shape.result.now c.arena-arena.result.now (after_rounds c.shape-shape.result.now c.arena-arena.result.now c.args.limits.rounds t))
-    (sym (c.in_ok-table.ensures ∙ ap (λ n. replicate n 0) c.vertices.ensures))
+    (sym (c.in_ok-table.ensures.zero ∙ ap (λ n. replicate n 0) c.vertices.ensures))
     (settles_from_zeros c.args.limits.rounds c.args.order.now.game c.args.which c.args.games.now.known c.shape-shape.result.now c.arena-arena.result.now (c.shape-shape.ensures ∙ c.requires.games.1.levels c.args.which) (c.arena-arena.ensures ∙ c.requires.games.1.arena c.args.which) s))) ∙ c.if-settled.false)
   where
     clash : true ≡ false → ⊥

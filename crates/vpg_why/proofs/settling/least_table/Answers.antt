@@ -8,6 +8,6 @@ returns-then-settled-clause-least c = record {
   is_table = c.raise.ensures.table;
   settled = c.in_ok-settled.ensures.settled.0 c.if-settled.true;
   below = λ other t p. c.raise.ensures.below other t p
-      (subst (λ (zeros : List ℕ). IsBelowTable zeros other) (sym (c.in_ok-table.ensures ∙ ap (λ n. replicate n 0) c.vertices.ensures))
+      (subst (λ (zeros : List ℕ). IsBelowTable zeros other) (sym (c.in_ok-table.ensures.zero ∙ ap (λ n. replicate n 0) c.vertices.ensures))
       ((zeros_are_below c.args.shape.now c.args.arena.now).1 other t p));
 }

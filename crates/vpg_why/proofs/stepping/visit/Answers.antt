@@ -1,6 +1,7 @@
 use Rattle.std.specs.Prelude.{Some}
 use Rattle.std.proofs.Common.{refl, sym, ap, arith, subst, length, ℕ, ◌∙◌, ◌<◌, ◌≡◌}
-use Rattle.vpg_guards.specs.Formula.{IsBelow}
+use Rattle.vpg_guards.specs.Formula.{Formula, IsBelow}
+use Rattle.vpg_game.specs.Guarded.{GuardedEdge}
 use Rattle.vpg_game.specs.Game.{graph_of, vertex_in}
 use Rattle.vpg_measure.specs.Views.{strategy_of}
 use Rattle.vpg_why.specs.Searched.{AreNoted}
@@ -23,8 +24,8 @@ note-requires-clause-queued c = c.loop-e.invariant.queued
 
 pub note-requires-clause-inside : goal.note-requires-clause-inside
 note-requires-clause-inside c =
-    subst (λ n. c.to.result < n) (sym (c.loop-e.invariant.count ∙ c.requires.marks))
-    (subst (λ w. w < length c.args.game.now.vertices) (sym c.to.ensures)
+    subst (λ n. c.e.inside.to < n) (sym (c.loop-e.invariant.count ∙ c.requires.marks))
+    (subst (λ w. w < length c.args.game.now.vertices) (sym (ap (λ (e : GuardedEdge Formula). e.to) c.e.view_is))
     (edge_in c.args.game.now c.args.v c.edges-edges.result.now c.loop-e.e-index c.e-item.result c.vertices-count.ensures.game c.requires.vertex c.edges-edges.ensures.value c.loop-e-test.true c.e-item.is).0)
 
 pub loop-e-preserved : goal.loop-e-preserved
@@ -34,7 +35,7 @@ loop-e-preserved c = elim c.if-may_take.branch [
       c.args.marks.now.items c.args.queue.now.items c.loop-e.e-index c.loop-e-test.true c.e-item.result c.e-item.is c.loop-e.marks.items c.loop-e.queue.items c.loop-e.invariant
       w.note.new.marks.items w.note.new.queue.items (c.may_take.ensures.0 w.if-may_take.true).0
       (λ o. sym c.move_of-listed.ensures ∙ (c.may_take.ensures.0 w.if-may_take.true).1 (c.is_mover-is_listed.ensures.1 (o ∙ ap Some (sym c.owner.ensures.graph))))
-      (subst (λ (u : ℕ). AreNoted (λ v. v ≡ u) c.loop-e.marks.items c.loop-e.queue.items w.note.new.marks.items w.note.new.queue.items) w.to.ensures w.in_ok-note.ensures))
+      (subst (λ (u : ℕ). AreNoted (λ v. v ≡ u) c.loop-e.marks.items c.loop-e.queue.items w.note.new.marks.items w.note.new.queue.items) (ap (λ (e : GuardedEdge Formula). e.to) c.e.view_is) w.in_ok-note.ensures))
   | else-may_take w ↦ rw (w.marks-is, w.queue-is)
       (untaken_next c.edges-edges.result.now c.args.known.now c.args.mover (vertex_in (graph_of c.args.game.now) c.args.v).owner (strategy_of c.args.moves.now c.args.v)
       c.args.marks.now.items c.args.queue.now.items c.loop-e.e-index c.loop-e-test.true c.e-item.result c.e-item.is c.loop-e.marks.items c.loop-e.queue.items c.loop-e.invariant
