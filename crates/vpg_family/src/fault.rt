@@ -3,36 +3,62 @@ ghost use Rattle.std.specs.Prelude.{◌≡◌};
 ghost use Rattle.vpg_family.specs.declared.fault.Fault.TheVariants.{Memory};
 
 use std::alloc::AllocError;
+use std::fmt;
+use thiserror::Error;
 use vpg_diagram::DiagramFault;
 use vpg_game::GameFault;
 use vpg_script::LineFault;
 
-/// A fault. What is told of each stands in `specs/Faults`.
-#[derive(Drop, Debug)]
+/// Writes that a word names no feature, with `?` for each control character of the word.
+fn put_unknown<W: fmt::Write>(word: &String, f: &mut fmt::Formatter<W>) -> fmt::Result {
+    f.write_str("UnknownFeature ")?;
+    for c in word.chars() {
+        f.write_char(if c.is_ascii_control() { '?' } else { c })?;
+    }
+    Ok(())
+}
+
+/// A fault. What is told of each stands in `specs/Faults`; `line_of` writes just that, behind the program's name.
+#[derive(Debug, Drop, Error)]
 pub enum Fault {
+    #[error("diagram unreadable")]
     DiagramUnreadable,
+    #[error("diagram {fault}")]
     Diagram { fault: DiagramFault },
+    #[error("game unreadable")]
     GameUnreadable,
+    #[error("game {fault}")]
     Game { fault: GameFault },
+    #[error("script unreadable")]
     ScriptUnreadable,
     /// Some priority of the game is 65,536.
+    #[error("game AtLimit")]
     AtLimit,
     /// The diagram alone has a conflict, which names its root.
+    #[error("Conflict {feature}")]
     Conflict { feature: String },
     /// The line of this number, from 1, is no command.
+    #[error("script Line {line} {fault}")]
     Line { line: u64, fault: LineFault },
     /// The script's reader failed.
+    #[error("script Read")]
     Read,
     /// Standard output failed.
+    #[error("Write")]
     Write,
     /// The diagram has no feature of this name, which is any word.
+    #[error(fmt = put_unknown)]
     UnknownFeature { name: String },
     /// The features that were named are no product.
+    #[error("NotAProduct")]
     NotAProduct,
+    #[error("Memory")]
     Memory,
     /// The line `draw` behind a script was refused, since the log was full.
+    #[error("script LogFull")]
     LogFull,
     /// The office of a run had a call that no line of its script made.
+    #[error("script Stray")]
     Stray,
 }
 

@@ -42,7 +42,7 @@ fn note_successors(
         return Ok(());
     }
     for edge in game.edges(v) {
-        let to = edge.to();
+        let to = edge.to;
         if let Some(is_seen) = seen.get_mut(to as usize) {
             if !*is_seen {
                 *is_seen = true;

@@ -31,12 +31,10 @@ const OPENING: &[u8] = b"digraph game {\n  graph [label=\"decisions";
 /// How many lines of it come before those of the vertices.
 const HEADING: usize = 3;
 
-/// The colours of a vertex that is hopeless, sure, or both.
+/// The colours of a vertex that is hopeless, or sure.
 const HOPELESS: &[u8] = b", fillcolor=mistyrose, color=firebrick];";
 
 const SURE: &[u8] = b", fillcolor=honeydew, color=darkgreen];";
-
-const BOTH: &[u8] = b", fillcolor=gainsboro, color=gray50];";
 
 /// What a picture of a game shows of a page: its decisions, and the verdicts of the vertices.
 #[derive(Drop)]
@@ -102,10 +100,9 @@ pub(crate) fn decisions_of(
 
 /// The verdict that the line of a vertex shows.
 pub(crate) fn verdict_of(line: &[u8]) -> Verdict {
-    let both = line.ends_with(BOTH);
     Verdict {
-        hopeless: both || line.ends_with(HOPELESS),
-        sure: both || line.ends_with(SURE),
+        hopeless: line.ends_with(HOPELESS),
+        sure: line.ends_with(SURE),
     }
 }
 

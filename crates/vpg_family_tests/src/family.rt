@@ -2,6 +2,7 @@
 
 mod asked;
 mod explained;
+mod faults;
 mod files;
 mod rows;
 

@@ -3,6 +3,14 @@ use std::alloc::{AllocError, Global};
 use std::fmt::Write;
 use vpg_family::{Fault, line_of};
 
+/// Whether a text ends in the line that tells of a fault.
+fn ends_in_line_of(alloc: Global, fault: &Fault, text: &[u8]) -> bool {
+    match line_of(alloc, fault) {
+        Ok(line) => text.ends_with(&line),
+        Err(_) => false,
+    }
+}
+
 /// What was written so far.
 pub(crate) struct Said {
     pub(crate) alloc: Global,
@@ -64,7 +72,15 @@ impl Said {
     pub(crate) fn put_answer(&mut self, answer: Result<Vec<u8>, Fault>) {
         match answer {
             Ok(text) => self.put_text(&text),
-            Err(fault) => self.put_made(line_of(self.alloc, &fault)),
+            Err(fault) => self.put_fault(&fault),
+        }
+    }
+
+    /// Writes a fault as it shows itself, in the line that tells of it.
+    fn put_fault(&mut self, fault: &Fault) {
+        self.lacks |= write!(self.text, "vpgdesk: {fault}\n").is_err();
+        if !ends_in_line_of(self.alloc, fault, self.text.as_bytes()) {
+            self.put("and otherwise in its line");
         }
     }
 

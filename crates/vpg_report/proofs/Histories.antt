@@ -22,15 +22,15 @@ use Rattle.vpg_report.specs.Setting.{setting_in}
 
 -- ---- lists of events
 
-legal_more : (family : Family) (book : Book) (events more : List Event) → IsLegalFrom family book events → IsLegalFrom family (book_after family book events) more → IsLegalFrom family book (events ++ more)
+pub legal_more : (family : Family) (book : Book) (events more : List Event) → IsLegalFrom family book events → IsLegalFrom family (book_after family book events) more → IsLegalFrom family book (events ++ more)
 legal_more family book [] more first then = then
 legal_more family book (e ∷ events) more first then = (first.0, legal_more family (next family book e.session e.call e.reply) events more first.1 then)
 
-after_more : (family : Family) (book : Book) (events more : List Event) → book_after family book (events ++ more) ≡ book_after family (book_after family book events) more
+pub after_more : (family : Family) (book : Book) (events more : List Event) → book_after family book (events ++ more) ≡ book_after family (book_after family book events) more
 after_more family book [] more = refl
 after_more family book (e ∷ events) more = after_more family (next family book e.session e.call e.reply) events more
 
-all_more : {X : Type 0} (P : X → Type 0) (xs ys : List X) → AllByRecursion P xs → AllByRecursion P ys → AllByRecursion P (xs ++ ys)
+pub all_more : {X : Type 0} (P : X → Type 0) (xs ys : List X) → AllByRecursion P xs → AllByRecursion P ys → AllByRecursion P (xs ++ ys)
 all_more P [] ys first then = then
 all_more P (x ∷ xs) ys first then = (first.0, all_more P xs ys first.1 then)
 
@@ -38,7 +38,7 @@ all_more P (x ∷ xs) ys first then = (first.0, all_more P xs ys first.1 then)
 
 module _ (L : Harvest → Type 0) where
   -- all that are kept are lawful
-  abbrev AreLawful : List (Option Harvest) → Type 0
+  abbrev pub AreLawful : List (Option Harvest) → Type 0
   AreLawful harvests = AllByRecursion (λ h. IfSome h L) harvests
 
   kept_lawful : (harvests : List (Option Harvest)) (k : ℕ) (made : Harvest) → AreLawful harvests → harvest_kept harvests k ≡ Some made → L made
@@ -203,19 +203,19 @@ module _ (scene : Scene) where
   family = family_of (setting_in scene)
 
   -- the calls of one line, or of several
-  record Calls (Asks : Asked → Asked → Type 0) (old : Between) (before : List Event) (new : Between) : Type 0 where
-    calls : List Event
-    legal : IsLegalFrom family old.book calls
-    lawful : AllHandIn (IsLawful family) calls
-    kept : AreLawful (IsLawful family) new.held.harvests
-    asked : Asks (record { calls = before; held = old.held }) (record { calls = before ++ calls; held = new.held })
-    left : new.book ≡ book_after family old.book calls
-    counted : new.calls ≡ length (before ++ calls)
+  pub record Calls (Asks : Asked → Asked → Type 0) (old : Between) (before : List Event) (new : Between) : Type 0 where
+    pub calls : List Event
+    pub legal : IsLegalFrom family old.book calls
+    pub lawful : AllHandIn (IsLawful family) calls
+    pub kept : AreLawful (IsLawful family) new.held.harvests
+    pub asked : Asks (record { calls = before; held = old.held }) (record { calls = before ++ calls; held = new.held })
+    pub left : new.book ≡ book_after family old.book calls
+    pub counted : new.calls ≡ length (before ++ calls)
 
   none_more : (old new : Between) (before : List Event) → old.calls ≡ length before → new ≡ old → new.calls ≡ length (before ++ [])
   none_more old new before counted same = omega (arith, ap (λ (b : Between). b.calls) same, counted, length-append before [])
 
-  line_of : (old : Between) (before : List Event) (s : Said) (text : List ℕ) (new : Between) → old.calls ≡ length before → AreLawful (IsLawful family) old.held.harvests → Speaks (calling scene) old s text new →
+  pub line_of : (old : Between) (before : List Event) (s : Said) (text : List ℕ) (new : Between) → old.calls ≡ length before → AreLawful (IsLawful family) old.held.harvests → Speaks (calling scene) old s text new →
       Calls (λ a b. Speaks (asking scene) a s text b) old before new
   line_of old before (Ok None) text new counted all speaks = record {
     calls = [];
@@ -274,7 +274,7 @@ module _ (scene : Scene) where
 
 -- what sweeps made is no part of a history
 module _ (scene : Scene) (lifters : ℕ) where
-  speaks_calls : (old : Between) (s : Said) (text : List ℕ) (new : Between) → Speaks (answering scene lifters) old s text new → Speaks (calling scene) old s text new
+  pub speaks_calls : (old : Between) (s : Said) (text : List ℕ) (new : Between) → Speaks (answering scene lifters) old s text new → Speaks (calling scene) old s text new
   speaks_calls old (Ok None) text new so = so
   speaks_calls old (Ok (Some request)) text new so = so.0
   speaks_calls old (Err fault) text new so = so

@@ -23,3 +23,4 @@ pub mod OneRun
 pub mod Results
 pub mod Draws
 pub mod RunEnds
+pub mod Winning

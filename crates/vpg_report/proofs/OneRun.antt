@@ -12,8 +12,8 @@ use Rattle.vpg_texts.specs.Scene.{Scene}
 use Rattle.vpg_script.specs.Script.{Said, said}
 use Rattle.vpg_script.specs.declared.command.LineFault.{LineFault}
 use Rattle.vpg_script.specs.declared.command.LineFault.TheVariants as faults
-use Rattle.vpg_report.specs.declared.runs.RunFault.{RunFault}
-use Rattle.vpg_report.specs.declared.runs.RunFault.TheVariants as stops
+use Rattle.vpg_serving.specs.declared.fault.RunFault.{RunFault}
+use Rattle.vpg_serving.specs.declared.fault.RunFault.TheVariants as stops
 use Rattle.vpg_script.proofs.FirstLine.{next_one, no_line, too_long_said}
 use Rattle.vpg_report.proofs.OneText.{lines_one}
 

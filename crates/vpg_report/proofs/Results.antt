@@ -6,14 +6,11 @@ use Rattle.vpg_serving.specs.Output.{Machine}
 use Rattle.vpg_serving.specs.Manners.{MannerOutcome}
 use Rattle.vpg_serving.specs.declared.serving.Manner.{Manner}
 use Rattle.vpg_serving.specs.declared.serving.Ending.{Ending}
+use Rattle.vpg_serving.specs.declared.fault.RunFault.{RunFault}
+use Rattle.vpg_serving.specs.declared.fault.RunFault.TheVariants as stops
 use Rattle.vpg_serving.proofs.MannerLemmas.{plain_outcome}
-use Rattle.vpg_serving.specs.Results.{UnlessReaderFails, UnlessWriterFails}
-use Rattle.vpg_serving.specs.declared.serving.ScriptFault.{ScriptFault}
-use Rattle.vpg_serving.specs.declared.serving.ScriptFault.TheVariants as ends
-use Rattle.vpg_report.specs.Output.{Outcome, OutcomeAs, ended}
-use Rattle.vpg_report.specs.Results.{Opens, UnlessRead, UnlessWrite}
-use Rattle.vpg_report.specs.declared.runs.RunFault.{RunFault}
-use Rattle.vpg_report.specs.declared.runs.RunFault.TheVariants as stops
+use Rattle.vpg_report.specs.Output.{Outcome, OutcomeAs}
+use Rattle.vpg_report.specs.Results.{Opens}
 
 pub opens : {A : Type 0} (result : Result A RunFault) (P : Type 0) → P → Opens result P
 opens (Ok done) P p = p
@@ -24,14 +21,15 @@ opens (Err (stops.Open fault)) P p = tt
 opens (Err stops.Memory) P p = tt
 opens (Err stops.Stray) P p = p
 
-pub outcome_as : {S : Type 0} (manner : Manner) (serves : Machine S) (Refuses : OpenFault → Type 0) (old : S) (input left before after : Option (List ℕ)) (result : Result Ending ScriptFault) →
-    MannerOutcome manner serves old input left before after result → OutcomeAs manner serves Refuses old input left before after (ended result)
+pub outcome_as : {S : Type 0} (manner : Manner) (serves : Machine S) (Refuses : OpenFault → Type 0) (old : S) (input left before after : Option (List ℕ)) (result : Result Ending RunFault) →
+    MannerOutcome manner serves old input left before after result → OutcomeAs manner serves Refuses old input left before after result
 outcome_as manner serves Refuses old input left before after (Ok ending) so = so
-outcome_as manner serves Refuses old input left before after (Err (ends.Line n fault)) so = so
-outcome_as manner serves Refuses old input left before after (Err ends.Read) so = so
-outcome_as manner serves Refuses old input left before after (Err ends.Write) so = so
-outcome_as manner serves Refuses old input left before after (Err ends.Memory) so = so
-outcome_as manner serves Refuses old input left before after (Err ends.Stray) so = so
+outcome_as manner serves Refuses old input left before after (Err (stops.Line n fault)) so = so
+outcome_as manner serves Refuses old input left before after (Err stops.Read) so = so
+outcome_as manner serves Refuses old input left before after (Err stops.Write) so = so
+outcome_as manner serves Refuses old input left before after (Err (stops.Open fault)) so = absurd so
+outcome_as manner serves Refuses old input left before after (Err stops.Memory) so = so
+outcome_as manner serves Refuses old input left before after (Err stops.Stray) so = so
 
 -- without a manner a run is what it was
 pub outcome_done : {S : Type 0} (manner : Manner) (serves : Machine S) (Refuses : OpenFault → Type 0) (old : S) (input left before after : Option (List ℕ)) (ending : Ending) →
@@ -40,44 +38,12 @@ outcome_done manner serves Refuses old input left before after ending lax off so
 
 pub outcome_stopped : {S : Type 0} (manner : Manner) (serves : Machine S) (Refuses : OpenFault → Type 0) (old : S) (input left before after : Option (List ℕ)) (fault : RunFault) →
     manner.is_strict ≡ false → manner.goes_on ≡ false → OutcomeAs manner serves Refuses old input left before after (Err fault) → Outcome serves Refuses old input left before after (Err fault)
-outcome_stopped manner serves Refuses old input left before after (stops.Line n fault) lax off so = plain_outcome manner serves old input left before after (Err (ends.Line n fault)) lax off so
-outcome_stopped manner serves Refuses old input left before after stops.Read lax off so = plain_outcome manner serves old input left before after (Err ends.Read) lax off so
-outcome_stopped manner serves Refuses old input left before after stops.Write lax off so = plain_outcome manner serves old input left before after (Err ends.Write) lax off so
-outcome_stopped manner serves Refuses old input left before after stops.Memory lax off so = plain_outcome manner serves old input left before after (Err ends.Memory) lax off so
-outcome_stopped manner serves Refuses old input left before after stops.Stray lax off so = plain_outcome manner serves old input left before after (Err ends.Stray) lax off so
+outcome_stopped manner serves Refuses old input left before after (stops.Line n fault) lax off so = plain_outcome manner serves old input left before after (Err (stops.Line n fault)) lax off so
+outcome_stopped manner serves Refuses old input left before after stops.Read lax off so = plain_outcome manner serves old input left before after (Err stops.Read) lax off so
+outcome_stopped manner serves Refuses old input left before after stops.Write lax off so = plain_outcome manner serves old input left before after (Err stops.Write) lax off so
 outcome_stopped manner serves Refuses old input left before after (stops.Open fault) lax off so = so
-
-pub read_ended : {A : Type 0} (result : Result A ScriptFault) (P : Type 0) → (IsErrOf result ends.Read → P) → IsErrOf (ended result) stops.Read → P
-read_ended (Ok done) P so is = absurd (cc is)
-read_ended (Err (ends.Line n fault)) P so is = absurd (cc is)
-read_ended (Err ends.Read) P so is = so (cc)
-read_ended (Err ends.Write) P so is = absurd (cc is)
-read_ended (Err ends.Memory) P so is = absurd (cc is)
-read_ended (Err ends.Stray) P so is = absurd (cc is)
-
-pub write_ended : {A : Type 0} (result : Result A ScriptFault) (P : Type 0) → (IsErrOf result ends.Write → P) → IsErrOf (ended result) stops.Write → P
-write_ended (Ok done) P so is = absurd (cc is)
-write_ended (Err (ends.Line n fault)) P so is = absurd (cc is)
-write_ended (Err ends.Read) P so is = absurd (cc is)
-write_ended (Err ends.Write) P so is = so (cc)
-write_ended (Err ends.Memory) P so is = absurd (cc is)
-write_ended (Err ends.Stray) P so is = absurd (cc is)
-
-pub unless_read : {A : Type 0} (result : Result A ScriptFault) (P : Type 0) → UnlessReaderFails result P → UnlessRead (ended result) P
-unless_read (Ok done) P p = p
-unless_read (Err (ends.Line n fault)) P p = p
-unless_read (Err ends.Read) P p = tt
-unless_read (Err ends.Write) P p = p
-unless_read (Err ends.Memory) P p = p
-unless_read (Err ends.Stray) P p = p
-
-pub unless_write : {A : Type 0} (result : Result A ScriptFault) (P : Type 0) → UnlessWriterFails result P → UnlessWrite (ended result) P
-unless_write (Ok done) P p = p
-unless_write (Err (ends.Line n fault)) P p = p
-unless_write (Err ends.Read) P p = p
-unless_write (Err ends.Write) P p = tt
-unless_write (Err ends.Memory) P p = p
-unless_write (Err ends.Stray) P p = p
+outcome_stopped manner serves Refuses old input left before after stops.Memory lax off so = plain_outcome manner serves old input left before after (Err stops.Memory) lax off so
+outcome_stopped manner serves Refuses old input left before after stops.Stray lax off so = plain_outcome manner serves old input left before after (Err stops.Stray) lax off so
 
 -- the same fault of a run with another value
 pub stopped_alike : (A B : Type 0) (fault stop : RunFault) → IsErrOf {T = A} (Err fault) stop → IsErrOf {T = B} (Err fault) stop

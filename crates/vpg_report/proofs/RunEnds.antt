@@ -10,7 +10,7 @@ use Rattle.vpg_faults.specs.declared.fault.OpenFault.TheVariants as opens
 use Rattle.vpg_serving.specs.Output.{ReadKnown}
 use Rattle.vpg_serving.specs.declared.serving.Manner.{Manner}
 use Rattle.vpg_report.specs.Run.{begun}
-use Rattle.vpg_report.specs.declared.runs.RunFault.TheVariants as stops
+use Rattle.vpg_serving.specs.declared.fault.RunFault.TheVariants as stops
 use Rattle.vpg_report.specs.Runs.{TellsOpening, Ends, IsRun}
 use Rattle.vpg_family.specs.declared.fault.Fault.{Fault}
 use Rattle.vpg_family.specs.declared.fault.Fault.TheVariants as told

@@ -17,3 +17,4 @@ pub mod Settling
 pub mod Draws
 pub mod Ends
 pub mod Runs
+pub mod Winners

@@ -1,7 +1,7 @@
 -- What the result of a run says.
 use Rattle.std.specs.Prelude.{Result, Ok, Err, ⊤}
-use Rattle.vpg_report.specs.declared.runs.RunFault.{RunFault}
-use Rattle.vpg_report.specs.declared.runs.RunFault.TheVariants as stops
+use Rattle.vpg_serving.specs.declared.fault.RunFault.{RunFault}
+use Rattle.vpg_serving.specs.declared.fault.RunFault.TheVariants as stops
 
 -- This holds of a run that opened an office: of each but one that ends in Open, or in Memory, which may have come
 -- before.
@@ -15,13 +15,3 @@ abbrev pub IsThrough : Result (Unit {0}) RunFault → Type 0
 IsThrough (Ok done) = ⊤
 IsThrough (Err (stops.Line n fault)) = ⊤
 IsThrough _ = ⊥
-
--- This holds of each run but one that ends in Read.
-abbrev pub UnlessRead : {A : Type 0} → Result A RunFault → Type 0 → Type 0
-UnlessRead (Err stops.Read) P = ⊤
-UnlessRead result P = P
-
--- This holds of each run but one that ends in Write.
-abbrev pub UnlessWrite : {A : Type 0} → Result A RunFault → Type 0 → Type 0
-UnlessWrite (Err stops.Write) P = ⊤
-UnlessWrite result P = P

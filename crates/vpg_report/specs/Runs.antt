@@ -12,8 +12,8 @@ use Rattle.vpg_report.specs.Output.{OutcomeAs}
 use Rattle.vpg_report.specs.Results.{Opens}
 use Rattle.vpg_report.specs.Run.{answering, begun}
 use Rattle.vpg_texts.specs.Scene.{scene_of}
-use Rattle.vpg_report.specs.declared.runs.RunFault.{RunFault}
-use Rattle.vpg_report.specs.declared.runs.RunFault.TheVariants as stops
+use Rattle.vpg_serving.specs.declared.fault.RunFault.{RunFault}
+use Rattle.vpg_serving.specs.declared.fault.RunFault.TheVariants as stops
 use Rattle.vpg_serving.specs.declared.serving.Manner.{Manner}
 use Rattle.vpg_serving.specs.declared.serving.Ending.{Ending}
 use Rattle.vpg_family.specs.declared.fault.Fault.{Fault}

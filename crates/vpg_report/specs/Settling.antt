@@ -12,7 +12,7 @@ use Rattle.vpg_report.specs.Results.{IsThrough}
 use Rattle.vpg_report.specs.Run.{Between, begun, calling}
 use Rattle.vpg_script.specs.Script as script
 use Rattle.vpg_texts.specs.Scene.{Scene}
-use Rattle.vpg_report.specs.declared.runs.RunFault.{RunFault}
+use Rattle.vpg_serving.specs.declared.fault.RunFault.{RunFault}
 use Rattle.vpg_report.specs.Setting.{setting_in}
 
 -- a settle is answered `settled`, and what is asked of the page without a doubt: no limit was met

@@ -1,6 +1,6 @@
 //! The calls of a client, each that of the desk under the label as session number.
 ghost use Rattle.std.specs.Arc.{arc_value};
-ghost use Rattle.std.specs.Prelude.{◌≡◌, ◌<◌, true, None, Some, length, IfOk, IfErr, OnOk};
+ghost use Rattle.std.specs.Prelude.{◌≡◌, true, None, Some, length, IfOk, IfErr, OnOk};
 ghost use Rattle.vpg_game.specs.Game.{graph_of};
 ghost use Rattle.vpg_measure.specs.Games.{ArePageGames};
 ghost use Rattle.vpg_measure.specs.Orders.{IsOrder};
@@ -26,7 +26,6 @@ use vpg_desk::{CommitFault, DecideFault, RedoFault, RetractFault, UndoFault};
 use vpg_measure::{Harvest, Order, PageGames};
 use vpg_office::{Never, Redo, Terms, Undo};
 use vpg_trail::Page;
-use vpg_verdict::Verdict;
 
 impl<L: Terms> Client<L> {
     /// Decides a feature in or out, as `Desk::decide`. The token stands for the page that was present. It comes back
@@ -305,60 +304,8 @@ impl<L: Terms> Client<L> {
         looked(answer, calls, &self.front)
     }
 
-    /// What the present tables say of a vertex.
-    pub fn verdict<R: Wait>(
-        &mut self,
-        rt: &R,
-        label: u32,
-        vertex: u32,
-    ) -> Result<Verdict, ClientFault<Never>>
-        requires { vertex < length self.old.desk.game.vertices }
-        ensures accepted { IfOk result
-            (λ verdict. IsLogged L.limit self.old label (book.Verdict vertex)
-            (book.VerdictIs verdict.hopeless verdict.sure) self.new) }
-        ensures fault { IfErr result (Tells L.limit never_refused self.old label (book.Verdict vertex) self.new) }
-    {
-        let place = match seat(rt, &self.office, &self.front, &mut self.sessions, label) {
-            Ok(place) => place,
-            Err(fault) => return Err(fault),
-        };
-        let calls = self.front.len();
-        let answer = self.sessions[place].verdict(rt, &self.office, &mut self.front, vertex);
-        looked(answer, calls, &self.front)
-    }
-
-    /// The present page, as `Desk::page`.
-    pub fn page<R: Wait>(
-        &mut self,
-        rt: &R,
-        alloc: Global,
-        label: u32,
-    ) -> Result<Page, ClientFault<Never>>
-        ensures accepted { IfOk result
-            (λ page. IsLogged L.limit self.old label book.Page (book.PageIs page.entries) self.new) }
-        ensures decisions { IfOk result (λ page. page.decisions ≡ decisions_of self.old.desk.book.present) }
-        ensures hopeful { IfOk result
-            (λ page. page.hopeful ≡ table_of Hopeful self.old.desk.book.present
-            (length (graph_of self.old.desk.game))) }
-        ensures dual { IfOk result
-            (λ page. page.dual ≡ table_of Dual self.old.desk.book.present (length (graph_of self.old.desk.game))) }
-        ensures below { OnOk result (PageIsBelow (family_of (setting_of self.old.desk)) self.old.desk.book.present) }
-        ensures tells { OnOk result (PageTells (setting_of self.old.desk) self.old.desk.book.present) }
-        ensures setting { OnOk result (IsSetting (setting_of self.old.desk)) }
-        ensures reached { OnOk result (IsReached (setting_of self.old.desk) self.old.desk.book) }
-        ensures fault { IfErr result (Tells L.limit never_refused self.old label book.Page self.new) }
-    {
-        let place = match seat(rt, &self.office, &self.front, &mut self.sessions, label) {
-            Ok(place) => place,
-            Err(fault) => return Err(fault),
-        };
-        let calls = self.front.len();
-        let answer = self.sessions[place].page(rt, alloc, &self.office, &mut self.front);
-        looked(answer, calls, &self.front)
-    }
-
-    /// The present page, as `Desk::page`, with what its decisions make of the game, as `Desk::games`. Nothing is made
-    /// anew for it.
+    /// The present page, as `Desk::page`, and the games that its decisions leave, as `Desk::games`. It shares the games
+    /// with the desk.
     pub fn page_with_games<R: Wait>(
         &mut self,
         rt: &R,

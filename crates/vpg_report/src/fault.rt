@@ -3,39 +3,25 @@ ghost use Rattle.std.specs.Prelude.{◌≤◌, length};
 ghost use Rattle.vpg_report.specs.Faults.{Sorts};
 
 use crate::client::has_one_more;
-use std::error::Error;
-use std::fmt;
+use std::fmt::Display;
+use thiserror::Error;
 use vpg_office::{Fault, Front, Redo, Terms, Undo};
 
 /// Why a call gives no answer. `Refused` is the desk's own refusal, which is logged.
-#[derive(Drop)]
+#[derive(Debug, Drop, Error)]
+#[error_bound(F: Display)]
 pub enum ClientFault<F> {
     /// The log has as many calls as it takes.
+    #[error("LogFull")]
     LogFull,
+    #[error("{fault}")]
     Refused { fault: F },
     /// The log has a call that this client didn't make, or a session has another number than its label's.
+    #[error("Stray")]
     Stray,
+    #[error("Memory")]
     Memory,
 }
-
-impl<F: fmt::Display> fmt::Display for ClientFault<F> {
-    fn fmt<W: fmt::Write>(&self, f: &mut fmt::Formatter<W>) -> fmt::Result {
-        match self {
-            ClientFault::LogFull => write!(f, "LogFull"),
-            ClientFault::Refused { fault } => write!(f, "{fault}"),
-            ClientFault::Stray => write!(f, "Stray"),
-            ClientFault::Memory => write!(f, "Memory"),
-        }
-    }
-}
-
-impl<F: fmt::Display> fmt::Debug for ClientFault<F> {
-    fn fmt<W: fmt::Write>(&self, f: &mut fmt::Formatter<W>) -> fmt::Result {
-        write!(f, "{self}")
-    }
-}
-
-impl<F: fmt::Display + Drop> Error for ClientFault<F> {}
 
 /// What a call took, or made before it strayed, comes back beside the fault.
 pub struct Returned<F, T> {

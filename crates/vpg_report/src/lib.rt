@@ -30,8 +30,8 @@
 //! `specs/Line`, how harvests were made in `specs/Made`, what an engine does with a line in `specs/Engine`. Over these
 //! stand `specs/Requests`, `specs/Server` and `specs/Run`, which have what is asked of the page too; what a run's
 //! result says is defined in `specs/Output`. `specs/Runs` says what a run on a family reads and writes, and how its end
-//! is told, `specs/Draws` which page is drawn, `specs/Ends` with which status the program ends. All are this project's
-//! own.
+//! is told, `specs/Winners` who wins by what is written, `specs/Draws` which page is drawn, `specs/Ends` with which
+//! status the program ends. All are this project's own.
 #![tactic(auto)]
 
 mod answering;
@@ -58,5 +58,6 @@ pub use engine::Engine;
 pub use fault::{ClientFault, Returned, Token};
 pub use lines::{Missing, put_missing, put_unanswered};
 pub use running::run_script;
-pub use runs::{RunFault, run, run_as};
+pub use runs::{run, run_as};
+pub use vpg_serving::RunFault;
 pub use vpg_texts::{PlanFault, count, plan, products, put_known, show, trail};

@@ -7,15 +7,18 @@ ghost use Rattle.vpg_report.specs.Engine.{TellsFault, TellsRefusal, own_of};
 ghost use Rattle.vpg_texts.specs.Text.{blank_number, blank_name};
 
 use crate::fault::ClientFault;
+use thiserror::Error;
 use vpg_desk::{CommitFault, DecideFault, RedoFault, RetractFault, UndoFault};
 use vpg_guards::Names;
 use vpg_serving::ServeFault;
 use vpg_texts::{blank_name, blank_number};
 
 /// What a line names that the game, or the diagram, lacks.
-#[derive(Clone, Copy)]
+#[derive(Clone, Copy, Debug, Error)]
 pub enum Missing {
+    #[error("NoVertex")]
     Vertex,
+    #[error("UnknownFeature")]
     Feature,
 }
 

@@ -4,7 +4,7 @@ ghost use Rattle.std.specs.Prelude.{◌≡◌, ◌≤◌, ◌⊎◌, ℕ, true, 
 ghost use Rattle.vpg_diagram.specs.FeatureDiagram.{feature_count};
 ghost use Rattle.vpg_report.specs.Runs.{TellsOpening, IsRun, UnlessScriptFails, UnlessOutputFails};
 
-use crate::runs::{RunFault, run_as};
+use crate::runs::run_as;
 use std::alloc::Global;
 use std::sync::Wait;
 use std::thread::Threads;
@@ -12,7 +12,7 @@ use vpg_desk::OpenFault;
 use vpg_diagram::Diagram;
 use vpg_family::{Family, Fault, conflict};
 use vpg_script::{Sink, Source};
-use vpg_serving::{Ending, Manner};
+use vpg_serving::{Ending, Manner, RunFault};
 
 /// What is told of a refused opening. A conflict names the root.
 fn not_opened(alloc: Global, diagram: &Diagram, fault: OpenFault) -> Fault

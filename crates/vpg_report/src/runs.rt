@@ -4,9 +4,10 @@ ghost use Rattle.std.specs.Prelude.{◌≡◌, ◌≤◌, ◌⊎◌, true, IsErr
 ghost use Rattle.vpg_diagram.specs.FeatureDiagram.{feature_count};
 ghost use Rattle.vpg_desk.specs.State.{IsOpened};
 ghost use Rattle.vpg_report.specs.Server.{IsOpenRefusal};
-ghost use Rattle.vpg_report.specs.Output.{Outcome, OutcomeAs, ended};
-ghost use Rattle.vpg_report.specs.Results.{Opens, UnlessRead, UnlessWrite};
+ghost use Rattle.vpg_report.specs.Output.{Outcome, OutcomeAs};
+ghost use Rattle.vpg_report.specs.Results.{Opens};
 ghost use Rattle.vpg_report.specs.Run.{answering, begun};
+ghost use Rattle.vpg_serving.specs.Results.{UnlessReaderFails, UnlessWriterFails};
 ghost use Rattle.vpg_texts.specs.Scene.{scene_of};
 
 use crate::answering::Answering;
@@ -15,49 +16,12 @@ use std::alloc::Global;
 use std::marker::Brand;
 use std::sync::{Arc, Wait};
 use std::thread::Threads;
-use thiserror::Error;
 use vpg_desk::OpenFault;
 use vpg_diagram::Diagram;
 use vpg_game::GuardedGame;
 use vpg_office::{Site, Terms};
-use vpg_script::{LineFault, Sink, Source};
-use vpg_serving::{Ending, Manner, ScriptFault, answer_script_as};
-
-/// Why a run ends before the script does.
-#[derive(Clone, Copy, Debug, PartialEq, Eq, Error)]
-pub enum RunFault {
-    /// The line of this number, from 1, has a fault.
-    #[error("Line {line} {fault}")]
-    Line { line: u64, fault: LineFault },
-    /// The reader failed, or was read 16,777,216 times.
-    #[error("Read")]
-    Read,
-    /// The writer failed.
-    #[error("Write")]
-    Write,
-    /// No office was opened.
-    #[error("{fault}")]
-    Open { fault: OpenFault },
-    #[error("Memory")]
-    Memory,
-    /// The office had a call that no line of this run made.
-    #[error("Stray")]
-    Stray,
-}
-
-/// How the run ends of which the script was carried out to this end.
-fn ended(answered: Result<Ending, ScriptFault>) -> Result<Ending, RunFault>
-    ensures { result ≡ ended answered }
-{
-    match answered {
-        Ok(ending) => Ok(ending),
-        Err(ScriptFault::Line { line, fault }) => Err(RunFault::Line { line, fault }),
-        Err(ScriptFault::Read) => Err(RunFault::Read),
-        Err(ScriptFault::Write) => Err(RunFault::Write),
-        Err(ScriptFault::Memory) => Err(RunFault::Memory),
-        Err(ScriptFault::Stray) => Err(RunFault::Stray),
-    }
-}
+use vpg_script::{Sink, Source};
+use vpg_serving::{Ending, Manner, RunFault, answer_script_as};
 
 /// Opens an office on the game and the diagram, reads a script, and answers its lines in order, each before the next is
 /// read. A label is a session of the office. 1 to 64 lifters sweep at once, in threads of their own.
@@ -86,7 +50,7 @@ pub fn run<T: Threads + Wait + Sync, R: Source, W: Sink>(
         (W.contents writer.old) (W.contents writer.new) result }
 
     // Unless it ends in Open, or in Memory, an office was opened: game and diagram are a setting, of which the laws of
-    // `vpg_desk` speak.
+    // `vpg_desk` speak. So what is written of verdicts says who wins (`laws::answers_name_winners`).
     ensures opened { Opens result (IsOpened (arc_value game) (arc_value diagram)) }
 
     // Read and Write come only where the device failed, or the reads were used up.
@@ -94,8 +58,8 @@ pub fn run<T: Threads + Wait + Sync, R: Source, W: Sink>(
     ensures write { IsErrOf result RunFault.Write → W.has_failed writer.new ≡ true }
 
     // A device that failed is told: no read failed unless the run ends in Read, and no write unless it ends in Write.
-    ensures readable { UnlessRead result (R.has_failed reader.new ≡ R.has_failed reader.old) }
-    ensures writable { UnlessWrite result (W.has_failed writer.new ≡ W.has_failed writer.old) }
+    ensures readable { UnlessReaderFails result (R.has_failed reader.new ≡ R.has_failed reader.old) }
+    ensures writable { UnlessWriterFails result (W.has_failed writer.new ≡ W.has_failed writer.old) }
 {
     let plain = Manner {
         is_strict: false,
@@ -139,8 +103,8 @@ pub fn run_as<T: Threads + Wait + Sync, R: Source, W: Sink>(
     ensures write { IsErrOf result RunFault.Write → W.has_failed writer.new ≡ true }
 
     // A device that failed is told.
-    ensures readable { UnlessRead result (R.has_failed reader.new ≡ R.has_failed reader.old) }
-    ensures writable { UnlessWrite result (W.has_failed writer.new ≡ W.has_failed writer.old) }
+    ensures readable { UnlessReaderFails result (R.has_failed reader.new ≡ R.has_failed reader.old) }
+    ensures writable { UnlessWriterFails result (W.has_failed writer.new ≡ W.has_failed writer.old) }
 {
     let Ok(site) = Site::new(alloc) else {
         return Err(RunFault::Memory);
@@ -174,8 +138,8 @@ fn run_there<L: Terms, T: Threads + Wait + Sync, R: Source, W: Sink>(
     ensures opened { Opens result (IsOpened (arc_value game) (arc_value diagram)) }
     ensures read { IsErrOf result RunFault.Read → (R.has_failed reader.new ≡ true) ⊎ (R.calls reader.new ≡ 16777216) }
     ensures write { IsErrOf result RunFault.Write → W.has_failed writer.new ≡ true }
-    ensures readable { UnlessRead result (R.has_failed reader.new ≡ R.has_failed reader.old) }
-    ensures writable { UnlessWrite result (W.has_failed writer.new ≡ W.has_failed writer.old) }
+    ensures readable { UnlessReaderFails result (R.has_failed reader.new ≡ R.has_failed reader.old) }
+    ensures writable { UnlessWriterFails result (W.has_failed writer.new ≡ W.has_failed writer.old) }
 {
     let engine = match Engine::<L>::open(rt, alloc, site, game, diagram) {
         Ok(engine) => engine,
@@ -183,8 +147,8 @@ fn run_there<L: Terms, T: Threads + Wait + Sync, R: Source, W: Sink>(
         Err(fault) => return Err(RunFault::Open { fault }),
     };
     let mut server = Answering { engine };
-    let answered = answer_script_as(rt, alloc, lifters, manner, &mut server, reader, writer);
+    let result = answer_script_as(rt, alloc, lifters, manner, &mut server, reader, writer);
     let Answering { engine } = server;
     let _further = engine.end(rt);
-    ended(answered)
+    result
 }

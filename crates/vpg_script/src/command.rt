@@ -619,9 +619,11 @@ ghost use Rattle.vpg_script.specs.Script.{requested, with_verb, after_label, lab
 ghost use Rattle.vpg_script.specs.View.{Says};
 
 /// Why a line gives no request.
-#[derive(Clone, Copy, Debug)]
+#[derive(Clone, Copy, Debug, Error)]
 pub enum ReadFault {
+    #[error("{0}")]
     Line(LineFault),
+    #[error("Memory")]
     Memory,
 }
 

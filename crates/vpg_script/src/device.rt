@@ -6,9 +6,11 @@ ghost use Rattle.vpg_script.specs.Devices.{AppendsSome};
 ghost use Rattle.std.specs.declared.option.Option.{Option};
 
 use std::io::{Read, Write};
+use thiserror::Error;
 
 /// A device failed.
-#[derive(Clone, Copy, Debug)]
+#[derive(Clone, Copy, Debug, Error)]
+#[error("Failed")]
 pub struct Failed;
 
 /// What a script is read from.

@@ -9,6 +9,7 @@ use crate::command::LONGEST_LINE;
 use crate::device::{Failed, Source};
 use std::alloc::{AllocError, Global};
 use std::mem;
+use thiserror::Error;
 
 /// The most read calls of one run.
 pub const MOST_READS: u32 = 16_777_216;
@@ -25,9 +26,12 @@ pub enum Next {
 }
 
 /// Why nothing comes.
-#[derive(Clone, Copy, Debug)]
+#[derive(Clone, Copy, Debug, Error)]
 pub enum NextFault {
+    /// The reader failed, or was read 16,777,216 times.
+    #[error("Read")]
     Read,
+    #[error("Memory")]
     Memory,
 }
 

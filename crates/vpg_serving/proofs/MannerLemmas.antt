@@ -11,35 +11,33 @@ use Rattle.vpg_script.specs.Lines.{BeginsTooLong, IsPassed, PassedKnown, HeldKno
 use Rattle.vpg_script.specs.Script.{Said, said}
 use Rattle.vpg_serving.specs.Output.{Machine, Speaks, Answered, ReadKnown, Wrote, NextKnown, IsEmptyKnown, FaultyKnown, ScriptOutcome}
 use Rattle.vpg_serving.specs.Manners.{is_refusal, is_failure, fault_line, Answers, AnsweredEach, WroteEach, Went, MannerOutcome}
-use Rattle.vpg_serving.specs.Results.{ended, FaultOutcome, LineOutcome, TooLongOutcome, TakenKnown, NextOutcome}
+use Rattle.vpg_serving.specs.Results.{ending_of, FaultOutcome, LineOutcome, TooLongOutcome, TakenKnown, NextOutcome}
 use Rattle.vpg_script.specs.declared.command.LineFault.{LineFault}
 use Rattle.vpg_script.specs.declared.command.LineFault.TheVariants as faults
 use Rattle.vpg_script.specs.declared.lines.Next.TheVariants as next
 use Rattle.vpg_serving.specs.declared.answering.Tone.{Tone}
-use Rattle.vpg_serving.specs.declared.answering.LineStop.{LineStop}
-use Rattle.vpg_serving.specs.declared.answering.LineStop.TheVariants as ends
 use Rattle.vpg_serving.specs.declared.serving.Manner.{Manner}
 use Rattle.vpg_serving.specs.declared.serving.Ending.{Ending}
 use Rattle.vpg_serving.specs.declared.serving.Ending.TheVariants as endings
-use Rattle.vpg_serving.specs.declared.serving.ScriptFault.{ScriptFault}
-use Rattle.vpg_serving.specs.declared.serving.ScriptFault.TheVariants as stops
+use Rattle.vpg_serving.specs.declared.fault.RunFault.{RunFault}
+use Rattle.vpg_serving.specs.declared.fault.RunFault.TheVariants as stops
 use Rattle.vpg_script.proofs.FirstLine.{long_said, too_long_said}
 use Rattle.vpg_serving.proofs.ScriptLemmas.{appends_none, appends_twice, read_more, read_kept, wrote_nothing, next_known, line_faulty, too_long_faulty}
 
 -- ---- one line
 
 -- a line with a fault
-pub fault_is_met : {S : Type 0} (goes_on : Bool) (serves : Machine S) (s : S) (fault : LineFault) (says : Said) (before after : Option (List ℕ)) (result : Result Tone LineStop)
-    → says ≡ Err fault → FaultOutcome goes_on fault before after result → LineOutcome goes_on serves s s says before after result
-fault_is_met true serves s fault says before after (Ok tone) is so = (fault_line fault, (rw is (refl, refl), so.1, so.2))
-fault_is_met false serves s fault says before after (Ok tone) is so = absurd (cc so.0)
-fault_is_met goes_on serves s fault says before after (Err (ends.Fault other)) is so = (is ∙ ap Err (sym so.0), so.1, refl, so.2)
-fault_is_met true serves s fault says before after (Err ends.Write) is so = (fault_line fault, (rw is (refl, refl), so.1))
-fault_is_met false serves s fault says before after (Err ends.Write) is so = absurd (cc so.0)
-fault_is_met goes_on serves s fault says before after (Err ends.End) is so = absurd so
-fault_is_met goes_on serves s fault says before after (Err ends.Read) is so = absurd so
-fault_is_met goes_on serves s fault says before after (Err ends.Memory) is so = absurd so
-fault_is_met goes_on serves s fault says before after (Err ends.Stray) is so = absurd so
+pub fault_is_met : {S : Type 0} (goes_on : Bool) (n : ℕ) (serves : Machine S) (s : S) (fault : LineFault) (says : Said) (before after : Option (List ℕ)) (result : Result Tone RunFault)
+    → says ≡ Err fault → FaultOutcome goes_on n fault before after result → LineOutcome goes_on n serves s s says before after result
+fault_is_met true n serves s fault says before after (Ok tone) is so = (fault_line fault, (rw is (refl, refl), so.1, so.2))
+fault_is_met false n serves s fault says before after (Ok tone) is so = absurd (cc so.0)
+fault_is_met goes_on n serves s fault says before after (Err (stops.Line m other)) is so = (so.0, is ∙ ap Err (sym so.1), so.2, refl, so.3)
+fault_is_met true n serves s fault says before after (Err stops.Write) is so = (fault_line fault, (rw is (refl, refl), so.1))
+fault_is_met false n serves s fault says before after (Err stops.Write) is so = absurd (cc so.0)
+fault_is_met goes_on n serves s fault says before after (Err stops.Read) is so = absurd so
+fault_is_met goes_on n serves s fault says before after (Err (stops.Open why)) is so = absurd so
+fault_is_met goes_on n serves s fault says before after (Err stops.Memory) is so = absurd so
+fault_is_met goes_on n serves s fault says before after (Err stops.Stray) is so = absurd so
 
 -- a line was passed over: it is the first of the text
 passed_line : (text rest : List ℕ) → BeginsTooLong text → IsPassed text rest → (line : List ℕ) × NextLine text line rest
@@ -72,20 +70,23 @@ answers_fault true serves s says fault on is = rw is (refl, refl)
 answers_fault false serves s says fault on is = absurd (cc on)
 
 -- a line that is too long
-pub too_long_is_met : {S : Type 0} (goes_on : Bool) (serves : Machine S) (s : S) (a m b left before after : Option (List ℕ)) (result : Result Tone LineStop)
-    → ComesKnown next.TooLong a m → TooLongOutcome goes_on m b left before after result → NextOutcome goes_on serves s s a b left before after result
-too_long_is_met goes_on serves s a m b left before after (Ok tone) comes so =
+pub too_long_is_met : {S : Type 0} (goes_on : Bool) (n : ℕ) (serves : Machine S) (s : S) (a m b left before after : Option (List ℕ)) (tone : Tone)
+    → ComesKnown next.TooLong a m → TooLongOutcome goes_on n m b left before after (Ok tone) → NextOutcome goes_on n serves s s a b left before after (Ok (Some tone))
+too_long_is_met goes_on n serves s a m b left before after tone comes so =
     let line = passed_known a m b comes so.0 in
     (line.0, fault_line faults.TooLong, (line.1.1, answers_fault goes_on serves s (said line.0) faults.TooLong so.1 line.1.0, so.2, so.3))
-too_long_is_met goes_on serves s a m b left before after (Err (ends.Fault fault)) comes so =
-    (subst (λ (f : LineFault). FaultyKnown f a) (sym so.0) (too_long_faulty a m comes), so.1, refl, so.2)
-too_long_is_met goes_on serves s a m b left before after (Err ends.Read) comes so = (held_known a m left comes so.0, refl, so.1)
-too_long_is_met goes_on serves s a m b left before after (Err ends.Write) comes so =
+
+pub too_long_stops : {S : Type 0} (goes_on : Bool) (n : ℕ) (serves : Machine S) (s : S) (a m b left before after : Option (List ℕ)) (stop : RunFault)
+    → ComesKnown next.TooLong a m → TooLongOutcome goes_on n m b left before after (Err stop) → NextOutcome goes_on n serves s s a b left before after (Err stop)
+too_long_stops goes_on n serves s a m b left before after (stops.Line k fault) comes so =
+    (so.0, subst (λ (f : LineFault). FaultyKnown f a) (sym so.1) (too_long_faulty a m comes), so.2, refl, so.3)
+too_long_stops goes_on n serves s a m b left before after stops.Read comes so = (held_known a m left comes so.0, refl, so.1)
+too_long_stops goes_on n serves s a m b left before after stops.Write comes so =
     let line = passed_known a m b comes so.0 in
     (line.0, fault_line faults.TooLong, (line.1.2, answers_fault goes_on serves s (said line.0) faults.TooLong so.1 line.1.0, so.2))
-too_long_is_met goes_on serves s a m b left before after (Err ends.Memory) comes so = so
-too_long_is_met goes_on serves s a m b left before after (Err ends.End) comes so = absurd so
-too_long_is_met goes_on serves s a m b left before after (Err ends.Stray) comes so = absurd so
+too_long_stops goes_on n serves s a m b left before after (stops.Open why) comes so = absurd so
+too_long_stops goes_on n serves s a m b left before after stops.Memory comes so = so
+too_long_stops goes_on n serves s a m b left before after stops.Stray comes so = absurd so
 
 line_taken : (a b : Option (List ℕ)) (line : Vec ℕ) → ComesKnown (next.Line line) a b → TakenKnown a line.items b
 line_taken None b line comes = tt
@@ -93,15 +94,18 @@ line_taken (Some text) None line comes = absurd comes
 line_taken (Some text) (Some rest) line comes = comes
 
 -- any other line
-pub line_is_met : {S : Type 0} (goes_on : Bool) (serves : Machine S) (s new : S) (a b left before after : Option (List ℕ)) (line : Vec ℕ) (result : Result Tone LineStop)
-    → ComesKnown (next.Line line) a b → LineOutcome goes_on serves s new (said line.items) before after result → NextOutcome goes_on serves s new a b left before after result
-line_is_met goes_on serves s new a b left before after line (Ok tone) comes so = (line.items, so.0, (line_taken a b line comes, so.1.0, so.1.1, so.1.2))
-line_is_met goes_on serves s new a b left before after line (Err ends.End) comes so = absurd so
-line_is_met goes_on serves s new a b left before after line (Err (ends.Fault fault)) comes so = (line_faulty a b line fault comes so.0, so.1, so.2, so.3)
-line_is_met goes_on serves s new a b left before after line (Err ends.Read) comes so = absurd so
-line_is_met goes_on serves s new a b left before after line (Err ends.Write) comes so = (line.items, so.0, (next_known a b line comes, so.1.0, so.1.1))
-line_is_met goes_on serves s new a b left before after line (Err ends.Memory) comes so = so
-line_is_met goes_on serves s new a b left before after line (Err ends.Stray) comes so = so
+pub line_is_met : {S : Type 0} (goes_on : Bool) (n : ℕ) (serves : Machine S) (s new : S) (a b left before after : Option (List ℕ)) (line : Vec ℕ) (tone : Tone)
+    → ComesKnown (next.Line line) a b → LineOutcome goes_on n serves s new (said line.items) before after (Ok tone) → NextOutcome goes_on n serves s new a b left before after (Ok (Some tone))
+line_is_met goes_on n serves s new a b left before after line tone comes so = (line.items, so.0, (line_taken a b line comes, so.1.0, so.1.1, so.1.2))
+
+pub line_stops : {S : Type 0} (goes_on : Bool) (n : ℕ) (serves : Machine S) (s new : S) (a b left before after : Option (List ℕ)) (line : Vec ℕ) (stop : RunFault)
+    → ComesKnown (next.Line line) a b → LineOutcome goes_on n serves s new (said line.items) before after (Err stop) → NextOutcome goes_on n serves s new a b left before after (Err stop)
+line_stops goes_on n serves s new a b left before after line (stops.Line m fault) comes so = (so.0, line_faulty a b line fault comes so.1, so.2, so.3, so.4)
+line_stops goes_on n serves s new a b left before after line stops.Read comes so = absurd so
+line_stops goes_on n serves s new a b left before after line stops.Write comes so = (line.items, so.0, (next_known a b line comes, so.1.0, so.1.1))
+line_stops goes_on n serves s new a b left before after line (stops.Open why) comes so = absurd so
+line_stops goes_on n serves s new a b left before after line stops.Memory comes so = so
+line_stops goes_on n serves s new a b left before after line stops.Stray comes so = so
 
 -- ---- a script
 
@@ -170,7 +174,7 @@ went_more manner serves old mid new input a b before w after lines texts line on
 
 -- the answer to the next line ends a strict script
 pub refused_there : {S : Type 0} (manner : Manner) (serves : Machine S) (old mid new : S) (input a b left before w after : Option (List ℕ)) (lines texts : List (List ℕ)) (number : ℕ) (tone : Tone)
-    → Went manner serves old mid input a before w lines texts → number ≡ length lines + 1 → NextOutcome manner.goes_on serves mid new a b left w after (Ok tone)
+    → Went manner serves old mid input a before w lines texts → number ≡ length lines + 1 → NextOutcome manner.goes_on number serves mid new a b left w after (Ok (Some tone))
     → (tone.refused && manner.is_strict) ≡ true → MannerOutcome manner serves old input left before after (Ok (endings.Refused number))
 refused_there manner serves old mid new input a b left before w after lines texts number tone so counted (line, one, (taken, answers, is, appends)) both =
     let so_both = both_true tone.refused manner.is_strict both in (
@@ -197,19 +201,21 @@ module _ {S : Type 0} (manner : Manner) (serves : Machine S) (old mid : S) (inpu
       let so = after_that after same in
       record { wrote = record { read = read_kept input a b lines so.wrote.read kept; answered = so.wrote.answered; written = so.wrote.written }; unrefused = so.unrefused }
 
-  at_end : (left after : Option (List ℕ)) (number : ℕ) (failed : Bool) → failed ≡ list_any is_failure texts → IsEmptyKnown a → after ≡ w → MannerOutcome manner serves old input left before after (ended ends.End number failed)
-  at_end left after number true failed empty same = (lines, texts, mid, a, (after_that after same, empty, sym failed))
-  at_end left after number false failed empty same = (lines, texts, mid, a, (after_that after same, empty, sym failed))
+  -- the script is at its end
+  pub at_end : (new : S) (b left after : Option (List ℕ)) (number : ℕ) (failed : Bool) → failed ≡ list_any is_failure texts →
+      NextOutcome manner.goes_on number serves mid new a b left w after (Ok None) → MannerOutcome manner serves old input left before after (Ok (ending_of failed))
+  at_end new b left after number true failed so = (lines, texts, mid, a, (after_that after so.2, so.0, sym failed))
+  at_end new b left after number false failed so = (lines, texts, mid, a, (after_that after so.2, so.0, sym failed))
 
   -- the script stops
-  pub stopped : (new : S) (b left after : Option (List ℕ)) (number : ℕ) (failed : Bool) (stop : LineStop) → number ≡ length lines + 1 → failed ≡ list_any is_failure texts →
-      NextOutcome manner.goes_on serves mid new a b left w after (Err stop) → MannerOutcome manner serves old input left before after (ended stop number failed)
-  stopped new b left after number failed ends.End counted are so = at_end left after number failed are so.0 so.2
-  stopped new b left after number failed (ends.Fault fault) counted are so = (lines, texts, mid, a, (after_that after so.3, so.0, so.1, counted))
-  stopped new b left after number failed ends.Read counted are so = (lines, texts, mid, so.0.0, (went_kept (prepend_known so.0.0 left) after so.0.1.1 so.2, so.0.1.0))
-  stopped new b left after number failed ends.Write counted are so = (lines, texts, mid, a, w, so.1, (went, new, so.0, (so.2.0, so.2.1, so.2.2)))
-  stopped new b left after number failed ends.Memory counted are so = (lines, texts, mid, a, after_that after so)
-  stopped new b left after number failed ends.Stray counted are so = (lines, texts, mid, a, after_that after so)
+  pub stopped : (new : S) (b left after : Option (List ℕ)) (number : ℕ) (stop : RunFault) → number ≡ length lines + 1 →
+      NextOutcome manner.goes_on number serves mid new a b left w after (Err stop) → MannerOutcome manner serves old input left before after (Err stop)
+  stopped new b left after number (stops.Line m fault) counted so = (lines, texts, mid, a, (after_that after so.4, so.1, so.2, so.0 ∙ counted))
+  stopped new b left after number stops.Read counted so = (lines, texts, mid, so.0.0, (went_kept (prepend_known so.0.0 left) after so.0.1.1 so.2, so.0.1.0))
+  stopped new b left after number stops.Write counted so = (lines, texts, mid, a, w, so.1, (went, new, so.0, (so.2.0, so.2.1, so.2.2)))
+  stopped new b left after number (stops.Open why) counted so = absurd so
+  stopped new b left after number stops.Memory counted so = (lines, texts, mid, a, after_that after so)
+  stopped new b left after number stops.Stray counted so = (lines, texts, mid, a, after_that after so)
 
 -- ---- where no manner is asked for
 
@@ -234,11 +240,11 @@ plainly manner serves old new input rest before after lines texts off so =
     }
 
 -- the result without a manner
-abbrev pub as_before : Result Ending ScriptFault → Result (Unit {0}) ScriptFault
+abbrev pub as_before : Result Ending RunFault → Result (Unit {0}) RunFault
 as_before (Ok ending) = Ok tt
 as_before (Err fault) = Err fault
 
-pub plain_outcome : {S : Type 0} (manner : Manner) (serves : Machine S) (old : S) (input left before after : Option (List ℕ)) (result : Result Ending ScriptFault) → manner.is_strict ≡ false → manner.goes_on ≡ false
+pub plain_outcome : {S : Type 0} (manner : Manner) (serves : Machine S) (old : S) (input left before after : Option (List ℕ)) (result : Result Ending RunFault) → manner.is_strict ≡ false → manner.goes_on ≡ false
     → MannerOutcome manner serves old input left before after result → ScriptOutcome serves old input left before after (as_before result)
 plain_outcome manner serves old input left before after (Ok endings.Whole) lax off (lines, texts, new, rest, (went, empty, fine)) =
     (lines, new, rest, (plainly manner serves old new input rest before after lines texts off went, empty))
@@ -251,6 +257,7 @@ plain_outcome manner serves old input left before after (Err stops.Read) lax off
     (lines, new, held, (plainly manner serves old new input (prepend_known held left) before after lines texts off went, unended))
 plain_outcome manner serves old input left before after (Err stops.Memory) lax off (lines, texts, new, rest, went) = (lines, new, rest, plainly manner serves old new input rest before after lines texts off went)
 plain_outcome manner serves old input left before after (Err stops.Stray) lax off (lines, texts, new, rest, went) = (lines, new, rest, plainly manner serves old new input rest before after lines texts off went)
+plain_outcome manner serves old input left before after (Err (stops.Open why)) lax off so = absurd so
 plain_outcome {S} manner serves old input left before after (Err stops.Write) lax off (lines, texts, new, rest, mid, text, (went, last, line, (next, answers, some))) = (
   lines,
   new,

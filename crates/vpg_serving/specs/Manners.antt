@@ -13,8 +13,8 @@ use Rattle.vpg_serving.specs.declared.answering.Tone.{Tone}
 use Rattle.vpg_serving.specs.declared.serving.Manner.{Manner}
 use Rattle.vpg_serving.specs.declared.serving.Ending.{Ending}
 use Rattle.vpg_serving.specs.declared.serving.Ending.TheVariants as endings
-use Rattle.vpg_serving.specs.declared.serving.ScriptFault.{ScriptFault}
-use Rattle.vpg_serving.specs.declared.serving.ScriptFault.TheVariants as stops
+use Rattle.vpg_serving.specs.declared.fault.RunFault.{RunFault}
+use Rattle.vpg_serving.specs.declared.fault.RunFault.TheVariants as stops
 
 -- ---- answers
 
@@ -71,7 +71,7 @@ pub record Went {S : Type 0} (manner : Manner) (serves : Machine S) (old new : S
 
 -- what the result of a script that is answered in a manner says of what was read and written
 abbrev pub MannerOutcome : {S : Type 0} → Manner → Machine S → S → Option (List ℕ) → Option (List ℕ) →
-    Option (List ℕ) → Option (List ℕ) → Result Ending ScriptFault → Type 0
+    Option (List ℕ) → Option (List ℕ) → Result Ending RunFault → Type 0
 -- all lines were answered, and no assertion failed
 MannerOutcome {S} manner serves old input left before after (Ok endings.Whole) =
     (lines texts : List (List ℕ)) × (new : S) × (rest : Option (List ℕ)) ×
@@ -100,6 +100,8 @@ MannerOutcome {S} manner serves old input left before after (Err stops.Read) =
 MannerOutcome {S} manner serves old input left before after (Err stops.Memory) =
     (lines texts : List (List ℕ)) × (new : S) × (rest : Option (List ℕ)) ×
     Went manner serves old new input rest before after lines texts
+-- it was begun
+MannerOutcome {S} manner serves old input left before after (Err (stops.Open fault)) = ⊥
 MannerOutcome {S} manner serves old input left before after (Err stops.Stray) =
     (lines texts : List (List ℕ)) × (new : S) × (rest : Option (List ℕ)) ×
     Went manner serves old new input rest before after lines texts

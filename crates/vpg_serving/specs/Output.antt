@@ -5,8 +5,8 @@ use Rattle.vpg_script.specs.Devices.{AppendsSome}
 use Rattle.vpg_script.specs.Script.{Request, Said, said}
 use Rattle.vpg_script.specs.Lines.{IsUnended, BeginsTooLong, NextLine, ReadLines}
 use Rattle.vpg_script.specs.declared.command.LineFault.{LineFault}
-use Rattle.vpg_serving.specs.declared.serving.ScriptFault.{ScriptFault}
-use Rattle.vpg_serving.specs.declared.serving.ScriptFault.TheVariants as stops
+use Rattle.vpg_serving.specs.declared.fault.RunFault.{RunFault}
+use Rattle.vpg_serving.specs.declared.fault.RunFault.TheVariants as stops
 use Rattle.vpg_script.specs.declared.command.LineFault.TheVariants as faults
 
 -- what a machine does with requests: from a state, with this answer, to a state
@@ -61,7 +61,7 @@ FaultyKnown fault (Some rest) = BeginsFaulty fault rest
 
 -- what a script's result says of what was read and written
 abbrev pub ScriptOutcome : {S : Type 0} → Machine S → S → Option (List ℕ) → Option (List ℕ) → Option (List ℕ) →
-    Option (List ℕ) → Result (Unit {0}) ScriptFault → Type 0
+    Option (List ℕ) → Result (Unit {0}) RunFault → Type 0
 -- all lines were answered
 ScriptOutcome {S} serves old input left before after (Ok done) =
     (lines : List (List ℕ)) × (new : S) × (rest : Option (List ℕ)) ×
@@ -77,6 +77,8 @@ ScriptOutcome {S} serves old input left before after (Err stops.Read) =
 -- some first lines were answered; where a write failed, a front of the answer to the line after them was written
 ScriptOutcome {S} serves old input left before after (Err stops.Memory) =
     (lines : List (List ℕ)) × (new : S) × (rest : Option (List ℕ)) × Wrote serves old new input rest before after lines
+-- it was begun
+ScriptOutcome {S} serves old input left before after (Err (stops.Open fault)) = ⊥
 ScriptOutcome {S} serves old input left before after (Err stops.Stray) =
     (lines : List (List ℕ)) × (new : S) × (rest : Option (List ℕ)) × Wrote serves old new input rest before after lines
 ScriptOutcome {S} serves old input left before after (Err stops.Write) =

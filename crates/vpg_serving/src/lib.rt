@@ -2,8 +2,8 @@
 //!
 //! A `Server` carries the request of a line out, and says what an answer to it is. `answer_script` reads a script from
 //! a `Source` line by line and writes each answer whole to a `Sink` before it reads on; `answer_script_as` also ends at
-//! the first refusal, or goes on behind a line with a fault, as a `Manner` says. How a script ended is an `Ending`, or
-//! a `ScriptFault` where it was not carried out to its end.
+//! the first refusal, or goes on after a line with a fault, as a `Manner` says. The result is an `Ending`, or a
+//! `RunFault` where the script was not carried out to its end.
 //!
 //! This crate knows no command and no desk: what a request does is its server's, and what is proved here holds for
 //! each. The crate of runs above serves a desk.
@@ -13,8 +13,8 @@
 #![tactic(auto)]
 
 mod answering;
+mod fault;
 mod serving;
 
-pub use serving::{
-    Ending, Manner, ScriptFault, ServeFault, Server, answer_script, answer_script_as,
-};
+pub use fault::RunFault;
+pub use serving::{Ending, Manner, ServeFault, Server, answer_script, answer_script_as};

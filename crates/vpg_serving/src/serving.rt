@@ -2,16 +2,17 @@
 ghost use Rattle.std.specs.Prelude.{◌≡◌, ℕ, ◌≤◌, List, ◌++◌, OnOk, IsErrOf, ◌⊎◌, ◌&&◌, ◌||◌, true};
 ghost use Rattle.std.specs.Thread.{IsSync};
 ghost use Rattle.vpg_script.specs.View.{request_shown};
-ghost use Rattle.vpg_serving.specs.Results.{UnlessReaderFails, UnlessWriterFails, ended};
+ghost use Rattle.vpg_serving.specs.Results.{UnlessReaderFails, UnlessWriterFails, ending_of};
 ghost use Rattle.vpg_serving.specs.Output.{Machine, ScriptOutcome};
 ghost use Rattle.vpg_serving.specs.Manners.{MannerOutcome};
 
-use crate::answering::{LineStop, Tone, answer_next};
+use crate::answering::{Tone, answer_next};
+use crate::fault::RunFault;
 use std::alloc::{AllocError, Global};
 use std::sync::Wait;
 use std::thread::Threads;
 use thiserror::Error;
-use vpg_script::{LineFault, Request, Sink, Source};
+use vpg_script::{Request, Sink, Source};
 
 /// Why a server doesn't carry a request out.
 #[derive(Clone, Copy, Debug, Error)]
@@ -66,25 +67,6 @@ pub trait Server {
         ensures scene { OnOk result (scene self.new ≡ scene self.old) };
 }
 
-/// Why a script isn't carried out to its end.
-#[derive(Clone, Copy, Debug, PartialEq, Eq, Error)]
-pub enum ScriptFault {
-    /// The line of this number, from 1, has a fault.
-    #[error("Line {line} {fault}")]
-    Line { line: u64, fault: LineFault },
-    /// The reader failed, or was read 16,777,216 times.
-    #[error("Read")]
-    Read,
-    /// The writer failed.
-    #[error("Write")]
-    Write,
-    #[error("Memory")]
-    Memory,
-    /// What the server serves was used by others.
-    #[error("Stray")]
-    Stray,
-}
-
 /// How a script's refusals and its lines with a fault are met.
 #[derive(Clone, Copy, Debug, PartialEq, Eq)]
 pub struct Manner {
@@ -120,21 +102,14 @@ fn has_failed(failed: bool, tone: Tone) -> bool
     failed || tone.fails
 }
 
-/// How a script ends that stops so at a line.
-fn ended(stop: LineStop, line: u64, failed: bool) -> Result<Ending, ScriptFault>
-    ensures { result ≡ ended stop line failed }
+/// The ending of a script whose lines were all answered, where an assertion failed or none did.
+fn ending_of(failed: bool) -> Ending
+    ensures { result ≡ ending_of failed }
 {
-    match stop {
-        LineStop::End => Ok(if failed {
-            Ending::Failed
-        } else {
-            Ending::Whole
-        }),
-        LineStop::Fault(fault) => Err(ScriptFault::Line { line, fault }),
-        LineStop::Read => Err(ScriptFault::Read),
-        LineStop::Write => Err(ScriptFault::Write),
-        LineStop::Memory => Err(ScriptFault::Memory),
-        LineStop::Stray => Err(ScriptFault::Stray),
+    if failed {
+        Ending::Failed
+    } else {
+        Ending::Whole
     }
 }
 
@@ -152,16 +127,16 @@ pub fn answer_script_as<T: Threads + Wait + Sync, V: Server, R: Source, W: Sink>
     server: &mut V,
     reader: &mut R,
     writer: &mut W,
-) -> Result<Ending, ScriptFault>
+) -> Result<Ending, RunFault>
     requires unread { R.calls reader.old ≡ 0 }
     requires lifters { (1 ≤ lifters) × (lifters ≤ 64) }
     // What is written are the answers to the lines that were read, and the result tells how they end.
     ensures output { MannerOutcome manner (V.answering (V.scene server.old) lifters) (V.state server.old)
         (R.remaining reader.old) (R.remaining reader.new) (W.contents writer.old) (W.contents writer.new) result }
     // Read and Write are answered only where the device failed, or the reads were used up.
-    ensures read { IsErrOf result ScriptFault.Read → (R.has_failed reader.new ≡ true) ⊎
+    ensures read { IsErrOf result RunFault.Read → (R.has_failed reader.new ≡ true) ⊎
         (R.calls reader.new ≡ 16777216) }
-    ensures write { IsErrOf result ScriptFault.Write → W.has_failed writer.new ≡ true }
+    ensures write { IsErrOf result RunFault.Write → W.has_failed writer.new ≡ true }
     // A device that failed is told.
     ensures readable { UnlessReaderFails result (R.has_failed reader.new ≡ R.has_failed reader.old) }
     ensures writable { UnlessWriterFails result (W.has_failed writer.new ≡ W.has_failed writer.old) }
@@ -176,13 +151,14 @@ pub fn answer_script_as<T: Threads + Wait + Sync, V: Server, R: Source, W: Sink>
             alloc,
             lifters,
             manner.goes_on,
+            number,
             server,
             &mut held,
             &mut reads,
             reader,
             writer,
         ) {
-            Ok(tone) => {
+            Ok(Some(tone)) => {
                 let last = is_last(tone, manner);
                 if last {
                     return Ok(Ending::Refused { line: number });
@@ -190,7 +166,8 @@ pub fn answer_script_as<T: Threads + Wait + Sync, V: Server, R: Source, W: Sink>
                 let fails = has_failed(failed, tone);
                 failed = fails;
             }
-            Err(stop) => return ended(stop, number, failed),
+            Ok(None) => return Ok(ending_of(failed)),
+            Err(stop) => return Err(stop),
         }
         number += 1;
     }
@@ -208,16 +185,16 @@ pub fn answer_script<T: Threads + Wait + Sync, V: Server, R: Source, W: Sink>(
     server: &mut V,
     reader: &mut R,
     writer: &mut W,
-) -> Result<(), ScriptFault>
+) -> Result<(), RunFault>
     requires unread { R.calls reader.old ≡ 0 }
     requires lifters { (1 ≤ lifters) × (lifters ≤ 64) }
     // What is written is the output for the lines that were read.
     ensures output { ScriptOutcome (V.answering (V.scene server.old) lifters) (V.state server.old)
         (R.remaining reader.old) (R.remaining reader.new) (W.contents writer.old) (W.contents writer.new) result }
     // Read and Write are answered only where the device failed, or the reads were used up.
-    ensures read { IsErrOf result ScriptFault.Read → (R.has_failed reader.new ≡ true) ⊎
+    ensures read { IsErrOf result RunFault.Read → (R.has_failed reader.new ≡ true) ⊎
         (R.calls reader.new ≡ 16777216) }
-    ensures write { IsErrOf result ScriptFault.Write → W.has_failed writer.new ≡ true }
+    ensures write { IsErrOf result RunFault.Write → W.has_failed writer.new ≡ true }
     // A device that failed is told.
     ensures readable { UnlessReaderFails result (R.has_failed reader.new ≡ R.has_failed reader.old) }
     ensures writable { UnlessWriterFails result (W.has_failed writer.new ≡ W.has_failed writer.old) }

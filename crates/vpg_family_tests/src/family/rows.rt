@@ -12,6 +12,16 @@ const HERE: &str = "0 1 0 1[f],0 \"he\\re\"; 1 2 1 0[g],1;";
 /// The vertex 1 has no name.
 const DOOR: &str = "0 1 0 1[f],0 \"door\topen\"; 1 2 1 0[g],1; 12 0 1 0 \"+f or fewer\";";
 
+/// 62 vertices of odd priorities, one each: no game has a greater top.
+const WIDEST: &str = "\
+    0 1 0 0; 1 3 0 1; 2 5 0 2; 3 7 0 3; 4 9 0 4; 5 11 0 5; 6 13 0 6; 7 15 0 7; 8 17 0 8; 9 19 0 9; 10 21 0 10; \
+    11 23 0 11; 12 25 0 12; 13 27 0 13; 14 29 0 14; 15 31 0 15; 16 33 0 16; 17 35 0 17; 18 37 0 18; 19 39 0 19; \
+    20 41 0 20; 21 43 0 21; 22 45 0 22; 23 47 0 23; 24 49 0 24; 25 51 0 25; 26 53 0 26; 27 55 0 27; 28 57 0 28; \
+    29 59 0 29; 30 61 0 30; 31 63 0 31; 32 65 0 32; 33 67 0 33; 34 69 0 34; 35 71 0 35; 36 73 0 36; 37 75 0 37; \
+    38 77 0 38; 39 79 0 39; 40 81 0 40; 41 83 0 41; 42 85 0 42; 43 87 0 43; 44 89 0 44; 45 91 0 45; 46 93 0 46; \
+    47 95 0 47; 48 97 0 48; 49 99 0 49; 50 101 0 50; 51 103 0 51; 52 105 0 52; 53 107 0 53; 54 109 0 54; \
+    55 111 0 55; 56 113 0 56; 57 115 0 57; 58 117 0 58; 59 119 0 59; 60 121 0 60; 61 123 0 61;";
+
 /// A family, what is asked of it, and what is written to standard output, or else to standard error.
 #[derive(Drop)]
 pub(super) struct Row<'t> {
@@ -31,6 +41,7 @@ fn meant(part: &str) -> &str {
         "GAME" => GAME,
         "NONE" => NONE,
         "DOT" => DOT,
+        "WIDEST" => WIDEST,
         "HERE" => HERE,
         "DOOR" => DOOR,
         _ => part,
@@ -87,6 +98,7 @@ const REFUSED: &str = "\
 const DONE: &str = "\
 ¦check¦DIAGRAM¦GAME¦¦vertices 2 edges 4 features 3 top 2 2\n§\
 ¦check¦NONE¦DOT¦¦vertices 1 edges 1 features 2 top 1 2\n§\
+¦check¦DIAGRAM¦WIDEST¦¦vertices 62 edges 62 features 3 top 4611686018427387904 1\n§\
 ¦project¦NONE¦DOT¦r a¦vpgdesk: NotAProduct\n§\
 ¦project¦DIAGRAM¦GAME¦r g¦parity 1;\n0 1 0 0;\n1 2 1 0,1;\n§\
 ¦project¦DIAGRAM¦GAME¦g r g f¦parity 1;\n0 1 0 1,0;\n1 2 1 0,1;\n§\
@@ -155,7 +167,7 @@ digraph game {
 ¦redraw-features¦DIAGRAM¦HERE¦digraph game {
   graph [label=\"decisions -g\", labelloc=t, rankdir=LR];
   node [style=filled];
-  0 [shape=diamond, label=\"0 : 1\", fillcolor=gainsboro, color=gray50];
+  0 [shape=diamond, label=\"0 : 1\", fillcolor=mistyrose, color=firebrick];
   1 [shape=box, label=\"1 : 2\", fillcolor=white, color=gray40];
   0 -> 1 [label=\"f\", style=dashed, color=steelblue, fontcolor=steelblue];
   0 -> 0 [style=solid];
@@ -200,7 +212,7 @@ const PASSED: &str = "\
 ¦pass-on¦DIAGRAM¦HERE¦digraph game {
   graph [label=\"decisions -g\", labelloc=t, rankdir=LR];
   node [style=filled];
-  0 [shape=diamond, label=\"0 : 1\", fillcolor=gainsboro, color=gray50];
+  0 [shape=diamond, label=\"0 : 1\", fillcolor=mistyrose, color=firebrick];
   1 [shape=box, label=\"1 : 2\", fillcolor=white, color=gray40];
   0 -> 1 [label=\"f\", style=dashed, color=steelblue, fontcolor=steelblue];
   0 -> 0 [style=solid];
@@ -210,7 +222,7 @@ const PASSED: &str = "\
 ¦digraph game {
   graph [label=\"decisions -g\", labelloc=t, rankdir=LR];
   node [style=filled];
-  0 [shape=diamond, label=\"0 : 1\\nhe\\\\re\", fillcolor=gainsboro, color=gray50];
+  0 [shape=diamond, label=\"0 : 1\\nhe\\\\re\", fillcolor=mistyrose, color=firebrick];
   1 [shape=box, label=\"1 : 2\", fillcolor=white, color=gray40];
   0 -> 1 [label=\"f\", style=dashed, color=steelblue, fontcolor=steelblue];
   0 -> 0 [style=solid];
@@ -242,7 +254,7 @@ Even's moves, and the vertex with no name is told from the others.¦pass-on¦DIA
   graph [label=\"decisions +f +g\", labelloc=t, rankdir=LR];
   node [style=filled];
   0 [shape=diamond, label=\"0 : 1\", fillcolor=honeydew, color=darkgreen];
-  1 [shape=box, label=\"1 : 2\", penwidth=3, fillcolor=gainsboro, color=gray50];
+  1 [shape=box, label=\"1 : 2\", penwidth=3, fillcolor=honeydew, color=darkgreen];
   0 -> 1 [label=\"f\", style=solid, color=\"#3f7d2c\", penwidth=2.6];
   1 -> 0 [label=\"g\", style=solid];
   1 -> 1 [style=solid];
@@ -251,7 +263,7 @@ Even's moves, and the vertex with no name is told from the others.¦pass-on¦DIA
   graph [label=\"decisions +f +g\", labelloc=t, rankdir=LR];
   node [style=filled];
   0 [shape=diamond, label=\"0 : 1\\nhe\\\\re\", fillcolor=honeydew, color=darkgreen];
-  1 [shape=box, label=\"1 : 2\", penwidth=3, fillcolor=gainsboro, color=gray50];
+  1 [shape=box, label=\"1 : 2\", penwidth=3, fillcolor=honeydew, color=darkgreen];
   0 -> 1 [label=\"f\", style=solid, color=\"#3f7d2c\", penwidth=2.6];
   1 -> 0 [label=\"g\", style=solid];
   1 -> 1 [style=solid];

@@ -1,13 +1,14 @@
-use Rattle.std.proofs.Common.{ℕ, Bool, List, [], ◌∷◌, ◌++◌, Result, Ok, Err, length-append, arith, ap, ap₂, sym, refl, ◌∙◌, subst}
+use Rattle.std.proofs.Common.{ℕ, Bool, List, [], ◌∷◌, ◌++◌, Option, None, Some, Result, Ok, Err, length-append, arith, ap, ap₂, sym, refl, ◌∙◌, subst}
 use Rattle.std.proofs.lemmas.Grind.{common_steps}
-use Rattle.std.specs.Prelude.{◌||◌, ◌&&◌}
+use Rattle.std.specs.Prelude.{◌<◌, ◌||◌, ◌&&◌, OnSome, vec_len}
+use Rattle.vpg_script.specs.Lines.{lines_left}
 use Rattle.std.specs.Io.KnownBytes.{prepend_known}
 use Rattle.vpg_serving.specs.Manners.{MannerOutcome, Went}
 use Rattle.vpg_serving.specs.Results.{NextOutcome}
 use Rattle.vpg_serving.specs.declared.answering.Tone.{Tone}
 use Rattle.vpg_serving.specs.declared.serving.Ending.{Ending}
-use Rattle.vpg_serving.specs.declared.serving.ScriptFault.{ScriptFault}
-use Rattle.vpg_serving.proofs.MannerLemmas.{went_nothing, went_more, failed_more, refused_there, stopped}
+use Rattle.vpg_serving.specs.declared.fault.RunFault.{RunFault}
+use Rattle.vpg_serving.proofs.MannerLemmas.{went_nothing, went_more, failed_more, refused_there, at_end, stopped}
 use Rattle.vpg_serving.proofs.serving.answer_script_as.Goals as goal
 
 pub lines-init : goal.lines-init
@@ -46,9 +47,11 @@ returns-then-last-clause-output g c =
     let after = g.W.Sink.contents c.answer_next.new.writer in
     let mid = g.V.Server.state c.lines.server in
     let new = g.V.Server.state c.answer_next.new.server in
-    let outcome = subst (λ (s : g.V.Server.Scene). NextOutcome c.args.manner.goes_on (g.V.Server.answering s c.args.lifters) mid new a b left w after (Ok c.in-Ok.tone)) c.lines.invariant.same c.in-Ok.ensures.outcome in
+    let serves = g.V.Server.answering (g.V.Server.scene first) c.args.lifters in
+    let outcome = subst (λ (o : Option Tone). NextOutcome c.args.manner.goes_on c.lines.number serves mid new a b left w after (Ok o)) c.in-Ok-Some.field-0-is
+    (subst (λ (s : g.V.Server.Scene). NextOutcome c.args.manner.goes_on c.lines.number (g.V.Server.answering s c.args.lifters) mid new a b left w after (Ok c.in-Ok-Some.field-0)) c.lines.invariant.same c.in-Ok-Some.ensures.outcome) in
     refused_there c.args.manner (g.V.Server.answering (g.V.Server.scene first) c.args.lifters) (g.V.Server.state first) mid new (g.R.Source.remaining c.args.reader.now) a b left
-    (g.W.Sink.contents c.args.writer.now) w after so.0 so.1 c.lines.number c.in-Ok.tone so.2.0 so.2.1 outcome (sym c.is_last-last.ensures ∙ c.if-last.true)
+    (g.W.Sink.contents c.args.writer.now) w after so.0 so.1 c.lines.number c.in-Ok-Some.tone so.2.0 so.2.1 outcome (sym c.is_last-last.ensures ∙ c.if-last.true)
 
 pub returns-in-Err-clause-output : goal.returns-in-Err-clause-output
 returns-in-Err-clause-output g c =
@@ -62,10 +65,9 @@ returns-in-Err-clause-output g c =
     let mid = g.V.Server.state c.lines.server in
     let new = g.V.Server.state c.answer_next.new.server in
     let serves = g.V.Server.answering (g.V.Server.scene first) c.args.lifters in
-    let outcome = subst (λ (s : g.V.Server.Scene). NextOutcome c.args.manner.goes_on (g.V.Server.answering s c.args.lifters) mid new a b left w after (Err c.in-Err.stop)) c.lines.invariant.same c.in-Err.ensures.outcome in
-    subst (λ (r : Result Ending ScriptFault). MannerOutcome c.args.manner serves (g.V.Server.state first) (g.R.Source.remaining c.args.reader.now) left (g.W.Sink.contents c.args.writer.now) after r) (sym c.ended.ensures)
-    (stopped c.args.manner serves (g.V.Server.state first) mid (g.R.Source.remaining c.args.reader.now) a (g.W.Sink.contents c.args.writer.now) w so.0 so.1 so.2.0 new b left after c.lines.number c.lines.failed
-    c.in-Err.stop so.2.1 so.2.2 outcome)
+    let outcome = subst (λ (s : g.V.Server.Scene). NextOutcome c.args.manner.goes_on c.lines.number (g.V.Server.answering s c.args.lifters) mid new a b left w after (Err c.in-Err.stop)) c.lines.invariant.same c.in-Err.ensures.outcome in
+    stopped c.args.manner serves (g.V.Server.state first) mid (g.R.Source.remaining c.args.reader.now) a (g.W.Sink.contents c.args.writer.now) w so.0 so.1 so.2.0 new b left after c.lines.number
+    c.in-Err.stop so.2.1 outcome
 
 pub lines-preserved : goal.lines-preserved
 lines-preserved g c =
@@ -79,14 +81,16 @@ lines-preserved g c =
     let mid = g.V.Server.state c.lines.server in
     let new = g.V.Server.state c.answer_next.new.server in
     let serves = g.V.Server.answering (g.V.Server.scene first) c.args.lifters in
-    let o = subst (λ (s : g.V.Server.Scene). NextOutcome c.args.manner.goes_on (g.V.Server.answering s c.args.lifters) mid new a b left w after (Ok c.in-Ok.tone)) c.lines.invariant.same c.in-Ok.ensures.outcome in
+    let o = subst (λ (o : Option Tone). NextOutcome c.args.manner.goes_on c.lines.number serves mid new a b left w after (Ok o)) c.in-Ok-Some.field-0-is
+    (subst (λ (s : g.V.Server.Scene). NextOutcome c.args.manner.goes_on c.lines.number (g.V.Server.answering s c.args.lifters) mid new a b left w after (Ok c.in-Ok-Some.field-0)) c.lines.invariant.same c.in-Ok-Some.ensures.outcome) in
+    let fewer = subst (λ (o : Option Tone). OnSome o (lines_left c.answer_next.new.reads (vec_len c.answer_next.new.held) < lines_left c.lines.reads (vec_len c.lines.held))) c.in-Ok-Some.field-0-is c.in-Ok-Some.ensures.fewer in
     record {
-      same = c.in-Ok.ensures.scene ∙ c.lines.invariant.same;
+      same = c.in-Ok-Some.ensures.scene ∙ c.lines.invariant.same;
       few = c.answer_next.ensures.reads;
-      readable = c.in-Ok.ensures.readable ∙ c.lines.invariant.readable;
-      writable = c.in-Ok.ensures.writable ∙ c.lines.invariant.writable;
+      readable = c.in-Ok-Some.ensures.readable ∙ c.lines.invariant.readable;
+      writable = c.in-Ok-Some.ensures.writable ∙ c.lines.invariant.writable;
       calls = c.answer_next.ensures.calls;
-      bound = omega (arith, c.lines.invariant.bound, c.in-Ok.ensures.fewer);
+      bound = omega (arith, c.lines.invariant.bound, fewer);
       went = (
         so.0 ++ o.0 ∷ [],
         so.1 ++ o.1 ∷ [],

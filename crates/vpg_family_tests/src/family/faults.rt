@@ -1,0 +1,50 @@
+//! What faults are told as that no family in texts meets.
+use crate::said::Said;
+use std::test::*;
+use vpg_family::Fault;
+use vpg_script::LineFault;
+
+/// How many they are.
+const FAULTS: u32 = 10;
+
+/// The fault at a place.
+fn fault_at(place: u32) -> Fault {
+    match place {
+        0 => Fault::DiagramUnreadable,
+        1 => Fault::GameUnreadable,
+        2 => Fault::ScriptUnreadable,
+        3 => Fault::AtLimit,
+        4 => Fault::Line {
+            line: 20,
+            fault: LineFault::TooLong,
+        },
+        5 => Fault::Read,
+        6 => Fault::Write,
+        7 => Fault::LogFull,
+        8 => Fault::Stray,
+        _ => Fault::Memory,
+    }
+}
+
+const LINES: &str = "\
+vpgdesk: diagram unreadable
+vpgdesk: game unreadable
+vpgdesk: script unreadable
+vpgdesk: game AtLimit
+vpgdesk: script Line 20 TooLong
+vpgdesk: script Read
+vpgdesk: Write
+vpgdesk: script LogFull
+vpgdesk: script Stray
+vpgdesk: Memory
+";
+
+#[test]
+fn other_faults_are_told(rt: HostRuntime) -> Result<(), Fail> {
+    let mut said = Said::new(rt.alloc());
+    for place in 0..FAULTS {
+        said.put_answer(Err(fault_at(place)));
+    }
+    assert_eq!(rt; said.text(), LINES);
+    Ok(())
+}

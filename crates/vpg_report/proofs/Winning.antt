@@ -1,0 +1,352 @@
+-- What a run writes says who wins.
+use Rattle.std.proofs.Common.{◌≡◌, ℕ, zero, suc, ◌+◌, ◌<◌, ◌≤◌, ◌==◌, Bool, true, false, ◌&&◌, List, [], ◌∷◌, ◌++◌, length, Option, Some, None, Ok, Err, slice_index, refl, sym, ap, ◌∙◌, inl, inr, arith, append-nil, subst}
+use Rattle.std.specs.Prelude.{◌⊎◌, map, is_some, codes, decimal}
+use Rattle.std.specs.List.{range_with_len}
+use Rattle.std.proofs.lemmas.Bool.{cases_lt}
+use Rattle.std.proofs.lemmas.List.{length-append, length-map, get_or_append_left, get_or-append-add}
+use Rattle.std.proofs.lemmas.List.Concat.{flat_map-cons}
+use Rattle.std.proofs.lemmas.List.FromFn.{map-range_with_len_more}
+use Rattle.std.proofs.lemmas.List.Quantifiers.{position-Some}
+use Rattle.std.proofs.lemmas.Grind.{flat_map-append}
+use Rattle.vpg_game.specs.Game.{unnamed}
+use Rattle.vpg_measure.specs.TwoGames.{top_for}
+use Rattle.vpg_verdict.specs.declared.verdict.Verdict.{Verdict}
+use Rattle.vpg_trail.specs.Page.{Hopeful, Dual, Entry, literal_of, decisions_of, value_at, table_of}
+use Rattle.vpg_trail.proofs.PageLemmas.{table_of-at}
+use Rattle.vpg_desk.specs.Book.{Family, Book, opened, Page, Reply, Changed, Undone, Redone, Spent, Ordered, Added, IsSettled, VerdictIs, PageIs, Refused, IsReply}
+use Rattle.vpg_desk.specs.Desk.{family_of}
+use Rattle.vpg_desk.specs.Headline.{VerdictMeans}
+use Rattle.vpg_desk.specs.History.{Event, IsLegal, IsLegalFrom, book_after, page_after}
+use Rattle.vpg_desk.specs.Lawful.{IsLawful, AllHandIn}
+use Rattle.vpg_desk.specs.Setting.{IsSetting}
+use Rattle.vpg_desk.proofs.Whole.{reply_means}
+use Rattle.vpg_script.specs.declared.command.Claim.{Claim}
+use Rattle.vpg_script.specs.Script as script
+use Rattle.vpg_script.specs.Script.{Said, said}
+use Rattle.vpg_serving.specs.Output.{Speaks, Answered}
+use Rattle.vpg_texts.specs.Changed.{verdict_of, verdicts_below, unseen, seen_at, changed_text}
+use Rattle.vpg_texts.specs.Scene.{Scene, scene_of}
+use Rattle.vpg_texts.specs.Sights.{has_vertices, line_at, named_lines, verdicts_at, verdicts_text}
+use Rattle.vpg_texts.specs.Text.{answer_line, blank_number, decisions_line, hopeless_text, sure_text, vertex_line, vertex_lines}
+use Rattle.vpg_report.specs.Answers.{vertex_of, page_if, own_text, NoVertex, refusal_text, Follows, Asks, Sees, verdicts_on}
+use Rattle.vpg_report.specs.Held.{Held}
+use Rattle.vpg_report.specs.Requests.{Continues, Begins, Serves}
+use Rattle.vpg_report.specs.Run.{Between, begun, answering, asking}
+use Rattle.vpg_report.specs.Setting.{setting_in}
+use Rattle.vpg_report.specs.Winners.{AreTrue, verdict_line, verdict_lines, SaysVerdicts, IsRefusal, NamesWinners, naming, AnswersNameWinners}
+use Rattle.vpg_report.proofs.Histories.{AreLawful, Calls, legal_more, after_more, all_more, line_of, speaks_calls}
+
+-- ---- lines of a text
+
+-- what stands in a list with one more behind
+front_of : (xs : List Verdict) (x : Verdict) (v : ℕ) → v < length xs → seen_at (xs ++ x ∷ []) v ≡ seen_at xs v
+front_of xs x v inside = get_or_append_left xs (x ∷ []) unseen v inside
+
+last_of : (xs : List Verdict) (x : Verdict) (v : ℕ) → v ≡ length xs → seen_at (xs ++ x ∷ []) v ≡ x
+last_of xs x v is = ap (seen_at (xs ++ x ∷ [])) (is ∙ zero_more (length xs)) ∙ get_or-append-add xs (x ∷ []) 0 unseen
+  where
+    zero_more : (n : ℕ) → n ≡ n + 0
+    zero_more n = omega arith
+
+both_true : (a b : Bool) → (a && b) ≡ true → (a ≡ true) × (b ≡ true)
+both_true true b e = (refl, e)
+both_true false b e = absurd (cc e)
+
+module _ (scene : Scene) (page : List Entry) where
+  abbrev hopeful : List ℕ
+  hopeful = table_of Hopeful page (length scene.game)
+
+  abbrev dual : List ℕ
+  dual = table_of Dual page (length scene.game)
+
+  -- a vertex's verdict by the two tables
+  abbrev verdict_by : ℕ → Verdict
+  verdict_by v = verdict_of (top_for Hopeful scene.game) (top_for Dual scene.game) (slice_index hopeful v) (slice_index dual v)
+
+  abbrev below : ℕ → List Verdict
+  below n = verdicts_below (top_for Hopeful scene.game) (top_for Dual scene.game) hopeful dual n
+
+  below_length : (n : ℕ) → length (below n) ≡ n
+  below_length zero = refl
+  below_length (suc n) = omega (arith, length-append (below n) (verdict_by n ∷ []), below_length n)
+
+  at_below : (n v : ℕ) → v < n → seen_at (below n) v ≡ verdict_by v
+  at_below zero v inside = absurd (omega arith)
+  at_below (suc n) v inside = of (cases_lt v n) (at_below n v)
+    where
+      of : (v < n) ⊎ (n ≤ v) → (v < n → seen_at (below n) v ≡ verdict_by v) → seen_at (below n ++ verdict_by n ∷ []) v ≡ verdict_by v
+      of (inl less) before = front_of (below n) (verdict_by n) v (omega (arith, below_length n, less)) ∙ before less
+      of (inr more) before =
+          let last : v ≡ n = omega (arith, inside, more) in
+          last_of (below n) (verdict_by n) v (last ∙ sym (below_length n)) ∙ ap verdict_by (sym last)
+
+  at_page : (v : ℕ) → v < length scene.game → seen_at (verdicts_on scene page) v ≡ verdict_by v
+  at_page v inside = at_below (length scene.game) v inside
+
+  -- a line of `show`, as the text has it
+  abbrev shown_line : ℕ → List ℕ
+  shown_line v = vertex_line (top_for Hopeful scene.game) (top_for Dual scene.game) (slice_index scene.identifiers v) (slice_index hopeful v) (slice_index dual v)
+
+  abbrev said_line : ℕ → List ℕ
+  said_line v = verdict_line scene hopeful dual (verdicts_on scene page) v
+
+  abbrev said_lines : List ℕ → List ℕ
+  said_lines vertices = verdict_lines scene hopeful dual (verdicts_on scene page) vertices
+
+  line_is : (v : ℕ) → v < length scene.game → said_line v ≡ shown_line v
+  line_is v inside = λ k. decimal (slice_index scene.identifiers v) ++ blank_number (slice_index hopeful v) ++ blank_number (slice_index dual v) ++ hopeless_text (at_page v inside k).hopeless ++ sure_text (at_page v inside k).sure
+
+  range_more : (n : ℕ) → range_with_len 0 (suc n) ≡ range_with_len 0 n ++ n ∷ []
+  range_more n =
+      let more : suc n ≡ n + 1 = omega arith in
+      ap (range_with_len 0) more ∙ sym (map-id (range_with_len 0 (n + 1))) ∙ map-range_with_len_more (λ (k : ℕ). k) 0 n n (omega arith) ∙ ap (λ (l : List ℕ). l ++ n ∷ []) (map-id (range_with_len 0 n))
+    where
+      map-id : (xs : List ℕ) → map (λ (k : ℕ). k) xs ≡ xs
+      map-id [] = refl
+      map-id (x ∷ xs) = ap (λ (l : List ℕ). x ∷ l) (map-id xs)
+
+  range_lines : (n : ℕ) → n ≤ length scene.game → said_lines (range_with_len 0 n) ≡ vertex_lines (top_for Hopeful scene.game) (top_for Dual scene.game) scene.identifiers hopeful dual n
+  range_lines zero le = refl
+  range_lines (suc n) le =
+      ap said_lines (range_more n)
+      ∙ flat_map-append said_line (range_with_len 0 n) (n ∷ [])
+      ∙ (λ k. range_lines n (omega (arith, le)) k ++ (flat_map-cons said_line n [] ∙ append-nil (said_line n) ∙ line_is n le) k)
+
+  -- what `show` writes
+  show_says : length scene.identifiers ≡ length scene.game → (text : List ℕ) → Sees scene script.Show page text → SaysVerdicts scene (script.Look script.Show) (verdicts_on scene page) text
+  show_says sized text sees =
+      let told = sees.1.1 in
+      let head = decisions_line scene.names (map literal_of (decisions_of page)) ++ codes "full" ++ answer_line told.full ++ codes "settled" ++ answer_line told.settled in (
+        head,
+        hopeful,
+        dual,
+        told.text_is ∙ ap (λ (l : List ℕ). head ++ l)
+            (ap (vertex_lines (top_for Hopeful scene.game) (top_for Dual scene.game) scene.identifiers hopeful dual) sized ∙ sym (range_lines (length scene.game) (omega arith))),
+      )
+
+  abbrev lines_named : List ℕ → List ℕ
+  lines_named identifiers = named_lines (top_for Hopeful scene.game) (top_for Dual scene.game) scene.identifiers hopeful dual identifiers
+
+  abbrev line_found : Option ℕ → List ℕ
+  line_found found = line_at (top_for Hopeful scene.game) (top_for Dual scene.game) scene.identifiers hopeful dual found
+
+  -- the vertices of these identifiers
+  record Named (identifiers : List ℕ) : Type 0 where
+    vertices : List ℕ
+    are : map (vertex_of scene) identifiers ≡ map Some vertices
+    lines : lines_named identifiers ≡ said_lines vertices
+
+  module _ (sized : length scene.identifiers ≡ length scene.game) where
+    one_more : (identifier : ℕ) (identifiers : List ℕ) → (found : Option ℕ) → vertex_of scene identifier ≡ found → is_some found ≡ true → Named identifiers → Named (identifier ∷ identifiers)
+    one_more identifier identifiers None is some more = absurd (cc some)
+    one_more identifier identifiers (Some v) is some more =
+        let at = position-Some (λ (n : ℕ). n == identifier) scene.identifiers v 0 is in
+        record {
+          vertices = v ∷ more.vertices;
+          are = λ k. is k ∷ more.are k;
+          lines = flat_map-cons (λ (i : ℕ). line_found (vertex_of scene i)) identifier identifiers
+              ∙ (λ k. line_found (is k) ++ more.lines k)
+              ∙ ap (λ (l : List ℕ). l ++ said_lines more.vertices) (sym (line_is v (omega (arith, at.0, sized))))
+              ∙ sym (flat_map-cons said_line v more.vertices);
+        }
+
+    named : (identifiers : List ℕ) → has_vertices scene.identifiers (script.Vertices identifiers) ≡ true → Named identifiers
+    named [] has = record { vertices = []; are = refl; lines = refl }
+    named (identifier ∷ identifiers) has =
+        let b = both_true (is_some (vertex_of scene identifier)) (has_vertices scene.identifiers (script.Vertices identifiers)) has in
+        one_more identifier identifiers (vertex_of scene identifier) refl b.0 (named identifiers b.1)
+
+    -- what `show V ..` writes
+    named_says : (identifiers text : List ℕ) → has_vertices scene.identifiers (script.Vertices identifiers) ≡ true → Sees scene (script.Vertices identifiers) page text →
+        SaysVerdicts scene (script.Look (script.Vertices identifiers)) (verdicts_on scene page) text
+    named_says identifiers text has sees =
+        let n = named identifiers has in
+        (n.vertices, hopeful, dual, n.are, sees ∙ n.lines)
+
+    -- what `assert V ..` writes
+    assert_says : (identifier : ℕ) (claims : List Claim) (text : List ℕ) → (found : Option ℕ) → vertex_of scene identifier ≡ found → is_some found ≡ true → Sees scene (script.Assert (script.Verdicts identifier claims)) page text →
+        SaysVerdicts scene (script.Look (script.Assert (script.Verdicts identifier claims))) (verdicts_on scene page) text
+    assert_says identifier claims text None is some sees = absurd (cc some)
+    assert_says identifier claims text (Some v) is some sees =
+        let told = sees.1.1 in
+        let at = position-Some (λ (n : ℕ). n == identifier) scene.identifiers v 0 is in
+        let inside : v < length scene.game = omega (arith, at.0, sized) in (
+          v,
+          told.settled,
+          is,
+          told.text_is
+              ∙ ap (verdicts_at (top_for Hopeful scene.game) (top_for Dual scene.game) hopeful dual told.settled claims) is
+              ∙ (λ k. verdicts_text told.settled ((sym (at_page v inside)) k).hopeless ((sym (at_page v inside)) k).sure claims),
+        )
+
+-- ---- the page of a history
+
+module _ (scene : Scene) where
+  abbrev F : Family
+  F = family_of (setting_in scene)
+
+  -- the verdicts on a page
+  abbrev TrueOn : List Entry → Type 0
+  TrueOn page = AreTrue scene page (verdicts_on scene page)
+
+  by_tables : (history : List Event) → IsSetting (setting_in scene) → IsLegal F history → AllHandIn (IsLawful F) history → (v : ℕ) → v < length scene.game →
+      VerdictMeans (setting_in scene) (page_after F history) v (verdict_by scene (page_after F history) v).hopeless (verdict_by scene (page_after F history) v).sure
+  by_tables history is_setting legal lawful v inside =
+      let page = page_after F history in
+      coe 0 1 (k. VerdictMeans (setting_in scene) page v ((sym (table_of-at Hopeful page (length scene.game) v inside)) k == top_for Hopeful scene.game) ((sym (table_of-at Dual page (length scene.game) v inside)) k == top_for Dual scene.game))
+      (reply_means (setting_in scene) history is_setting legal lawful v inside (value_at Hopeful v page == top_for Hopeful scene.game) (value_at Dual v page == top_for Dual scene.game) (None, (refl, refl)))
+
+  verdicts_after : (history : List Event) → IsSetting (setting_in scene) → IsLegal F history → AllHandIn (IsLawful F) history → TrueOn (page_after F history)
+  verdicts_after history is_setting legal lawful = record {
+    size = below_length scene (page_after F history) (length scene.game);
+    each = λ v inside.
+        coe 0 1 (k. VerdictMeans (setting_in scene) (page_after F history) v ((sym (at_page scene (page_after F history) v inside)) k).hopeless ((sym (at_page scene (page_after F history) v inside)) k).sure)
+        (by_tables history is_setting legal lawful v inside);
+  }
+
+  -- ---- what is looked at
+
+  page_told : (book : Book) (page : List Entry) → IsReply F book Page (PageIs page) → page ≡ book.present
+  page_told book page (None, (refuses, told)) = cc told
+  page_told book page (Some r, (refuses, told)) = absurd (cc told)
+
+  module _ (book : Book) (held : Held) (made label : ℕ) (lookup : script.Lookup) where
+    replied : (reply : Reply) (calls : List Event) (text : List ℕ) (new : Held) → IsReply F book Page reply → Follows scene held (Continues scene held made label (script.Look lookup)) reply calls text new →
+        IsRefusal text ⊎ Sees scene lookup book.present text
+    replied (Refused r) calls text new told so = inl (refusal_text scene.names r, so.1)
+    replied (Changed s) calls text new told so = absurd so
+    replied (Undone s) calls text new told so = absurd so
+    replied (Redone s) calls text new told so = absurd so
+    replied Spent calls text new told so = absurd so
+    replied (Ordered d h u) calls text new told so = absurd so
+    replied (Added n) calls text new told so = absurd so
+    replied (IsSettled b) calls text new told so = absurd so
+    replied (VerdictIs a b) calls text new told so = absurd so
+    replied (PageIs page) calls text new told so = inr (subst (λ (p : List Entry). Sees scene lookup p text) (page_told book page told) so.0)
+
+    asked : (before : ℕ) (calls : List Event) (text : List ℕ) (new : Held) → IsLegalFrom F book calls → Asks scene held before label Page (Continues scene held made label (script.Look lookup)) calls text new →
+        IsRefusal text ⊎ Sees scene lookup book.present text
+    asked before calls text new legal (inr (full, so)) = inl (codes "LogFull", so.1)
+    asked before [] text new legal (inl (less, so)) = absurd so
+    asked before (e ∷ calls) text new legal (inl (less, so)) =
+        replied e.reply calls text new (subst (λ c. IsReply F book c e.reply) so.1 legal.0) so.2
+
+  looked : (book : Book) (held : Held) (made label : ℕ) (lookup : script.Lookup) (has : Bool) (calls : List Event) (text : List ℕ) (new : Held) → IsLegalFrom F book calls →
+      Begins scene held made label (script.Look lookup) (page_if has) calls text new → IsRefusal text ⊎ ((has ≡ true) × Sees scene lookup book.present text)
+  looked book held made label lookup false calls text new legal so = inl (own_text NoVertex, so.1)
+  looked book held made label lookup true calls text new legal so = seen (asked book held (made + 1) label lookup made calls text new legal so)
+    where
+      seen : IsRefusal text ⊎ Sees scene lookup book.present text → IsRefusal text ⊎ ((true ≡ true) × Sees scene lookup book.present text)
+      seen (inl why) = inl why
+      seen (inr sees) = inr (refl, sees)
+
+  -- ---- lines
+
+  -- an answer to `changed`
+  compared : (book : Book) (held : Held) (made label : ℕ) (reply : Reply) (calls : List Event) (text : List ℕ) (new : Held) → IsReply F book Page reply → Follows scene held (Continues scene held made label script.Changed) reply calls text new →
+      IsRefusal text ⊎ SaysVerdicts scene script.Changed (verdicts_on scene book.present) text
+  compared book held made label (Refused r) calls text new told so = inl (refusal_text scene.names r, so.1)
+  compared book held made label (Changed s) calls text new told so = absurd so
+  compared book held made label (Undone s) calls text new told so = absurd so
+  compared book held made label (Redone s) calls text new told so = absurd so
+  compared book held made label Spent calls text new told so = absurd so
+  compared book held made label (Ordered d h u) calls text new told so = absurd so
+  compared book held made label (Added n) calls text new told so = absurd so
+  compared book held made label (IsSettled b) calls text new told so = absurd so
+  compared book held made label (VerdictIs a b) calls text new told so = absurd so
+  compared book held made label (PageIs page) calls text new told so =
+      inr (held.seen, so.1 ∙ ap (λ (p : List Entry). changed_text scene.identifiers held.seen (verdicts_on scene p)) (page_told book page told))
+
+  changed : (book : Book) (held : Held) (before made label : ℕ) (calls : List Event) (text : List ℕ) (new : Held) → IsLegalFrom F book calls → Asks scene held before label Page (Continues scene held made label script.Changed) calls text new →
+      IsRefusal text ⊎ SaysVerdicts scene script.Changed (verdicts_on scene book.present) text
+  changed book held before made label calls text new legal (inr (full, so)) = inl (codes "LogFull", so.1)
+  changed book held before made label [] text new legal (inl (less, so)) = absurd so
+  changed book held before made label (e ∷ calls) text new legal (inl (less, so)) =
+      compared book held made label e.reply calls text new (subst (λ c. IsReply F book c e.reply) so.1 legal.0) so.2
+
+  module _ (sized : length scene.identifiers ≡ length scene.game) (book : Book) (are : TrueOn book.present) (held : Held) (made label : ℕ) where
+    abbrev Names : script.Command → List ℕ → Type 0
+    Names command text = NamesWinners scene book.present command text
+
+    -- an answer that is no refusal says the verdicts of the page
+    by_page : (command : script.Command) (text : List ℕ) → IsRefusal text ⊎ SaysVerdicts scene command (verdicts_on scene book.present) text → Names command text
+    by_page command text (inl why) = inl why
+    by_page command text (inr says) = inr (verdicts_on scene book.present, are, says)
+
+    -- of what is looked at
+    seen : (lookup : script.Lookup) (text : List ℕ) → (has_vertices scene.identifiers lookup ≡ true → Sees scene lookup book.present text → SaysVerdicts scene (script.Look lookup) (verdicts_on scene book.present) text) →
+        (calls : List Event) (new : Held) → IsLegalFrom F book calls → Serves scene held made (record { label = label; command = script.Look lookup }) calls text new → Names (script.Look lookup) text
+    seen lookup text says calls new legal so = of (looked book held made label lookup (has_vertices scene.identifiers lookup) calls text new legal so)
+      where
+        of : IsRefusal text ⊎ ((has_vertices scene.identifiers lookup ≡ true) × Sees scene lookup book.present text) → Names (script.Look lookup) text
+        of (inl why) = inl why
+        of (inr sees) = inr (verdicts_on scene book.present, are, says sees.0 sees.1)
+
+    names : (command : script.Command) (calls : List Event) (text : List ℕ) (new : Held) → IsLegalFrom F book calls → Serves scene held made (record { label = label; command = command }) calls text new → Names command text
+    names (script.Look script.Show) calls text new legal so = seen script.Show text (λ has sees. show_says scene book.present sized text sees) calls new legal so
+    names (script.Look (script.Vertices identifiers)) calls text new legal so =
+        seen (script.Vertices identifiers) text (λ has sees. named_says scene book.present sized identifiers text has sees) calls new legal so
+    names (script.Look (script.Assert (script.Verdicts identifier claims))) calls text new legal so =
+        seen (script.Assert (script.Verdicts identifier claims)) text (λ has sees. assert_says scene book.present sized identifier claims text (vertex_of scene identifier) refl has sees) calls new legal so
+    names script.Changed calls text new legal so = by_page script.Changed text (changed book held made (made + 1) label calls text new legal so)
+    names (script.Look (script.Assert script.Full)) calls text new legal so = by_page (script.Look (script.Assert script.Full)) text (inr tt)
+    names (script.Look (script.Assert script.Settled)) calls text new legal so = by_page (script.Look (script.Assert script.Settled)) text (inr tt)
+    names (script.Look script.Trail) calls text new legal so = by_page (script.Look script.Trail) text (inr tt)
+    names (script.Look script.Products) calls text new legal so = by_page (script.Look script.Products) text (inr tt)
+    names (script.Look script.Plan) calls text new legal so = by_page (script.Look script.Plan) text (inr tt)
+    names (script.Look script.Count) calls text new legal so = by_page (script.Look script.Count) text (inr tt)
+    names (script.Look script.Draw) calls text new legal so = by_page (script.Look script.Draw) text (inr tt)
+    names (script.Select name) calls text new legal so = by_page (script.Select name) text (inr tt)
+    names (script.Exclude name) calls text new legal so = by_page (script.Exclude name) text (inr tt)
+    names (script.Retract name) calls text new legal so = by_page (script.Retract name) text (inr tt)
+    names (script.Undo s) calls text new legal so = by_page (script.Undo s) text (inr tt)
+    names (script.Redo s) calls text new legal so = by_page (script.Redo s) text (inr tt)
+    names (script.Keep s) calls text new legal so = by_page (script.Keep s) text (inr tt)
+    names (script.Forget s) calls text new legal so = by_page (script.Forget s) text (inr tt)
+    names (script.Lift table identifier) calls text new legal so = by_page (script.Lift table identifier) text (inr tt)
+    names script.Harvest calls text new legal so = by_page script.Harvest text (inr tt)
+    names (script.Commit k) calls text new legal so = by_page (script.Commit k) text (inr tt)
+    names (script.Settle n) calls text new legal so = by_page (script.Settle n) text (inr tt)
+    names (script.Known name) calls text new legal so = by_page (script.Known name) text (inr tt)
+    names (script.Ask inquiry) calls text new legal so = by_page (script.Ask inquiry) text (inr tt)
+
+  -- the history so far
+  record IsSoFar (old : Between) (before : List Event) : Type 0 where
+    leaves : old.book ≡ book_after F opened before
+    legal : IsLegal F before
+    lawful : AllHandIn (IsLawful F) before
+    counted : old.calls ≡ length before
+    kept : AreLawful (IsLawful F) old.held.harvests
+
+  module _ (sized : length scene.identifiers ≡ length scene.game) (is_setting : IsSetting (setting_in scene)) (lifters : ℕ) where
+    true_here : (old : Between) (before : List Event) → IsSoFar old before → TrueOn old.book.present
+    true_here old before here = subst (λ (b : Book). TrueOn b.present) (sym here.leaves) (verdicts_after before is_setting here.legal here.lawful)
+
+    names_line : (old : Between) (before : List Event) (s : Said) (text : List ℕ) (new : Between) → IsSoFar old before → Speaks (answering scene lifters) old s text new → Speaks (naming scene lifters) old s text new
+    names_line old before (Ok None) text new here so = so
+    names_line old before (Ok (Some request)) text new here so =
+        (so, names sized old.book (true_here old before here) old.held old.calls request.label request.command so.0.0 text new.held so.0.1.1 so.0.1.0)
+    names_line old before (Err fault) text new here so = absurd so
+
+    names_lines : (old : Between) (before : List Event) (lines : List (List ℕ)) (text : List ℕ) (new : Between) → IsSoFar old before → Answered (answering scene lifters) old lines text new → Answered (naming scene lifters) old lines text new
+    names_lines old before [] text new here so = so
+    names_lines old before (line ∷ lines) text new here so =
+        let first : Calls scene (λ a b. Speaks (asking scene) a (said line) so.1 b) old before so.0 = line_of scene old before (said line) so.1 so.0 here.counted here.kept (speaks_calls scene lifters old (said line) so.1 so.0 so.3) in (
+          so.0,
+          so.1,
+          so.2,
+          names_line old before (said line) so.1 so.0 here so.3,
+          so.4,
+          names_lines so.0 (before ++ first.calls) lines so.2 new (record {
+            leaves = first.left ∙ ap (λ (b : Book). book_after F b first.calls) here.leaves ∙ sym (after_more F opened before first.calls);
+            legal = legal_more F opened before first.calls here.legal (subst (λ (b : Book). IsLegalFrom F b first.calls) here.leaves first.legal);
+            lawful = all_more _ before first.calls here.lawful first.lawful;
+            counted = first.counted;
+            kept = first.kept;
+          }) so.5,
+        )
+
+pub answers_name_winners : AnswersNameWinners
+answers_name_winners game diagram lifters lines text new opens answered =
+    names_lines (scene_of game diagram) (length-map game.vertices _ ∙ sym (length-map game.vertices unnamed)) opens.is_setting lifters begun [] lines text new
+    (record { leaves = refl; legal = tt; lawful = tt; counted = refl; kept = tt }) answered

@@ -1,0 +1,81 @@
+-- Who wins, by what a run writes. This project's own.
+use Rattle.std.specs.Prelude.{◌≡◌, ◌⊎◌, ℕ, ◌<◌, Bool, List, ◌++◌, length, map, Some, flat_map, slice_index, decimal, ⊤}
+use Rattle.std.specs.List.{range_with_len}
+use Rattle.vpg_diagram.specs.DiagramText.{NamedDiagram}
+use Rattle.vpg_game.specs.Game.{NamedGame}
+use Rattle.vpg_verdict.specs.declared.verdict.Verdict.{Verdict}
+use Rattle.vpg_trail.specs.Page.{Entry}
+use Rattle.vpg_desk.specs.Headline.{VerdictMeans}
+use Rattle.vpg_desk.specs.State.{IsOpened}
+use Rattle.vpg_script.specs.Script as script
+use Rattle.vpg_serving.specs.Output.{Machine, Answered}
+use Rattle.vpg_texts.specs.Changed.{changed_text, seen_at}
+use Rattle.vpg_texts.specs.Scene.{Scene, scene_of}
+use Rattle.vpg_texts.specs.Sights.{verdicts_text}
+use Rattle.vpg_texts.specs.Text.{blank_number, hopeless_text, sure_text}
+use Rattle.vpg_report.specs.Answers.{refused_line, vertex_of}
+use Rattle.vpg_report.specs.Run.{Between, begun, answering}
+use Rattle.vpg_report.specs.Setting.{setting_in}
+
+-- The verdicts of all vertices are true of the page: from a hopeless one Odd wins in every product that is left, from a
+-- sure one Even does, and none is both.
+pub record AreTrue (scene : Scene) (page : List Entry) (verdicts : List Verdict) : Type 0 where
+  pub size : length verdicts ≡ length scene.game
+  pub each : (v : ℕ) → v < length scene.game →
+      VerdictMeans (setting_in scene) page v (seen_at verdicts v).hopeless (seen_at verdicts v).sure
+
+-- A line of `show`: the vertex's identifier, its measures in two tables, and the words of its verdict, `hopeless` or
+-- `possible` and `sure` or `unsure`.
+abbrev pub verdict_line : Scene → (hopeful dual : List ℕ) → List Verdict → ℕ → List ℕ
+verdict_line scene hopeful dual verdicts v =
+    decimal (slice_index scene.identifiers v) ++ blank_number (slice_index hopeful v)
+    ++ blank_number (slice_index dual v) ++ hopeless_text (seen_at verdicts v).hopeless
+    ++ sure_text (seen_at verdicts v).sure
+
+-- those of these vertices, in their order
+abbrev pub verdict_lines : Scene → (hopeful dual : List ℕ) → List Verdict → List ℕ → List ℕ
+verdict_lines scene hopeful dual verdicts vertices = flat_map (verdict_line scene hopeful dual verdicts) vertices
+
+-- What the answer to a command says of vertices are these verdicts.
+abbrev pub SaysVerdicts : Scene → script.Command → List Verdict → List ℕ → Type 0
+-- it ends with a line for each vertex
+SaysVerdicts scene (script.Look script.Show) verdicts text =
+    (head : List ℕ) × (hopeful : List ℕ) × (dual : List ℕ) ×
+    (text ≡ head ++ verdict_lines scene hopeful dual verdicts (range_with_len 0 (length scene.game)))
+-- it has a line for each of the vertices that are named
+SaysVerdicts scene (script.Look (script.Vertices identifiers)) verdicts text =
+    (vertices : List ℕ) × (hopeful : List ℕ) × (dual : List ℕ) ×
+    (map (vertex_of scene) identifiers ≡ map Some vertices) ×
+    (text ≡ verdict_lines scene hopeful dual verdicts vertices)
+-- it compares the vertex's verdict with what is asserted
+SaysVerdicts scene (script.Look (script.Assert (script.Verdicts identifier claims))) verdicts text =
+    (v : ℕ) × (settled : Bool) × (vertex_of scene identifier ≡ Some v) ×
+    (text ≡ verdicts_text settled (seen_at verdicts v).hopeless (seen_at verdicts v).sure claims)
+-- it tells those that are other than some that were told before
+SaysVerdicts scene script.Changed verdicts text =
+    (seen : List Verdict) × (text ≡ changed_text scene.identifiers seen verdicts)
+SaysVerdicts scene _ verdicts text = ⊤
+
+-- the answer to a line that is refused
+abbrev pub IsRefusal : List ℕ → Type 0
+IsRefusal text = (why : List ℕ) × (text ≡ refused_line why)
+
+-- An answer that isn't a refusal says of vertices what is true of the page.
+abbrev pub NamesWinners : Scene → List Entry → script.Command → List ℕ → Type 0
+NamesWinners scene page command text =
+    IsRefusal text ⊎
+    ((verdicts : List Verdict) × AreTrue scene page verdicts × SaysVerdicts scene command verdicts text)
+
+-- Each request is answered as by a run, and by what is true of the page at that point.
+abbrev pub naming : Scene → ℕ → Machine Between
+naming scene lifters old request text new =
+    answering scene lifters old request text new × NamesWinners scene old.book.present request.command text
+
+-- What a run of an office writes in answer to `show`, `assert` and `changed` names the winners: the verdicts that it
+-- says are true of the page at that point.
+abbrev pub AnswersNameWinners : Type 0
+AnswersNameWinners =
+    (game : NamedGame) (diagram : NamedDiagram) (lifters : ℕ) (lines : List (List ℕ)) (text : List ℕ) (new : Between) →
+    IsOpened game diagram →
+    Answered (answering (scene_of game diagram) lifters) begun lines text new →
+    Answered (naming (scene_of game diagram) lifters) begun lines text new
