@@ -1,0 +1,681 @@
+//! What the program `vpgdesk` does.
+//!
+//! Without words it reads a script of commands from standard input, carries it out on a desk over the game and the
+//! diagram that are built in, and writes the answers to standard output. `run` does so with the files of a game, a
+//! diagram and a script, `project` writes the plain game of one product, `check` counts a game and tells its top
+//! measures, `lint` warns of what looks wrong in a family, and `draw` writes a picture, of the page that a script
+//! leaves where one is named.
+//!
+//! The status is 0; 1 where the input is refused or something fails, and then one line on standard error, `vpgdesk: `
+//! and the fault, says what, and with `--explain` further lines behind it say where and why; 2 where the words are
+//! wrong; 3 where an assertion of a script failed, or a line of a strict one was refused. Else an answer `refused ..`
+//! to a line of a script leaves 0. What was written before stays written. Formats, commands and faults are told in
+//! `docs/FORMATS.md`; what a run promises stands on `run` of `vpg_report`.
+//!
+//! It is no program itself: all that the `main` of `vpgdesk` calls is `program`, and so it is in each crate whose
+//! stored run ends with another status.
+#![tactic(auto)]
+
+ghost use Rattle.std.specs.Io.KnownBytes.{Appends};
+ghost use Rattle.std.specs.Arc.{arc_value};
+ghost use Rattle.std.specs.Prelude.{◌≡◌, ◌≤◌, true, Err, IfOk, OnOk, OnErr};
+ghost use Rattle.vpg_diagram.specs.FeatureDiagram.{feature_count};
+
+use clap::error::ErrorKind;
+use std::alloc::{AllocError, Global};
+use std::cell::Cell;
+use std::io::IsTerminal;
+use std::process::ExitCode;
+use std::sync::Wait;
+use std::thread::Threads;
+use std::{env, io};
+use vpg_family::{
+    Family, Fault, Paths, Pictured, Subject, Texts, drawn, explained, line_of, linted, open_script,
+    read_family, read_script, read_texts,
+};
+use vpg_names::VertexNames;
+use vpg_report::{
+    DIAGRAM, End, GAME, drawn_after, end_of, ended, refused_line, run_script, status,
+};
+use vpg_script::{Device, Sink, Source};
+use vpg_serving::{Ending, Manner};
+use vpg_terminal::{Asked, Ear, Heard, Named, Setting, Task, Typed, command_list, not_text, read};
+
+/// Each line is answered, and a fault ends the script.
+const PLAIN: Manner = Manner {
+    is_strict: false,
+    goes_on: false,
+};
+
+/// Each line is answered, also one with a fault.
+const FORGIVING: Manner = Manner {
+    is_strict: false,
+    goes_on: true,
+};
+
+/// Writes a text.
+fn put<W: Sink>(writer: &mut W, text: &[u8]) -> Result<(), Fault>
+    ensures ok { OnOk result (Appends (W.contents writer.old) (W.contents writer.new) text.now) }
+    ensures failed { OnErr result ((result ≡ Err Fault.Write) × (W.has_failed writer.new ≡ true)) }
+{
+    match writer.put(text) {
+        Ok(()) => Ok(()),
+        Err(_) => Err(Fault::Write),
+    }
+}
+
+/// Writes a text, and no more.
+fn put_last<W: Sink + Drop>(mut writer: W, text: &[u8]) -> Result<End, Fault> {
+    match put(&mut writer, text) {
+        Ok(()) => Ok(End::Done),
+        Err(fault) => Err(fault),
+    }
+}
+
+/// Writes a text to standard output.
+fn put_out(rt: &HostRuntime, text: &[u8]) -> Result<End, Fault> {
+    put_last(Device::writer(rt.stdout().lock()), text)
+}
+
+/// Writes what was made, where nothing failed.
+fn put_made(rt: &HostRuntime, made: Result<Vec<u8>, Fault>) -> Result<End, Fault> {
+    match made {
+        Ok(text) => put_out(rt, &text),
+        Err(fault) => Err(fault),
+    }
+}
+
+/// Carries a script out on a family.
+fn run<T: Threads + Wait + Sync, R: Source + Drop, W: Sink + Drop>(
+    threads: &T,
+    alloc: Global,
+    family: Family,
+    mut reader: R,
+    mut writer: W,
+    lifters: u32,
+    manner: Manner,
+) -> Result<End, Fault>
+    requires unread { R.calls reader ≡ 0 }
+    requires lifters { (1 ≤ lifters) × (lifters ≤ 64) }
+    requires features { (arc_value family.game).features ≡ feature_count (arc_value family.diagram).lines }
+{
+    end_of(run_script(
+        threads,
+        alloc,
+        family,
+        &mut reader,
+        &mut writer,
+        lifters,
+        manner,
+    ))
+}
+
+/// What the program waits for, where a script comes from a terminal.
+const WAITS: &[u8] =
+    b"vpgdesk reads a script, one command a line; `vpgdesk --help` lists commands\n";
+
+/// Says what the program waits for, where a person may type it.
+fn tell_waiting(rt: &HostRuntime) {
+    if rt.stdin().is_terminal() {
+        // Where this fails the answers are still to come.
+        let _ = Device::writer(rt.stderr().lock()).put(WAITS);
+    }
+}
+
+/// Carries a script from standard input out on the family that is built in.
+fn run_built_in<T: Threads + Wait + Sync>(
+    rt: &HostRuntime,
+    threads: &T,
+    alloc: Global,
+) -> Result<End, Fault> {
+    match Family::read(alloc, DIAGRAM.as_bytes(), GAME.as_bytes()) {
+        Ok(family) => {
+            tell_waiting(rt);
+            let reader = Device::reader(rt.stdin().lock());
+            let writer = Device::writer(rt.stdout().lock());
+            run(threads, alloc, family, reader, writer, 1, PLAIN)
+        }
+        Err(fault) => Err(fault),
+    }
+}
+
+/// A family of two files, and the names of its vertices.
+struct Known {
+    family: Family,
+    names: VertexNames,
+}
+
+// Not derived, so that letting one go is one call.
+impl Drop for Known {
+    fn drop(self) {
+        let Known {
+            family: _,
+            names: _,
+        } = self;
+    }
+}
+
+/// A family of two texts, and the names of its vertices.
+fn known_of(alloc: Global, texts: &Texts) -> Result<Known, Fault>
+    ensures features { IfOk result (λ known.
+        (arc_value known.family.game).features ≡ feature_count (arc_value known.family.diagram).lines) }
+{
+    let family = Family::read(alloc, &texts.diagram, &texts.game)?;
+    let names = VertexNames::read(alloc, &texts.game)?;
+    Ok(Known { family, names })
+}
+
+/// The same of two files.
+fn read_known(rt: &HostRuntime, alloc: Global, paths: Paths<'_>) -> Result<Known, Fault>
+    ensures features { IfOk result (λ known.
+        (arc_value known.family.game).features ≡ feature_count (arc_value known.family.diagram).lines) }
+{
+    match read_texts(rt, alloc, paths) {
+        Ok(texts) => known_of(alloc, &texts),
+        Err(fault) => Err(fault),
+    }
+}
+
+/// A sink that passes answers on to a writer with the names of vertices beside their lines, and in pictures.
+fn named<'n, W: Sink>(alloc: Global, known: &'n Known, writer: W) -> Named<'n, Pictured<'n, W>>
+    requires { (arc_value known.now.family.game).features ≡ feature_count (arc_value known.now.family.diagram).lines }
+{
+    let game = &known.family.game;
+    let writer = Pictured::new(alloc, &known.family.diagram, game, &known.names, writer);
+    Named::new(alloc, game, &known.names, writer)
+}
+
+/// Carries a script of a file out on a family.
+fn run_file<T: Threads + Wait + Sync, W: Sink + Drop>(
+    rt: &HostRuntime,
+    threads: &T,
+    alloc: Global,
+    family: Family,
+    script: &str,
+    writer: W,
+    lifters: u32,
+    manner: Manner,
+) -> Result<End, Fault>
+    requires lifters { (1 ≤ lifters) × (lifters ≤ 64) }
+    requires features { (arc_value family.game).features ≡ feature_count (arc_value family.diagram).lines }
+{
+    match open_script(rt, script) {
+        Ok(file) => run(
+            threads,
+            alloc,
+            family,
+            Device::reader(file),
+            writer,
+            lifters,
+            manner,
+        ),
+        Err(fault) => Err(fault),
+    }
+}
+
+/// Carries a script of a file out on a family, with the names of vertices beside its answers.
+fn run_named<T: Threads + Wait + Sync>(
+    rt: &HostRuntime,
+    threads: &T,
+    alloc: Global,
+    known: &Known,
+    script: &str,
+    lifters: u32,
+    manner: Manner,
+) -> Result<End, Fault>
+    requires lifters { (1 ≤ lifters) × (lifters ≤ 64) }
+    requires features { (arc_value known.now.family.game).features
+        ≡ feature_count (arc_value known.now.family.diagram).lines }
+{
+    match known.family.again() {
+        Ok(family) => {
+            let writer = named(alloc, known, Device::writer(rt.stdout().lock()));
+            run_file(rt, threads, alloc, family, script, writer, lifters, manner)
+        }
+        Err(_) => Err(Fault::Memory),
+    }
+}
+
+/// The same on a family of two files.
+fn run_named_files<T: Threads + Wait + Sync>(
+    rt: &HostRuntime,
+    threads: &T,
+    alloc: Global,
+    paths: Paths<'_>,
+    script: &str,
+    lifters: u32,
+    manner: Manner,
+) -> Result<End, Fault>
+    requires { (1 ≤ lifters) × (lifters ≤ 64) }
+{
+    match read_known(rt, alloc, paths) {
+        Ok(known) => run_named(rt, threads, alloc, &known, script, lifters, manner),
+        Err(fault) => Err(fault),
+    }
+}
+
+/// Carries a script of a file out on a family of two files.
+fn run_files<T: Threads + Wait + Sync>(
+    rt: &HostRuntime,
+    threads: &T,
+    alloc: Global,
+    paths: Paths<'_>,
+    script: &str,
+    lifters: u32,
+    manner: Manner,
+) -> Result<End, Fault>
+    requires { (1 ≤ lifters) × (lifters ≤ 64) }
+{
+    match read_family(rt, alloc, paths) {
+        Ok(family) => {
+            let writer = Device::writer(rt.stdout().lock());
+            run_file(rt, threads, alloc, family, script, writer, lifters, manner)
+        }
+        Err(fault) => Err(fault),
+    }
+}
+
+/// The identifier where a game starts, where it is that of a vertex.
+fn start_of(known: &Known) -> Option<u32> {
+    let id = u32::try_from(known.names.start()?).ok()?;
+    known.family.game.find(id).map(|_| id)
+}
+
+/// What is said before the first line is read, behind the family's counts.
+const GREETING: &[u8] = b"one command a line; `help` lists commands, `quit` ends\n";
+
+/// Says what a session begins with. The family once more, for the session.
+fn greet<S: Sink>(alloc: Global, family: &Family, talk: &mut S) -> Result<Family, AllocError>
+    ensures game { IfOk result (λ again. arc_value again.game ≡ arc_value family.now.game) }
+    ensures diagram { IfOk result (λ again. arc_value again.diagram ≡ arc_value family.now.diagram) }
+{
+    let counts = family.counted(alloc)?;
+    // Where these fail the answers are still to come.
+    let _ = talk.put(&counts);
+    let _ = talk.put(GREETING);
+    family.again()
+}
+
+/// Answers commands as they are typed, on a family. What is said beside the answers goes to `talk`.
+fn converse<T: Threads + Wait + Sync, R: Source + Drop, S: Sink + Drop, W: Sink + Drop>(
+    threads: &T,
+    alloc: Global,
+    known: &Known,
+    lifters: u32,
+    is_prompted: bool,
+    reader: R,
+    mut talk: S,
+    writer: W,
+) -> Result<End, Fault>
+    requires unread { R.calls reader ≡ 0 }
+    requires lifters { (1 ≤ lifters) × (lifters ≤ 64) }
+    requires features { (arc_value known.now.family.game).features
+        ≡ feature_count (arc_value known.now.family.diagram).lines }
+{
+    match greet(alloc, &known.family, &mut talk) {
+        Ok(family) => {
+            let heard = Cell::new(Heard::Nothing);
+            let setting = Setting {
+                commands: command_list(),
+                features: known.family.diagram.names(),
+                is_prompted,
+                start: start_of(known),
+                heard: &heard,
+            };
+            let reader = Typed::new(alloc, setting, reader, talk);
+            let writer = Ear::new(writer, &heard);
+            run(threads, alloc, family, reader, writer, lifters, FORGIVING)
+        }
+        Err(_) => Err(Fault::Memory),
+    }
+}
+
+/// Answers commands from standard input as they are typed, on a family.
+fn converse_here<T: Threads + Wait + Sync, W: Sink + Drop>(
+    rt: &HostRuntime,
+    threads: &T,
+    alloc: Global,
+    known: &Known,
+    lifters: u32,
+    writer: W,
+) -> Result<End, Fault>
+    requires lifters { (1 ≤ lifters) × (lifters ≤ 64) }
+    requires features { (arc_value known.now.family.game).features
+        ≡ feature_count (arc_value known.now.family.diagram).lines }
+{
+    let is_prompted = rt.stdin().is_terminal();
+    let reader = Device::reader(rt.stdin().lock());
+    let talk = Device::writer(rt.stderr().lock());
+    converse(
+        threads,
+        alloc,
+        known,
+        lifters,
+        is_prompted,
+        reader,
+        talk,
+        writer,
+    )
+}
+
+/// The same, with the names of vertices beside the answers or without.
+fn sit_at<T: Threads + Wait + Sync>(
+    rt: &HostRuntime,
+    threads: &T,
+    alloc: Global,
+    known: &Known,
+    lifters: u32,
+    shows_names: bool,
+) -> Result<End, Fault>
+    requires lifters { (1 ≤ lifters) × (lifters ≤ 64) }
+    requires features { (arc_value known.now.family.game).features
+        ≡ feature_count (arc_value known.now.family.diagram).lines }
+{
+    let writer = Device::writer(rt.stdout().lock());
+    if !shows_names {
+        return converse_here(rt, threads, alloc, known, lifters, writer);
+    }
+    let writer = named(alloc, known, writer);
+    converse_here(rt, threads, alloc, known, lifters, writer)
+}
+
+/// The same on a family of two files.
+fn sit<T: Threads + Wait + Sync>(
+    rt: &HostRuntime,
+    threads: &T,
+    alloc: Global,
+    paths: Paths<'_>,
+    lifters: u32,
+    shows_names: bool,
+) -> Result<End, Fault>
+    requires { (1 ≤ lifters) × (lifters ≤ 64) }
+{
+    match read_known(rt, alloc, paths) {
+        Ok(known) => sit_at(rt, threads, alloc, &known, lifters, shows_names),
+        Err(fault) => Err(fault),
+    }
+}
+
+/// The plain game of the product that has these features.
+fn projected(
+    rt: &HostRuntime,
+    alloc: Global,
+    paths: Paths<'_>,
+    features: &[&str],
+) -> Result<Vec<u8>, Fault> {
+    match read_family(rt, alloc, paths) {
+        Ok(family) => family.projected(alloc, features),
+        Err(fault) => Err(fault),
+    }
+}
+
+/// The line that counts a family.
+fn counted(rt: &HostRuntime, alloc: Global, paths: Paths<'_>) -> Result<Vec<u8>, Fault> {
+    match read_family(rt, alloc, paths) {
+        Ok(family) => match family.counted(alloc) {
+            Ok(line) => Ok(line),
+            Err(_) => Err(Fault::Memory),
+        },
+        Err(fault) => Err(fault),
+    }
+}
+
+/// A picture of a family.
+fn picture(
+    rt: &HostRuntime,
+    alloc: Global,
+    paths: Paths<'_>,
+    subject: Subject,
+) -> Result<Vec<u8>, Fault> {
+    match read_texts(rt, alloc, paths) {
+        Ok(texts) => drawn(alloc, subject, &texts.diagram, &texts.game),
+        Err(fault) => Err(fault),
+    }
+}
+
+/// What looks wrong in a family.
+fn warned(rt: &HostRuntime, alloc: Global, paths: Paths<'_>) -> Result<Vec<u8>, Fault> {
+    match read_texts(rt, alloc, paths) {
+        Ok(texts) => linted(alloc, paths, &texts.diagram, &texts.game),
+        Err(fault) => Err(fault),
+    }
+}
+
+/// The picture of a family, of which these are the texts, on the page that a script of a file leaves, and how the
+/// script ends.
+fn drawn_after_file<T: Threads + Wait + Sync>(
+    rt: &HostRuntime,
+    threads: &T,
+    alloc: Global,
+    subject: Subject,
+    texts: &Texts,
+    family: &Family,
+    script: &str,
+) -> Result<(Ending, Vec<u8>), Fault>
+    requires { (arc_value family.now.game).features ≡ feature_count (arc_value family.now.diagram).lines }
+{
+    match read_script(rt, script) {
+        Ok(script) => drawn_after(threads, alloc, subject, texts, family, &script),
+        Err(fault) => Err(fault),
+    }
+}
+
+/// The same of texts that are read.
+fn drawn_after_texts<T: Threads + Wait + Sync>(
+    rt: &HostRuntime,
+    threads: &T,
+    alloc: Global,
+    subject: Subject,
+    texts: &Texts,
+    script: &str,
+) -> Result<(Ending, Vec<u8>), Fault> {
+    match Family::read(alloc, &texts.diagram, &texts.game) {
+        Ok(family) => drawn_after_file(rt, threads, alloc, subject, texts, &family, script),
+        Err(fault) => Err(fault),
+    }
+}
+
+/// The same of two files.
+fn drawn_after_files<T: Threads + Wait + Sync>(
+    rt: &HostRuntime,
+    threads: &T,
+    alloc: Global,
+    paths: Paths<'_>,
+    subject: Subject,
+    script: &str,
+) -> Result<(Ending, Vec<u8>), Fault> {
+    match read_texts(rt, alloc, paths) {
+        Ok(texts) => drawn_after_texts(rt, threads, alloc, subject, &texts, script),
+        Err(fault) => Err(fault),
+    }
+}
+
+/// Writes a picture of a family on the page that a script of a file leaves.
+fn draw_after<T: Threads + Wait + Sync>(
+    rt: &HostRuntime,
+    threads: &T,
+    alloc: Global,
+    paths: Paths<'_>,
+    subject: Subject,
+    script: &str,
+) -> Result<End, Fault> {
+    match drawn_after_files(rt, threads, alloc, paths, subject, script) {
+        Ok((ending, picture)) => match put_out(rt, &picture) {
+            Ok(_) => Ok(ended(ending)),
+            Err(fault) => Err(fault),
+        },
+        Err(fault) => Err(fault),
+    }
+}
+
+/// Does what the words ask for. The runtime is handed in twice: for its files, and for the threads of the lifters.
+fn carry_out<T: Threads + Wait + Sync>(
+    rt: &HostRuntime,
+    threads: &T,
+    alloc: Global,
+    task: &Task<'_>,
+) -> Result<End, Fault> {
+    match task {
+        Task::BuiltIn => run_built_in(rt, threads, alloc),
+        Task::Run {
+            paths,
+            script,
+            lifters,
+            strict,
+            keep_going,
+            names,
+        } => {
+            let manner = Manner {
+                is_strict: *strict,
+                goes_on: *keep_going,
+            };
+            // The parser takes no other number of lifters.
+            let lifters = (*lifters).clamp(1, 64);
+            if *names {
+                run_named_files(rt, threads, alloc, *paths, script, lifters, manner)
+            } else {
+                run_files(rt, threads, alloc, *paths, script, lifters, manner)
+            }
+        }
+        Task::Desk {
+            paths,
+            lifters,
+            names,
+        } => {
+            let lifters = (*lifters).clamp(1, 64);
+            sit(rt, threads, alloc, *paths, lifters, *names)
+        }
+        Task::Project { paths, features } => {
+            put_made(rt, projected(rt, alloc, *paths, features))
+        }
+        Task::Check { paths } => put_made(rt, counted(rt, alloc, *paths)),
+        Task::Draw {
+            paths,
+            subject,
+            script: None,
+        } => put_made(rt, picture(rt, alloc, *paths, *subject)),
+        Task::Draw {
+            paths,
+            subject,
+            script: Some(script),
+        } => draw_after(rt, threads, alloc, *paths, *subject, script),
+        Task::Lint { paths } => put_made(rt, warned(rt, alloc, *paths)),
+    }
+}
+
+/// Lines that say where and why an input is refused. There are none where memory runs out.
+fn explanation_of(rt: &HostRuntime, alloc: Global, task: &Task<'_>, fault: &Fault) -> Vec<u8> {
+    let Some(paths) = task.paths() else {
+        return Vec::new(alloc);
+    };
+    match explained(rt, alloc, paths, task.script(), fault) {
+        Ok(lines) => lines,
+        Err(_) => Vec::new(alloc),
+    }
+}
+
+/// Does what the words ask for. Where it is refused, and they ask for it, the lines are what explains it.
+fn carry_out_asked<T: Threads + Wait + Sync>(
+    rt: &HostRuntime,
+    threads: &T,
+    alloc: Global,
+    asked: &Asked<'_>,
+    lines: &mut Vec<u8>,
+) -> Result<End, Fault> {
+    let ended = carry_out(rt, threads, alloc, &asked.task);
+    if let Err(fault) = &ended {
+        if asked.explains {
+            *lines = explanation_of(rt, alloc, &asked.task, fault);
+        }
+    }
+    ended
+}
+
+/// Writes a line and the lines that explain it. Where this fails, the status is all that tells of the fault.
+fn put_told<W: Sink + Drop>(mut writer: W, line: &[u8], lines: &[u8]) {
+    let _ = writer.put(line);
+    let _ = writer.put(lines);
+}
+
+/// Tells of a fault, or where a strict script was refused, in one line on standard error, and then in the lines that
+/// explain it.
+fn tell(rt: &HostRuntime, line: Result<Vec<u8>, AllocError>, lines: &[u8]) {
+    let writer = Device::writer(rt.stderr().lock());
+    match line {
+        Ok(line) => put_told(writer, &line, lines),
+        Err(_) => put_told(writer, b"vpgdesk: Memory\n", lines),
+    }
+}
+
+/// Prints what is told of the words: help and the version to standard output, what is wrong with them to standard
+/// error.
+fn print(rt: &HostRuntime, told: &clap::Error) -> Result<End, Fault> {
+    let kind = told.kind();
+    if matches!(kind, ErrorKind::OutOfMemory) {
+        return Err(Fault::Memory);
+    }
+    let is_printed = told.print(rt).is_ok();
+    match kind {
+        ErrorKind::DisplayHelp | ErrorKind::DisplayVersion if is_printed => Ok(End::Done),
+        ErrorKind::DisplayHelp | ErrorKind::DisplayVersion => Err(Fault::Write),
+        // Where it isn't printed, the status is all that tells of the words.
+        _ => Ok(End::WrongWords),
+    }
+}
+
+/// Does what these words ask for.
+fn obey_words<T: Threads + Wait + Sync>(
+    rt: &HostRuntime,
+    threads: &T,
+    alloc: Global,
+    words: &[String],
+    lines: &mut Vec<u8>,
+) -> Result<End, Fault> {
+    match read(alloc, words) {
+        Ok(asked) => carry_out_asked(rt, threads, alloc, &asked, lines),
+        Err(told) => print(rt, &told),
+    }
+}
+
+/// Tells that the words can't be read, for this reason.
+fn refuse_words(rt: &HostRuntime, alloc: Global, why: io::ErrorKind) -> Result<End, Fault> {
+    if why == io::ErrorKind::OutOfMemory {
+        return Err(Fault::Memory);
+    }
+    match not_text(alloc) {
+        Ok(told) => print(rt, &told),
+        Err(_) => Err(Fault::Memory),
+    }
+}
+
+/// Reads the words, and does what they ask for.
+fn obey<T: Threads + Wait + Sync>(
+    rt: &HostRuntime,
+    threads: &T,
+    alloc: Global,
+    lines: &mut Vec<u8>,
+) -> Result<End, Fault> {
+    match env::args(rt) {
+        Ok(words) => {
+            let words: Result<Vec<String>, AllocError> = words.collect(alloc);
+            match words {
+                Ok(words) => obey_words(rt, threads, alloc, &words, lines),
+                Err(_) => Err(Fault::Memory),
+            }
+        }
+        Err(error) => refuse_words(rt, alloc, error.kind()),
+    }
+}
+
+/// Does what the program's words ask for, and tells what fails. Returns the status that the program ends with. The
+/// runtime is handed in twice: for its files, and for the threads of the lifters.
+pub fn program<T: Threads + Wait + Sync>(rt: &HostRuntime, threads: &T) -> ExitCode {
+    let mut lines = Vec::new(rt.alloc());
+    let ended = obey(rt, threads, rt.alloc(), &mut lines);
+    match &ended {
+        Ok(End::Refused { line }) => tell(rt, refused_line(rt.alloc(), *line), &lines),
+        Ok(_) => {}
+        Err(fault) => tell(rt, line_of(rt.alloc(), fault), &lines),
+    }
+    status(&ended)
+}
