@@ -196,7 +196,7 @@ fn work_watched<L: Terms + Send + Sync, R: Threads + Wait + Sync + Print>(
     front: Front<L>,
 ) -> Option<Told> {
     let mut last = front.copy();
-    let Ok(watch) = office.watch(rt, alloc) else {
+    let Ok(watch) = office.watch(rt) else {
         let _further = office.end(rt, &mut last, Vec::new(alloc), Vec::new(alloc));
         return None;
     };

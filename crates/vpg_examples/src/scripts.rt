@@ -2,6 +2,7 @@
 
 mod devices;
 mod ends;
+mod faults;
 mod manners;
 mod order;
 mod rows;
@@ -82,10 +83,11 @@ enum Check {
     ServedLines,
     ServedFault,
     ServedDevices,
+    ShownFaults,
 }
 
 /// The same, as lines say it.
-static CHECKS: [(&str, Check); 11] = [
+static CHECKS: [(&str, Check); 12] = [
     (
         "a vertex rises to the widest measure",
         Check::WidestMeasures,
@@ -115,6 +117,7 @@ static CHECKS: [(&str, Check); 11] = [
         "a server's script ends at a device that fails",
         Check::ServedDevices,
     ),
+    ("faults show themselves by their words", Check::ShownFaults),
 ];
 
 /// The place of the first row of a table that holds otherwise.
@@ -145,6 +148,7 @@ fn holds<R: Threads + Wait + Sync>(rt: &R, alloc: Global, family: &Family, check
         Check::ServedLines => served::answers_lines(rt, alloc),
         Check::ServedFault => served::names_the_line(rt, alloc),
         Check::ServedDevices => served::ends_at_devices(rt, alloc),
+        Check::ShownFaults => faults::are_shown(alloc),
     }
 }
 
@@ -197,20 +201,27 @@ fn write_both<R: Threads + Wait + Sync + Print>(
     Ok(())
 }
 
-/// Carries out all scripts but those that are read most often, and writes a line for each table and check.
+/// Carries out all scripts but the longest, and writes a line for each table and check.
 pub(crate) fn carry_out<R: Threads + Wait + Sync + Print>(rt: &R, alloc: Global) -> Result<()> {
     let family = Family::built_in(alloc)?;
     write_both(rt, alloc, &family)
 }
 
-/// Has a script read as often as one may be, and writes whether no more reads are made.
-pub(crate) fn count_reads<R: Threads + Wait + Sync + Print>(rt: &R, alloc: Global) -> Result<()> {
+/// Has the log of a run filled, and a script read as often as one may be, and writes whether no more calls are taken,
+/// and no more reads are made.
+pub(crate) fn exhaust<R: Threads + Wait + Sync + Print>(rt: &R, alloc: Global) -> Result<()> {
     let family = Family::built_in(alloc)?;
-    let holds = devices::counts_reads(rt, alloc, &family);
+    let is_filled = devices::fills_its_log(rt, alloc, &family);
+    write_line(
+        rt,
+        "the log of a run takes 1,048,576 calls and no more",
+        is_filled,
+    )?;
+    let is_counted = devices::counts_reads(rt, alloc, &family);
     write_line(
         rt,
         "a script is read 16,777,216 times and no more often",
-        holds,
+        is_counted,
     )?;
     Ok(())
 }

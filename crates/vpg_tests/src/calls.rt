@@ -5,6 +5,8 @@
 ghost use Rattle.std.specs.Prelude.{◌≡◌};
 
 use crate::given::{require, require_at};
+use crate::lifting::boards::{Sitting, seated};
+use crate::lifting::given::{let_go, small};
 use std::process::Abort;
 use std::sync::Wait;
 use std::test::*;
@@ -53,6 +55,9 @@ pub enum Call {
     Lift(u32),
     /// An order of which nothing is lifted: the harvest that is held then.
     Bare,
+    /// An order of the family of most examples, without decisions, of which the one seat of a board lifts each vertex
+    /// once: the harvest that is held then.
+    Seated,
     /// Hands the harvest in that is held, which comes back where it isn't taken.
     Commit,
     Settled,
@@ -287,11 +292,26 @@ pub fn lifted(rt: &impl Abort, order: Order, which: Which, vertex: u32) -> Harve
     Harvest::one(order, which, vertex)
 }
 
-/// The harvest of an order of which one vertex is lifted, or nothing, or which is lifted until both tables are settled.
-pub fn harvest_of(rt: &impl Abort, order: Order, call: Call) -> Harvest {
+/// The harvest of a board whose seat lifts each vertex of an order without decisions: the first lift raises something,
+/// and so does the last.
+fn seated_once<R: Abort + AllocGlobal>(rt: &R) -> Harvest {
+    seated(
+        rt,
+        small(rt, &[]),
+        Sitting::Lifts([true, false, false, true]),
+    )
+}
+
+/// The harvest of an order of which one vertex is lifted, or nothing, or which is lifted until both tables are settled;
+/// or that of a board.
+pub fn harvest_of<R: Abort + AllocGlobal>(rt: &R, order: Order, call: Call) -> Harvest {
     match call {
         Call::Lift(vertex) => lifted(rt, order, Which::Hopeful, vertex),
         Call::Bare => Harvest::alone(order, 0),
+        Call::Seated => {
+            let_go(order);
+            seated_once(rt)
+        }
         _ => Harvest::alone(order, 1000),
     }
 }

@@ -1,7 +1,7 @@
 //! Tests of progress measures, orders and harvests, of bounds and guesses, and of boards.
 mod asks;
-mod boards;
-mod given;
+pub(crate) mod boards;
+pub(crate) mod given;
 mod harvests;
 mod orders;
 mod sweeps;

@@ -73,8 +73,8 @@ fn put_guard(guard: &Guard, line: &mut Line) {
 /// Writes edges.
 fn put_edges(edges: &[Edge], line: &mut Line) {
     for edge in edges {
-        line.number(" ", edge.to() as u64);
-        put_guard(edge.guard(), line);
+        line.number(" ", edge.to as u64);
+        put_guard(&edge.guard, line);
     }
     line.put(";");
 }

@@ -6,11 +6,11 @@
 //! is asked of. The program writes each row with its answer behind ` = `, and comments as they stand. `text` says how a
 //! row writes a text; the modules of the tables say what each word asks. A fault is an answer as any other.
 //!
-//! Behind the facts of guards, feature diagrams, games and decisions comes what is shown at a terminal. `family` has a
-//! family, and makes up verdicts of it, so that each of the four is there. The program writes where its game starts,
-//! its two pictures under each list of decisions of `pictures`, and what is said of each text of `mistakes`. At last
-//! come answers about pages (`pages`): why a verdict is so, what else could be decided, a product that is won. Where
-//! words name files, these are tables of such questions, and the program answers them alone.
+//! Behind the facts of guards, feature diagrams, games, systems and decisions comes what is shown at a terminal.
+//! `family` has a family, and makes up verdicts of it, so that each of the four is there. The program writes where its
+//! game starts, its two pictures under each list of decisions of `pictures`, and what is said of each text of
+//! `mistakes`. At last come answers about pages (`pages`): why a verdict is so, what else could be decided, a product
+//! that is won. Where words name files, these are tables of such questions, and the program answers them alone.
 //!
 //! Nothing has more than one way out that could be let go at its end: an answer goes into a `Line`, which also notes
 //! that something found no memory, and the program ends once a line lacks something.
@@ -29,6 +29,7 @@ mod mistakes;
 mod names;
 mod pages;
 mod putting;
+mod systems;
 mod text;
 
 use crate::asked::{Asked, asked_of};
@@ -47,6 +48,7 @@ enum Table {
     Guards,
     Diagrams,
     Games,
+    Systems,
     Arenas,
     Pictures,
     Mistakes,
@@ -54,11 +56,12 @@ enum Table {
 }
 
 /// The tables with their files, in the order in which they are answered.
-static TABLES: [(&str, Table); 10] = [
+static TABLES: [(&str, Table); 11] = [
     ("names", Table::Names),
     ("guards", Table::Guards),
     ("diagrams", Table::Diagrams),
     ("games", Table::Games),
+    ("systems", Table::Systems),
     ("arenas", Table::Arenas),
     ("pictures", Table::Pictures),
     ("mistakes", Table::Mistakes),
@@ -70,7 +73,7 @@ static TABLES: [(&str, Table); 10] = [
 /// A diagram of the features `a` and `b`, of which guards are.
 const PAIR: &[u8] = b"root a\noptional a b\n";
 
-/// A diagram of the features `r`, `f` and `g`, of which games are.
+/// A diagram of the features `r`, `f` and `g`, of which games and systems are.
 const FREE: &[u8] = b"root r\noptional r f\noptional r g\n";
 
 /// Writes the answer to what is asked of a text over a diagram.
@@ -78,6 +81,7 @@ fn answer_over(diagram: &Diagram, table: Table, asked: &Asked, text: &[u8], line
     match table {
         Table::Guards => guards::answer(diagram.names(), asked, text, line),
         Table::Games => games::answer(diagram.names(), asked, text, line),
+        Table::Systems => systems::answer(diagram.names(), asked, text, line),
         Table::Arenas => arenas::answer(diagram, asked, text, line),
         _ => mistakes::answer(diagram.names(), asked, text, line),
     }

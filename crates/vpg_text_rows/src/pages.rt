@@ -20,7 +20,7 @@ use vpg_diagram::Diagram;
 use vpg_game::GuardedGame;
 use vpg_guess::{Groundwork, harvest_by_bounds};
 use vpg_measure::laws::orders::zeros_are_opening;
-use vpg_measure::{Order, Refused, Table};
+use vpg_measure::{Order, Refused, Shape, Table};
 use vpg_partial::Decision;
 use vpg_why::Limits;
 
@@ -92,8 +92,10 @@ fn zeros_over(
 {
     zeros_are_opening();
     let vertices = game.vertices() as u32;
-    let hopeful = Table::zero(alloc, vertices)?;
-    let dual = Table::zero(alloc, vertices)?;
+    let shape = Shape::of(alloc, &game)?;
+    let dual_shape = Shape::of_dual(alloc, &game)?;
+    let hopeful = Table::zero(alloc, &shape, vertices)?;
+    let dual = Table::zero(alloc, &dual_shape, vertices)?;
     Ok(Order::of(alloc, game, diagram, decisions, hopeful, dual))
 }
 

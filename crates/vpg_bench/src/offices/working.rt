@@ -206,7 +206,6 @@ fn at_once<L: Terms + Send + Sync, R: Threads + Wait + Sync>(
 /// the mutex. Whether all was had.
 fn add_job<L: Terms, R: Wait>(
     rt: &R,
-    alloc: Global,
     office: &Office<L>,
     jobs: &mut Vec<Job<L>>,
     part: Part,
@@ -214,7 +213,7 @@ fn add_job<L: Terms, R: Wait>(
     shown: &Shown<L>,
 ) -> bool {
     let mut watch = if needs_watch {
-        office.watch(rt, alloc).ok()
+        office.watch(rt).ok()
     } else {
         None
     };
@@ -311,7 +310,6 @@ fn plan_of(task: Task) -> Plan {
 /// Adds a job for each of a plan, unless something is lacking. Whether nothing is.
 fn add_jobs<L: Terms, R: Wait>(
     rt: &R,
-    alloc: Global,
     office: &Office<L>,
     plan: Plan,
     jobs: &mut Vec<Job<L>>,
@@ -323,7 +321,7 @@ fn add_jobs<L: Terms, R: Wait>(
         } else {
             (plan.caller, plan.shows)
         };
-        if !add_job(rt, alloc, office, jobs, part, needs_watch, shown) {
+        if !add_job(rt, office, jobs, part, needs_watch, shown) {
             return false;
         }
     }
@@ -364,7 +362,7 @@ pub fn work_at_once<L: Terms + Send + Sync, R: Threads + Wait + Sync>(
 ) -> Option<Done> {
     let mut jobs = Vec::new(alloc);
     let shown = Mutex::new(None);
-    let is_ready = add_jobs(rt, alloc, office, plan_of(task), &mut jobs, &shown);
+    let is_ready = add_jobs(rt, office, plan_of(task), &mut jobs, &shown);
     if is_ready {
         at_once(rt, alloc, office, jobs.as_mut_slice(), &shown);
     }

@@ -9,7 +9,7 @@ use crate::refusals::lookups::{
 };
 use crate::refusals::orders::make_order;
 use crate::refusals::reading::{
-    add_name, has_ten, make_names, names_of, read_diagram, read_game, read_guard,
+    add_name, grouped_of, has_ten, make_names, names_of, read_diagram, read_game, read_guard,
 };
 use crate::refusals::trails::{append, is_of_first, look, open, splice};
 use crate::refusals::writing::{
@@ -82,7 +82,10 @@ const CALLS: &[(&str, Call)] = &[
     ("Table::copy", Call::Copy),
     ("strategy", Call::Strategy),
     ("Names::len, get, name", Call::AskNames),
-    ("Diagram::names, is_product, clauses", Call::AskDiagram),
+    (
+        "Diagram::names, is_product, clauses, counts",
+        Call::AskDiagram,
+    ),
     (
         "GuardedGame::vertices, features, id, find, owner, priority, edges, tops",
         Call::AskGame,
@@ -103,12 +106,16 @@ const CALLS: &[(&str, Call)] = &[
 struct Parts {
     /// Ten names, and then one more.
     names: Names,
+    /// A diagram of ten names, with groups.
+    grouped: Diagram,
     /// The game of one product.
     plain: PlainGame,
     /// What is written, behind what stands there before.
     out: Vec<u8>,
     known: Partial,
     shape: Shape,
+    /// That of the dual game.
+    dual_shape: Shape,
     arena: Arena,
     /// The settled table of the hopeful game.
     table: Table,
@@ -121,20 +128,24 @@ struct Parts {
 
 /// The parts for a game and a diagram: first those that are let go by one call.
 fn parts_of(alloc: Global, diagram: &Diagram, game: &GuardedGame) -> Option<Parts> {
-    let trail = Trail::open(alloc, 2).ok()?;
-    let zeros = Table::zero(alloc, 2).ok()?;
+    let shape = Shape::of(alloc, game).ok()?;
+    let dual_shape = Shape::of_dual(alloc, game).ok()?;
+    let trail = Trail::open(alloc, &shape, &dual_shape, 2).ok()?;
+    let zeros = Table::zero(alloc, &shape, 2).ok()?;
     let table = Table::of(Vec::from_slice(alloc, &SETTLED).ok()?);
     let names = names_of(alloc)?;
-    let shape = Shape::of(alloc, game).ok()?;
+    let grouped = grouped_of(alloc)?;
     let plain = plain_of(alloc, diagram, game)?;
     let known = close_checked(alloc, diagram, &DECISIONS).ok()?;
     let arena = arena_of(alloc, game, &known)?;
     Some(Parts {
         names,
+        grouped,
         plain,
         out: Vec::new(alloc),
         known,
         shape,
+        dual_shape,
         arena,
         table,
         zeros,
@@ -175,18 +186,18 @@ fn made(
         Call::Product => make_product(alloc, &parts.known),
         Call::Arena => make_arena(alloc, game, &parts.known),
         Call::Shape => make_shape(alloc, game),
-        Call::Zeros => make_zeros(alloc),
+        Call::Zeros => make_zeros(alloc, &parts.shape),
         Call::Copy => copy_table(alloc, &parts.table),
         Call::Strategy => make_strategy(alloc, &parts.shape, &parts.arena, &parts.table),
         Call::AskNames => names_tell(diagram.names()),
-        Call::AskDiagram => diagram_tells(diagram),
+        Call::AskDiagram => diagram_tells(diagram, &parts.grouped),
         Call::AskGame => game_tells(game),
         Call::AskKnown => known_tells(&parts.known),
         Call::AskArena => arena_tells(&parts.arena),
         Call::AskMeasures => measures_tell(&parts.shape, &parts.arena, &parts.table),
         Call::Settle => settles(&parts.shape, &parts.arena, &mut parts.zeros),
         Call::Order => make_order(alloc, game, diagram, &mut parts.is_back),
-        Call::OpenTrail => open(alloc),
+        Call::OpenTrail => open(alloc, &parts.shape, &parts.dual_shape),
         Call::Append => append(&mut parts.trail),
         Call::Splice => splice(alloc, &mut parts.trail),
         Call::Look => look(&parts.trail),

@@ -89,8 +89,8 @@ pub(crate) fn make_shape(alloc: Global, game: &GuardedGame) -> End {
     }
 }
 
-pub(crate) fn make_zeros(alloc: Global) -> End {
-    match Table::zero(alloc, 3) {
+pub(crate) fn make_zeros(alloc: Global, shape: &Shape) -> End {
+    match Table::zero(alloc, shape, 3) {
         Ok(table) => done_if(table.values() == [0, 0, 0].as_slice()),
         Err(_) => End::Memory,
     }

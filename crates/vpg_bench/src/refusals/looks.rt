@@ -7,7 +7,7 @@ use crate::refusals::done_if;
 use std::alloc::Global;
 use std::sync::Wait;
 use vpg_measure::{Harvest, Order};
-use vpg_office::{Fault, Front, NoWatch, Office, Returned, Terms, read};
+use vpg_office::{Fault, Front, Office, Returned, Terms, read};
 use vpg_scarce::{End, is_same_page};
 use vpg_trail::Page;
 use vpg_verdict::Which;
@@ -111,7 +111,6 @@ fn carry(kept: &mut Option<Harvest>) -> End {
 /// Makes such a call that is not logged.
 fn looked<L: Terms, R: Wait>(
     rt: &R,
-    alloc: Global,
     office: &Office<L>,
     caller: &mut Caller<L>,
     call: Call,
@@ -127,13 +126,12 @@ fn looked<L: Terms, R: Wait>(
             office.meet(rt, &mut early, &copy);
             done_if(early.len() == caller.seat.front.len())
         }
-        Call::Watch => match office.watch(rt, alloc) {
+        Call::Watch => match office.watch(rt) {
             Ok(watch) => {
                 caller.watch = Some(watch);
                 End::Done
             }
-            Err(NoWatch::Memory) => End::Memory,
-            Err(NoWatch::NoPlace) => End::Otherwise,
+            Err(_) => End::Otherwise,
         },
         // There is something to read as long as the office is not closed.
         Call::Read => done_if(shown(caller).is_some()),
@@ -200,7 +198,7 @@ pub(crate) fn asked<L: Terms, R: Wait>(
             Ok(page) => meet_page(&mut caller.page, page),
             Err(fault) => end_of(fault),
         },
-        _ => looked(rt, alloc, office, caller, call),
+        _ => looked(rt, office, caller, call),
     }
 }
 

@@ -17,7 +17,19 @@ pub(crate) fn names_tell(names: &Names) -> End {
     done_if(names.get(b"f") == Some(1) && names.get(b"h").is_none() && names.name(1) == "f")
 }
 
-pub(crate) fn diagram_tells(diagram: &Diagram) -> End {
+/// Whether the diagram of ten names has two counts: of its or-group, and of its group with a cardinality.
+fn is_counted(grouped: &Diagram) -> bool {
+    let [either, group] = grouped.counts() else {
+        return false;
+    };
+    [either.parent(), group.parent()] == [1, 0]
+        && either.members() == [5, 6, 7].as_slice()
+        && group.members() == [8, 9, 10].as_slice()
+        && [either.low(), either.high()] == [1, 3]
+        && [group.low(), group.high()] == [1, 2]
+}
+
+pub(crate) fn diagram_tells(diagram: &Diagram, grouped: &Diagram) -> End {
     if diagram.features() != 3 {
         return End::Otherwise;
     }
@@ -25,7 +37,8 @@ pub(crate) fn diagram_tells(diagram: &Diagram) -> End {
         diagram.is_product(&[true, true, false])
             && !diagram.is_product(&[false, true, false])
             && diagram.clauses().len() == 3
-            && diagram.counts().is_empty(),
+            && diagram.counts().is_empty()
+            && is_counted(grouped),
     )
 }
 

@@ -116,11 +116,14 @@ fn look_at<L: Terms>(caller: &mut Caller<L>, held: &Held<L>) -> Seen {
 }
 
 /// Whether all is as it has to be once the call is done. It is the last of the front, if it is logged. The sheet of a
-/// change may be left out, but not where memory is ample.
+/// change may be left out, but not where memory is ample. A new watch reads the sheet that is shown.
 fn is_done(row: &Row, bytes: usize, before: Seen, now: Seen) -> bool {
     let logged = row.call.is_logged() as usize;
     let needs_sheet = row.is_watched && bytes >= PLENTY;
-    let is_shown = now.1 == Some(now.0);
+    let is_shown = match row.call {
+        Call::Watch => now.1.is_some(),
+        _ => now.1 == Some(now.0),
+    };
     now.0 == before.0.saturating_add(logged) && (is_shown || (now.1 == before.1 && !needs_sheet))
 }
 

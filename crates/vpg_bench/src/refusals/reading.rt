@@ -60,6 +60,11 @@ pub(crate) fn read_diagram(alloc: Global) -> End {
     }
 }
 
+/// The diagram of ten names.
+pub(crate) fn grouped_of(alloc: Global) -> Option<Diagram> {
+    Diagram::read(alloc, DIAGRAM).ok()
+}
+
 pub(crate) fn read_game(alloc: Global, names: &Names) -> End {
     match GuardedGame::read(alloc, GAME, names) {
         Ok(game) => done_if(game.vertices() == 4),

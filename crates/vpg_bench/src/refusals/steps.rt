@@ -44,7 +44,8 @@ pub(crate) fn sheet_of(alloc: Global, count: u32) -> Result<Arc<Sheet<Steps>>, A
     ensures front { IfOk result (λ sheet. (arc_value sheet).front.count ≡ count) }
     ensures belongs { IfOk result (λ sheet. (arc_value sheet).at ≡ (arc_value sheet).front.count) }
 {
-    let sheet = Sheet::of(Steps { count }, false, Verdicts::new(Vec::new(alloc)));
+    let verdicts = Arc::new(alloc, Verdicts::new(Vec::new(alloc)))?;
+    let sheet = Sheet::of(Steps { count }, false, verdicts);
     Ok(Arc::new(alloc, sheet)?)
 }
 

@@ -2,7 +2,7 @@
 
 ghost use Rattle.std.specs.Prelude.{◌≡◌, ◌≤◌, ◌<◌, ◌↔◌, length, map, IsTrue, OnOk, All};
 ghost use Rattle.vpg_diagram.specs.FeatureDiagram.{feature_count};
-ghost use Rattle.vpg_game.specs.Game.{graph_of};
+ghost use Rattle.vpg_game.specs.Game.{IsAtLimit, graph_of};
 ghost use Rattle.vpg_game.specs.Levels.{top_of};
 ghost use Rattle.vpg_measure.specs.TwoGames.{top_for};
 ghost use Rattle.vpg_partial.specs.Known.{literal_of};
@@ -77,6 +77,7 @@ fn put(
     diagram: &Diagram,
     out: &mut Vec<u8>,
 ) -> End
+    requires not_at_limit { ¬ IsAtLimit game.now }
     requires features { game.now.features ≡ feature_count diagram.now.lines }
     requires named { AreChoicesOf diagram.now.lines (map literal_of page.now.decisions) }
     requires consistent { ¬ (HasConflictOf diagram.now.lines (map literal_of page.now.decisions)) }
@@ -109,6 +110,7 @@ fn put_growing(
     diagram: &Diagram,
     out: &mut Vec<u8>,
 ) -> Told
+    requires not_at_limit { ¬ IsAtLimit game.now }
     requires features { game.now.features ≡ feature_count diagram.now.lines }
     requires named { AreChoicesOf diagram.now.lines (map literal_of page.now.decisions) }
     requires consistent { ¬ (HasConflictOf diagram.now.lines (map literal_of page.now.decisions)) }
@@ -144,6 +146,7 @@ fn put_each(
     game: &GuardedGame,
     diagram: &Diagram,
 )
+    requires not_at_limit { ¬ IsAtLimit game.now }
     requires features { game.now.features ≡ feature_count diagram.now.lines }
     requires named { AreChoicesOf diagram.now.lines (map literal_of page.now.decisions) }
     requires consistent { ¬ (HasConflictOf diagram.now.lines (map literal_of page.now.decisions)) }
@@ -217,7 +220,10 @@ fn put_page(
     game: &GuardedGame,
     diagram: &Diagram,
 ) -> Option<()> {
-    if !fit(game, diagram, page.decisions.as_slice()) || !name_all(page, game, diagram) {
+    if game.is_at_limit() || !fit(game, diagram, page.decisions.as_slice()) {
+        return None;
+    }
+    if !name_all(page, game, diagram) {
         return None;
     }
     are_consistent(heap.alloc(), diagram, page).ok()?;

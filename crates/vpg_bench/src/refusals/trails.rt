@@ -6,6 +6,7 @@ ghost use Rattle.vpg_trail.specs.Shown.{entry_of};
 
 use crate::refusals::done_if;
 use std::alloc::{AllocError, Global};
+use vpg_measure::Shape;
 use vpg_partial::Decision;
 use vpg_scarce::End;
 use vpg_trail::{Entry, Trail};
@@ -24,8 +25,8 @@ const NEXT: Decision = Decision {
     value: false,
 };
 
-pub(crate) fn open(alloc: Global) -> End {
-    match Trail::open(alloc, 2) {
+pub(crate) fn open(alloc: Global, hopeful: &Shape, dual: &Shape) -> End {
+    match Trail::open(alloc, hopeful, dual, 2) {
         Ok(trail) => done_if(trail.entries().is_empty()),
         Err(_) => End::Memory,
     }

@@ -1,7 +1,7 @@
 //! Runs that end before their script does.
 
 use super::runs::ends_so;
-use crate::devices::whole;
+use crate::devices::{Gives, whole};
 use crate::family::Family;
 use std::alloc::Global;
 use std::io;
@@ -107,6 +107,39 @@ pub(super) fn counts_reads<T: Threads + Wait + Sync>(
     };
     is_answered(rt, alloc, family, most, Ok(Ending::Whole), b"")
         && is_answered(rt, alloc, family, endless, Err(RunFault::Read), b"")
+}
+
+/// Appends a line so often, or answers that there was no memory.
+fn put_times(line: &[u8], times: u32, out: &mut Vec<u8>) -> bool {
+    let mut done = true;
+    for _ in 0..times {
+        done &= out.extend_from_slice(line).is_ok();
+    }
+    done
+}
+
+/// How many calls the log of a run takes.
+const ROOM: u32 = 1_048_576;
+
+/// Whether the log of a run takes 1,048,576 calls and no more: each line is one, and is read by itself.
+pub(super) fn fills_its_log<T: Threads + Wait + Sync>(
+    rt: &T,
+    alloc: Global,
+    family: &Family,
+) -> bool {
+    let (mut script, mut answers) = (Vec::new(alloc), Vec::new(alloc));
+    let line = b"select f\n";
+    let done = put_times(line, ROOM + 1, &mut script)
+        & put_times(b"done 1\n", 1, &mut answers)
+        & put_times(b"refused AlreadyDecided 1\n", ROOM - 1, &mut answers)
+        & put_times(b"refused LogFull\n", 1, &mut answers);
+    let reader = Gives {
+        script: &script,
+        bytes: line.len(),
+        calls: usize::MAX,
+        fails: false,
+    };
+    done && is_answered(rt, alloc, family, reader, Ok(Ending::Whole), &answers)
 }
 
 /// Whether no office is opened on a family whose diagram contradicts itself.

@@ -5,7 +5,7 @@ use std::alloc::Global;
 use std::sync::Wait;
 use std::thread::Threads;
 use vpg_script::{Command, Device, LineFault, Request};
-use vpg_serving::{ScriptFault, ServeFault, Server, answer_script};
+use vpg_serving::{RunFault, ServeFault, Server, answer_script};
 
 // Refuses what asks for a token or a harvest; it has no desk for the rest.
 #[derive(Drop)]
@@ -52,7 +52,7 @@ fn served<T: Threads + Wait + Sync>(
     alloc: Global,
     gives: Gives<'_>,
     takes: Takes<'_>,
-) -> Result<(), ScriptFault> {
+) -> Result<(), RunFault> {
     let mut reader = Device::reader(gives);
     let mut writer = Device::writer(takes);
     answer_script(rt, alloc, 1, &mut Refuser, &mut reader, &mut writer)
@@ -64,7 +64,7 @@ fn is_served<T: Threads + Wait + Sync>(
     alloc: Global,
     gives: Gives<'_>,
     calls: usize,
-    ended: Result<(), ScriptFault>,
+    ended: Result<(), RunFault>,
     answers: &[u8],
 ) -> bool {
     let mut got = Vec::new(alloc);
@@ -135,7 +135,7 @@ fn is_refused<T: Threads + Wait + Sync>(
     fault: LineFault,
     answers: &[u8],
 ) -> bool {
-    let ended = Err(ScriptFault::Line { line, fault });
+    let ended = Err(RunFault::Line { line, fault });
     is_served(rt, alloc, whole(text), 100, ended, answers)
 }
 
@@ -180,9 +180,9 @@ pub(super) fn ends_at_devices<T: Threads + Wait + Sync>(rt: &T, alloc: Global) -
         alloc,
         reader,
         100,
-        Err(ScriptFault::Read),
+        Err(RunFault::Read),
         b"refused NoToken\n",
     );
-    let (script, written) = (whole(b"undo\nundo\n"), Err(ScriptFault::Write));
+    let (script, written) = (whole(b"undo\nundo\n"), Err(RunFault::Write));
     read && is_served(rt, alloc, script, 9, written, b"refused NoToken\nre")
 }

@@ -491,6 +491,21 @@ const COME_LATE: &[Part] = &[
     ),
 ];
 
+/// A board's harvest is taken, and settles the page.
+const TAKE_FROM_BOARD: &[Part] = &[(
+    1,
+    &[
+        (One, Call::Seated, Done),
+        (One, Call::Commit, Added(2)),
+        (One, Call::Settled, Is(true)),
+        (
+            One,
+            Call::Page("0 decided / hopeful 0 0 1 / dual 1 0 1 / 1 0 / 0 1 / "),
+            Is(true),
+        ),
+    ],
+)];
+
 /// Harvests of another game and of another diagram come back.
 const HAND_IN_OTHERS: &[Part] = &[(
     1,
@@ -531,6 +546,7 @@ const RUNS: &[(&str, &[Part])] = &[
     ("pages come back", TURN),
     ("a retraction drops what was assumed", RETRACT),
     ("a harvest comes late", COME_LATE),
+    ("a board's harvest is taken", TAKE_FROM_BOARD),
     ("harvests of others come back", HAND_IN_OTHERS),
     ("changes are limited", TO_THE_LIMIT),
 ];

@@ -3,14 +3,14 @@ ghost use Rattle.std.specs.Prelude.{◌≡◌, [], ◌∷◌, length};
 ghost use Rattle.vpg_trail.specs.Page.{Decided, Lifted, Hopeful};
 ghost use Rattle.vpg_trail.specs.Shown.{entry_of};
 
-use crate::given::{require, require_at};
+use crate::given::{DIAGRAM, GAME, diagram_of, game_of, given, require, require_at};
 use crate::pages::are_text;
 use std::alloc::{AllocError, Global};
 use std::process::Abort;
 use std::sync::Arc;
 use std::test::*;
 use vpg_diagram::Literal;
-use vpg_measure::Table;
+use vpg_measure::{Shape, Table};
 use vpg_partial::Decision;
 use vpg_trail::{
     Assumed, Decisions, Entries, Entry, Trail, decided, decisions_among, kept_after, lifts,
@@ -142,11 +142,25 @@ fn does(rt: &impl Abort, alloc: Global, trail: &mut Trail, deed: &Deed) -> bool 
     }
 }
 
+/// A trail without entries over the game of two vertices.
+fn opened<R: Abort + AllocGlobal>(rt: &R) -> Trail
+    ensures { result ≡ record { vertices = 2; entries = [] } }
+{
+    let game = game_of(rt, &diagram_of(rt, DIAGRAM), GAME);
+    let hopeful = given(rt, Shape::of(rt.alloc(), &game));
+    let dual = given(rt, Shape::of_dual(rt.alloc(), &game));
+    Trail::open(rt.alloc(), &hopeful, &dual, 2).expect(rt, "no memory")
+}
+
 /// A trail over two vertices of which this was made.
-fn made(rt: &impl Abort, alloc: Global, deeds: &[Deed]) -> Trail {
-    let mut trail = Trail::open(alloc, 2).expect(rt, "no memory");
+fn made<R: Abort + AllocGlobal>(rt: &R, deeds: &[Deed]) -> Trail {
+    let mut trail = opened(rt);
     for deed in deeds {
-        require(rt, does(rt, alloc, &mut trail, deed), "a deed of a trail");
+        require(
+            rt,
+            does(rt, rt.alloc(), &mut trail, deed),
+            "a deed of a trail",
+        );
     }
     trail
 }
@@ -207,14 +221,14 @@ const ROWS: &[Row] = &[
     (TWO_DECISIONS, Deed::PutAgain, TWO_TEXT, &[2, 0], &[0, 1]),
 ];
 
-fn holds(rt: &impl Abort, alloc: Global, (deeds, then, entries, hopeful, dual): &Row) -> bool {
-    let mut trail = made(rt, alloc, deeds);
-    does(rt, alloc, &mut trail, then) && is_trail(alloc, &trail, entries, hopeful, dual)
+fn holds<R: Abort + AllocGlobal>(rt: &R, (deeds, then, entries, hopeful, dual): &Row) -> bool {
+    let mut trail = made(rt, deeds);
+    does(rt, rt.alloc(), &mut trail, then) && is_trail(rt.alloc(), &trail, entries, hopeful, dual)
 }
 
 fn all_hold<R: Abort + AllocGlobal>(rt: &R) {
     for k in 0..ROWS.len() {
-        require_at(rt, holds(rt, rt.alloc(), &ROWS[k]), "trails", k);
+        require_at(rt, holds(rt, &ROWS[k]), "trails", k);
     }
 }
 
@@ -243,8 +257,9 @@ fn exchange(rt: &impl Abort, alloc: Global, trail: &mut Trail) -> Vec<Entry>
 }
 
 /// Whether a splice puts in what it is given, and gives back what it cuts.
-fn is_exchanged(rt: &impl Abort, alloc: Global) -> bool {
-    let mut trail = Trail::open(alloc, 2).expect(rt, "no memory");
+fn is_exchanged<R: Abort + AllocGlobal>(rt: &R) -> bool {
+    let alloc = rt.alloc();
+    let mut trail = opened(rt);
     assert!(rt; trail.append(Entry::Decide(OUT)).is_ok());
     let cut = exchange(rt, alloc, &mut trail);
     are_text(alloc, &cut, "hopeful 0 0 2 / ")
@@ -296,7 +311,7 @@ fn lifts_to(rt: &impl Abort, alloc: Global, values: &Table) -> Vec<Entry>
     requires { length values.now ≡ 3 }
 {
     let under = assumed(rt, alloc, &[FIRST]);
-    let present = Table::zero(alloc, 3).expect(rt, "no memory");
+    let present = Table::of(vec![in alloc; 0; 3].expect(rt, "no memory"));
     lifts(alloc, Which::Dual, &present, values, &under, 3).expect(rt, "no memory")
 }
 
@@ -312,8 +327,8 @@ fn are_lifts(rt: &impl Abort, alloc: Global) -> bool {
 fn trails_are_as_made(rt: HostRuntime) {
     let alloc = rt.alloc();
     all_hold(&rt);
-    let trail = made(&rt, alloc, TWO_DECISIONS);
-    require(&rt, is_exchanged(&rt, alloc), "a splice");
+    let trail = made(&rt, TWO_DECISIONS);
+    require(&rt, is_exchanged(&rt), "a splice");
     require(&rt, are_held(&rt, alloc), "what is assumed");
     require(&rt, are_lifts(&rt, alloc), "lifts");
     require(&rt, is_copied(&rt, alloc, trail.entries()), "a copy");

@@ -56,11 +56,11 @@ fn fit(game: &GuardedGame, diagram: &Diagram, decisions: &[Decision]) -> bool
     are_below(diagram.features(), decisions)
 }
 
-/// Zero at each of so many vertices.
-fn zeros<R: Abort + AllocGlobal>(rt: &R, vertices: u32) -> Table
+/// A table of zero measures.
+fn zeros<R: Abort + AllocGlobal>(rt: &R, shape: &Shape, vertices: u32) -> Table
     ensures { result ≡ replicate vertices 0 }
 {
-    Table::zero(rt.alloc(), vertices).expect(rt, "no memory")
+    Table::zero(rt.alloc(), shape, vertices).expect(rt, "no memory")
 }
 
 /// A copy of a table.
@@ -81,8 +81,10 @@ pub(crate) fn order_of<R: Abort + AllocGlobal>(
     assert!(rt; fit(&game, &diagram, &decisions));
     zeros_are_opening();
     let vertices = game.vertices() as u32;
-    let hopeful = zeros(rt, vertices);
-    let dual = zeros(rt, vertices);
+    let shape = given(rt, Shape::of(rt.alloc(), &game));
+    let dual_shape = given(rt, Shape::of_dual(rt.alloc(), &game));
+    let hopeful = zeros(rt, &shape, vertices);
+    let dual = zeros(rt, &dual_shape, vertices);
     Order::of(rt.alloc(), game, diagram, decisions, hopeful, dual)
 }
 

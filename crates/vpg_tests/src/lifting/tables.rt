@@ -1,6 +1,6 @@
 //! Tables and shapes by themselves.
 
-use crate::given::{DIAGRAM, diagram_of, game_of, given, require, require_at};
+use crate::given::{DIAGRAM, GAME, diagram_of, game_of, given, require, require_at};
 use crate::lifting::given::copy_of;
 use std::process::Abort;
 use std::test::*;
@@ -59,7 +59,8 @@ fn takes(other: &mut Table, table: &Table, values: [u64; 2]) -> bool {
 
 /// Whether a copy has what was set before it, and another table takes all.
 fn are_tables<R: Abort + AllocGlobal>(rt: &R) -> bool {
-    let mut table = given(rt, Table::zero(rt.alloc(), 2));
+    let shape = shape_of(rt, GAME);
+    let mut table = given(rt, Table::zero(rt.alloc(), &shape, 2));
     put(rt, &mut table, 1, 7);
     let copy = copy_of(rt, &table);
     put(rt, &mut table, 0, 5);

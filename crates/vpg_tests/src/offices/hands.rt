@@ -323,7 +323,7 @@ impl<L: Terms> Calls for Hand<L> {
         call: Call,
     ) -> Answer {
         match call {
-            Call::Watch => match office.watch(rt, rt.alloc()) {
+            Call::Watch => match office.watch(rt) {
                 Ok(watch) => {
                     given(rt, self.sitting.watches.push(watch));
                     Answer::Done

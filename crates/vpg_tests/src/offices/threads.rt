@@ -277,7 +277,7 @@ fn jobs_of<L: Terms, R: Wait + Abort + AllocGlobal>(
     let mut jobs = Vec::new(rt.alloc());
     for task in tasks {
         let watch = match task {
-            Task::Read => Some(given(rt, office.watch(rt, rt.alloc()))),
+            Task::Read => Some(given(rt, office.watch(rt))),
             _ => None,
         };
         let job = Job {

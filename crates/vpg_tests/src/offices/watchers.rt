@@ -33,6 +33,20 @@ const WATCH_TWO: &[Step] = &[
     (One, Calls, Has(3)),
 ];
 
+/// One session decides and another takes the page, and then the first watch is asked for: it is at the decision.
+const WATCH_LATE: &[Step] = &[
+    (One, Decide(First, F, true), Token(1)),
+    (
+        Two,
+        Page("1 decided / select f 1 by 1 / 0 0 / 0 0 / "),
+        Is(true),
+    ),
+    (One, Watch, Done),
+    (One, Sees, Sheet(1, false)),
+    (One, Keep(First), Kept),
+    (One, Calls, Has(3)),
+];
+
 /// Each change is seen. It isn't seen that a token is kept or forgotten, nor what asks or is refused: an undo, a redo
 /// and a harvest that are refused too.
 const WATCH_EACH: &[Step] = &[
@@ -116,6 +130,14 @@ pub const DAYS: &[Day] = &[
         calls: 3,
         before: &[],
         steps: WATCH_TWO,
+        closes: true,
+    },
+    Day {
+        name: "the first watch is at the last change",
+        room: 10,
+        calls: 3,
+        before: &[],
+        steps: WATCH_LATE,
         closes: true,
     },
     Day {

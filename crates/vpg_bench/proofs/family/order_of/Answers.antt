@@ -6,10 +6,10 @@ use Rattle.vpg_bench.proofs.family.order_of.Goals as goal
 count : (c : goal.In_ok-dual) → c.vertices-vertices.result ≡ length (arc_value c.args.game).vertices
 count c = rw c.deref.ensures at c.vertices-vertices.ensures.count
 
-pub of-requires-clause-hopeful : goal.of-requires-clause-hopeful
-of-requires-clause-hopeful c = rw c.in_ok-hopeful.ensures
+pub of-requires-2-clause-hopeful : goal.of-requires-2-clause-hopeful
+of-requires-2-clause-hopeful c = rw c.in_ok-hopeful.ensures.zero
     (c.zeros_are_opening.ensures (arc_value c.args.game) (arc_value c.args.diagram) c.args.decisions.items Hopeful c.vertices-vertices.result (count c))
 
-pub of-requires-clause-dual : goal.of-requires-clause-dual
-of-requires-clause-dual c = rw c.in_ok-dual.ensures
+pub of-requires-2-clause-dual : goal.of-requires-2-clause-dual
+of-requires-2-clause-dual c = rw c.in_ok-dual.ensures.zero
     (c.zeros_are_opening.ensures (arc_value c.args.game) (arc_value c.args.diagram) c.args.decisions.items Dual c.vertices-vertices.result (count c))
