@@ -58,7 +58,7 @@ def least(programs, game, diagram, lines):
 
 
 def told(name, figures):
-    print(f"{name:20}" + "".join(f" {milliseconds:10.3f} ms {memory:5.0f} MB" for milliseconds, memory in figures), flush=True)
+    print(f"{name:21}" + "".join(f" {milliseconds:10.3f} ms {memory:5.0f} MB" for milliseconds, memory in figures), flush=True)
 
 
 def cycled(features, line):
@@ -74,7 +74,7 @@ def cases(vertex, features):
     """The name, the lines before, and the lines that are measured."""
     yield "lift", [], [f"lift hopeful {vertex}"] * LINES
     yield "select and retract", [], paired(features, "select {}", "retract {}")
-    yield "exclude and undo", [], [line for i in range(LINES // 2) for line in (f"exclude {features[i % len(features)]}", "undo")]
+    yield "exclude and undo", [], paired(features, "exclude {}", "undo")
     if len(features) >= LINES:
         selected = cycled(features, "select {}")
         yield "select", [], selected
@@ -88,6 +88,11 @@ def cases(vertex, features):
     yield "undo and redo", [f"select {features[0]}"], ["undo", "redo"] * (LINES // 2)
     yield "settle, settled", ["settle"], ["settle"] * LINES
     yield "lift, settled", ["settle"], [f"lift hopeful {vertex}"] * LINES
+    yield "sel., retr., settled", ["settle"], paired(features, "select {}", "retract {}")
+    yield "excl., undo, settled", ["settle"], paired(features, "exclude {}", "undo")
+    if len(features) >= LINES:
+        yield "a hundred, settled", ["settle"], selected + retracted
+        yield "reversed, settled", ["settle"], selected + retracted[::-1]
     yield "show", [], ["show"] * LINES
     yield "products", [], ["products"] * LINES
 

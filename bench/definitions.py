@@ -34,8 +34,9 @@ alone are named at each crate's head: the promise can be read without them. `ben
 Sources: *FASE 2020*: ter Beek, van Loo, de Vink and Willemse, Family-Based SPL Model Checking Using Parity Games with
 Variability. *Jurdzinski 2000*: Small Progress Measures for Solving Parity Games. *Schobbens 2007*: Schobbens, Heymans,
 Trigaux and Bontemps, Generic semantics of feature diagrams. *Kang 1990*: Feature-Oriented Domain Analysis (FODA).
-*Kleene 1952*: Introduction to Metamathematics. *PGSolver*: its text format for parity games. A file that names no
-source is this project's own.
+*Kleene 1952*: Introduction to Metamathematics. *PGSolver*: its text format for parity games. *Classen 2010*: Classen,
+Heymans, Schobbens, Legay and Raskin, Model Checking Lots of Systems. *Aldebaran*: the text format of CADP for
+transition systems. A file that names no source is this project's own.
 """
 
 

@@ -87,7 +87,7 @@ ANSWERS = re.compile(
     + rb"|offer [+-]" + NAME + rb" (?:conflict|(?:hopeless|possible|unsettled) (?:sure|unsure|unsettled))"
     + rb"|(?:needs|forced) [+-]" + NAME + rb"|repair [+-]" + NAME + SIGNED + rb"(?: or fewer)?"
     + rb"|(?:needs|forced|repairs) " + N + rb"(?: or more)?"
-    + rb"|(?:in|out|open)(?: " + NAME + rb")*|(?:plan|spoil) " + N + rb" " + N + rb"|(?:plans|spoils) depend)\n)*)\Z"
+    + rb"|(?:in|out|open)(?: " + NAME + rb")*|(?:plan|spoil) " + N + rb" " + N + rb")\n)*)\Z"
 )
 PLAIN = re.compile(rb"\Aparity " + N + rb";\n(?:" + N + rb" " + N + rb" [01](?: " + N + rb"(?:," + N + rb")*)?;\n)+\Z")
 COUNTS = re.compile(rb"\Avertices " + N + rb" edges " + N + rb" features " + N + rb" top " + N + rb" " + N + rb"\n\Z")

@@ -1,10 +1,12 @@
 #!/usr/bin/env python3
 """What an office costs: sessions that call at once, readers beside a session that changes the page, and publishing.
 
-    offices.py VPG_BENCH [RUNS]
+    offices.py VPG_BENCH[,VPG_BENCH..] [RUNS]
 
-Each figure comes of two runs, of which one does more work: the difference of their seconds, reads or megabytes is divided by that of their work. So
-reading the files and starting threads is not counted. All that is compared takes turns, RUNS times (5 if left out), and the median is told.
+Each figure comes of two runs, of which one does more work: the difference of their seconds, reads or megabytes is
+divided by that of their work. So reading the files and starting threads is not counted. All that is compared takes
+turns, RUNS times (5 if left out), and the median is told. Of several programs, as one before a change and one after it,
+`changes` is told of each; the others are told of the first alone.
 
   calls    100,000 and 200,000 calls of 1 and of 8 sessions, each in a thread of its own: whether order and `end` hold; the seconds of the clock that the
            first take as a whole, microseconds a further call, and bytes of peak memory a further call, also against a run of 32 calls
@@ -12,7 +14,7 @@ reading the files and starting threads is not counted. All that is compared take
            without pause; and of as many threads that read the same sheet behind a mutex, where that session puts it. Beside both, how many
            milliseconds a round of that session takes: a decision, its undo, and that the token is forgotten
   changes  microseconds of the processor and by the clock a round where no watch was ever opened, and with one watch that nobody reads; and by the clock
-           with one that is read without pause
+           with one that is read without pause; of each program in turn
 
 The games: examples/mine_pump, the family of `decisions.py` with 65,536 vertices of sixteen edges, and the pump of `families.py` with as many vertices.
 """
@@ -109,29 +111,30 @@ def tell_reads(program, name, game, runs):
         print(flush=True)
 
 
-def tell_changes(program, name, game, runs):
-    hows = [(how, readers, rounds_of_a_second(program, game, how, readers)) for how, readers in (("alone", 0), ("idle", 1), ("watches", 1))]
-    taken = [[slope(program, game, rounds, how, readers) for how, readers, rounds in hows] for _ in range(runs)]
-    alone, idle, read = [[median(figures) * 1e6 for figures in zip(*of_one)] for of_one in zip(*taken)]
-    print(f"{name:12} no watch {alone[2]:10.1f} us of processor, {alone[0]:10.1f} by the clock", end="")
-    print(f"   idle {idle[2]:10.1f}, {idle[0]:10.1f}   read by the clock {read[0]:10.1f}", flush=True)
+def tell_changes(programs, name, game, runs):
+    hows = [(how, readers, rounds_of_a_second(programs[0], game, how, readers)) for how, readers in (("alone", 0), ("idle", 1), ("watches", 1))]
+    taken = [[[slope(program, game, rounds, how, readers) for how, readers, rounds in hows] for program in programs] for _ in range(runs)]
+    for of_program in zip(*taken):
+        alone, idle, read = [[median(figures) * 1e6 for figures in zip(*of_one)] for of_one in zip(*of_program)]
+        print(f"{name:12} no watch {alone[2]:10.1f} us of processor, {alone[0]:10.1f} by the clock", end="")
+        print(f"   idle {idle[2]:10.1f}, {idle[0]:10.1f}   read by the clock {read[0]:10.1f}", flush=True)
 
 
 def main():
     if len(sys.argv) < 2:
         sys.exit(__doc__)
-    program, runs = sys.argv[1], int(sys.argv[2]) if len(sys.argv) > 2 else 5
+    programs, runs = sys.argv[1].split(","), int(sys.argv[2]) if len(sys.argv) > 2 else 5
     with tempfile.TemporaryDirectory() as folder:
         os.mkdir(f"{folder}/edges")
         decisions.write_family(f"{folder}/edges", 65536, 200)
         subprocess.run([sys.executable, f"{HERE}/families.py", "pump", "65536", f"{folder}/pump"], check=True)
         # each with the number of a feature that may be decided in by itself
         games = [("mine pump", (EXAMPLE, 4)), ("16 edges", (f"{folder}/edges", 1)), ("pump", (f"{folder}/pump", 1))]
-        tell_calls(program, runs)
+        tell_calls(programs[0], runs)
         for name, game in games:
-            tell_changes(program, name, game, runs)
+            tell_changes(programs, name, game, runs)
         for name, game in games:
-            tell_reads(program, name, game, runs)
+            tell_reads(programs[0], name, game, runs)
 
 
 if __name__ == "__main__":

@@ -75,7 +75,7 @@ def plain(crate, text):
     lines = without(lines, lambda line: re.match(r"impl(<.*?>)? (Model|Drop) for", line) is not None, is_balanced)
     left_out = ("#[tactic", "#![tactic", "#[derive(Drop)]", "#[error", "//!", "use thiserror")
     lines = [line.replace("///", "//") for line in lines if not line.strip().startswith(left_out)]
-    text = "\n".join(lines).replace(", Error)]", ")]").replace("\nfn raise_within", "\npub fn raise_within")
+    text = "\n".join(lines).replace(", Error)]", ")]")
     text = re.sub(r"\bcrate::", f"crate::{crate}::", text)
     text = re.sub(r"^use (vpg_regions|vpg_values|vpg_measure|vpg_verdict)::", r"use crate::\1::", text, flags=re.M)
     others = r"^use (vpg_game|vpg_players|vpg_hope(::arena)?|std::(alloc|collections))::"

@@ -209,6 +209,7 @@ pub mod shim {
 
 use shim::{Arena, Global, GuardedGame, Player};
 use vpg_guess::ground::{Groundwork, shape_in};
+use vpg_guess::raising::Raising;
 use vpg_measure::lifts::settle_alone;
 use vpg_measure::{Shape, Table, is_progress};
 use vpg_regions::Budget;
@@ -311,10 +312,11 @@ impl Page {
         table: &Table,
         budget: &mut Budget,
     ) -> (Table, bool) {
-        let mut table = table.copy(Global).unwrap();
+        let table = table.copy(Global).unwrap();
         let (shape, arena) = (&self.shapes[k], &self.arenas[k]);
-        let raised = vpg_guess::raising::raise_within(Global, shape, dual, arena, kept, &mut table, budget);
-        (table, raised.unwrap())
+        let mut raising = Raising { alloc: Global, shape, dual_shape: dual, arena, table };
+        let settled = raising.raise(kept, budget).unwrap();
+        (raising.into_table(), settled)
     }
 
     /// As `harvest_by_bounds`.
@@ -359,7 +361,7 @@ fn main() {
     let words: std::vec::Vec<String> = std::env::args().collect();
     let vertices = read(&std::fs::read_to_string(&words[1]).unwrap());
     let (page, without_f) = (Page::of(&vertices, false), Page::of(&vertices, true));
-    let zeros = [0, 1].map(|_| Table::zero(Global, vertices.len() as u32).unwrap());
+    let zeros = [0, 1].map(|k| Table::zero(Global, &page.shapes[k], vertices.len() as u32).unwrap());
     let (mut kept, before) = (Groundwork::none(), spent());
     if words[2] == "zeros" {
         println!("{}", told(before, &page.guessed(&zeros, &mut kept)));
