@@ -14,9 +14,10 @@ use Rattle.vpg_parts.specs.declared.part.Part.{Part}
 use Rattle.vpg_parts.specs.declared.part.Part.TheVariants.{True, False, And, Or, SomeStep, EveryStep, Fixpoint, Variable}
 use Rattle.vpg_model.specs.Departures.{Departure, PairMove}
 use Rattle.vpg_parts.specs.Parts.{part_at, resolved_from, resolved_part}
-use Rattle.vpg_model.specs.Pairs.{pair_by, pair_for, is_permitted, departures_at, leaving_moves, moves_by, owner_of_part, priority_of_part}
+use Rattle.vpg_parts.specs.Sets.{is_permitted, ArePermitted}
+use Rattle.vpg_model.specs.Pairs.{pair_by, pair_for, departures_at, leaving_moves, moves_by, owner_of_part, priority_of_part}
 use Rattle.vpg_parts.specs.Parts.{binder_of}
-use Rattle.vpg_model.specs.Forms.{transitions_from, AreDepartures, IsUnder, ArePermitted, IsFormAt, StandFor, situation_in}
+use Rattle.vpg_model.specs.Forms.{transitions_from, AreDepartures, IsUnder, IsFormAt, StandFor, situation_in}
 
 -- ---- the transitions from a state
 

@@ -22,7 +22,8 @@ use Rattle.vpg_parts.specs.Parts.{resolved_part}
 use Rattle.vpg_model.specs.Departures.{Departure, PairMove}
 use Rattle.vpg_model.specs.declared.fault.ModelFault.{ModelFault}
 use Rattle.vpg_model.specs.declared.fault.ModelFault.TheVariants as faults
-use Rattle.vpg_model.specs.Pairs.{pair_for, is_permitted, departures_at, moves_by, pair_moves, HaveGuards, AreNumbered, AreWithin, IsRefused, IsPairEdge, IsPairRow, IsPairGame, pair_at, targets, targets_from, moves_in, pair_priorities}
+use Rattle.vpg_parts.specs.Sets.{is_permitted}
+use Rattle.vpg_model.specs.Pairs.{pair_for, departures_at, moves_by, pair_moves, HaveGuards, AreNumbered, AreWithin, IsRefused, IsPairEdge, IsPairRow, IsPairGame, pair_at, targets, targets_from, moves_in, pair_priorities}
 use Rattle.vpg_model.specs.Searching.{ArePairSuccessors, IsPairEntry, AreRoots, IsSearched, AreEntries, IsGameFault, model_fault}
 use Rattle.vpg_model.proofs.Search.{Pairs, roots_longer, appended_longer, reached_from, start_are}
 

@@ -8,8 +8,9 @@ use Rattle.vpg_parts.specs.declared.part.Part.{Part}
 use Rattle.vpg_parts.specs.declared.part.Part.TheVariants.{True, False, And, Or, SomeStep, EveryStep, Fixpoint, Variable}
 use Rattle.vpg_parts.specs.Parts.{part_at, HasConstants}
 use Rattle.vpg_parts.specs.Parts.{kind_of}
-use Rattle.vpg_model.specs.Forms.{ArePermitted, IsFormAt}
-use Rattle.vpg_parts.specs.Preorder.{place_in, actions_at, form_step, form_with, form_of, binder_by, binder_at, scope_of, IsLeaf, IsPartOf, IsChainedAt, IsChained}
+use Rattle.vpg_model.specs.Forms.{IsFormAt}
+use Rattle.vpg_parts.specs.Sets.{actions_at, ArePermitted}
+use Rattle.vpg_parts.specs.Preorder.{place_in, form_step, form_with, form_of, binder_by, binder_at, scope_of, IsLeaf, IsPartOf, IsChainedAt, IsChained}
 use Rattle.vpg_model.specs.Forms.{ChainedPartsStand}
 
 past : (parts : List Part) (k : ℕ) → length parts ≤ k → part_at parts k ≡ False

@@ -8,7 +8,8 @@ use Rattle.vpg_parts.specs.declared.part.Part.{Part}
 use Rattle.vpg_parts.specs.declared.part.Part.TheVariants.{True, False, And, Or, SomeStep, EveryStep, Fixpoint, Variable}
 use Rattle.vpg_parts.specs.Parts.{part_at, resolved_part, kind_of}
 use Rattle.vpg_model.specs.Departures.{Departure}
-use Rattle.vpg_model.specs.Pairs.{pair_by, pair_for, pair_at, is_permitted, departures_at, moves_by, targets, targets_from, AreDistinct, AreReached}
+use Rattle.vpg_parts.specs.Sets.{is_permitted}
+use Rattle.vpg_model.specs.Pairs.{pair_by, pair_for, pair_at, departures_at, moves_by, targets, targets_from, AreDistinct, AreReached}
 use Rattle.vpg_model.specs.Forms.{IsFormAt, StandFor, situation_in}
 use Rattle.vpg_model.specs.Laws.{HasOneVertex}
 use Rattle.vpg_model.proofs.Search.{Pairs}

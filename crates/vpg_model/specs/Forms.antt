@@ -1,7 +1,7 @@
 -- What a list of parts stands for: a normal form at each place, in a scope. This project's own.
 use Rattle.std.specs.Prelude.{◌≡◌, ℕ, ◌<◌, List, ◌∷◌, length, map, filter, drop, Bool, ◌==◌, All}
 use Rattle.vpg_guards.specs.Formula.{Formula as Guard}
-use Rattle.vpg_requirement.specs.Actions.{ActionFormula, permits}
+use Rattle.vpg_requirement.specs.Actions.{ActionFormula}
 use Rattle.vpg_requirement.specs.Systems.{Transition, System}
 use Rattle.vpg_requirement.specs.NormalForms.{NormalForm, met, unmet, both, either, some_step, every_step, fixpoint, variable}
 use Rattle.vpg_requirement.specs.Situations.{Binder, Situation, situation}
@@ -10,8 +10,9 @@ use Rattle.vpg_parts.specs.declared.part.Part.{Part}
 use Rattle.vpg_parts.specs.declared.part.Part.TheVariants.{True, False, And, Or, SomeStep, EveryStep, Fixpoint, Variable}
 use Rattle.vpg_model.specs.Departures.{Departure}
 use Rattle.vpg_parts.specs.Parts.{part_at, HasConstants, kind_of, binder_of}
-use Rattle.vpg_parts.specs.Preorder.{actions_at, form_of, scope_of, IsChained}
-use Rattle.vpg_model.specs.Pairs.{is_permitted, departures_at}
+use Rattle.vpg_parts.specs.Preorder.{form_of, scope_of, IsChained}
+use Rattle.vpg_parts.specs.Sets.{actions_at, ArePermitted}
+use Rattle.vpg_model.specs.Pairs.{departures_at}
 
 -- ---- the system
 
@@ -31,10 +32,6 @@ pub record AreDepartures (system : System Guard) (states : List (List Departure)
 -- The part at a place, in its own scope, is the same situation at each state as it is in this scope.
 abbrev pub IsUnder : (ℕ → NormalForm) → (ℕ → List Binder) → ℕ → List Binder → Type 0
 IsUnder form scope k binders = (s : ℕ) → situation s (form k) (scope k) ≡ situation s (form k) binders
-
--- the set has those of so many actions that the action formula permits
-abbrev pub ArePermitted : ℕ → List (List Bool) → ℕ → ActionFormula → Type 0
-ArePermitted labels sets x actions = (label : ℕ) → label < labels → permits actions label ≡ is_permitted sets x label
 
 -- the part at a place stands for the normal form of the place: its own parts stand for that one's, each in its scope
 abbrev pub IsFormAt : ℕ → List (List Bool) → List Part → (ℕ → NormalForm) → (ℕ → List Binder) → ℕ → Part → Type 0

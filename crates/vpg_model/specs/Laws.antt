@@ -17,10 +17,11 @@ use Rattle.vpg_requirement.specs.Laws.{IsDecided}
 use Rattle.vpg_hope.specs.Hope.{product_game}
 use Rattle.vpg_parts.specs.declared.part.Part.{Part}
 use Rattle.vpg_parts.specs.Parts.{HasConstants}
-use Rattle.vpg_parts.specs.Preorder.{actions_at, form_of, IsChained}
+use Rattle.vpg_parts.specs.Preorder.{form_of, IsChained}
+use Rattle.vpg_parts.specs.Sets.{actions_at, ArePermitted}
 use Rattle.vpg_model.specs.Departures.{Departure}
 use Rattle.vpg_model.specs.Pairs.{pair_for, IsPairGame}
-use Rattle.vpg_model.specs.Forms.{AreDepartures, StandFor, HasLabels, situation_in, ArePermitted}
+use Rattle.vpg_model.specs.Forms.{AreDepartures, StandFor, HasLabels, situation_in}
 
 -- The game of pairs has a row for each of their situations, and nothing but what can be reached; the vertex of a part
 -- at a state has the situation of that part.

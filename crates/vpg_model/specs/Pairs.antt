@@ -15,6 +15,7 @@ use Rattle.vpg_model.specs.declared.fault.ModelFault.{ModelFault}
 use Rattle.vpg_model.specs.declared.fault.ModelFault.TheVariants as faults
 use Rattle.vpg_model.specs.Departures.{Departure, PairMove}
 use Rattle.vpg_parts.specs.Parts.{part_at, resolved_part}
+use Rattle.vpg_parts.specs.Sets.{is_permitted}
 
 -- the pair of a part: of `true` and `false` that of the shared ones in state 0, of a variable that of its fixpoint
 abbrev pub pair_by : ℕ → ℕ → Part → ℕ × ℕ
@@ -30,14 +31,6 @@ pair_by s k (Variable m) = (s, m)
 -- the vertex of a part at a state
 abbrev pub pair_for : List Part → ℕ → ℕ → ℕ × ℕ
 pair_for parts s k = pair_by s k (part_at parts k)
-
--- the actions of a set; none, where there is no such set
-abbrev pub set_at : List (List Bool) → ℕ → List Bool
-set_at sets x = slice_index_or sets x []
-
--- whether a set has an action
-abbrev pub is_permitted : List (List Bool) → ℕ → ℕ → Bool
-is_permitted sets x a = slice_index_or (set_at sets x) a false
 
 -- a move under a guard
 abbrev pub move_under : Guard → ℕ × ℕ → PairMove

@@ -22,7 +22,7 @@ mod sourcing;
 pub use building::{Built, build};
 pub use fault::ModelFault;
 pub use moves::Move;
-pub use source::{Permitted, Source, State, Transition};
+pub use source::{Source, State, Transition};
 
 #[cfg(test)]
 mod tests;

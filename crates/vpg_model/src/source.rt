@@ -1,11 +1,12 @@
 //! What a game is made of: a system, and the parts of requirements.
 ghost use Rattle.std.specs.Prelude.{◌≡◌, ◌↔◌, IsTrue};
 ghost use Rattle.vpg_parts.specs.Parts.{part_at, resolved_part};
-ghost use Rattle.vpg_model.specs.Pairs.{is_permitted, pair_for, owner_of_part, priority_of_part};
+ghost use Rattle.vpg_parts.specs.Sets.{is_permitted};
+ghost use Rattle.vpg_model.specs.Pairs.{pair_for, owner_of_part, priority_of_part};
 
 use std::marker::Model;
 use vpg_guards::Guard;
-use vpg_parts::{FALSE_PLACE, Part, TRUE_PLACE};
+use vpg_parts::{FALSE_PLACE, Part, Permitted, TRUE_PLACE};
 use vpg_players::Player;
 
 /// A transition from a state that is known.
@@ -43,23 +44,6 @@ impl Model for State {
     ghost coded = { coded_list departure_code };
 
     ghost view = { λ s. s.transitions.items };
-}
-
-/// The actions that a step may have, by their numbers.
-#[derive(Drop)]
-pub struct Permitted {
-    pub actions: Vec<bool>,
-}
-
-impl Model for Permitted {
-    ghost use Rattle.std.specs.Prelude.{List, Bool};
-    ghost use Rattle.std.specs.Coded.{coded_list, coded_bool};
-
-    ghost Value = { List Bool };
-
-    ghost coded = { coded_list coded_bool };
-
-    ghost view = { λ s. s.actions.items };
 }
 
 /// A system, the sets of actions that its requirements name, and the parts of these.

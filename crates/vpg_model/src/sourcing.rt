@@ -6,9 +6,9 @@ ghost use Rattle.vpg_model.specs.Pairs.{HaveGuards};
 ghost use Rattle.vpg_model.specs.Sources.{departure_of, system_of, ArePlacedBySource};
 ghost use Rattle.vpg_model.specs.Laws.{AreOfSystem};
 
-use crate::source::{Permitted, Source, State, Transition};
+use crate::source::{Source, State, Transition};
 use std::alloc::{AllocError, Global};
-use vpg_parts::Part;
+use vpg_parts::{Part, Permitted};
 use vpg_system::System;
 
 /// So many states without transitions.

@@ -1,10 +1,10 @@
 //! Two small systems; what is expected is what `reference.py` makes of them.
 use crate::building::{Built, build};
-use crate::source::{Permitted, Source};
+use crate::source::Source;
 use std::alloc::{AllocError, Global};
 use std::test::Fail;
 use vpg_guards::{Guard, Names};
-use vpg_parts::{FALSE_PLACE, Kind, Part, TRUE_PLACE};
+use vpg_parts::{FALSE_PLACE, Kind, Part, Permitted, TRUE_PLACE};
 use vpg_system::System;
 
 /// The vertices, a line each: owner, priority and edges.

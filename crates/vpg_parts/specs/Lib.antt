@@ -1,2 +1,4 @@
 pub mod Parts
 pub mod Preorder
+pub mod Sets
+pub mod Symbols

@@ -1,7 +1,7 @@
 -- The normal form that each part of a list stands for, where parts stand behind those that they are parts of. This
 -- project's own.
-use Rattle.std.specs.Prelude.{◌≡◌, ℕ, zero, suc, ◌<◌, ◌⊎◌, List, [], ◌∷◌, length, map, drop, ◌==◌, if◌then◌else◌, slice_index_or}
-use Rattle.vpg_requirement.specs.Actions.{ActionFormula, every_action, other_than}
+use Rattle.std.specs.Prelude.{◌≡◌, ℕ, zero, suc, ◌<◌, ◌⊎◌, List, [], ◌∷◌, length, map, drop, ◌==◌, if◌then◌else◌}
+use Rattle.vpg_requirement.specs.Actions.{ActionFormula}
 use Rattle.vpg_requirement.specs.NormalForms.{NormalForm, met, unmet, both, either, some_step, every_step, fixpoint, variable}
 use Rattle.vpg_requirement.specs.Situations.{Binder}
 use Rattle.vpg_parts.specs.declared.part.Kind.{Kind as PartKind}
@@ -9,15 +9,12 @@ use Rattle.vpg_parts.specs.declared.part.Kind.TheVariants.{Least}
 use Rattle.vpg_parts.specs.declared.part.Part.{Part}
 use Rattle.vpg_parts.specs.declared.part.Part.TheVariants.{True, False, And, Or, SomeStep, EveryStep, Fixpoint, Variable}
 use Rattle.vpg_parts.specs.Parts.{part_at, kind_of, binder_of}
+use Rattle.vpg_parts.specs.Sets.{actions_at}
 
 -- where a number stands first in a chain
 abbrev pub place_in : ℕ → List ℕ → ℕ
 place_in m [] = 0
 place_in m (n ∷ chain) = if n == m then 0 else suc (place_in m chain)
-
--- the actions of a set; where there is no such set, no action
-abbrev pub actions_at : List ActionFormula → ℕ → ActionFormula
-actions_at actions x = slice_index_or actions x (other_than every_action)
 
 -- The normal form of a part, from those of its parts. The chain has the places of the fixpoints that it stands in,
 -- innermost first, by which a variable counts to its own.
