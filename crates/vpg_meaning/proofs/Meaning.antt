@@ -6,7 +6,8 @@ use Rattle.vpg_requirement.specs.Fixpoints.{StateSet, set_of}
 use Rattle.vpg_requirement.specs.Formulas.{Formula, Means}
 use Rattle.vpg_formula.specs.Written.{Written, constant, named, deadlock_free, can, will, prefixed, conjunction, disjunction, implication, binding}
 use Rattle.vpg_meaning.specs.Paths.{HasNames}
-use Rattle.vpg_meaning.specs.Translation.{Entry, kind_of, entry_formula, formula_of, formulas_behind, formulas_of}
+use Rattle.vpg_formula.specs.Requirements.{Entry}
+use Rattle.vpg_meaning.specs.Translation.{kind_of, entry_formula, formula_of, formulas_behind, formulas_of}
 use Rattle.vpg_meaning.specs.Meaning.{Earlier, Says, with_entry, said_behind, no_entry, sign_behind, IsWellNamed, AreWellNamed, names_behind}
 use Rattle.vpg_meaning.specs.Laws.{FormulasMeanWhatIsWritten}
 use Rattle.vpg_meaning.proofs.Plain.{iff_and, iff_or, iff_implies, fixpoint_iff}
@@ -36,12 +37,12 @@ module _ (names : List (List ℕ)) (system : PlainSystem) (closed : IsClosedSyst
     written_means (binding kind x f) sign scope sets w s l = fixpoint_iff (kind_of kind) system.states _ _ (λ set t k. written_means f sign ((x, sign) ∷ scope) (set ∷ sets) w t k) s
 
   -- one more entry
-  more_said : (fs : List (List ℕ × Formula)) (known : List (List ℕ)) (earlier : Earlier) → ArePositive fs known → AreSaid system fs known earlier → (e : Entry) → IsWellNamed known [] false e.written →
-      AreSaid system ((e.name, formula_of names fs [] e.written) ∷ fs) (e.name ∷ known) (with_entry names system earlier e)
+  more_said : (fs : List (List ℕ × Formula)) (known : List (List ℕ)) (earlier : Earlier) → ArePositive fs known → AreSaid system fs known earlier → (e : Entry) → IsWellNamed known [] false e.formula →
+      AreSaid system ((e.name, formula_of names fs [] e.formula) ∷ fs) (e.name ∷ known) (with_entry names system earlier e)
   more_said fs known earlier positive said e w x k s l = decide (cases_Bool (bytes_eq x e.name))
     where
-      decide : (bytes_eq x e.name ≡ true) ⊎ (bytes_eq x e.name ≡ false) → Means system [] (entry_formula ((e.name, formula_of names fs [] e.written) ∷ fs) x) s ↔ with_entry names system earlier e x s
-      decide (inl h) = rw h (written_means fs known earlier positive said e.written false [] [] w s l)
+      decide : (bytes_eq x e.name ≡ true) ⊎ (bytes_eq x e.name ≡ false) → Means system [] (entry_formula ((e.name, formula_of names fs [] e.formula) ∷ fs) x) s ↔ with_entry names system earlier e x s
+      decide (inl h) = rw h (written_means fs known earlier positive said e.formula false [] [] w s l)
       decide (inr h) = rw h (said x (rw h at k) s l)
 
   entries_said : (entries : List Entry) (fs : List (List ℕ × Formula)) (known : List (List ℕ)) (earlier : Earlier) → ArePositive fs known → AreSaid system fs known earlier → AreWellNamed known entries →

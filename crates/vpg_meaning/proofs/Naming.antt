@@ -9,7 +9,8 @@ use Rattle.vpg_requirement.specs.Formulas.{Formula, Means, IsPositive}
 use Rattle.vpg_requirement.specs.Words as words
 use Rattle.vpg_requirement.proofs.Worded.{raised_positive, iff_trans}
 use Rattle.vpg_formula.specs.Written.{Prefix, negated, some_path, every_path, always, never, possibly, inevitably, again_and_again, after, Written, constant, named, deadlock_free, can, will, prefixed, conjunction, disjunction, implication, binding}
-use Rattle.vpg_meaning.specs.Translation.{Entry, entry_formula, formula_named, formula_behind, formula_of, formulas_behind, formulas_of}
+use Rattle.vpg_formula.specs.Requirements.{Entry}
+use Rattle.vpg_meaning.specs.Translation.{entry_formula, formula_named, formula_behind, formula_of, formulas_behind, formulas_of}
 use Rattle.vpg_meaning.specs.Meaning.{Earlier, SaysNamed, is_same, is_known, sign_behind, IsWellNamed, AreWellNamed, names_behind}
 use Rattle.vpg_meaning.specs.Laws.{EntriesStandForFormulas, WellNamedIsPositive}
 use Rattle.vpg_meaning.proofs.Substitution.{positive_alone, alone_means}
@@ -17,9 +18,9 @@ use Rattle.vpg_meaning.proofs.Modalities.{diamond_positive, box_positive}
 
 -- ---- entries
 
-behind_more : (names : List (List ℕ)) (earlier : List (List ℕ × Formula)) (entries : List Entry) (e : Entry) → formulas_behind names earlier (entries ++ e ∷ []) ≡ (e.name, formula_of names (formulas_behind names earlier entries) [] e.written) ∷ formulas_behind names earlier entries
+behind_more : (names : List (List ℕ)) (earlier : List (List ℕ × Formula)) (entries : List Entry) (e : Entry) → formulas_behind names earlier (entries ++ e ∷ []) ≡ (e.name, formula_of names (formulas_behind names earlier entries) [] e.formula) ∷ formulas_behind names earlier entries
 behind_more names earlier [] e = refl
-behind_more names earlier (d ∷ entries) e = behind_more names ((d.name, formula_of names earlier [] d.written) ∷ earlier) entries e
+behind_more names earlier (d ∷ entries) e = behind_more names ((d.name, formula_of names earlier [] d.formula) ∷ earlier) entries e
 
 found_first : (x : List ℕ) (f : Formula) (entries : List (List ℕ × Formula)) → entry_formula ((x, f) ∷ entries) x ≡ f
 found_first x f entries = rw ((bytes_eq-Decides x x).1 refl) refl
@@ -88,11 +89,11 @@ module _ (names : List (List ℕ)) (fs : List (List ℕ × Formula)) (known : Li
 
 -- ---- entries behind one another
 
-pub more_positive : (names : List (List ℕ)) (fs : List (List ℕ × Formula)) (known : List (List ℕ)) → ArePositive fs known → (e : Entry) → IsWellNamed known [] false e.written → ArePositive ((e.name, formula_of names fs [] e.written) ∷ fs) (e.name ∷ known)
+pub more_positive : (names : List (List ℕ)) (fs : List (List ℕ × Formula)) (known : List (List ℕ)) → ArePositive fs known → (e : Entry) → IsWellNamed known [] false e.formula → ArePositive ((e.name, formula_of names fs [] e.formula) ∷ fs) (e.name ∷ known)
 more_positive names fs known positive e w x k = decide (cases_Bool (bytes_eq x e.name))
   where
-    decide : (bytes_eq x e.name ≡ true) ⊎ (bytes_eq x e.name ≡ false) → IsPositive [] false (entry_formula ((e.name, formula_of names fs [] e.written) ∷ fs) x)
-    decide (inl h) = rw h (well_named_positive names fs known positive e.written false [] w)
+    decide : (bytes_eq x e.name ≡ true) ⊎ (bytes_eq x e.name ≡ false) → IsPositive [] false (entry_formula ((e.name, formula_of names fs [] e.formula) ∷ fs) x)
+    decide (inl h) = rw h (well_named_positive names fs known positive e.formula false [] w)
     decide (inr h) = rw h (positive x (rw h at k))
 
 pub entries_positive : (names : List (List ℕ)) (entries : List Entry) (fs : List (List ℕ × Formula)) (known : List (List ℕ)) → ArePositive fs known → AreWellNamed known entries → ArePositive (formulas_behind names fs entries) (names_behind known entries)

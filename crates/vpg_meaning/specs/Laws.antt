@@ -7,9 +7,10 @@ use Rattle.vpg_requirement.specs.Formulas.{Formula, Means, IsPositive}
 use Rattle.vpg_requirement.specs.Words.{shift}
 use Rattle.vpg_formula.specs.Regular.{Regular}
 use Rattle.vpg_formula.specs.Written.{Written, named}
+use Rattle.vpg_formula.specs.Requirements.{Entry}
 use Rattle.vpg_meaning.specs.Labels.{is_named, without_blanks, admits, name_at, actions_of}
 use Rattle.vpg_meaning.specs.Paths.{HasNames, SomePath, EveryPath}
-use Rattle.vpg_meaning.specs.Translation.{diamond_along, box_along, Entry, formula_of, formulas_of}
+use Rattle.vpg_meaning.specs.Translation.{diamond_along, box_along, formula_of, formulas_of}
 use Rattle.vpg_meaning.specs.Meaning.{Holds, IsWellNamed, AreWellNamed, names_behind}
 
 -- A label in quotes names the action of just these bytes, and one without quotes each action of these bytes but for
@@ -51,7 +52,7 @@ pub record SubstitutionIsSound : Type 0 where
 abbrev pub EntriesStandForFormulas : Type 0
 EntriesStandForFormulas = (names : List (List ℕ)) (entries : List Entry) (e : Entry) →
     formula_of names (formulas_of names (entries ++ e ∷ [])) [] (named e.name)
-    ≡ formula_of names (formulas_of names entries) [] e.written
+    ≡ formula_of names (formulas_of names entries) [] e.formula
 
 -- Each variable of a written formula that is well named has its fixpoint, under an even number of negations.
 abbrev pub WellNamedIsPositive : Type 0

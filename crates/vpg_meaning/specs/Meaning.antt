@@ -8,8 +8,9 @@ use Rattle.vpg_requirement.specs.Systems.{PlainSystem}
 use Rattle.vpg_requirement.specs.Fixpoints.{StateSet, HoldsAtFixpoint}
 use Rattle.vpg_requirement.specs.Words.{IsNext, Leads, ComesTo}
 use Rattle.vpg_formula.specs.Written.{Prefix, negated, some_path, every_path, always, never, possibly, inevitably, again_and_again, after, Written, constant, named, deadlock_free, can, will, prefixed, conjunction, disjunction, implication, binding}
+use Rattle.vpg_formula.specs.Requirements.{Entry}
 use Rattle.vpg_meaning.specs.Paths.{SomePath, EveryPath, IsStepBy, ComesToStep}
-use Rattle.vpg_meaning.specs.Translation.{Entry, kind_of}
+use Rattle.vpg_meaning.specs.Translation.{kind_of}
 
 -- what holds by an earlier entry's name, at a state
 abbrev pub Earlier : Type 1
@@ -53,7 +54,7 @@ Says names system earlier scope (binding kind x f) s =
 -- what holds by the name of this entry, or of an earlier one
 abbrev pub with_entry : List (List ℕ) → PlainSystem → Earlier → Entry → Earlier
 with_entry names system earlier e x s =
-    MatchBool (bytes_eq x e.name) (Says names system earlier [] e.written s) (earlier x s)
+    MatchBool (bytes_eq x e.name) (Says names system earlier [] e.formula s) (earlier x s)
 
 -- what holds by the names of entries, each of which may name earlier ones
 abbrev pub said_behind : List (List ℕ) → PlainSystem → Earlier → List Entry → Earlier
@@ -116,7 +117,7 @@ IsWellNamed entries scope sign (binding kind x f) = IsWellNamed entries ((x, sig
 abbrev pub AreWellNamed : List (List ℕ) → List Entry → Type 0
 AreWellNamed earlier [] = Unit {0}
 AreWellNamed earlier (e ∷ entries) =
-    IsWellNamed earlier [] false e.written × AreWellNamed (e.name ∷ earlier) entries
+    IsWellNamed earlier [] false e.formula × AreWellNamed (e.name ∷ earlier) entries
 
 -- the names of entries, the last one first, behind earlier ones
 abbrev pub names_behind : List (List ℕ) → List Entry → List (List ℕ)

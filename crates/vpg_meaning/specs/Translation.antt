@@ -8,6 +8,7 @@ use Rattle.vpg_requirement.specs.Words as words
 use Rattle.vpg_requirement.specs.Words.{shift}
 use Rattle.vpg_formula.specs.Regular.{Regular, every_action, no_action, action, other_than, both_of, either_of, sequence, choice, repeated, repeated_once}
 use Rattle.vpg_formula.specs.Written.{Prefix, negated, some_path, every_path, always, never, possibly, inevitably, again_and_again, after, Fixpoint, mu, nu, Written, constant, named, deadlock_free, can, will, prefixed, conjunction, disjunction, implication, binding}
+use Rattle.vpg_formula.specs.Requirements.{Entry}
 use Rattle.vpg_meaning.specs.Labels.{actions_of}
 
 -- `<R>f`: `<R.S>f` is `<R><S>f`, `<R+S>f` is `<R>f || <S>f`, `<R*>f` is `mu X. f || <R>X`, and `<R+>f` is `<R><R*>f`.
@@ -41,11 +42,6 @@ box_along names (repeated x) f =
 box_along names (repeated_once x) f =
     box_along names x
     (formulas.binding greatest (formulas.conjunction (shift 0 f) (box_along names x (bound 0))))
-
--- an entry: its name, and what is written behind it
-pub record Entry : Type 0 where
-  pub name : List ℕ
-  pub written : Written
 
 -- the formula of the entry of this name; where there is none, `false`
 abbrev pub entry_formula : List (List ℕ × Formula) → List ℕ → Formula
@@ -97,7 +93,14 @@ formula_of names entries scope (binding kind x f) =
 abbrev pub formulas_behind : List (List ℕ) → List (List ℕ × Formula) → List Entry → List (List ℕ × Formula)
 formulas_behind names earlier [] = earlier
 formulas_behind names earlier (e ∷ entries) =
-    formulas_behind names ((e.name, formula_of names earlier [] e.written) ∷ earlier) entries
+    formulas_behind names ((e.name, formula_of names earlier [] e.formula) ∷ earlier) entries
+
+-- The formulas of entries in their order, behind those of earlier ones by their names.
+abbrev pub formulas_in_order : List (List ℕ) → List (List ℕ × Formula) → List Entry → List Formula
+formulas_in_order names earlier [] = []
+formulas_in_order names earlier (e ∷ entries) =
+    formula_of names earlier [] e.formula ∷
+    formulas_in_order names ((e.name, formula_of names earlier [] e.formula) ∷ earlier) entries
 
 -- The formulas of all entries by their names, the last one first. An entry may name earlier ones.
 abbrev pub formulas_of : List (List ℕ) → List Entry → List (List ℕ × Formula)
