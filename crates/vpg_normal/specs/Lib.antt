@@ -1,0 +1,5 @@
+pub mod Placing
+pub mod Ranks
+pub mod Scopes
+pub mod Sizes
+pub mod Standing

@@ -1,0 +1,135 @@
+//! The priorities of fixpoints.
+ghost use Rattle.std.specs.Prelude.{◌≡◌, ℕ, ◌+◌, ◌<◌, length, slice_index, IfOk};
+ghost use Rattle.vpg_requirement.specs.Priorities.{next_priority};
+ghost use Rattle.vpg_parts.specs.Parts.{kind_of};
+ghost use Rattle.vpg_normal.specs.Sizes.{sizes_of};
+ghost use Rattle.vpg_normal.specs.Ranks.{crossed, share_of, greatest_share, priority_of, ArePriorities};
+
+use crate::look::{link_at, number_at};
+use std::alloc::{AllocError, Global};
+use vpg_parts::{Kind, Symbol};
+
+/// Returns the greatest priority of a fixpoint that stands behind this place, from one outwards, over so many at most.
+fn crossed(
+    scopes: &[Option<u32>],
+    priorities: &[u32],
+    low: u32,
+    from: Option<u32>,
+    most: u32,
+) -> u32
+    ensures { result ≡ crossed scopes.now priorities.now low most from }
+{
+    let mut greatest = 0;
+    let mut at = from;
+    for _ in 0..most {
+        let Some(place) = at else {
+            return greatest;
+        };
+        if place <= low {
+            return greatest;
+        }
+        greatest = greatest.max(number_at(priorities, place));
+        at = link_at(scopes, place);
+    }
+    greatest
+}
+
+/// Returns what the symbol at a place adds to the priority of a fixpoint: where it is the fixpoint's variable, the
+/// greatest priority of the fixpoints between the two.
+fn share(
+    scopes: &[Option<u32>],
+    fixpoints: &[Option<u32>],
+    priorities: &[u32],
+    fixpoint: u32,
+    place: u32,
+) -> u32
+    ensures { result ≡ share_of scopes.now fixpoints.now priorities.now fixpoint place }
+{
+    match link_at(fixpoints, place) {
+        Some(named) if named == fixpoint => {
+            crossed(scopes, priorities, fixpoint, link_at(scopes, place), place)
+        }
+        _ => 0,
+    }
+}
+
+/// Returns the greatest priority of a fixpoint inside this one in which its variable stands; 0 where there is none.
+/// Its operand has this size.
+fn inner_priority(
+    scopes: &[Option<u32>],
+    fixpoints: &[Option<u32>],
+    priorities: &[u32],
+    fixpoint: u32,
+    size: u32,
+) -> u32
+    requires { fixpoint + 1 + size < 4294967296 }
+    ensures { result ≡ greatest_share scopes.now fixpoints.now priorities.now fixpoint (fixpoint + 1) size }
+{
+    let first = fixpoint + 1;
+    let mut greatest = 0;
+    for offset in 0..size {
+        greatest = greatest.max(share(scopes, fixpoints, priorities, fixpoint, first + offset));
+    }
+    greatest
+}
+
+/// Returns the least priority of this kind's parity that is no less.
+fn next_priority(kind: Kind, least: u32) -> u32
+    requires { least < 4294967295 }
+    ensures { result ≡ next_priority (kind_of kind) least }
+{
+    let parity = match kind {
+        Kind::Least => 1,
+        Kind::Greatest => 0,
+    };
+    if least % 2 == parity {
+        least
+    } else {
+        least + 1
+    }
+}
+
+/// Returns the priority of the fixpoint at a place, from those behind it; 0 for other symbols.
+fn priority(
+    symbol: Symbol,
+    place: u32,
+    sizes: &[u32],
+    scopes: &[Option<u32>],
+    fixpoints: &[Option<u32>],
+    priorities: &[u32],
+) -> u32
+    requires fits { place + 1 + slice_index sizes.now (place + 1) < 4294967296 }
+    requires low { (k : ℕ) → slice_index priorities.now k < 4294967295 }
+    ensures { result ≡ priority_of sizes.now scopes.now fixpoints.now priorities.now place symbol }
+{
+    match symbol {
+        Symbol::Fixpoint(kind) => {
+            let size = number_at(sizes, place + 1);
+            let inner = inner_priority(scopes, fixpoints, priorities, place, size);
+            next_priority(kind, inner)
+        }
+        _ => 0,
+    }
+}
+
+/// Returns the priority of each fixpoint; 0 for other symbols.
+pub fn priorities(
+    alloc: Global,
+    symbols: &[Symbol],
+    sizes: &[u32],
+    scopes: &[Option<u32>],
+    fixpoints: &[Option<u32>],
+) -> Result<Vec<u32>, AllocError>
+    requires few { length symbols.now < 2147483648 }
+    requires sizes { sizes.now ≡ sizes_of symbols.now }
+    ensures { IfOk result
+        (λ priorities. ArePriorities symbols.now sizes.now scopes.now fixpoints.now priorities.items 0) }
+{
+    let mut priorities = vec![in alloc; 0; symbols.len()]?;
+    for place in (0..symbols.len()).rev() {
+        let symbol = symbols[place];
+        let priority = priority(symbol, place as u32, sizes, scopes, fixpoints, &priorities);
+        priorities[place] = priority;
+    }
+    Ok(priorities)
+}
