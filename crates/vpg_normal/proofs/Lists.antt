@@ -1,5 +1,5 @@
 -- What stands from a place of a list on.
-use Rattle.std.proofs.Common.{◌≡◌, ℕ, zero, suc, ◌+◌, ◌<◌, ◌≤◌, List, [], ◌∷◌, ◌++◌, length, drop, get_or, refl, sym, ap, ◌∙◌, arith, drop-drop, drop_at}
+use Rattle.std.proofs.Common.{◌≡◌, ℕ, zero, suc, ◌<◌, ◌≤◌, List, [], ◌∷◌, length, drop, get_or, arith}
 
 -- the first element from a place on, and what stands behind it
 pub record IsCut {X : Type 0} (xs : List X) (k : ℕ) (x : X) (ys : List X) : Type 0 where
@@ -15,9 +15,6 @@ cut (suc k) (z ∷ xs) x ys e = later (cut k xs x ys e)
   where
     later : IsCut xs k x ys → IsCut (z ∷ xs) (suc k) x ys
     later h = record { inside = omega (arith, h.inside); element = h.element; behind = h.behind }
-
-pub passed : {X : Type 0} (k e : ℕ) (xs us vs : List X) → drop k xs ≡ us ++ vs → e ≡ k + length us → drop e xs ≡ vs
-passed k e xs us vs h is = rw is (sym (drop-drop (length us) k xs) ∙ ap (drop (length us)) h ∙ drop_at us vs (length us) refl)
 
 pub none_left : {X : Type 0} (k : ℕ) (xs : List X) → drop k xs ≡ [] → length xs ≤ k
 none_left zero [] e = omega arith

@@ -120,10 +120,6 @@ low_turn priorities at place x n low next l h count k = decide (cases_eq k place
 pub walked_step : (scopes : List (Option ℕ)) (n m k : ℕ) (from : Option ℕ) → n ≡ suc m → from ≡ Some k → walked scopes n from ≡ walked scopes m (get_or scopes k None)
 walked_step scopes n m k from more is = rw (more, is) refl
 
-pub walked_none : (scopes : List (Option ℕ)) (n : ℕ) → walked scopes n None ≡ None
-walked_none scopes zero = refl
-walked_none scopes (suc n) = refl
-
 pub crossed_step : (scopes : List (Option ℕ)) (priorities : List ℕ) (low n m k : ℕ) (from : Option ℕ) → n ≡ suc m → from ≡ Some k → low < k →
     crossed scopes priorities low n from ≡ max (get_or priorities k 0) (crossed scopes priorities low m (get_or scopes k None))
 crossed_step scopes priorities low n m k from more is above = rw (more, is, lt-ltb low k above) refl
