@@ -1,0 +1,9 @@
+pub mod Cubes
+pub mod Primes
+pub mod Named
+pub mod Rows
+pub mod Disjunctions
+pub mod Made
+pub mod Steps
+pub mod Minimal
+pub mod AllPrimes

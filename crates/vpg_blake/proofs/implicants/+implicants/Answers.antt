@@ -1,0 +1,15 @@
+use Rattle.std.proofs.Common.{◌≡◌, List, ◌++◌, ap, sym, ◌∙◌}
+use Rattle.std.specs.Global.{Vec}
+use Rattle.vpg_blake.specs.Blake.{cubes_in}
+use Rattle.vpg_blake.proofs.Steps.{merged_made}
+use Rattle.vpg_blake.proofs.implicants.+implicants.Goals as goal
+
+pub returns : goal.returns
+returns t c =
+    merged_made c.in-Some.first.now c.in-Some.rest.now c.args.features.now c.args.table.now c.split_at.result.0.now c.split_at.result.1.now c.deref.result.now
+    c.in_ok-shared.shared.items c.deref-2.result.now c.deref-3.result.now c.in_ok-ins.ins.items c.in_ok-outs.outs.items
+    c.new-cubes.result.items c.push_others.new.out.items c.push_others-2.new.out.items c.append.new.self.items
+    c.in-Some.ensures.cases.0 c.split_at.ensures.front c.split_at.ensures.back (c.deref.ensures.value ∙ c.in_ok-both_hold.ensures)
+    c.in_ok-shared.ensures c.in_ok-ins.ensures c.in_ok-outs.ensures
+    c.new-cubes.ensures.items c.deref-2.ensures.value c.deref-3.ensures.value
+    c.in_ok-push_others.ensures c.in_ok-push_others-2.ensures c.in_ok-append.ensures.items

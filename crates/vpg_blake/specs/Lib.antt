@@ -1,0 +1,3 @@
+pub mod Blake
+pub mod Tables
+pub mod Laws

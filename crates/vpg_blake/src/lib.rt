@@ -1,0 +1,20 @@
+//! Blake's form of a guard: the `or` of its prime implicants.
+//!
+//! An implicant of a guard is an `and` of literals that makes it true; it is prime if no literal can be left out. The
+//! three-valued value of the `or` of all prime implicants is unknown only where the guard may still become true and may
+//! still become false (Blake 1937, Quine 1955). Guards that were joined by `or` are unknown more often: `f | !f` is
+//! unknown while `f` is, and its Blake form is `true`.
+//!
+//! The crate above that makes games uses `blake_form` on guards that it joined. Definitions stand in `specs/Blake`;
+//! `specs/Tables` has the steps of the work, and only private contracts name it.
+#![tactic(auto)]
+
+mod form;
+mod implicants;
+pub mod laws;
+mod literal;
+mod making;
+mod table;
+
+pub use form::{MOST_IMPLICANTS, MOST_NAMED, blake_form};
+pub use literal::Literal;
