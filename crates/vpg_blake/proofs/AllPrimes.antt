@@ -1,16 +1,16 @@
 -- Splitting gives the prime implicants.
-use Rattle.std.proofs.Common.{◌≡◌, ◌≢◌, ℕ, zero, suc, ◌<◌, Bool, true, false, List, [], ◌∷◌, length, refl, sym, ap, ap₂, subst, ◌∙◌, arith, inl, inr, ◌⊎◌}
+use Rattle.std.proofs.Common.{◌≡◌, ◌≢◌, ℕ, zero, suc, Bool, true, false, List, [], ◌∷◌, refl, sym, ap, ap₂, subst, ◌∙◌, arith, inl, inr}
 use Rattle.std.proofs.lemmas.Bool.Decides.{Decides-eqb}
 use Rattle.std.specs.Prelude.{All, Contains, remove, nat_eq, slice_index_or}
 use Rattle.vpg_guards.specs.declared.tri.Tri.{Tri}
-use Rattle.vpg_guards.specs.declared.tri.Tri.TheVariants.{No, Unknown, Yes}
-use Rattle.vpg_guards.specs.Formula.{Formula, truth, IsBelow}
+use Rattle.vpg_guards.specs.declared.tri.Tri.TheVariants.{Unknown}
+use Rattle.vpg_guards.specs.Formula.{Formula, IsBelow}
 use Rattle.vpg_guards.specs.Known.{Agrees, IsCompletion}
 use Rattle.vpg_blake.specs.Blake.{Cube, prime_implicants, named_below, row_truth, tri_of}
-use Rattle.vpg_blake.specs.Laws.{CubeHolds, IsImplicant, IsPrime, IsPart, ArePrimeImplicants, SplittingGivesPrimes}
+use Rattle.vpg_blake.specs.Laws.{CubeHolds, IsImplicant, IsPrime, IsPart, SplittingGivesPrimes}
 use Rattle.vpg_blake.specs.declared.literal.Literal.{Literal}
-use Rattle.vpg_blake.proofs.Cubes.{literal, Each, Some, EachLiteral, SomeLiteral, each_weaker}
-use Rattle.vpg_blake.proofs.Primes.{Holds, IsKnown, row_of, known_true}
+use Rattle.vpg_blake.proofs.Cubes.{literal, Each, Some, EachLiteral, each_weaker}
+use Rattle.vpg_blake.proofs.Primes.{Holds, IsKnown, known_true}
 use Rattle.vpg_blake.proofs.Named.{features_apart}
 use Rattle.vpg_blake.proofs.Minimal.{In, Implies, Minimal, literal_weaker, literal_at, each_minimal, each_implies, each_both}
 use Rattle.vpg_blake.proofs.Made.{row_tells}

@@ -1,12 +1,11 @@
 -- Cubes of a list of which something is true: each of them, or some of them.
 use Rattle.std.proofs.lemmas.Bool.Decides.{Decides-eqb}
-use Rattle.std.proofs.Common.{◌≡◌, ap₂, ℕ, Bool, true, false, List, [], ◌∷◌, ◌++◌, refl, sym, ap, subst, ◌∙◌, inl, inr, ◌⊎◌}
-use Rattle.std.specs.Prelude.{◌&&◌, ◌||◌, not, filter, nat_eq, slice_index_or}
-use Rattle.std.specs.List.{list_any}
+use Rattle.std.proofs.Common.{◌≡◌, ap₂, ℕ, Bool, true, false, List, [], ◌∷◌, ◌++◌, refl, sym, ap, subst, inl, inr, ◌⊎◌}
+use Rattle.std.specs.Prelude.{◌&&◌, ◌||◌, not, filter, nat_eq}
 use Rattle.std.specs.Cmp.Lexicographic.{pointwise}
-use Rattle.std.specs.Bool.{Decides}
+use Rattle.std.specs.Bool.{Decides, beq}
 use Rattle.std.proofs.lemmas.Slice.Eq.{slice_eq-Decides}
-use Rattle.vpg_blake.specs.Blake.{Cube, is_same_value, is_same_literal, has_cube, unshared, with_literal, merged}
+use Rattle.vpg_blake.specs.Blake.{Cube, is_same_literal, has_cube, unshared, with_literal, merged}
 use Rattle.vpg_blake.specs.declared.literal.Literal.{Literal}
 
 abbrev pub literal : ℕ → Bool → Literal
@@ -82,7 +81,7 @@ each_some P Q R f (c ∷ cs) h (inr k) = each_some P Q R f cs h.1 k
 
 -- ---- which cubes are the same
 
-same_value : (a b : Bool) → Decides (is_same_value a b) (a ≡ b)
+same_value : (a b : Bool) → Decides (beq a b) (a ≡ b)
 same_value true true = (λ e. refl, λ e. refl)
 same_value true false = (λ e. absurd cc, λ e. absurd cc)
 same_value false true = (λ e. absurd cc, λ e. absurd cc)
@@ -102,17 +101,17 @@ same_literal a b = (is, back)
     number : Decides (nat_eq a.feature b.feature) (a.feature ≡ b.feature)
     number = Decides-eqb a.feature b.feature
 
-    value : Decides (is_same_value a.value b.value) (a.value ≡ b.value)
+    value : Decides (beq a.value b.value) (a.value ≡ b.value)
     value = same_value a.value b.value
 
     is : is_same_literal a b ≡ true → a ≡ b
     is e =
-        let both = and_parts (nat_eq a.feature b.feature) (is_same_value a.value b.value) e in
+        let both = and_parts (nat_eq a.feature b.feature) (beq a.value b.value) e in
         ap₂ (λ (f : ℕ) (v : Bool). literal f v) (number.0 both.0) (value.0 both.1)
 
     back : a ≡ b → is_same_literal a b ≡ true
     back e =
-        and_both (nat_eq a.feature b.feature) (is_same_value a.value b.value)
+        and_both (nat_eq a.feature b.feature) (beq a.value b.value)
         (number.1 (ap (λ (l : Literal). l.feature) e)) (value.1 (ap (λ (l : Literal). l.value) e))
 
 same_cube : (c d : Cube) → pointwise is_same_literal d c ≡ true → d ≡ c

@@ -1,13 +1,12 @@
 -- The `or` of cubes: its truth, its three-valued value, its names, and that it can be read again.
-use Rattle.std.proofs.Common.{◌≡◌, ℕ, zero, suc, ◌<◌, ◌≤◌, Bool, true, false, List, [], ◌∷◌, ◌++◌, refl, sym, ap, ap₂, subst, ◌∙◌, arith, inl, inr, ◌⊎◌}
-use Rattle.std.specs.Prelude.{◌&&◌, ◌||◌, not, max, if◌then◌else◌, slice_index_or}
+use Rattle.std.proofs.Common.{◌≡◌, ℕ, ◌<◌, ◌≤◌, Bool, true, false, List, [], ◌∷◌, refl, sym, ◌∙◌, arith, inl, inr, ◌⊎◌}
+use Rattle.std.specs.Prelude.{◌&&◌, ◌||◌, not, if◌then◌else◌, slice_index_or}
 use Rattle.vpg_guards.specs.declared.tri.Tri.{Tri}
 use Rattle.vpg_guards.specs.declared.tri.Tri.TheVariants.{No, Unknown, Yes}
 use Rattle.vpg_guards.specs.Formula.{Formula, Parts, always, never, feature, negation, all, any, no_parts, part, truth, all_true, any_true, named, named_by, IsBelow, AreBelow, IsGuard, ArePartsOfAll, ArePartsOfAny, is_all, is_any}
-use Rattle.vpg_guards.specs.Known.{kleene, kleene_all, kleene_any, tri_and, tri_or, tri_not}
+use Rattle.vpg_guards.specs.Known.{kleene, kleene_all, kleene_any, tri_and, tri_or}
 use Rattle.vpg_guards.specs.Writing.{nesting, all_nesting, any_nesting, IsReadable}
 use Rattle.vpg_blake.specs.Blake.{Cube, literal_formula, literal_parts, cube_formula, cube_parts, disjunction, and_of, or_of, tri_of}
-use Rattle.vpg_blake.specs.declared.literal.Literal.{Literal}
 use Rattle.vpg_blake.proofs.Cubes.{Each, Some, EachLiteral, SomeLiteral, and_parts}
 use Rattle.vpg_blake.proofs.Primes.{EachNumber, Holds, IsKnown, IsRefuted}
 use Rattle.vpg_blake.proofs.Named.{number_append, number_left, number_right}

@@ -1,14 +1,13 @@
 -- Blake's form is as its promises say.
-use Rattle.std.proofs.Common.{◌≡◌, ℕ, zero, suc, ◌<◌, ◌≤◌, Bool, true, false, List, length, refl, sym, ap, ◌∙◌, arith, inl, subst, replicate}
+use Rattle.std.proofs.Common.{◌≡◌, ℕ, zero, suc, ◌<◌, Bool, true, false, List, length, refl, sym, ◌∙◌, inl, subst, replicate}
 use Rattle.std.proofs.lemmas.List.{length-replicate}
-use Rattle.std.specs.Prelude.{not, Contains, slice_index_or}
+use Rattle.std.specs.Prelude.{Contains, slice_index_or}
 use Rattle.vpg_guards.specs.declared.tri.Tri.{Tri}
 use Rattle.vpg_guards.specs.Formula.{Formula, truth, named, IsBelow}
-use Rattle.vpg_guards.specs.Known.{kleene, IsCompletion}
+use Rattle.vpg_guards.specs.Known.{kleene}
 use Rattle.vpg_guards.specs.Writing.{IsReadable}
-use Rattle.vpg_blake.specs.Blake.{Cube, named_below, prime_implicants, blake, row_truth, set_with, tri_of, IsCertain}
-use Rattle.vpg_blake.specs.declared.literal.Literal.{Literal}
-use Rattle.vpg_blake.proofs.Cubes.{Each, EachLiteral, each_some, each_weaker}
+use Rattle.vpg_blake.specs.Blake.{named_below, prime_implicants, blake, row_truth, set_with, tri_of, IsCertain}
+use Rattle.vpg_blake.proofs.Cubes.{EachLiteral, each_some}
 use Rattle.vpg_blake.proofs.Primes.{EachNumber, Holds, row_of, sound, covered, known_true, known_false, names_within}
 use Rattle.vpg_blake.proofs.Named.{Among, IsAlikeAt, number_weaker, contained, truth_alike, features_apart, features_below, features_named, features_all}
 use Rattle.vpg_blake.proofs.Rows.{set_of_row}

@@ -1,11 +1,11 @@
 -- The cubes that splitting gives are the prime implicants.
 use Rattle.std.proofs.Common.{◌≡◌, ◌≢◌, ℕ, zero, suc, ◌<◌, Bool, true, false, List, [], ◌∷◌, ◌++◌, length, refl, sym, ap, ap₂, subst, ◌∙◌, arith, inl, inr, ◌⊎◌}
-use Rattle.std.specs.Prelude.{◌&&◌, ◌||◌, not, remove, cond, filter, slice_index_or}
+use Rattle.std.specs.Prelude.{◌||◌, remove}
 use Rattle.std.specs.Cmp.Lexicographic.{pointwise}
-use Rattle.vpg_blake.specs.Blake.{Cube, implicants, is_same_literal, has_cube, unshared, with_literal, merged}
+use Rattle.vpg_blake.specs.Blake.{Cube, implicants, is_same_literal, has_cube, unshared, with_literal}
 use Rattle.vpg_blake.specs.declared.literal.Literal.{Literal}
-use Rattle.vpg_blake.proofs.Cubes.{literal, Each, Some, EachLiteral, SomeLiteral, each_append, each_longer, each_weaker, each_always, each_some, some_weaker, and_both, merged_each, merged_in, merged_out, merged_shared, same_cube_back}
-use Rattle.vpg_blake.proofs.Primes.{EachNumber, Lacks, Apart, row_of, Holds, with_in, with_out, with_either, leaf_each, leaf_some, either_way, sound, put, put_same, put_other, row_put}
+use Rattle.vpg_blake.proofs.Cubes.{literal, Each, Some, EachLiteral, SomeLiteral, each_append, each_longer, each_weaker, each_some, some_weaker, and_both, merged_each, merged_in, merged_out, merged_shared, same_cube_back}
+use Rattle.vpg_blake.proofs.Primes.{Lacks, Apart, row_of, Holds, with_in, with_out, with_either, leaf_each, leaf_some, either_way, sound, put, put_same, put_other, row_put}
 
 -- the cube is over the list: its literals are of features of the list, in the list's order
 abbrev pub Over : List ℕ → Cube → Type 0

@@ -1,11 +1,11 @@
 -- The features that a guard names, as an ascending list.
-use Rattle.std.proofs.Common.{◌≡◌, ◌≢◌, ℕ, zero, suc, ◌+◌, ◌<◌, ◌≤◌, Bool, true, false, List, [], ◌∷◌, ◌++◌, length, refl, sym, ap, ap₂, subst, ◌∙◌, arith, inl, inr, ◌⊎◌}
+use Rattle.std.proofs.Common.{◌≡◌, ◌≢◌, ℕ, zero, suc, ◌+◌, ◌<◌, ◌≤◌, Bool, true, false, List, [], ◌∷◌, ◌++◌, length, refl, ap, ap₂, subst, ◌∙◌, arith, inl, inr, ◌⊎◌}
 use Rattle.std.proofs.lemmas.Bool.Decides.{Decides-eqb}
 use Rattle.std.specs.Prelude.{not, ◌&&◌, ◌||◌, filter, nat_eq, Contains, slice_index_or}
 use Rattle.std.specs.List.{list_any, range_with_len}
 use Rattle.vpg_guards.specs.Formula.{Formula, Parts, always, never, feature, negation, all, any, no_parts, part, truth, all_true, any_true, named, named_by, IsBelow, AreBelow}
 use Rattle.vpg_blake.specs.Blake.{named_below}
-use Rattle.vpg_blake.proofs.Primes.{EachNumber, Lacks, Apart}
+use Rattle.vpg_blake.proofs.Primes.{EachNumber, Apart}
 
 -- a number of a list
 abbrev pub Among : ℕ → List ℕ → Type 0

@@ -1,8 +1,10 @@
 -- Rows of values, and truth tables.
-use Rattle.std.proofs.Common.{◌≡◌, ◌≢◌, ℕ, zero, suc, ◌+◌, ◌-◌, ◌/◌, ◌<◌, ◌≤◌, Bool, true, false, List, [], ◌∷◌, ◌++◌, length, take, drop, refl, sym, ap, ap₂, subst, ◌∙◌, arith, inl, inr, ◌⊎◌, get_or-set_other, get_or-set_same, length-set}
+use Rattle.std.proofs.Common.{◌≡◌, ◌≢◌, ℕ, zero, suc, ◌+◌, ◌/◌, ◌<◌, Bool, true, false, List, [], ◌∷◌, ◌++◌, length, take, drop, refl, sym, ap, ap₂, subst, ◌∙◌, arith, inl, inr, ◌⊎◌, get_or-set_other, get_or-set_same, length-set}
 use Rattle.std.proofs.lemmas.Bool.Decides.{Decides-eqb}
 use Rattle.std.proofs.lemmas.List.{length-append}
-use Rattle.std.specs.Prelude.{◌&&◌, map, zip, nat_eq, slice_index_or, slice_set, if◌then◌else◌}
+use Rattle.std.specs.Bool.{beq}
+use Rattle.std.specs.List.{list_any}
+use Rattle.std.specs.Prelude.{◌&&◌, nat_eq, slice_index_or, slice_set, if◌then◌else◌}
 use Rattle.vpg_guards.specs.Formula.{Formula, truth}
 use Rattle.vpg_blake.specs.Blake.{Cube, implicants, merged, set_with}
 use Rattle.vpg_blake.specs.Tables.{table_from, both_true, table_implicants}
@@ -142,3 +144,37 @@ table_gives (x ∷ xs) f =
 
 pub guard_implicants : (g : Formula) (xs : List ℕ) (set : List Bool) → table_implicants xs (table_from g xs set) ≡ implicants xs (λ row. truth (set_with xs row set) g)
 guard_implicants g xs set = ap (table_implicants xs) (table_is g xs set) ∙ table_gives xs (λ row. truth (set_with xs row set) g)
+
+-- ---- a table that is true nowhere
+
+abbrev pub IsNowhereTrue : List Bool → Type 0
+IsNowhereTrue table = list_any (λ (b : Bool). beq b true) table ≡ false
+
+never_take : (n : ℕ) (table : List Bool) → IsNowhereTrue table → IsNowhereTrue (take n table)
+never_take zero table e = refl
+never_take (suc n) [] e = refl
+never_take (suc n) (true ∷ table) e = absurd cc
+never_take (suc n) (false ∷ table) e = never_take n table e
+
+never_drop : (n : ℕ) (table : List Bool) → IsNowhereTrue table → IsNowhereTrue (drop n table)
+never_drop zero table e = e
+never_drop (suc n) [] e = refl
+never_drop (suc n) (true ∷ table) e = absurd cc
+never_drop (suc n) (false ∷ table) e = never_drop n table e
+
+never_both : (with without : List Bool) → IsNowhereTrue with → IsNowhereTrue (both_true with without)
+never_both [] without e = refl
+never_both (b ∷ with) [] e = refl
+never_both (true ∷ with) (d ∷ without) e = absurd cc
+never_both (false ∷ with) (d ∷ without) e = never_both with without e
+
+pub nowhere_none : (xs : List ℕ) (table : List Bool) → IsNowhereTrue table → table_implicants xs table ≡ []
+nowhere_none [] [] e = refl
+nowhere_none [] (true ∷ table) e = absurd cc
+nowhere_none [] (false ∷ table) e = refl
+nowhere_none (x ∷ xs) table e =
+    let with = take (length table / 2) table in
+    let without = drop (length table / 2) table in
+    ap₂ (λ (ins outs : List Cube). merged x ins outs (table_implicants xs (both_true with without)))
+    (nowhere_none xs with (never_take (length table / 2) table e)) (nowhere_none xs without (never_drop (length table / 2) table e))
+    ∙ ap (merged x [] []) (nowhere_none xs (both_true with without) (never_both with without (never_take (length table / 2) table e)))

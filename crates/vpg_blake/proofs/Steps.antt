@@ -2,16 +2,15 @@
 use Rattle.std.proofs.Common.{◌≡◌, ℕ, zero, suc, ◌+◌, ◌-◌, ◌/◌, ◌<◌, ◌≤◌, Bool, true, false, List, [], ◌∷◌, ◌++◌, length, take, drop, get_or, refl, sym, ap, ap₂, subst, ◌∙◌, arith, append_assoc, replicate}
 use Rattle.std.proofs.lemmas.Bool.Decides.{Decides-eqb}
 use Rattle.std.proofs.lemmas.List.{drop_more, drop_all, length-map, length-replicate}
-use Rattle.std.specs.Prelude.{All, not, ◌&&◌, ◌||◌, map, filter, find, cond, nat_eq, Option, Some, None, MatchOption}
+use Rattle.std.specs.Prelude.{All, not, ◌||◌, filter, find, cond, nat_eq, Option, Some, None, MatchOption}
 use Rattle.std.specs.List.{list_any, range_with_len}
-use Rattle.std.specs.Bool.{beq}
 use Rattle.std.specs.Cmp.Lexicographic.{pointwise}
 use Rattle.std.specs.Global.{Vec}
-use Rattle.vpg_guards.specs.Formula.{Formula, Parts, all, any, no_parts, part, truth, IsBelow}
+use Rattle.vpg_guards.specs.Formula.{Formula, Parts, all, any, no_parts, part}
 use Rattle.vpg_guards.specs.Grammar.{joined}
 use Rattle.vpg_guards.specs.View.{formula_of, formulas_of}
 use Rattle.vpg_guards.specs.declared.guard.Guard.{Guard}
-use Rattle.vpg_blake.specs.Blake.{Cube, cubes_in, is_same_value, is_same_literal, has_cube, unshared, with_literal, merged, literal_formula, literal_parts, cube_formula, cube_parts, and_of, or_of, named_below, prime_implicants, blake, IsShort}
+use Rattle.vpg_blake.specs.Blake.{Cube, cubes_in, is_same_literal, has_cube, unshared, with_literal, merged, literal_formula, literal_parts, cube_formula, cube_parts, and_of, or_of, named_below, prime_implicants, blake, IsShort}
 use Rattle.vpg_blake.specs.Tables.{table_from, both_true, table_implicants}
 use Rattle.vpg_blake.specs.declared.literal.Literal.{Literal}
 use Rattle.vpg_blake.proofs.Cubes.{literal}
@@ -170,30 +169,13 @@ merged_made x xs features table with out both s sA sB i o none one two whole spl
 
 -- ---- the cubes that are not shared
 
-same_tests : (E : Literal → Literal → Bool) → ((a b : Literal) → E a b ≡ is_same_literal a b) → (c d : Cube) → pointwise E c d ≡ pointwise is_same_literal c d
-same_tests E h [] [] = refl
-same_tests E h [] (m ∷ d) = refl
-same_tests E h (l ∷ c) [] = refl
-same_tests E h (l ∷ c) (m ∷ d) = ap₂ ◌&&◌ (h l m) (same_tests E h c d)
-
-pub among_is : (E : Literal → Literal → Bool) → ((a b : Literal) → E a b ≡ is_same_literal a b) → (vs : List (Vec Literal)) (c : Cube)
-    → list_any (λ (v : Vec Literal). pointwise E v.items c) vs ≡ has_cube (cubes_in vs) c
-among_is E h [] c = refl
-among_is E h (v ∷ vs) c = ap₂ ◌||◌ (same_tests E h v.items c) (among_is E h vs c)
-
--- what the code's test of two literals says
-literal_test : (a b : Literal) → (nat_eq a.feature b.feature && beq a.value b.value) ≡ is_same_literal a b
-literal_test a b = ap (λ (v : Bool). nat_eq a.feature b.feature && v) (value a.value b.value)
+pub among_code : (vs : List (Vec Literal)) (c : Cube) (r b : Bool) → r ≡ list_any (λ (v : Vec Literal). pointwise is_same_literal v.items c) vs → r ≡ b
+    → has_cube (cubes_in vs) c ≡ b
+among_code vs c r b is e = same vs ∙ sym is ∙ e
   where
-    value : (v w : Bool) → beq v w ≡ is_same_value v w
-    value true true = refl
-    value true false = refl
-    value false true = refl
-    value false false = refl
-
-pub among_code : (vs : List (Vec Literal)) (c : Cube) (r b : Bool)
-    → r ≡ list_any (λ (v : Vec Literal). pointwise (λ (l m : Literal). nat_eq l.feature m.feature && beq l.value m.value) v.items c) vs → r ≡ b → has_cube (cubes_in vs) c ≡ b
-among_code vs c r b is e = sym (among_is (λ l m. nat_eq l.feature m.feature && beq l.value m.value) literal_test vs c) ∙ sym is ∙ e
+    same : (ws : List (Vec Literal)) → has_cube (cubes_in ws) c ≡ list_any (λ (v : Vec Literal). pointwise is_same_literal v.items c) ws
+    same [] = refl
+    same (w ∷ ws) = ap (λ (rest : Bool). pointwise is_same_literal w.items c || rest) (same ws)
 
 append_nil : (cs : List Cube) → cs ++ [] ≡ cs
 append_nil [] = refl

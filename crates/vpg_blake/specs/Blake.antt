@@ -1,7 +1,8 @@
 -- Blake's form of a guard: the `or` of its prime implicants (Blake, Canonical Expressions in Boolean Algebra, 1937;
 -- Quine, A Way to Simplify Truth Functions, 1955), which are found by splitting on a feature (Brown, Boolean Reasoning,
 -- 1990).
-use Rattle.std.specs.Prelude.{◌≡◌, ℕ, ◌≤◌, List, [], ◌∷◌, ◌++◌, Bool, true, false, not, ◌&&◌, ◌==◌, map, filter, length, if◌then◌else◌, slice_index_or, slice_set, replicate}
+use Rattle.std.specs.Prelude.{◌≡◌, ℕ, ◌≤◌, List, [], ◌∷◌, ◌++◌, Bool, true, false, not, ◌&&◌, ◌==◌, map, filter, length, if◌then◌else◌, slice_set, replicate}
+use Rattle.std.specs.Bool.{beq}
 use Rattle.std.specs.List.{list_any, range_with_len}
 use Rattle.std.specs.Cmp.Lexicographic.{pointwise}
 use Rattle.std.specs.Global.{Vec}
@@ -25,12 +26,9 @@ Cube = List Literal
 abbrev pub cubes_in : List (Vec Literal) → List Cube
 cubes_in cubes = map (λ v. v.items) cubes
 
-abbrev pub is_same_value : Bool → Bool → Bool
-is_same_value true b = b
-is_same_value false b = not b
-
+-- whether two literals are the same
 abbrev pub is_same_literal : Literal → Literal → Bool
-is_same_literal l m = (l.feature == m.feature) && is_same_value l.value m.value
+is_same_literal l m = (l.feature == m.feature) && beq l.value m.value
 
 -- whether a cube is one of these
 abbrev pub has_cube : List Cube → Cube → Bool

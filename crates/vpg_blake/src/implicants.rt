@@ -60,6 +60,9 @@ pub(crate) fn implicants(
     ensures { IfOk result (λ v. cubes_in v.items ≡ table_implicants features.now table.now) }
 {
     let mut cubes = Vec::new(alloc);
+    if !table.contains(&true) {
+        return Ok(cubes);
+    }
     let Some((first, rest)) = features.split_first() else {
         if table.first() == Some(&true) {
             cubes.push(Vec::new(alloc))?;

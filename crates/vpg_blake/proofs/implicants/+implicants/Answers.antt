@@ -1,7 +1,7 @@
-use Rattle.std.proofs.Common.{◌≡◌, List, ◌++◌, ap, sym, ◌∙◌}
-use Rattle.std.specs.Global.{Vec}
+use Rattle.std.proofs.Common.{ap, sym, ◌∙◌}
 use Rattle.vpg_blake.specs.Blake.{cubes_in}
 use Rattle.vpg_blake.proofs.Steps.{merged_made}
+use Rattle.vpg_blake.proofs.Rows.{nowhere_none}
 use Rattle.vpg_blake.proofs.implicants.+implicants.Goals as goal
 
 pub returns : goal.returns
@@ -13,3 +13,7 @@ returns t c =
     c.in_ok-shared.ensures c.in_ok-ins.ensures c.in_ok-outs.ensures
     c.new-cubes.ensures.items c.deref-2.ensures.value c.deref-3.ensures.value
     c.in_ok-push_others.ensures c.in_ok-push_others-2.ensures c.in_ok-append.ensures.items
+
+pub returns-then-not-contains : goal.returns-then-not-contains
+returns-then-not-contains t c =
+    ap cubes_in c.new-cubes.ensures.items ∙ sym (nowhere_none c.args.features.now c.args.table.now (sym c.contains.ensures.value ∙ c.if-not-contains.true))

@@ -1,4 +1,4 @@
-use Rattle.std.proofs.Common.{◌≡◌, true, false}
+use Rattle.std.proofs.Common.{true, false}
 use Rattle.vpg_blake.specs.Blake.{cubes_in}
 use Rattle.vpg_blake.proofs.Steps.{among_code, other_left, other_added}
 use Rattle.vpg_blake.proofs.implicants.push_other.Goals as goal

@@ -1,4 +1,4 @@
-use Rattle.std.proofs.Common.{List, sym, ap, ◌∙◌, arith}
+use Rattle.std.proofs.Common.{List, ap, ◌∙◌, arith}
 use Rattle.vpg_guards.specs.Grammar.{joined}
 use Rattle.vpg_guards.specs.View.{formulas_of}
 use Rattle.vpg_guards.specs.declared.guard.Guard.{Guard}

@@ -1,4 +1,4 @@
-use Rattle.std.proofs.Common.{sym, ap, ◌∙◌, arith}
+use Rattle.std.proofs.Common.{◌∙◌, arith}
 use Rattle.vpg_blake.proofs.Steps.{found_more, passed_more}
 use Rattle.vpg_blake.proofs.table.named_features.Goals as goal
 use Rattle.vpg_blake.proofs.table.named_features.Goals.{in-Some+in_ok-push, in_default}

@@ -3,7 +3,6 @@ use Rattle.std.specs.Prelude.{filter, ◌==◌}
 use Rattle.std.specs.List.{list_any, range_with_len}
 use Rattle.vpg_blake.specs.Blake.{named_below}
 use Rattle.vpg_guards.specs.View.{formula_of}
-use Rattle.vpg_guards.specs.Formula.{named}
 use Rattle.vpg_blake.proofs.table.named_features.Given as goal
 
 -- what is found and what is still to find is the whole
