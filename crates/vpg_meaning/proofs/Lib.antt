@@ -6,3 +6,4 @@ mod Modalities
 mod Words
 mod Naming
 mod Meaning
+mod Spelled

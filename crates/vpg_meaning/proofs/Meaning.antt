@@ -1,13 +1,15 @@
 -- The formula of what is written holds where what is written holds.
-use Rattle.std.proofs.Common.{◌≡◌, ℕ, ◌<◌, ◌⊎◌, ◌↔◌, inl, inr, Bool, true, false, not, List, [], ◌∷◌, bytes_eq, refl, ap, arith}
+use Rattle.std.proofs.Common.{◌≡◌, ℕ, zero, suc, ◌<◌, ◌⊎◌, ◌↔◌, inl, inr, Bool, true, false, not, List, [], ◌∷◌, take, get_or, Some, bytes_eq, refl, ap, subst, arith}
+use Rattle.std.specs.List.{slice_get}
 use Rattle.std.proofs.lemmas.Bool.{cases_Bool}
 use Rattle.vpg_requirement.specs.Systems.{PlainSystem, IsClosedSystem}
 use Rattle.vpg_requirement.specs.Fixpoints.{StateSet, set_of}
-use Rattle.vpg_requirement.specs.Formulas.{Formula, Means}
+use Rattle.vpg_requirement.specs.Formulas.{Formula, nowhere, Means}
+use Rattle.vpg_formula.proofs.Series.{some_is}
 use Rattle.vpg_formula.specs.Written.{Written, constant, named, deadlock_free, can, will, prefixed, conjunction, disjunction, implication, binding}
 use Rattle.vpg_meaning.specs.Paths.{HasNames}
 use Rattle.vpg_formula.specs.Requirements.{Entry}
-use Rattle.vpg_meaning.specs.Translation.{kind_of, entry_formula, formula_of, formulas_behind, formulas_of}
+use Rattle.vpg_meaning.specs.Translation.{kind_of, entry_formula, formula_of, formulas_behind, formulas_in_order, formulas_of}
 use Rattle.vpg_meaning.specs.Meaning.{Earlier, Says, with_entry, said_behind, no_entry, sign_behind, IsWellNamed, AreWellNamed, names_behind}
 use Rattle.vpg_meaning.specs.Laws.{FormulasMeanWhatIsWritten}
 use Rattle.vpg_meaning.proofs.Plain.{iff_and, iff_or, iff_implies, fixpoint_iff}
@@ -50,7 +52,17 @@ module _ (names : List (List ℕ)) (system : PlainSystem) (closed : IsClosedSyst
   entries_said [] fs known earlier positive said w = said
   entries_said (e ∷ entries) fs known earlier positive said w = entries_said entries _ (e.name ∷ known) (with_entry names system earlier e) (more_positive names fs known positive e w.0) (more_said fs known earlier positive said e w.0) w.1
 
-none_said : (system : PlainSystem) → AreSaid system [] [] no_entry
+  -- each entry behind those in front of it
+  pub ordered_said : (entries : List Entry) (fs : List (List ℕ × Formula)) (known : List (List ℕ)) (earlier : Earlier) → ArePositive fs known → AreSaid system fs known earlier → AreWellNamed known entries →
+      (n : ℕ) (e : Entry) → slice_get entries n ≡ Some e → (s : ℕ) → s < system.states →
+      Means system [] (get_or (formulas_in_order names fs entries) n nowhere) s ↔ Says names system (said_behind names system earlier (take n entries)) [] e.formula s
+  ordered_said [] fs known earlier positive said w n e is s l = absurd cc
+  ordered_said (d ∷ entries) fs known earlier positive said w zero e is s l =
+      subst (λ (e : Entry). Means system [] (formula_of names fs [] d.formula) s ↔ Says names system earlier [] e.formula s) (some_is d e is) (written_means fs known earlier positive said d.formula false [] [] w.0 s l)
+  ordered_said (d ∷ entries) fs known earlier positive said w (suc n) e is s l =
+      ordered_said entries _ (d.name ∷ known) (with_entry names system earlier d) (more_positive names fs known positive d w.0) (more_said fs known earlier positive said d w.0) w.1 n e is s l
+
+pub none_said : (system : PlainSystem) → AreSaid system [] [] no_entry
 none_said system x k s l = absurd (clash k)
   where
     clash : false ≡ true → ⊥

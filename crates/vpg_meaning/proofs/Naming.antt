@@ -1,8 +1,9 @@
 -- Names stand for variables and entries, and what is well named is positive.
-use Rattle.std.proofs.Common.{◌≡◌, ℕ, suc, ◌+◌, ◌<◌, ◌⊎◌, ◌↔◌, inl, inr, Bool, true, false, not, List, [], ◌∷◌, ◌++◌, length, get_or, map, bytes_eq, refl, sym, ◌∙◌, ap, arith}
+use Rattle.std.proofs.Common.{◌≡◌, ℕ, suc, ◌+◌, ◌<◌, ◌⊎◌, ◌↔◌, inl, inr, Bool, true, false, not, List, [], ◌∷◌, ◌++◌, All, length, get_or, map, bytes_eq, refl, sym, ◌∙◌, ap, arith}
 use Rattle.std.specs.List.{list_any}
 use Rattle.std.proofs.lemmas.Bool.{cases_Bool}
 use Rattle.std.proofs.lemmas.Slice.Eq.{bytes_eq-Decides}
+use Rattle.std.proofs.lemmas.List.Elements.{All-cons}
 use Rattle.vpg_requirement.specs.Systems.{PlainSystem}
 use Rattle.vpg_requirement.specs.Fixpoints.{StateSet, nothing, set_of}
 use Rattle.vpg_requirement.specs.Formulas.{Formula, Means, IsPositive}
@@ -10,7 +11,7 @@ use Rattle.vpg_requirement.specs.Words as words
 use Rattle.vpg_requirement.proofs.Worded.{raised_positive, iff_trans}
 use Rattle.vpg_formula.specs.Written.{Prefix, negated, some_path, every_path, always, never, possibly, inevitably, again_and_again, after, Written, constant, named, deadlock_free, can, will, prefixed, conjunction, disjunction, implication, binding}
 use Rattle.vpg_formula.specs.Requirements.{Entry}
-use Rattle.vpg_meaning.specs.Translation.{entry_formula, formula_named, formula_behind, formula_of, formulas_behind, formulas_of}
+use Rattle.vpg_meaning.specs.Translation.{entry_formula, formula_named, formula_behind, formula_of, formulas_behind, formulas_in_order, formulas_of}
 use Rattle.vpg_meaning.specs.Meaning.{Earlier, SaysNamed, is_same, is_known, sign_behind, IsWellNamed, AreWellNamed, names_behind}
 use Rattle.vpg_meaning.specs.Laws.{EntriesStandForFormulas, WellNamedIsPositive}
 use Rattle.vpg_meaning.proofs.Substitution.{positive_alone, alone_means}
@@ -99,6 +100,11 @@ more_positive names fs known positive e w x k = decide (cases_Bool (bytes_eq x e
 pub entries_positive : (names : List (List ℕ)) (entries : List Entry) (fs : List (List ℕ × Formula)) (known : List (List ℕ)) → ArePositive fs known → AreWellNamed known entries → ArePositive (formulas_behind names fs entries) (names_behind known entries)
 entries_positive names [] fs known positive w = positive
 entries_positive names (e ∷ entries) fs known positive w = entries_positive names entries _ (e.name ∷ known) (more_positive names fs known positive e w.0) w.1
+
+pub ordered_positive : (names : List (List ℕ)) (entries : List Entry) (fs : List (List ℕ × Formula)) (known : List (List ℕ)) → ArePositive fs known → AreWellNamed known entries → All (IsPositive [] false) (formulas_in_order names fs entries)
+ordered_positive names [] fs known positive w = λ k d l. absurd (omega arith)
+ordered_positive names (e ∷ entries) fs known positive w =
+    All-cons (IsPositive [] false) _ _ (well_named_positive names fs known positive e.formula false [] w.0) (ordered_positive names entries _ (e.name ∷ known) (more_positive names fs known positive e w.0) w.1)
 
 pub none_positive : ArePositive [] []
 none_positive x k = absurd (clash k)

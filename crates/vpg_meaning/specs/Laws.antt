@@ -1,16 +1,16 @@
 -- What is translated means what is written. This project's own, over the sources of what it names.
-use Rattle.std.specs.Prelude.{◌≡◌, ℕ, ◌<◌, ◌↔◌, List, [], ◌∷◌, ◌++◌, length, Bool, true, false}
+use Rattle.std.specs.Prelude.{◌≡◌, ℕ, ◌<◌, ◌↔◌, List, [], ◌∷◌, ◌++◌, length, take, slice_get, slice_index_or, All, Bool, true, false, Some}
 use Rattle.vpg_requirement.specs.Actions.{permits}
 use Rattle.vpg_requirement.specs.Systems.{PlainSystem, IsClosedSystem}
 use Rattle.vpg_requirement.specs.Fixpoints.{StateSet}
-use Rattle.vpg_requirement.specs.Formulas.{Formula, Means, IsPositive}
+use Rattle.vpg_requirement.specs.Formulas.{Formula, nowhere, Means, IsPositive}
 use Rattle.vpg_requirement.specs.Words.{shift}
 use Rattle.vpg_formula.specs.Regular.{Regular}
 use Rattle.vpg_formula.specs.Written.{Written, named}
-use Rattle.vpg_formula.specs.Requirements.{Entry}
+use Rattle.vpg_formula.specs.Requirements.{Entry, SpellsRequirements}
 use Rattle.vpg_meaning.specs.Labels.{is_named, without_blanks, admits, name_at, actions_of}
 use Rattle.vpg_meaning.specs.Paths.{HasNames, SomePath, EveryPath}
-use Rattle.vpg_meaning.specs.Translation.{diamond_along, box_along, formula_of, formulas_of}
+use Rattle.vpg_meaning.specs.Translation.{diamond_along, box_along, formula_of, formulas_in_order, formulas_of}
 use Rattle.vpg_meaning.specs.Meaning.{Holds, IsWellNamed, AreWellNamed, names_behind}
 
 -- A label in quotes names the action of just these bytes, and one without quotes each action of these bytes but for
@@ -66,3 +66,21 @@ FormulasMeanWhatIsWritten = (names : List (List ℕ)) (system : PlainSystem) (en
     IsClosedSystem system → HasNames names system → AreWellNamed [] entries →
     IsWellNamed (names_behind [] entries) [] false f → (s : ℕ) → s < system.states →
     Means system [] (formula_of names (formulas_of names entries) [] f) s ↔ Holds names system entries f s
+
+-- What a text of requirements spells is well named.
+abbrev pub RequirementsAreWellNamed : Type 0
+RequirementsAreWellNamed = (text : List ℕ) (entries : List Entry) → SpellsRequirements text entries →
+    AreWellNamed [] entries
+
+-- So in the formula of each requirement of a text each variable has its fixpoint, under an even number of negations.
+abbrev pub RequirementsArePositive : Type 0
+RequirementsArePositive = (text : List ℕ) (entries : List Entry) → SpellsRequirements text entries →
+    (names : List (List ℕ)) → All (IsPositive [] false) (formulas_in_order names [] entries)
+
+-- And each requirement of a text holds at a state just where what is written there holds, behind the entries in front.
+abbrev pub RequirementsMeanWhatIsWritten : Type 0
+RequirementsMeanWhatIsWritten = (text : List ℕ) (entries : List Entry) → SpellsRequirements text entries →
+    (names : List (List ℕ)) (system : PlainSystem) → IsClosedSystem system → HasNames names system →
+    (n : ℕ) (e : Entry) → slice_get entries n ≡ Some e → (s : ℕ) → s < system.states →
+    Means system [] (slice_index_or (formulas_in_order names [] entries) n nowhere) s
+    ↔ Holds names system (take n entries) e.formula s

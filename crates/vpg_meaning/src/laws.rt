@@ -1,7 +1,7 @@
 //! What holds of requirements as they are written: each law is the contract of a function that does nothing.
 //!
-//! [`formulas_mean_what_is_written`] is the theorem; the others say its parts.
-ghost use Rattle.vpg_meaning.specs.Laws.{LabelsAreNames, ActionsAreAdmitted, DiamondMeansSomePath, BoxMeansEveryPath, SubstitutionIsSound, EntriesStandForFormulas, WellNamedIsPositive, FormulasMeanWhatIsWritten};
+//! [`requirements_mean_what_is_written`] is the theorem; the others say its parts.
+ghost use Rattle.vpg_meaning.specs.Laws.{LabelsAreNames, ActionsAreAdmitted, DiamondMeansSomePath, BoxMeansEveryPath, SubstitutionIsSound, EntriesStandForFormulas, WellNamedIsPositive, FormulasMeanWhatIsWritten, RequirementsAreWellNamed, RequirementsArePositive, RequirementsMeanWhatIsWritten};
 
 /// A name in quotes is that of just these bytes, a bare one that of these bytes but for blanks.
 pub fn labels_are_names()
@@ -41,4 +41,19 @@ pub fn well_named_is_positive()
 /// The formula of a requirement holds at a state just where what is written holds there.
 pub fn formulas_mean_what_is_written()
     ensures { FormulasMeanWhatIsWritten }
+{}
+
+/// What a text of requirements spells is well named.
+pub fn requirements_are_well_named()
+    ensures { RequirementsAreWellNamed }
+{}
+
+/// In the formula of each requirement of a text each variable has its fixpoint, under an even number of negations.
+pub fn requirements_are_positive()
+    ensures { RequirementsArePositive }
+{}
+
+/// Each requirement of a text holds at a state just where what is written there holds.
+pub fn requirements_mean_what_is_written()
+    ensures { RequirementsMeanWhatIsWritten }
 {}
