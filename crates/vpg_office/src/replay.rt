@@ -26,7 +26,7 @@ pub struct Replay {
     desk: Desk,
     // the verdicts of the present page, where it says the same as when they were told
     told: Option<Arc<Verdicts>>,
-    // a vertex of a table that a lift raised as it was last told whether the page is settled
+    // a vertex of a table that a lift raised on the last page that was not settled
     raised: Option<(Which, u32)>,
 }
 
@@ -166,7 +166,6 @@ impl Replay {
         ensures reply { Replies self.old Settled (IsSettled result) }
     {
         let Some(raised) = self.desk.note() else {
-            self.raised = None;
             return true;
         };
         self.raised = Some(raised);
