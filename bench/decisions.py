@@ -2,6 +2,7 @@
 """What a line of a script costs on a large family: decisions, lifts and settling, one line at a time.
 
     decisions.py VPGDESK[,VPGDESK..] [VERTICES [FEATURES [GAME DIAGRAM VERTEX FEATURE..]]]
+    decisions.py --instructions VPGDESK[,VPGDESK..] ..    counts instructions in place of time, by valgrind's callgrind: some 50 times as slow, and the same each time
 
 The family has VERTICES vertices (65,536 if left out) of sixteen edges each and FEATURES optional features (200), of which each is named by about one
 edge in a thousand. For each kind of line: the processor time of a script of 100 such lines, less that of the same script without them, over 100; the
@@ -11,12 +12,16 @@ each has a column.
 """
 import os
 import random
+import re
 import subprocess
 import sys
 import tempfile
 
 LINES = 100
 RUNS = 3
+COUNTS = sys.argv[1:2] == ["--instructions"]
+if COUNTS:
+    del sys.argv[1]
 
 
 def write_family(folder, vertices, features):
@@ -51,13 +56,30 @@ def spent(program, game, diagram, lines):
     return usage.ru_utime + usage.ru_stime, usage.ru_maxrss / 1024
 
 
+def executed(program, game, diagram, lines):
+    """Thousands of millions of instructions of a run, which the rows show as millions a line, and no megabytes."""
+    with tempfile.NamedTemporaryFile("w") as script:
+        script.write("\n".join(lines) + "\n")
+        script.flush()
+        words = ["valgrind", "--tool=callgrind", "--callgrind-out-file=/dev/null", program, "run", game, diagram, script.name]
+        ran = subprocess.run(words, stdout=subprocess.DEVNULL, stderr=subprocess.PIPE, text=True)
+    if ran.returncode:
+        sys.exit(f"the program ended with {ran.returncode}")
+    return int(re.search(r"Collected : (\d+)", ran.stderr)[1]) / 1e9, 0
+
+
 def least(programs, game, diagram, lines):
     """For each program the least seconds and the most megabytes of its runs."""
+    if COUNTS:
+        return [executed(program, game, diagram, lines) for program in programs]
     runs = [[spent(program, game, diagram, lines) for program in programs] for _ in range(RUNS)]
     return [(min(seconds for seconds, _ in of_one), max(memory for _, memory in of_one)) for of_one in zip(*runs)]
 
 
 def told(name, figures):
+    if COUNTS:
+        print(f"{name:21}" + "".join(f" {millions:10.3f} million" for millions, _ in figures), flush=True)
+        return
     print(f"{name:21}" + "".join(f" {milliseconds:10.3f} ms {memory:5.0f} MB" for milliseconds, memory in figures), flush=True)
 
 

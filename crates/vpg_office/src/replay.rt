@@ -63,12 +63,7 @@ impl Model for Replay {
 fn verdicts_of(alloc: Global, desk: &Desk) -> Result<Verdicts, AllocError>
     ensures { IfOk result (AreVerdictsOf desk.now) }
 {
-    let vertices = desk.game().vertices();
-    let mut verdicts = Vec::with_capacity(alloc, vertices)?;
-    for v in 0..vertices as u32 {
-        verdicts.push(desk.verdict(v))?;
-    }
-    Ok(Verdicts::new(verdicts))
+    Ok(Verdicts::new(desk.verdicts(alloc)?))
 }
 
 /// Whether the entry raises a value to the desk's top.

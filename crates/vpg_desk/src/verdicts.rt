@@ -1,0 +1,50 @@
+//! The verdicts of all vertices at once.
+ghost use Rattle.std.specs.Prelude.{◌≡◌, ◌==◌, ℕ, length, slice_index, IfOk};
+ghost use Rattle.vpg_verdict.specs.declared.verdict.Verdict.{Verdict as Said};
+ghost use Rattle.vpg_desk.specs.Book.{Verdict as AsksVerdict, VerdictIs};
+ghost use Rattle.vpg_desk.specs.State.{Replies};
+ghost use lib.ListN.{get_elem?};
+ghost use mathlib.Core.Option.{some};
+
+use crate::desk::Desk;
+use std::alloc::{AllocError, Global};
+use vpg_verdict::{Verdict, Which};
+
+/// The verdict of each vertex, by its values in two tables and the numbers that stand for the tops of these.
+fn verdicts_by(
+    alloc: Global,
+    hopeful: &[u64],
+    dual: &[u64],
+    top: u64,
+    dual_top: u64,
+) -> Result<Vec<Verdict>, AllocError>
+    requires { length hopeful.now ≡ length dual.now }
+    ensures count { IfOk result (λ said. length said.items ≡ length hopeful.now) }
+    ensures each { IfOk result (λ said. (v : ℕ) (one : Said) → get_elem? said.items v ≡ some one →
+        one ≡ record { hopeless = slice_index hopeful.now v == top; sure = slice_index dual.now v == dual_top }) }
+{
+    let mut said = Vec::with_capacity(alloc, hopeful.len())?;
+    for v in 0..hopeful.len() {
+        said.push(Verdict {
+            hopeless: hopeful[v] == top,
+            sure: dual[v] == dual_top,
+        })?;
+    }
+    Ok(said)
+}
+
+impl Desk {
+    /// What the present tables say of each vertex, in file order: each as `verdict` says it.
+    pub fn verdicts(&self, alloc: Global) -> Result<Vec<Verdict>, AllocError>
+        ensures count { IfOk result (λ said. length said.items ≡ length self.now.game.vertices) }
+        ensures each { IfOk result (λ said. (v : ℕ) (one : Said) → get_elem? said.items v ≡ some one →
+            Replies self.now (AsksVerdict v) (VerdictIs one.hopeless one.sure)) }
+    {
+        let hopeful = self.trail.hopeful();
+        let dual = self.trail.dual();
+        let top = self.games.shape(Which::Hopeful).top();
+        let dual_top = self.games.shape(Which::Dual).top();
+        let said = verdicts_by(alloc, hopeful.values(), dual.values(), top, dual_top)?;
+        Ok(said)
+    }
+}
