@@ -1,5 +1,5 @@
 mod Plain
-mod Labels
+pub mod Labels
 mod Substitution
 mod Paths
 mod Modalities

@@ -1,0 +1,10 @@
+pub mod Raising
+pub mod Linking
+pub mod Cutting
+pub mod Parsing
+pub mod Values
+pub mod Filling
+pub mod Arms
+pub mod Whole
+pub mod Lookups
+pub mod Tasks

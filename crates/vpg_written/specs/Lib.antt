@@ -1,0 +1,11 @@
+pub mod Translations
+pub mod Shapes
+pub mod Trees
+pub mod Terms
+pub mod Naming
+pub mod Tasks
+pub mod Parsing
+pub mod Entries
+pub mod Openings
+pub mod Whole
+pub mod Actions
