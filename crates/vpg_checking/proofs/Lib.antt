@@ -1,0 +1,7 @@
+pub mod Lists
+pub mod Entries
+pub mod Checked
+pub mod Whole
+pub mod Refused
+pub mod Found
+pub mod Named
