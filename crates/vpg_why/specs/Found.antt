@@ -38,12 +38,15 @@ pub record IsOpen (diagram : NamedDiagram) (choices : List Literal) (feature : �
   pub unknown : slice_index_or known feature Unknown ≡ Unknown
   pub below : (f : ℕ) → f < feature → slice_index_or known f Unknown ≡ Unknown → ⊥
 
+-- What choices say of an aim before any split: no product that agrees with them meets it; or this is the only one that
+-- agrees, and does; or this is the first feature that is not known; or a limit was met.
 abbrev pub IsOutlook : NamedGame → NamedDiagram → Aim → List Literal → Outlook → Type 0
 IsOutlook game diagram aim choices outlooks.Lost = NoneMeets game diagram aim choices
 IsOutlook game diagram aim choices (outlooks.Met product) = IsOnlyRemaining diagram.lines choices product.items × Meets game aim product.items
 IsOutlook game diagram aim choices (outlooks.Open feature) = IsOpen diagram choices feature
 IsOutlook game diagram aim choices outlooks.Unsettled = ⊤
 
+-- an outlook that met no limit
 abbrev pub IsOutlookExact : Outlook → Type 0
 IsOutlookExact outlooks.Lost = ⊤
 IsOutlookExact (outlooks.Met product) = ⊤

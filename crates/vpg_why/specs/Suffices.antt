@@ -83,10 +83,12 @@ SettlesWithin rounds game which known = IsProgressTable (levels_for which (graph
 abbrev pub AlwaysSettles : ℕ → NamedGame → NamedDiagram → Which → Type 0
 AlwaysSettles rounds game diagram which = (choices : List Literal) (known : List Tri) → IsKnownTable diagram.lines choices known → SettlesWithin rounds game which known
 
+-- the same of an aim: of the game in which a product is to be won
 abbrev pub AimSettlesUnder : ℕ → NamedGame → Aim → List Tri → Type 0
 AimSettlesUnder rounds game aims.Any known = ⊤
 AimSettlesUnder rounds game (aims.Won which vertex) known = SettlesWithin rounds game which known
 
+-- so it is of an aim's game, whatever was chosen
 abbrev pub AimSettles : ℕ → NamedGame → NamedDiagram → Aim → Type 0
 AimSettles rounds game diagram aim = (choices : List Literal) (known : List Tri) → IsKnownTable diagram.lines choices known → AimSettlesUnder rounds game aim known
 

@@ -112,8 +112,8 @@ pub(crate) fn closed(
     }
 }
 
-// What the decisions make of the order's game, from what the order's own make of it; nothing where they have a conflict.
-pub(crate) fn games_with(
+/// What the decisions make of the order's game, from what the order's own make of it; nothing where they have a conflict.
+pub fn games_with(
     alloc: Global,
     order: &Order,
     decisions: &[Decision],
@@ -181,8 +181,8 @@ pub(crate) fn known_shown(
     }
 }
 
-// The decisions and one more.
-pub(crate) fn with_one(
+/// The decisions and one more.
+pub fn with_one(
     alloc: Global,
     decisions: &[Decision],
     feature: u16,

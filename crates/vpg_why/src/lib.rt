@@ -45,12 +45,13 @@ mod telling;
 mod winning;
 
 pub use answering::suffice;
+pub use asking::{games_with, with_one};
 pub use explaining::{Explanation, explain};
 pub use forcing::{Demand, Forced, needs};
 pub use offering::{Offer, look_ahead, look_back, stays_without};
 pub use question::{Aim, Limits, Question, Shown};
 pub use repairing::{Remedy, Retraction, repair};
-pub use searching::{Example, Found, find};
+pub use searching::{Example, Found, Outlook, find, look_at_games, search, search_all};
 pub use stepping::reachable;
 pub use telling::{WhyLost, why, why_conflict, why_known, why_lost};
 pub use winning::{Moves, winning_moves};

@@ -18,7 +18,7 @@ use vpg_verdict::Which;
 
 /// What some decisions say of an aim.
 #[derive(Drop)]
-pub(crate) enum Outlook {
+pub enum Outlook {
     /// No product that is left meets it.
     Lost,
     /// They leave this product alone, and it does.
@@ -120,8 +120,9 @@ fn look_at_features(
     }
 }
 
-// For one that is won, under the games of the decisions.
-fn look_at_games(
+/// What some decisions say of a product that is won, under their games: for the first table of one in which Even wins
+/// from the vertex, for the second of one in which Odd does.
+pub fn look_at_games(
     alloc: Global,
     order: &Order,
     games: &PageGames,
@@ -189,7 +190,9 @@ pub(crate) fn look(
     }
 }
 
-fn search(
+/// As `find`, among the products that agree with the decisions: one split lies within another at most so deep, and each
+/// look takes one of the trials. Where these are used up it gives up.
+pub fn search(
     alloc: Global,
     order: &Order,
     aim: Aim,
@@ -240,8 +243,8 @@ fn search(
     }
 }
 
-// A search among all products that agree with the decisions.
-pub(crate) fn search_all(
+/// As `find`, among the products that agree with the decisions in place of the order's own.
+pub fn search_all(
     alloc: Global,
     order: &Order,
     aim: Aim,

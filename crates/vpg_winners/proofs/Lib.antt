@@ -1,0 +1,9 @@
+pub mod OneWins
+pub mod Differing
+pub mod Mates
+pub mod Putting
+pub mod Splits
+pub mod Sound
+pub mod One
+pub mod Looking
+pub mod Rooms

@@ -1,0 +1,12 @@
+use Rattle.std.proofs.Common.{List, vec_len}
+use Rattle.vpg_winners.specs.Joined.{PartView, IsPut}
+use Rattle.vpg_winners.specs.Winners.{view_of, views}
+use Rattle.vpg_winners.proofs.joining.put.Given as goal
+
+-- what the part that is left makes of the others that are left, the first one makes of them all
+abbrev pub invariant-joining : goal.invariant-joining
+invariant-joining l = (new : List PartView) → IsPut (views l.parts.items) (view_of l.part) new →
+    IsPut (views l.fn.parts.items) (view_of l.fn.part) new
+
+abbrev pub decreases-joining : goal.decreases-joining
+decreases-joining l = vec_len l.parts

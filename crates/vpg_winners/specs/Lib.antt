@@ -1,0 +1,5 @@
+pub mod Decided
+pub mod Winners
+pub mod Joined
+pub mod Standing
+pub mod Laws

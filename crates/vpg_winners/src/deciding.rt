@@ -1,0 +1,83 @@
+//! Who wins at a vertex in the products that are left.
+ghost use Rattle.std.specs.Prelude.{◌≡◌, ◌<◌, length, IfOk};
+ghost use Rattle.vpg_game.specs.Game.{graph_of};
+ghost use Rattle.vpg_partial.specs.TableLaws.{AreChoicesOf};
+ghost use Rattle.vpg_why.specs.Explained.{choices};
+ghost use Rattle.vpg_why.specs.Suffices.{IsSettled};
+ghost use Rattle.vpg_winners.specs.Decided.{IsDecidedAs, IsDecidedExact, decided_by};
+
+use std::alloc::{AllocError, Global};
+use vpg_measure::Order;
+use vpg_partial::Decision;
+use vpg_verdict::Which;
+use vpg_why::{Aim, Example, Found, Limits, Question, search_all};
+
+/// Who wins at a vertex in the products that are left.
+#[derive(Drop)]
+pub enum Decided {
+    /// Even wins in each, and there is one.
+    Won,
+    /// Odd wins in each, and there is one.
+    Lost,
+    /// Even wins in the one product, and Odd in the other.
+    Mixed { won: Example, lost: Example },
+    /// No product is left.
+    Empty,
+    /// A limit was met.
+    Unsettled,
+}
+
+// What two searches say together: for a product that Even wins, and for one that Odd wins.
+fn both(won: Found, lost: Found) -> Decided
+    ensures { result ≡ decided_by won lost }
+{
+    match won {
+        Found::Product(won) => match lost {
+            Found::Product(lost) => Decided::Mixed { won, lost },
+            Found::Nothing => Decided::Won,
+            Found::Unsettled => Decided::Unsettled,
+        },
+        Found::Nothing => match lost {
+            Found::Product(_) => Decided::Lost,
+            Found::Nothing => Decided::Empty,
+            Found::Unsettled => Decided::Unsettled,
+        },
+        Found::Unsettled => Decided::Unsettled,
+    }
+}
+
+/// Who wins at the vertex in the products that agree with the decisions. Where both players win some, it gives for each
+/// of them the first product, where no limit was met.
+///
+/// It looks for a product that Even wins, and for one that Odd wins, each within the limits. The one error is want of
+/// memory.
+pub fn decide(
+    alloc: Global,
+    order: &Order,
+    vertex: u32,
+    decisions: &[Decision],
+    limits: Limits,
+) -> Result<Decided, AllocError>
+    requires named { AreChoicesOf order.now.diagram.lines (choices decisions.now) }
+    requires vertex { vertex < length order.now.game.vertices }
+    ensures decided { IfOk result
+        (IsDecidedAs (graph_of order.now.game) order.now.diagram.lines (choices decisions.now) vertex) }
+    ensures settled { IfOk result (λ decided.
+        IsSettled order.now.game order.now.diagram limits (Question.Lost (Aim.Won Which.Hopeful vertex)) →
+        IsSettled order.now.game order.now.diagram limits (Question.Lost (Aim.Won Which.Dual vertex)) →
+        IsDecidedExact decided) }
+{
+    // What every order keeps, for the proof.
+    let _order = order.game();
+    let aim = Aim::Won {
+        which: Which::Hopeful,
+        vertex,
+    };
+    let won = search_all(alloc, order, aim, decisions, limits)?;
+    let aim = Aim::Won {
+        which: Which::Dual,
+        vertex,
+    };
+    let lost = search_all(alloc, order, aim, decisions, limits)?;
+    Ok(both(won, lost))
+}

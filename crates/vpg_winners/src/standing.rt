@@ -1,0 +1,90 @@
+//! What decisions say of a vertex before any split.
+ghost use Rattle.std.specs.Prelude.{◌<◌, length, IfOk};
+ghost use Rattle.vpg_measure.specs.Games.{ArePageGames};
+ghost use Rattle.vpg_partial.specs.TableLaws.{AreChoicesOf};
+ghost use Rattle.vpg_why.specs.Explained.{choices};
+ghost use Rattle.vpg_why.specs.Suffices.{AlwaysSettles};
+ghost use Rattle.vpg_winners.specs.Standing.{IsStanding, IsStandingExact};
+
+use crate::parts::Winner;
+use std::alloc::{AllocError, Global};
+use vpg_measure::{Order, PageGames};
+use vpg_partial::Decision;
+use vpg_verdict::Which;
+use vpg_why::{Limits, Outlook, games_with, look_at_games};
+
+/// What decisions say of a vertex.
+#[derive(Clone, Copy)]
+pub(crate) enum Standing {
+    /// No product is left.
+    Empty,
+    /// They leave one product, and this is who wins it; or a limit was met.
+    Only(Winner),
+    /// This is who wins in each product that is left, whether there is one or not.
+    Each(Winner),
+    /// The feature is the first that is not known.
+    Open { feature: u16 },
+}
+
+// Under the games of the decisions: first whether Even may win, then whether Odd may.
+fn look_under(
+    alloc: Global,
+    order: &Order,
+    games: &PageGames,
+    vertex: u32,
+    decisions: &[Decision],
+    limits: Limits,
+) -> Result<Standing, AllocError>
+    requires games { ArePageGames order.now.game order.now.diagram (choices decisions.now) games.now }
+    requires named { AreChoicesOf order.now.diagram.lines (choices decisions.now) }
+    requires vertex { vertex < length order.now.game.vertices }
+    ensures standing { IfOk result (IsStanding order.now.game order.now.diagram vertex (choices decisions.now)) }
+    ensures settled { IfOk result (λ standing.
+        AlwaysSettles limits.rounds order.now.game order.now.diagram Which.Hopeful →
+        AlwaysSettles limits.rounds order.now.game order.now.diagram Which.Dual → IsStandingExact standing) }
+{
+    // What every order keeps, for the proof.
+    let _order = order.game();
+    match look_at_games(
+        alloc,
+        order,
+        games,
+        Which::Hopeful,
+        vertex,
+        decisions,
+        limits,
+    )? {
+        Outlook::Lost => return Ok(Standing::Each(Winner::Lost)),
+        Outlook::Met(_) => return Ok(Standing::Only(Winner::Won)),
+        _ => {}
+    }
+    match look_at_games(alloc, order, games, Which::Dual, vertex, decisions, limits)? {
+        Outlook::Lost => Ok(Standing::Each(Winner::Won)),
+        Outlook::Met(_) => Ok(Standing::Only(Winner::Lost)),
+        Outlook::Open { feature } => Ok(Standing::Open { feature }),
+        Outlook::Unsettled => Ok(Standing::Only(Winner::Unsettled)),
+    }
+}
+
+/// What the decisions say of the vertex.
+pub(crate) fn look(
+    alloc: Global,
+    order: &Order,
+    vertex: u32,
+    decisions: &[Decision],
+    limits: Limits,
+) -> Result<Standing, AllocError>
+    requires named { AreChoicesOf order.now.diagram.lines (choices decisions.now) }
+    requires vertex { vertex < length order.now.game.vertices }
+    ensures standing { IfOk result (IsStanding order.now.game order.now.diagram vertex (choices decisions.now)) }
+    ensures settled { IfOk result (λ standing.
+        AlwaysSettles limits.rounds order.now.game order.now.diagram Which.Hopeful →
+        AlwaysSettles limits.rounds order.now.game order.now.diagram Which.Dual → IsStandingExact standing) }
+{
+    // What every order keeps, for the proof.
+    let _order = order.game();
+    match games_with(alloc, order, decisions)? {
+        Some(games) => look_under(alloc, order, &games, vertex, decisions, limits),
+        None => Ok(Standing::Empty),
+    }
+}
