@@ -26,7 +26,7 @@ use std::sync::{Arc, Wait};
 use std::thread::{Threads, join};
 use vpg_diagram::Diagram;
 use vpg_game::GuardedGame;
-use vpg_office::{Front, Office, Site, Terms};
+use vpg_office::{Office, Site, Terms};
 use vpg_scarce::End;
 
 /// A feature for each of eight sessions.
@@ -137,17 +137,15 @@ fn work<L: Terms + Send + Sync, R: Threads + Wait + Sync>(
     rt: &R,
     alloc: Global,
     office: Office<L>,
-    front: Front<L>,
     task: Task,
     seen: &AtomicU64,
 ) -> Option<Told> {
-    let mut front = front;
     let Ok(mut undos) = Vec::with_capacity(alloc, 1) else {
-        let _further = office.end(rt, &mut front, Vec::new(alloc), Vec::new(alloc));
+        let _further = office.end(rt, Vec::new(alloc), Vec::new(alloc));
         return None;
     };
     let Ok(mut redos) = Vec::with_capacity(alloc, 1) else {
-        let _further = office.end(rt, &mut front, undos, Vec::new(alloc));
+        let _further = office.end(rt, undos, Vec::new(alloc));
         return None;
     };
     let (done, held) = carry_out(rt, alloc, &office, task, seen);
@@ -156,8 +154,9 @@ fn work<L: Terms + Send + Sync, R: Threads + Wait + Sync>(
         Held::Undo(token) => undos.push_reserved(token),
         Held::Redo(token) => redos.push_reserved(token),
     }
-    let further = office.end(rt, &mut front, undos, redos);
-    let calls = front.len();
+    let office = office.unshare();
+    let calls = office.log().len();
+    let further = office.end(rt, undos, redos).further();
     Some(Told {
         done,
         calls,
@@ -170,11 +169,10 @@ fn work_on<L: Terms + Send + Sync, R: Threads + Wait + Sync>(
     rt: &R,
     alloc: Global,
     lent: &mut Option<Office<L>>,
-    front: Front<L>,
     seen: &AtomicU64,
 ) -> Option<Told> {
     let office = lent.take()?;
-    work(rt, alloc, office, front, Task::TwoSessions, seen)
+    work(rt, alloc, office, Task::TwoSessions, seen)
 }
 
 /// What came of a task that a watcher followed, where it printed all that it read.
@@ -193,11 +191,9 @@ fn work_watched<L: Terms + Send + Sync, R: Threads + Wait + Sync + Print>(
     rt: &R,
     alloc: Global,
     office: Office<L>,
-    front: Front<L>,
 ) -> Option<Told> {
-    let mut last = front.copy();
     let Ok(watch) = office.watch(rt) else {
-        let _further = office.end(rt, &mut last, Vec::new(alloc), Vec::new(alloc));
+        let _further = office.end(rt, Vec::new(alloc), Vec::new(alloc));
         return None;
     };
     let seen = AtomicU64::new(0);
@@ -205,10 +201,10 @@ fn work_watched<L: Terms + Send + Sync, R: Threads + Wait + Sync + Print>(
     let (is_printed, told) = join(
         rt,
         || follow(rt, watch, &seen),
-        || work_on(rt, alloc, &mut lent, front, &seen),
+        || work_on(rt, alloc, &mut lent, &seen),
     );
     if let Some(office) = lent {
-        let _further = office.end(rt, &mut last, Vec::new(alloc), Vec::new(alloc));
+        let _further = office.end(rt, Vec::new(alloc), Vec::new(alloc));
     }
     Some(printed(told?, is_printed))
 }
@@ -230,8 +226,8 @@ fn open_and_work<L: Terms + Send + Sync, R: Threads + Wait + Sync + Print>(
 {
     match Office::<L>::open(rt, alloc, site, game, diagram, room) {
         Ok(office) => match task {
-            Task::TwoSessions => work_watched(rt, alloc, office, Front::empty()),
-            _ => work(rt, alloc, office, Front::empty(), task, &AtomicU64::new(0)),
+            Task::TwoSessions => work_watched(rt, alloc, office),
+            _ => work(rt, alloc, office, task, &AtomicU64::new(0)),
         },
         Err(_refused) => None,
     }

@@ -131,8 +131,8 @@ stops_tell family limit refusal call session front newest (Doubled g) p h s =
 stops_tell family limit refusal call session front newest (DeskRefuses fault) p h s = absurd s
 stops_tell family limit refusal call session front newest Memory p h s = refl
 
-module _ {row : Shelves} {game : NamedGame} {diagram : NamedDiagram} {limit : ℕ} {chronicle : Chronicle} {newest : List Event} {desk : DeskState} {room total : ℕ} {shown : List Event} {sessions : ℕ}
-    (i : IsLog row game diagram limit chronicle newest desk room total shown sessions) where
+module _ {row : Shelves} {game : NamedGame} {diagram : NamedDiagram} {limit : ℕ} {chronicle : Chronicle} {newest : List Event} {desk : DeskState} {room total : ℕ} {shown : List Event}
+    (i : IsLog row game diagram limit chronicle newest desk room total shown) where
   abbrev F : Family
   F = family_between game diagram
 
@@ -162,7 +162,7 @@ module _ {row : Shelves} {game : NamedGame} {diagram : NamedDiagram} {limit : �
 
   -- a call was taken in
   pub admitted : {after : Chronicle} {new : List Event} {room_after : ℕ} → new ≡ newest → room_after ≡ room → IsChronicle row game diagram after new →
-      IsLog row game diagram limit after new desk room_after total shown sessions
+      IsLog row game diagram limit after new desk room_after total shown
   admitted same fits kept = record {
     replay = record {
       kept = kept;
@@ -174,12 +174,11 @@ module _ {row : Shelves} {game : NamedGame} {diagram : NamedDiagram} {limit : �
     };
     counted = i.counted;
     published = subst (λ (l : List Event). IsPrefix shown l) (sym same) i.published;
-    joined = i.joined;
   }
 
   pub log_after : (after : Chronicle) (new : List Event) (room_after : ℕ) (desk_after : DeskState) (total_after : ℕ) (session : ℕ) (call : Call) (reply : Reply) → IsChronicle row game diagram after new →
       new ≡ newest ++ event session call reply ∷ [] → room_after ≡ room → desk_after.game ≡ desk.game → desk_after.diagram ≡ desk.diagram → desk_after.book ≡ next (family_of (setting_of desk)) desk.book session call reply →
-      total_after ≡ desk_after.book.tokens → IsLog row game diagram limit after new desk_after room_after total_after shown sessions
+      total_after ≡ desk_after.book.tokens → IsLog row game diagram limit after new desk_after room_after total_after shown
   log_after after new room_after desk_after total_after session call reply kept is fits g d b t = record {
     replay = record {
       kept = kept;
@@ -191,14 +190,13 @@ module _ {row : Shelves} {game : NamedGame} {diagram : NamedDiagram} {limit : �
     };
     counted = t;
     published = prefix_more shown newest new (event session call reply) i.published is;
-    joined = i.joined;
   }
 
   -- after a call that the desk made
   pub log_made : (after : Chronicle) (new : List Event) (room_after : ℕ) (desk_after : DeskState) (total_after session : ℕ) (asked : Asked) (answer : Answer) → IsChronicle row game diagram after new →
       new ≡ newest ++ event session (call_of asked answer) (reply_of F (book_after F opened newest).present answer) ∷ [] → room_after ≡ room →
       IsStep desk session (call_of asked answer) (reply_of (family_of (setting_of desk)) desk.book.present answer) desk_after → total_after ≡ desk_after.book.tokens →
-      IsLog row game diagram limit after new desk_after room_after total_after shown sessions
+      IsLog row game diagram limit after new desk_after room_after total_after shown
   log_made after new room_after desk_after total_after session asked answer kept is fits step t =
       let same : reply_of (family_of (setting_of desk)) desk.book.present answer ≡ reply_of F (book_after F opened newest).present answer = λ k. reply_of (family_between (i.replay.of_game k) (i.replay.of_diagram k)) (i.replay.book k).present answer in
       log_after after new room_after desk_after total_after session (call_of asked answer) (reply_of F (book_after F opened newest).present answer) kept is fits step.game step.diagram
@@ -209,10 +207,10 @@ module _ {row : Shelves} {game : NamedGame} {diagram : NamedDiagram} {limit : �
       desk_after ≡ desk → total_after ≡ desk_after.book.tokens → room_after ≡ room → IsChronicle row game diagram after new →
       IfNone why ((told ≡ Memory) × (front_after ≡ front) × (new ≡ newest)) →
       IfSome why (λ w. (told ≡ DeskRefuses w.fault) × (front_after ≡ new) × (new ≡ newest ++ event session (call_of asked (Refused w.cause)) (book.Refused (refusal_of w.cause)) ∷ [])) →
-      IsLog row game diagram limit after new desk_after room_after total_after shown sessions
+      IsLog row game diagram limit after new desk_after room_after total_after shown
   log_refused None session asked told front front_after after new room_after desk_after total_after same t fits kept none some =
       let count : total_after ≡ total = t ∙ (λ k. (same k).book.tokens) ∙ sym i.counted in
-      coe 0 1 (k. IsLog row game diagram limit after new ((sym same) k) room_after ((sym count) k) shown sessions) (admitted none.2 fits kept)
+      coe 0 1 (k. IsLog row game diagram limit after new ((sym same) k) room_after ((sym count) k) shown) (admitted none.2 fits kept)
   log_refused (Some w) session asked told front front_after after new room_after desk_after total_after same t fits kept none some =
       log_after after new room_after desk_after total_after session (call_of asked (Refused w.cause)) (book.Refused (refusal_of w.cause)) kept some.2 fits
       (λ k. (same k).game) (λ k. (same k).diagram) (λ k. (same k).book) t

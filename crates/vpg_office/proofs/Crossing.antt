@@ -62,7 +62,7 @@ module _ (L : RattleType) (t : terms.Ghosts L.Denot) (l : ledger.Ghosts L.Denot)
   calls_field = struct_send (shape (Made.the_type L t l)) calls_fields
 
   fields_send : AllSend (fields (Inside.the_type L t l))
-  fields_send = (calls_field, (search (replay_send, sendable) depth 12, (search (purse_send, sendable, crosses) depth 40, (search (press_send, front_sends, front_syncs, sendable, crosses) depth 40, (search sendable depth 12, tt)))))
+  fields_send = (calls_field, (search (replay_send, sendable) depth 12, (search (purse_send, sendable, crosses) depth 40, (search (press_send, front_sends, front_syncs, sendable, crosses) depth 40, tt))))
 
   inside_send : IsSend (Inside.the_row L t l)
   inside_send = recorded_send (Inside.the_field L t l).row _ _ (Inside.the_type L t l).to_one (struct_send (shape (Inside.the_type L t l)) fields_send)

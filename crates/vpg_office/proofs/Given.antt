@@ -33,7 +33,7 @@ gives_is s family page (VerdictIs h u) = refl
 gives_is s family page PageIs = refl
 gives_is s family page (Refused c) = refl
 
-any-append : (test : Event → Bool) (xs ys : List Event) → list_any test xs ≡ false → list_any test ys ≡ false → list_any test (xs ++ ys) ≡ false
+pub any-append : (test : Event → Bool) (xs ys : List Event) → list_any test xs ≡ false → list_any test ys ≡ false → list_any test (xs ++ ys) ≡ false
 any-append test [] ys a b = b
 any-append test (x ∷ xs) ys a b = or_from (test x) _ (or_parts (test x) _ a).0 (any-append test xs ys (or_parts (test x) _ a).1 b)
 

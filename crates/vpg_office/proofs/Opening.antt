@@ -1,5 +1,5 @@
 -- The log of an office that was just opened.
-use Rattle.std.proofs.Common.{◌≡◌, ◌↔◌, ℕ, ◌≤◌, Bool, true, false, true≢false, List, [], sym, ap, ◌∙◌, subst, arith}
+use Rattle.std.proofs.Common.{◌≡◌, ◌↔◌, ℕ, ◌≤◌, Bool, true, false, true≢false, List, [], length, sym, ap, ◌∙◌, subst}
 use Rattle.std.specs.Bool.{Decides}
 use Rattle.boxcar.specs.Table.{Shelves}
 use Rattle.vpg_diagram.specs.DiagramText.{NamedDiagram}
@@ -10,13 +10,14 @@ use Rattle.vpg_desk.specs.State.{DeskState, IsOpened}
 use Rattle.vpg_faults.specs.declared.fault.OpenFault.{OpenFault}
 use Rattle.vpg_faults.specs.declared.fault.OpenFault.TheVariants.{AtLimit, Memory}
 use Rattle.vpg_office.specs.Fronts.{family_between}
-use Rattle.vpg_office.specs.Kept.{AreGiven, IsChronicle, ShowsEach, lines_of}
+use Rattle.vpg_office.specs.Kept.{AreGiven, IsChronicle, NoneIsLeftOut, ShowsEach, lines_of}
 use Rattle.vpg_office.specs.Locked.{IsLog}
 use Rattle.vpg_office.specs.Story.{IsStory, events_of}
 use Rattle.vpg_office.specs.declared.asked.Told.{Told}
 use Rattle.vpg_office.specs.declared.chronicle.Chronicle.{Chronicle}
 use Rattle.vpg_office.proofs.Given.{given_none}
 use Rattle.vpg_office.proofs.Places.{shows_none}
+use Rattle.vpg_office.proofs.Serials.{none_left_at_first}
 use Rattle.vpg_office.proofs.Sheets.{prefix_none}
 
 no_story : (game : NamedGame) (diagram : NamedDiagram) → IsOpened game diagram → IsStory game diagram []
@@ -29,11 +30,13 @@ no_calls row game diagram c newest places told given none opens = record {
   is_story = subst (λ (ts : List Told). IsStory game diagram (lines_of ts)) (sym told) (no_story game diagram opens);
   newest_is = none ∙ ap (λ (ts : List Told). events_of (family_between game diagram) (lines_of ts)) (sym told);
   are_given = coe 0 1 (k. AreGiven ((sym none) k) ((sym given) k)) given_none;
+  none_left = coe 0 1 (k. NoneIsLeftOut ((sym none) k) ((sym given) k)) none_left_at_first;
+  counted = ap length given ∙ ap (λ (l : List Event). (book_after (family_between game diagram) opened l).changes) (sym none);
 }
 
 pub first_log : {row : Shelves} {game : NamedGame} {diagram : NamedDiagram} {limit : ℕ} (c : Chronicle) (newest : List Event) (desk : DeskState) (room total : ℕ) (shown : List Event) → c.places.items ≡ [] → c.told.items ≡ [] →
     c.given.items ≡ [] → newest ≡ [] → IsOpened game diagram → desk.game ≡ game → desk.diagram ≡ diagram → desk.book ≡ opened → room ≡ limit → room ≤ 1048576 → total ≡ 0 → shown ≡ [] →
-    IsLog row game diagram limit c newest desk room total shown 0
+    IsLog row game diagram limit c newest desk room total shown
 first_log {row} {game} {diagram} {limit} c newest desk room total shown places told given none opens g d b most few t empty = record {
   replay = record {
     kept = no_calls row game diagram c newest places told given none opens;
@@ -45,7 +48,6 @@ first_log {row} {game} {diagram} {limit} c newest desk room total shown places t
   };
   counted = t ∙ ap (λ (x : Book). x.tokens) (sym b);
   published = prefix_none shown newest empty;
-  joined = omega arith;
 }
 
 -- where there is no memory, the fault tells whether the game is at the limit

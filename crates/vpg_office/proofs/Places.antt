@@ -11,7 +11,7 @@ use Rattle.vpg_game.specs.Game.{NamedGame}
 use Rattle.vpg_desk.specs.Book.{Family, opened}
 use Rattle.vpg_desk.specs.History.{Event}
 use Rattle.vpg_office.specs.Fronts.{family_between}
-use Rattle.vpg_office.specs.Kept.{IsEntryOf, ShowsEach, IsFront, IsChronicle, line, lines_of, story, story_to}
+use Rattle.vpg_office.specs.Kept.{IsEntryOf, IsInRow, IsLacking, ShowsEach, IsFront, IsChronicle, line, lines_of, story, story_to}
 use Rattle.vpg_office.specs.Story.{Line, line_of, lines_by, events_of, IsStory}
 use Rattle.vpg_office.specs.declared.asked.Answer.{Answer}
 use Rattle.vpg_office.specs.declared.asked.Answer.TheVariants.{Spent}
@@ -116,6 +116,21 @@ prefix_take n events = (drop n events, take-append-drop n events)
 
 -- ---- fronts by their places
 
+pub front_length : {row : Shelves} {game : NamedGame} {diagram : NamedDiagram} {limit : ℕ} (count : ℕ) (last : Option (Where Entry × Answer)) → IsFront row game diagram limit count last → length (events_of (family_between game diagram) (story_to last)) ≡ count
+front_length {row} {game} {diagram} {limit} count last front = events-length (family_between game diagram) opened (story_to last) ∙ sym front.count_is
+
+-- the log has another place at the front's end
+pub other_there : (places : List (Where Entry)) (front : List Event) (count : ℕ) (place mine : Where Entry) → length front ≡ count → count - 1 < length places → mine ≡ get_or places (count - 1) mine → ¬ (mine.index ≡ place.index) →
+    (q : Where Entry) → get_elem? places (length front - 1) ≡ some q → ¬ (q.index ≡ place.index)
+other_there places front count place mine long low is other q at same =
+    let here : some mine ≡ some q = sym (get_at places (count - 1) mine low ∙ ap some (sym is)) ∙ ap (λ n. get_elem? places (n - 1)) (sym long) ∙ at in
+    other (ap (λ (p : Where Entry). p.index) (some-injective mine q here) ∙ same)
+
+-- the log has no place there
+pub none_there : (places : List (Where Entry)) (front : List Event) (count : ℕ) (place : Where Entry) → length front ≡ count → length places < count →
+    (q : Where Entry) → get_elem? places (length front - 1) ≡ some q → ¬ (q.index ≡ place.index)
+none_there places front count place long high q at same = omega (arith, at_place places (length front - 1) q at, long, high)
+
 pub some_story : (e : Entry) (answer : Answer) → 0 < length (story e answer)
 some_story e answer = omega (arith, length-append (lines_of e.before.value.items) (line e.session e.asked.value answer ∷ []))
 
@@ -125,6 +140,21 @@ has_calls row game diagram limit count last p front is =
     let size : count ≡ length (story p.0.value p.1) = front.count_is ∙ ap (λ (o : Option (Where Entry × Answer)). length (story_to o)) is in
     let some = some_story p.0.value p.1 in
     omega arith
+
+pub front_long : {row : Shelves} {game : NamedGame} {diagram : NamedDiagram} {limit : ℕ} (count : ℕ) (last : Option (Where Entry × Answer)) (front : List Event) → IsFront row game diagram limit count last →
+    events_of (family_between game diagram) (story_to last) ≡ front → length front ≡ count
+front_long count last front kept view = ap length (sym view) ∙ front_length count last kept
+
+-- the log lacks a front that ends at this place
+pub lacking : {row : Shelves} {game : NamedGame} {diagram : NamedDiagram} {limit : ℕ} (places : List (Where Entry)) (count : ℕ) (last : Option (Where Entry × Answer)) (place told : Where Entry) (answer : Answer) (front : List Event) →
+    IsFront row game diagram limit count last → last ≡ Some (place, answer) → told ≡ place → events_of (family_between game diagram) (story_to last) ≡ front →
+    ((q : Where Entry) → get_elem? places (length front - 1) ≡ some q → ¬ (q.index ≡ place.index)) → IsLacking row (family_between game diagram) places front told
+lacking {row} {game} {diagram} {limit} places count last place told answer front kept is same view other = record {
+  shows = subst (λ (p : Where Entry). Shows row p) (sym same) (subst (IsInRow row) is kept.in_row);
+  answer = answer;
+  ends = sym view ∙ ap (λ (o : Option (Where Entry × Answer)). events_of (family_between game diagram) (story_to o)) is ∙ ap (λ (p : Where Entry). events_of (family_between game diagram) (story p.value answer)) (sym same);
+  other = λ q at alike. other q at (alike ∙ ap (λ (p : Where Entry). p.index) same);
+}
 
 module _ (row : Shelves) (game : NamedGame) (diagram : NamedDiagram) (c : Chronicle) (newest : List Event) (kept : IsChronicle row game diagram c newest) where
   abbrev F : Family

@@ -1,5 +1,5 @@
 -- Tokens as callers see them.
-use Rattle.std.specs.Prelude.{◌≡◌, ℕ, List, [], ◌∷◌, ◌++◌}
+use Rattle.std.specs.Prelude.{◌≡◌, ℕ, zero, suc, ◌+◌, List, [], ◌∷◌, ◌++◌}
 use Rattle.boxcar.specs.Table.{Shelves}
 use Rattle.vpg_desk.specs.Book.{Reply}
 use Rattle.vpg_desk.specs.History.{Event}
@@ -21,3 +21,8 @@ pub record Named : Type 0 where
   pub row : Shelves
   pub name : ℕ
   pub parts : ℕ
+
+-- the numbers from 1 to this one, added up: the parts of the ledger that so many sessions have
+abbrev pub up_to : ℕ → ℕ
+up_to zero = 0
+up_to (suc n) = suc n + up_to n

@@ -31,6 +31,17 @@ impl<L: Terms, F: fmt::Display> fmt::Debug for Fault<L, F> {
     }
 }
 
+/// Why there is no watch that begins with a front.
+#[derive(Clone, Copy, Debug, PartialEq, Eq, Error)]
+pub enum NotWatched {
+    /// There are 64 watches.
+    #[error("NoPlace")]
+    NoPlace,
+    /// The sheet of the log finds no memory.
+    #[error("Memory")]
+    Memory,
+}
+
 /// The refusal of a call that the desk never refuses: there is none.
 pub type Never = Infallible;
 

@@ -9,7 +9,7 @@ ghost use Rattle.vpg_desk.specs.History.{book_after};
 ghost use Rattle.vpg_desk.specs.Lawful.{HandsIn, IsLawful};
 ghost use Rattle.vpg_office.specs.Faults.{Stops};
 ghost use Rattle.vpg_office.specs.Fronts.{IsHistory, calls_by, event, family_between};
-ghost use Rattle.vpg_office.specs.Kept.{HasRoom, IsChronicle, IsEntryOf, lines_of};
+ghost use Rattle.vpg_office.specs.Kept.{HasRoom, IsChronicle, IsEntryOf, IsLacking, lines_of};
 ghost use Rattle.vpg_office.specs.Made.{IsEntered, Leaves};
 ghost use Rattle.vpg_office.specs.Story.{IsNamed, call_of, refusal_of, reply_of};
 
@@ -20,6 +20,7 @@ use crate::fault::{Fault, Returned};
 use crate::front::{Front, Place};
 use crate::purse::Purse;
 use crate::replay::{Replay, carry_out};
+use crate::session::Session;
 use crate::terms::Terms;
 use std::alloc::Global;
 use std::marker::Model;
@@ -60,7 +61,6 @@ pub struct Log<L: Terms> {
     pub(crate) desk: Replay,
     pub(crate) purse: Purse<L>,
     pub(crate) press: Press<Front<L>>,
-    pub(crate) sessions: u32,
 }
 
 impl<L: Terms> Model for Log<L> {
@@ -77,30 +77,32 @@ impl<L: Terms> Model for Log<L> {
     ghost view = { λ g. g.calls.newest };
 
     ghost invariant = { λ g.
-        IsLog L.shelves L.game L.diagram L.limit g.calls.chronicle g.calls.newest g.desk g.calls.room g.purse g.press.front
-        g.sessions };
+        IsLog L.shelves L.game L.diagram L.limit g.calls.chronicle g.calls.newest g.desk g.calls.room g.purse
+        g.press.front };
 }
 
 impl<L: Terms> Calls<L> {
-    /// Whether the front is a beginning of the log.
-    pub(crate) fn has(&self, row: &Row, front: &Front<L>) -> bool
+    /// Done where the front is a beginning of the log; else its place, where the log has another one, or none.
+    pub(crate) fn has(&self, row: &Row, front: &Front<L>) -> Result<(), Place>
         requires row { row.now ≡ L.shelves }
         requires kept { IsChronicle L.shelves L.game L.diagram self.now.chronicle self.now.newest }
-        ensures { result ≡ true → IsPrefix front.now self.now.newest }
+        ensures begins { OnOk result (IsPrefix front.now self.now.newest) }
+        ensures lacks { IfErr result
+            (IsLacking L.shelves (family_between L.game L.diagram) self.now.chronicle.places.items front.now) }
     {
         let Some((place, _)) = &front.last else {
-            return true;
+            return Ok(());
         };
         let count = front.count;
         if count > self.chronicle.places.len() {
-            return false;
+            return Err(place.again());
         }
         let mine = &self.chronicle.places[count - 1];
         if mine.index() != place.index() {
-            return false;
+            return Err(place.again());
         }
         row.agrees(mine, place);
-        true
+        Ok(())
     }
 
     /// Takes a call in where the log has room for it and the session made none since the front, and gives it a place.
@@ -221,9 +223,6 @@ impl<L: Terms> Calls<L> {
     }
 }
 
-/// The most sessions of an office.
-pub(crate) const MOST_SESSIONS: u32 = 1024;
-
 impl<L: Terms> Log<L> {
     ghost use Rattle.vpg_desk.specs.State.{IsOpened};
 
@@ -252,45 +251,25 @@ impl<L: Terms> Log<L> {
             desk,
             purse,
             press,
-            sessions: 0,
         }
     }
 
-    /// The number of a further session, and the log so far.
-    pub(crate) fn joined(&mut self) -> Option<(u32, Front<L>)>
+    /// A further session, and the log so far.
+    pub(crate) fn joined(&mut self) -> Option<(Session<L>, Front<L>)>
         ensures same { self.new ≡ self.old }
         ensures number { IfSome result (λ r. (1 ≤ r.0) × (r.0 ≤ 1024)) }
         ensures history { IfSome result (λ r. IsHistory (family_between L.game L.diagram) r.1) }
     {
-        if self.sessions == MOST_SESSIONS {
-            return None;
-        }
-        self.sessions += 1;
-        Some((self.sessions, self.calls.newest.copy()))
+        let (number, share) = self.purse.seat()?;
+        Some((Session::numbered(number, share), self.calls.newest.copy()))
     }
 
-    /// Whether the front is a beginning of the log.
-    pub(crate) fn has(&self, row: &Row, front: &Front<L>) -> bool
-        requires { row.now ≡ L.shelves }
-        ensures { result ≡ true → IsPrefix front.now self.now }
+    /// The front of all calls.
+    pub(crate) fn whole(&self) -> Front<L>
+        ensures whole { result ≡ self.now }
+        ensures history { IsHistory (family_between L.game L.diagram) self.now }
     {
-        self.calls.has(row, front)
-    }
-
-    /// Returns where the log has the front, which becomes the whole log.
-    pub(crate) fn catches_up<R: Wait>(&self, rt: &R, row: &Row, front: &mut Front<L>)
-        requires { row.now ≡ L.shelves }
-        ensures begins { IsPrefix front.old front.new }
-        ensures whole { front.new ≡ self.now }
-        ensures history { IsHistory (family_between L.game L.diagram) front.new }
-    {
-        'again: for _ in rt.forever() {
-            if self.has(row, front) {
-                *front = self.calls.newest.copy();
-                return;
-            }
-        }
-        unreachable!()
+        self.calls.newest.copy()
     }
 
     /// Makes a call of the session: it is taken in, the desk carries it out, and its answer is entered.

@@ -7,12 +7,14 @@ ghost use Rattle.vpg_diagram.specs.FeatureDiagram.{feature_count};
 ghost use Rattle.vpg_game.specs.Game.{IsAtLimit};
 ghost use Rattle.vpg_partial.specs.KnownLaws.{HasConflictOf};
 ghost use Rattle.vpg_desk.specs.Book.{opened};
-ghost use Rattle.vpg_desk.specs.History.{book_after};
+ghost use Rattle.vpg_desk.specs.History.{Event, book_after};
 ghost use Rattle.vpg_desk.specs.State.{IsOpened};
 ghost use Rattle.vpg_office.specs.Fronts.{IsHistory, family_between};
 ghost use Rattle.vpg_office.specs.Kept.{HasOwn};
 
 use crate::chronicle::Row;
+use crate::ended::Ended;
+use crate::fault::NotWatched;
 use crate::front::{Front, Own};
 use crate::log::Log;
 use crate::publishing::opening_press;
@@ -23,6 +25,7 @@ use crate::session::Session;
 use crate::site::Site;
 use crate::terms::Terms;
 use crate::undo_token::Undo;
+use crate::unshared::Unshared;
 use std::alloc::{AllocError, Global};
 use std::marker::PhantomData;
 use std::sync::{Arc, Mutex, MutexGuard, Wait};
@@ -49,8 +52,8 @@ impl Rowed for Row {
     }
 }
 
-/// Sessions share it by reference; `close` or `end` ends it. The types of the row and of the log are parameters, so
-/// that the check finds that threads may share it.
+/// Sessions share it by reference; `close` or `end` ends it, `unshare` takes it out of its lock. The types of the row
+/// and of the log are parameters, so that the check finds that threads may share it.
 pub struct Shared<W: Rowed, L: Terms, T> {
     pub(crate) row: W,
     pub(crate) log: Mutex<T>,
@@ -69,7 +72,7 @@ pub struct TooManySessions;
 pub struct TokensOut<L: Terms> {
     /// Their exact number, at least one.
     pub tokens: u64,
-    pub office: Office<L>,
+    pub office: Unshared<L>,
 }
 
 /// An office that isn't opened, with what was handed in.
@@ -195,7 +198,7 @@ impl<L: Terms> Shared<Row, L, Log<L>> {
         let joined = log.joined();
         MutexGuard::unlock(log);
         match joined {
-            Some((number, front)) => Ok((Session::numbered(number), front)),
+            Some(joined) => Ok(joined),
             None => Err(TooManySessions),
         }
     }
@@ -212,6 +215,24 @@ impl<L: Terms> Shared<Row, L, Log<L>> {
         watch
     }
 
+    /// A watch whose first read gives a sheet of this front or of a later one, whatever was published before: the
+    /// sheet of the log is published first. Refused where that finds no memory, and where there are 64 watches.
+    pub fn watch_from<R: Wait>(
+        &self,
+        rt: &R,
+        alloc: Global,
+        front: &Front<L>,
+    ) -> Result<Watch<Front<L>>, NotWatched>
+        ensures begins { IfOk result (IsPrefix front.now) }
+        ensures history { IfOk result (IsHistory (family_between L.game L.diagram)) }
+    {
+        let mut log = self.log_with(rt, front, &None);
+        let _whole = log.whole();
+        let watch = log.watch_whole(rt, alloc);
+        MutexGuard::unlock(log);
+        watch
+    }
+
     /// The log, locked where it has the front and a token's.
     pub(crate) fn log_with<R: Wait>(
         &self,
@@ -224,7 +245,7 @@ impl<L: Terms> Shared<Row, L, Log<L>> {
     {
         'again: for _ in rt.forever() {
             let log = self.log.lock(rt);
-            if log.has_both(&self.row, front, own) {
+            if log.calls.has_both(&self.row, front, own).is_ok() {
                 return log;
             }
             MutexGuard::unlock(log);
@@ -250,52 +271,41 @@ impl<L: Terms> Shared<Row, L, Log<L>> {
         }
     }
 
-    /// Ends the office, where no token of it is out; else it comes back, with their exact number. The front grows to
-    /// the whole log, by which the number is told.
-    pub fn close<R: Wait>(self, rt: &R, front: &mut Front<L>) -> Result<(), TokensOut<L>>
-        ensures begins { IsPrefix front.old front.new }
-        ensures history { IsHistory (family_between L.game L.diagram) front.new }
-        ensures closed { OnOk result ((book_after (family_between L.game L.diagram) opened front.new).tokens ≡ 0) }
-        ensures out { IfErr result
-            (λ out. (out.tokens ≡ (book_after (family_between L.game L.diagram) opened front.new).tokens) ×
-            (0 < out.tokens)) }
+    /// The office out of its lock: nobody shares it now.
+    pub fn unshare(self) -> Unshared<L>
+        ensures history { IsHistory (family_between L.game L.diagram) result }
     {
         let Shared { row, log, of: _ } = self;
         let log = log.into_inner();
-        // the number is that of the whole log, whatever the front that was lent has seen
-        log.catches_up(rt, &row, front);
-        let tokens = log.tokens();
-        if tokens == 0 {
-            log.dissolve(rt, row);
-            return Ok(());
-        }
-        Err(TokensOut {
-            tokens,
-            office: Shared {
-                row,
-                log: Mutex::new(log),
-                of: PhantomData,
-            },
-        })
+        let _whole = log.whole();
+        Unshared { row, log }
     }
 
-    /// Spends the tokens handed in, and ends the office, whatever the log's room. It is never refused, and answers how
-    /// many further tokens are out. The front grows to the whole log, by which the number is told.
-    pub fn end<R: Wait>(
-        self,
-        rt: &R,
-        front: &mut Front<L>,
-        undos: Vec<Undo<L>>,
-        redos: Vec<Redo<L>>,
-    ) -> u64
-        ensures begins { IsPrefix front.old front.new }
-        ensures history { IsHistory (family_between L.game L.diagram) front.new }
-        ensures further { result + length undos.items + length redos.items
-            ≡ (book_after (family_between L.game L.diagram) opened front.new).tokens }
+    /// Ends the office, where no token of it is out; else it comes back, with their exact number.
+    pub fn close<R: Wait>(self, rt: &R) -> Result<Ended<L>, TokensOut<L>>
+        ensures closed { IfOk result (λ ended. ended ≡ 0) }
+        ensures out { IfErr result
+            (λ out. (out.tokens ≡ (book_after (family_between L.game L.diagram) opened out.office).tokens) ×
+            (0 < out.tokens)) }
+        ensures history { IfErr result (λ out. IsHistory (family_between L.game L.diagram) out.office) }
     {
-        let Shared { row, log, of: _ } = self;
-        let log = log.into_inner();
-        log.catches_up(rt, &row, front);
-        log.end(rt, row, undos, redos)
+        let office = self.unshare();
+        let tokens = office.tokens();
+        if tokens == 0 {
+            let Unshared { row, log } = office;
+            return Ok(log.dissolve(rt, row));
+        }
+        Err(TokensOut { tokens, office })
+    }
+
+    /// Spends the tokens handed in, and ends the office, whatever the log's room. It is never refused. What is left
+    /// tells how many further tokens are out.
+    pub fn end<R: Wait>(self, rt: &R, undos: Vec<Undo<L>>, redos: Vec<Redo<L>>) -> Ended<L>
+        ensures further { (log : List Event) ×
+            (IsHistory (family_between L.game L.diagram) log ×
+            (result + length undos.items + length redos.items
+            ≡ (book_after (family_between L.game L.diagram) opened log).tokens)) }
+    {
+        self.unshare().end(rt, undos, redos)
     }
 }

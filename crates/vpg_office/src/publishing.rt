@@ -9,6 +9,7 @@ ghost use Rattle.vpg_desk.specs.State.{IsOpened};
 ghost use Rattle.vpg_office.specs.Fronts.{IsHistory, family_between};
 ghost use Rattle.vpg_office.specs.Sheets.{IsSheetOf};
 
+use crate::fault::NotWatched;
 use crate::front::Front;
 use crate::log::Log;
 use crate::replay::Replay;
@@ -98,6 +99,31 @@ impl<L: Terms> Log<L> {
                     &self.calls.newest,
                 );
             }
+        }
+    }
+
+    /// A watch of the log as it is: its sheet is published first.
+    pub(crate) fn watch_whole<R: Wait>(
+        &mut self,
+        rt: &R,
+        alloc: Global,
+    ) -> Result<Watch<Front<L>>, NotWatched>
+        ensures same { self.new ≡ self.old }
+        ensures whole { IfOk result (λ watch. watch ≡ self.old) }
+    {
+        let shown = publish(
+            rt,
+            alloc,
+            &mut self.press,
+            &mut self.desk,
+            &self.calls.newest,
+        );
+        if shown.is_err() {
+            return Err(NotWatched::Memory);
+        }
+        match self.press.watch() {
+            Ok(watch) => Ok(watch),
+            Err(_) => Err(NotWatched::NoPlace),
         }
     }
 

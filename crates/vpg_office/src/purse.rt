@@ -1,16 +1,21 @@
-//! The tokens that are out, as a ledger counts them.
-ghost use Rattle.std.specs.Prelude.{◌≡◌, ◌+◌, ◌≤◌};
+//! The tokens that are out and the sessions that joined, as a ledger counts them.
+ghost use Rattle.std.specs.Prelude.{◌≡◌, ◌+◌, ◌≤◌, IfSome};
 
 use crate::terms::Terms;
 use std::marker::Model;
 use std::sync::ledger::{Book, Share};
 
-/// What counts the tokens that are out: each has a share of one part and amount 1, and the other parts are here.
-/// Contracts see their number.
+/// The most sessions of an office.
+const MOST_SESSIONS: u32 = 1024;
+
+/// What counts the tokens that are out: each has a share of one part and amount 1. A session has a share of as many
+/// parts as its number says, and no amount. The other parts are here. Contracts see how many tokens are out.
 #[derive(Drop)]
 pub struct Purse<L: Terms> {
     book: Book<L>,
     rest: Share<L>,
+    // how many sessions joined
+    sessions: u32,
 }
 
 impl<L: Terms> Model for Purse<L> {
@@ -20,18 +25,39 @@ impl<L: Terms> Model for Purse<L> {
 
     ghost view = { λ p. p.book.total };
 
-    ghost use Rattle.std.specs.Prelude.{◌≡◌, ◌+◌};
+    ghost use Rattle.std.specs.Prelude.{◌≡◌, ◌+◌, ◌≤◌};
+    ghost use Rattle.vpg_office.specs.Token.{up_to};
 
-    ghost invariant = { λ p. (p.rest.amount ≡ 0) × (p.rest.parts + p.book.total ≡ 1048577) };
+    ghost invariant = { λ p. (p.rest.amount ≡ 0) × (p.rest.parts + p.book.total + up_to p.sessions ≡ 2097153) ×
+        (p.sessions ≤ 1024) };
 }
 
 impl<L: Terms> Purse<L> {
-    /// No token is out.
+    /// No token is out, and no session joined.
     pub(crate) fn of(book: Book<L>, rest: Share<L>) -> Purse<L>
-        requires { (book.total ≡ 0) × (rest.amount ≡ 0) × (rest.parts ≡ 1048577) }
+        requires { (book.total ≡ 0) × (rest.amount ≡ 0) × (rest.parts ≡ 2097153) }
         ensures { result ≡ 0 }
     {
-        Purse { book, rest }
+        Purse {
+            book,
+            rest,
+            sessions: 0,
+        }
+    }
+
+    /// The number of a further session, and its share. None where there are 1,024.
+    pub(crate) fn seat(&mut self) -> Option<(u32, Share<L>)>
+        requires { self.old ≤ 1048576 }
+        ensures same { self.new ≡ self.old }
+        ensures number { IfSome result (λ r. (1 ≤ r.0) × (r.0 ≤ 1024)) }
+        ensures share { IfSome result (λ r. (r.1.parts ≡ r.0) × (r.1.amount ≡ 0)) }
+    {
+        if self.sessions == MOST_SESSIONS {
+            return None;
+        }
+        self.sessions += 1;
+        let share = self.rest.split_off(self.sessions as u64, 0);
+        Some((self.sessions, share))
     }
 
     /// The share of one token more.

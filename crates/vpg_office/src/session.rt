@@ -32,8 +32,9 @@ use crate::terms::Terms;
 use crate::tokens::{ForgetCall, KeepCall, RedoCall, UndoCall};
 use crate::undo_token::Undo;
 use std::alloc::Global;
-use std::marker::{Model, PhantomData};
+use std::marker::Model;
 use std::snapshot::Snapshot;
+use std::sync::ledger::Share;
 use std::sync::{Arc, MutexGuard, Wait};
 use vpg_desk::{CommitFault, DecideFault, RedoFault, RetractFault, UndoFault};
 use vpg_measure::{Harvest, Order, PageGames};
@@ -44,7 +45,8 @@ use vpg_verdict::Verdict;
 #[derive(Drop)]
 pub struct Session<L: Terms> {
     number: u32,
-    of: PhantomData<L>,
+    // of as many parts as its number says
+    share: Share<L>,
 }
 
 impl<L: Terms> Model for Session<L> {
@@ -54,20 +56,19 @@ impl<L: Terms> Model for Session<L> {
 
     ghost view = { λ s. s.number };
 
-    ghost use Rattle.std.specs.Prelude.{◌≤◌};
+    ghost use Rattle.std.specs.Prelude.{◌≡◌, ◌≤◌};
 
-    ghost invariant = { λ s. (1 ≤ s.number) × (s.number ≤ 1024) };
+    ghost invariant = { λ s. (1 ≤ s.number) × (s.number ≤ 1024) × (s.share.parts ≡ s.number) ×
+        (s.share.amount ≡ 0) };
 }
 
 impl<L: Terms> Session<L> {
-    pub(crate) fn numbered(number: u32) -> Session<L>
-        requires { (1 ≤ number) × (number ≤ 1024) }
+    pub(crate) fn numbered(number: u32, share: Share<L>) -> Session<L>
+        requires number { (1 ≤ number) × (number ≤ 1024) }
+        requires share { (share.parts ≡ number) × (share.amount ≡ 0) }
         ensures { result ≡ number }
     {
-        Session {
-            number,
-            of: PhantomData,
-        }
+        Session { number, share }
     }
 
     /// Its number.

@@ -6,8 +6,9 @@ use std::alloc::{AllocError, Global};
 use std::marker::Model;
 use std::sync::ledger::Blank;
 
-/// One more than the most calls of a log, so than the most tokens that are out.
-pub const PARTS: u64 = 1_048_577;
+/// One more than the most calls of a log, so than the most tokens that are out, and 1,048,576 for sessions, whose
+/// numbers add up to less.
+pub const PARTS: u64 = 2_097_153;
 
 /// An empty row of calls and a blank ledger, which no office has yet. Who opens an office picks its type parameter from
 /// them. Contracts see the row's name, and the ledger's name and parts.
@@ -30,7 +31,7 @@ impl Model for Site {
 
     ghost view = { λ g. record { row = g.row; name = g.blank.name; parts = g.blank.parts } };
 
-    ghost invariant = { λ g. g.blank.parts ≡ 1048577 };
+    ghost invariant = { λ g. g.blank.parts ≡ 2097153 };
 }
 
 impl Site {

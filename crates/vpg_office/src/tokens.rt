@@ -1,8 +1,9 @@
 //! Calls that take a token.
-ghost use Rattle.std.specs.Prelude.{◌≡◌, true, IfSome, option_map};
+ghost use Rattle.std.specs.Prelude.{◌≡◌, IfErr, IfSome, OnOk, option_map};
 ghost use mathlib.Core.List.{IsPrefix};
 ghost use Rattle.vpg_desk.specs.Faults.{redo_refusal, undo_refusal};
-ghost use Rattle.vpg_office.specs.Kept.{HasOwn, IsLastGiven};
+ghost use Rattle.vpg_office.specs.Fronts.{family_between};
+ghost use Rattle.vpg_office.specs.Kept.{HasOwn, IsChronicle, IsLastGiven, Lacking, OwnIsLacking};
 ghost use Rattle.vpg_office.specs.Story.{refusal_of};
 
 use crate::asked::{Answer, Cause};
@@ -10,8 +11,8 @@ use crate::calls::{Call, Issued, Made, Unmade, reason};
 use crate::chronicle::Row;
 use crate::closing::{forget_one, keep_one};
 use crate::fault::Never;
-use crate::front::{Front, Own};
-use crate::log::Log;
+use crate::front::{Front, Own, Place};
+use crate::log::Calls;
 use crate::purse::Purse;
 use crate::redo_token::Redo;
 use crate::terms::Terms;
@@ -41,38 +42,64 @@ fn redo_cause(fault: RedoFault) -> Option<Cause>
     }
 }
 
-impl<L: Terms> Log<L> {
-    /// Whether the log has a token's front, and its last call that gave a token of the serial is at the end of that.
-    fn holds(&self, row: &Row, serial: u64, own: &Front<L>) -> bool
-        requires { row.now ≡ L.shelves }
-        ensures { result ≡ true → IsLastGiven self.now serial own.now }
+/// What the log lacks: the place at the end of a front. None where its last call that gave a token of the serial isn't
+/// at the end of the token's front.
+#[derive(Drop)]
+pub(crate) struct Lacks {
+    pub(crate) place: Option<Place>,
+}
+
+impl<L: Terms> Calls<L> {
+    /// Done where the log has a token's front, and its last call that gave a token of the serial is at the end of that.
+    fn holds(&self, row: &Row, serial: u64, own: &Front<L>) -> Result<(), Lacks>
+        requires row { row.now ≡ L.shelves }
+        requires kept { IsChronicle L.shelves L.game L.diagram self.now.chronicle self.now.newest }
+        ensures last { OnOk result (IsLastGiven self.now.newest serial own.now) }
+        ensures lacks { IfErr result
+            (λ lacks. OwnIsLacking L.shelves (family_between L.game L.diagram) self.now.chronicle.places.items
+            self.now.newest serial own.now lacks.place) }
     {
         let count = own.len();
         if serial == 0 || count == 0 {
-            return false;
+            return Err(Lacks { place: None });
         }
         let at = (serial - 1) as usize;
-        if at >= self.calls.chronicle.given.len() || self.calls.chronicle.given[at] != count - 1 {
-            return false;
+        if at >= self.chronicle.given.len() || self.chronicle.given[at] != count - 1 {
+            return Err(Lacks { place: None });
         }
-        self.calls.has(row, own)
+        match self.has(row, own) {
+            Ok(()) => Ok(()),
+            Err(place) => Err(Lacks { place: Some(place) }),
+        }
     }
 
-    /// Whether the log has the front and a token's.
-    pub(crate) fn has_both(&self, row: &Row, front: &Front<L>, own: &Option<Own<L>>) -> bool
-        requires { row.now ≡ L.shelves }
-        ensures front { result ≡ true → IsPrefix front.now self.now }
-        ensures own { result ≡ true → IfSome own.now (HasOwn self.now) }
+    /// Done where the log has the front and a token's.
+    pub(crate) fn has_both(
+        &self,
+        row: &Row,
+        front: &Front<L>,
+        own: &Option<Own<L>>,
+    ) -> Result<(), Lacks>
+        requires row { row.now ≡ L.shelves }
+        requires kept { IsChronicle L.shelves L.game L.diagram self.now.chronicle self.now.newest }
+        ensures front { OnOk result (IsPrefix front.now self.now.newest) }
+        ensures own { OnOk result (IfSome own.now (HasOwn self.now.newest)) }
+        ensures lacks { IfErr result
+            (λ lacks. Lacking L.shelves (family_between L.game L.diagram) self.now.chronicle.places.items
+            self.now.newest front.now own.now lacks.place) }
     {
-        if !self.has(row, front) {
-            return false;
+        if let Err(place) = self.has(row, front) {
+            return Err(Lacks { place: Some(place) });
         }
         let Some(own) = own else {
-            return true;
+            return Ok(());
         };
-        match own.serial {
-            Some(serial) => self.holds(row, serial, &own.front),
-            None => self.has(row, &own.front),
+        if let Some(serial) = own.serial {
+            return self.holds(row, serial, &own.front);
+        }
+        match self.has(row, &own.front) {
+            Ok(()) => Ok(()),
+            Err(place) => Err(Lacks { place: Some(place) }),
         }
     }
 }

@@ -82,15 +82,17 @@ impl<L: Terms> Client<L> {
     {
         let Client {
             office,
-            mut front,
+            front,
             sessions: _,
         } = self;
-        let calls = front.len();
-        let further = office.end(rt, &mut front, undos, redos);
-        if front.len() != calls {
+        let office = office.unshare();
+        let log = office.log();
+        if !office.has(&front) || log.len() != front.len() {
+            let _further = office.end(rt, undos, redos);
             return None;
         }
-        Some(further)
+        let ended = office.end(rt, undos, redos);
+        Some(ended.further())
     }
 }
 

@@ -202,13 +202,7 @@ fn room<R: Wait, T>(rt: &R, alloc: Global) -> Vec<T>
 }
 
 /// Ends an office with no memory, and hands in what is held: how many tokens are missed.
-fn end<L: Terms, R: Wait>(
-    rt: &R,
-    heap: &mut Heap,
-    office: Office<L>,
-    front: &mut Front<L>,
-    held: Held<L>,
-) -> u64 {
+fn end<L: Terms, R: Wait>(rt: &R, heap: &mut Heap, office: Office<L>, held: Held<L>) -> u64 {
     let mut undos = room(rt, heap.alloc());
     let mut redos = room(rt, heap.alloc());
     match held {
@@ -217,34 +211,28 @@ fn end<L: Terms, R: Wait>(
         Held::Redo(token) => redos.push_reserved(token),
     }
     heap.leave(0);
-    let further = office.end(rt, front, undos, redos);
+    let further = office.end(rt, undos, redos).further();
     heap.relax();
     further
 }
 
 /// Closes an office with no memory, where nothing is held: how many tokens were out. Then it is ended.
-fn close<L: Terms, R: Wait>(
-    rt: &R,
-    heap: &mut Heap,
-    office: Office<L>,
-    front: &mut Front<L>,
-    held: Held<L>,
-) -> u64 {
+fn close<L: Terms, R: Wait>(rt: &R, heap: &mut Heap, office: Office<L>, held: Held<L>) -> u64 {
     let alloc = heap.alloc();
     match held {
         Held::Nothing => {
             heap.leave(0);
-            let out = match office.close(rt, front) {
-                Ok(()) => 0,
+            let out = match office.close(rt) {
+                Ok(ended) => ended.further(),
                 Err(TokensOut { tokens, office }) => {
-                    let _further = office.end(rt, front, Vec::new(alloc), Vec::new(alloc));
+                    let _further = office.end(rt, Vec::new(alloc), Vec::new(alloc));
                     tokens
                 }
             };
             heap.relax();
             out
         }
-        held => end(rt, heap, office, front, held),
+        held => end(rt, heap, office, held),
     }
 }
 
@@ -257,12 +245,11 @@ impl<R: Wait> Work<R> for Try<'_> {
         self,
         rt: &R,
         office: Office<L>,
-        front: Front<L>,
+        _front: Front<L>,
         game: Arc<GuardedGame>,
         _diagram: Arc<Diagram>,
     ) -> Outcome {
         let Try { heap, row, bytes } = self;
-        let mut front = front;
         let (held, tried) = if matches!(row.call, Call::Open) {
             heap.relax();
             (Held::Nothing, OPENED)
@@ -273,9 +260,9 @@ impl<R: Wait> Work<R> for Try<'_> {
         };
         let is_held = serial_of(&held).is_some() as usize == row.call.tokens();
         let missed = if matches!(row.call, Call::Close) {
-            close(rt, heap, office, &mut front, held)
+            close(rt, heap, office, held)
         } else {
-            end(rt, heap, office, &mut front, held)
+            end(rt, heap, office, held)
         };
         Outcome {
             end: tried.end,

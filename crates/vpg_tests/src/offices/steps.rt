@@ -10,7 +10,7 @@ use std::sync::{Arc, Wait};
 use std::test::*;
 use vpg_diagram::Diagram;
 use vpg_game::GuardedGame;
-use vpg_office::{Front, Office, Terms, TokensOut, Undo, Work};
+use vpg_office::{Ended, Front, Office, Terms, TokensOut, Undo, Work, read};
 
 /// What two sessions do on an office.
 #[derive(Clone, Copy)]
@@ -30,21 +30,20 @@ pub struct Day {
 }
 
 /// The office, which isn't closed since one token is out.
-fn kept_open<L: Terms>(rt: &impl Abort, closed: Result<(), TokensOut<L>>) -> Office<L> {
+fn kept_open<L: Terms>(rt: &impl Abort, closed: Result<Ended<L>, TokensOut<L>>) -> Office<L> {
     match closed {
-        Ok(()) => rt.panic("closed"),
+        Ok(_ended) => rt.panic("closed"),
         Err(TokensOut { tokens, office }) => {
             require(rt, tokens == 1, "one token is out");
-            office
+            office.share()
         }
     }
 }
 
-/// The office, which can't be closed, whether a front of no calls is lent or one of all.
-fn refused<L: Terms, R: Wait + Abort>(rt: &R, office: Office<L>, hand: &mut Hand<L>) -> Office<L> {
-    let office = kept_open(rt, office.close(rt, &mut hand.sitting.early));
-    let seat = hand.sitting.seats.first_mut().expect(rt, "no session");
-    kept_open(rt, office.close(rt, &mut seat.front))
+/// The office, which can't be closed, however often that is asked.
+fn refused<L: Terms, R: Wait + Abort>(rt: &R, office: Office<L>) -> Office<L> {
+    let office = kept_open(rt, office.close(rt));
+    kept_open(rt, office.close(rt))
 }
 
 /// The token of a change, where one is held.
@@ -58,6 +57,18 @@ fn undos_of<L: Terms, R: Abort + AllocGlobal>(rt: &R, held: Held<L>) -> Vec<Undo
     undos
 }
 
+/// A watch from a front reads the sheet of that front or of a later one, where there is a place for it.
+fn watches<L: Terms, R: Wait + Abort + AllocGlobal>(rt: &R, office: &Office<L>, front: &Front<L>) {
+    if let Ok(mut watch) = office.watch_from(rt, rt.alloc(), front) {
+        let sheet = given(rt, read(&mut watch));
+        require(
+            rt,
+            front.len() <= sheet.at as usize,
+            "the sheet of an older front",
+        );
+    }
+}
+
 /// Ends an office: closes it with no token out, or ends it with the first token, where that is held, and no other out.
 pub fn end<L: Terms, R: Wait + Abort + AllocGlobal>(
     rt: &R,
@@ -68,13 +79,17 @@ pub fn end<L: Terms, R: Wait + Abort + AllocGlobal>(
     let lender = if closes { By::One } else { By::Two };
     let seats = &mut hand.sitting.seats;
     let seat = seats.get_mut(lender as usize).expect(rt, "no session");
-    if closes {
-        given(rt, office.close(rt, &mut seat.front));
+    watches(rt, &office, &seat.front);
+    let office = office.unshare();
+    require(rt, office.has(&seat.front), "a beginning of the log");
+    seat.front = office.log();
+    let ended = if closes {
+        given(rt, office.share().close(rt))
     } else {
         let undos = undos_of(rt, mem::replace(&mut hand.tokens.first, Held::Nothing));
-        let further = office.end(rt, &mut seat.front, undos, Vec::new(rt.alloc()));
-        require(rt, further == 0, "no token is out");
-    }
+        office.share().end(rt, undos, Vec::new(rt.alloc()))
+    };
+    require(rt, ended.further() == 0, "no token is out");
 }
 
 /// Whether the front that was lent as a day ended has all calls, and a watch reads nothing.
@@ -103,7 +118,7 @@ fn spend<L: Terms, R: Wait + Abort + AllocGlobal>(rt: &R, office: Office<L>, day
     let office = if day.before.is_empty() {
         office
     } else {
-        refused(rt, office, &mut hand)
+        refused(rt, office)
     };
     carry_out(rt, &office, &mut hand, day.name, day.steps);
     end(rt, office, &mut hand, day.closes);

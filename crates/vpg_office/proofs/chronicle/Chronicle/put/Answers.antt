@@ -10,3 +10,6 @@ returns-clause-places c = grind (arith, common_steps)
 
 pub returns-clause-given : goal.returns-clause-given
 returns-clause-given c = grind (arith, common_steps)
+
+pub returns-clause-all : goal.returns-clause-all
+returns-clause-all c = grind (arith, common_steps)

@@ -1,0 +1,99 @@
+//! What is left of an office that has ended: its ledger, which takes tokens that come late.
+ghost use Rattle.std.specs.Prelude.{◌≡◌, ◌+◌, length};
+
+use crate::closing::{forget_one, keep_one};
+use crate::purse::Purse;
+use crate::redo_token::Redo;
+use crate::terms::Terms;
+use crate::undo_token::Undo;
+use std::marker::Model;
+use vpg_desk::Desk;
+
+/// What is left of an office that has ended. Contracts see how many of its tokens are still out: each that comes back
+/// is one less, so where none is out nobody has one.
+pub struct Ended<L: Terms> {
+    pub(crate) desk: Desk,
+    pub(crate) purse: Purse<L>,
+}
+
+// Not derived, so that letting one go is one call: a derived way would be proved anew at each exit that owns one.
+impl<L: Terms> Drop for Ended<L> {
+    fn drop(self) {
+        let Ended { desk: _, purse: _ } = self;
+    }
+}
+
+impl<L: Terms> Model for Ended<L> {
+    ghost use Rattle.std.specs.Prelude.{ℕ};
+
+    ghost Value = { ℕ };
+
+    ghost view = { λ e. e.purse };
+
+    ghost use Rattle.std.specs.Prelude.{◌≡◌};
+
+    ghost invariant = { λ e. e.purse ≡ e.desk.book.tokens };
+}
+
+impl<L: Terms> Ended<L> {
+    /// How many tokens are out.
+    pub fn further(&self) -> u64
+        ensures { result ≡ self.now }
+    {
+        self.desk.tokens()
+    }
+
+    /// Spends the token of a change. It is one of those that are out.
+    pub fn keep(&mut self, token: Undo<L>)
+        ensures { self.new + 1 ≡ self.old }
+    {
+        keep_one(&mut self.desk, &mut self.purse, token);
+    }
+
+    /// Spends the token of a change that was undone. It is one of those that are out.
+    pub fn forget(&mut self, token: Redo<L>)
+        ensures { self.new + 1 ≡ self.old }
+    {
+        forget_one(&mut self.desk, &mut self.purse, token);
+    }
+
+    /// Spends undos, until none is left.
+    pub(crate) fn keep_all(&mut self, undos: Vec<Undo<L>>)
+        ensures { self.new + length undos.items ≡ self.old }
+    {
+        let mut undos = undos;
+        while let Some(undo) = undos.pop() {
+            self.keep(undo);
+        }
+        undos.destroy_empty();
+    }
+
+    /// Spends redos, until none is left.
+    pub(crate) fn forget_all(&mut self, redos: Vec<Redo<L>>)
+        ensures { self.new + length redos.items ≡ self.old }
+    {
+        let mut redos = redos;
+        while let Some(redo) = redos.pop() {
+            self.forget(redo);
+        }
+        redos.destroy_empty();
+    }
+}
+
+/// Where no token of an office is out, nobody has an undo of it.
+pub fn no_undo_is_out<L: Terms>(ended: Ended<L>, token: Undo<L>)
+    requires { ended ≡ 0 }
+    ensures { ⊥ }
+{
+    let mut ended = ended;
+    ended.keep(token);
+}
+
+/// Where no token of an office is out, nobody has a redo of it.
+pub fn no_redo_is_out<L: Terms>(ended: Ended<L>, token: Redo<L>)
+    requires { ended ≡ 0 }
+    ensures { ⊥ }
+{
+    let mut ended = ended;
+    ended.forget(token);
+}
