@@ -2,7 +2,7 @@
 """What a line of a script costs on a large family: decisions, lifts and settling, one line at a time.
 
     decisions.py VPGDESK[,VPGDESK..] [VERTICES [FEATURES [GAME DIAGRAM VERTEX FEATURE..]]]
-    decisions.py --instructions VPGDESK[,VPGDESK..] ..    counts instructions in place of time, by valgrind's callgrind: some 50 times as slow, and the same each time
+    decisions.py --instructions VPGDESK[,VPGDESK..] ..    counts instructions by callgrind: slow, and the same each time
 
 The family has VERTICES vertices (65,536 if left out) of sixteen edges each and FEATURES optional features (200), of which each is named by about one
 edge in a thousand. For each kind of line: the processor time of a script of 100 such lines, less that of the same script without them, over 100; the
@@ -61,8 +61,9 @@ def executed(program, game, diagram, lines):
     with tempfile.NamedTemporaryFile("w") as script:
         script.write("\n".join(lines) + "\n")
         script.flush()
-        words = ["valgrind", "--tool=callgrind", "--callgrind-out-file=/dev/null", program, "run", game, diagram, script.name]
-        ran = subprocess.run(words, stdout=subprocess.DEVNULL, stderr=subprocess.PIPE, text=True)
+        counted = ["valgrind", "--tool=callgrind", "--callgrind-out-file=/dev/null"]
+        words = [program, "run", game, diagram, script.name]
+        ran = subprocess.run(counted + words, stdout=subprocess.DEVNULL, stderr=subprocess.PIPE, text=True)
     if ran.returncode:
         sys.exit(f"the program ended with {ran.returncode}")
     return int(re.search(r"Collected : (\d+)", ran.stderr)[1]) / 1e9, 0
