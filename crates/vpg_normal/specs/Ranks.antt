@@ -1,6 +1,6 @@
 -- The priorities of fixpoints, by places: over the variables of a fixpoint and the fixpoints between. This project's
 -- own.
-use Rattle.std.specs.Prelude.{◌≡◌, ℕ, zero, suc, ◌+◌, ◌<◌, ◌≤◌, max, Option, Some, None, List, length, slice_index, slice_index_or, nat_lt, ◌==◌, if◌then◌else◌}
+use Rattle.std.specs.Prelude.{◌≡◌, ℕ, zero, suc, ◌+◌, ◌<◌, ◌≤◌, max, Option, Some, None, List, [], ◌∷◌, length, slice_index, slice_index_or, nat_lt, ◌==◌, if◌then◌else◌}
 use Rattle.vpg_requirement.specs.Priorities.{next_priority}
 use Rattle.vpg_parts.specs.declared.symbol.Symbol.{Symbol}
 use Rattle.vpg_parts.specs.declared.symbol.Symbol.TheVariants.{True, False, And, Or, SomeStep, EveryStep, Fixpoint, Variable}
@@ -28,6 +28,16 @@ abbrev pub greatest_share : List (Option ℕ) → List (Option ℕ) → List ℕ
 greatest_share scopes fixpoints priorities m from zero = 0
 greatest_share scopes fixpoints priorities m from (suc n) =
     max (greatest_share scopes fixpoints priorities m from n) (share_of scopes fixpoints priorities m (from + n))
+
+-- the places with this one before them, where a fixpoint is named there
+abbrev pub noted : Option ℕ → ℕ → List ℕ → List ℕ
+noted None k places = places
+noted (Some m) k places = k ∷ places
+
+-- the places at which fixpoints are named, among so many from one on
+abbrev pub named_from : List (Option ℕ) → ℕ → ℕ → List ℕ
+named_from fixpoints from zero = []
+named_from fixpoints from (suc n) = noted (slice_index_or fixpoints from None) from (named_from fixpoints (suc from) n)
 
 -- the priority of a fixpoint, from those behind it
 abbrev pub priority_of : List ℕ → List (Option ℕ) → List (Option ℕ) → List ℕ → ℕ → Symbol → ℕ

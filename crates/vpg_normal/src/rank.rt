@@ -1,9 +1,9 @@
 //! The priorities of fixpoints.
-ghost use Rattle.std.specs.Prelude.{◌≡◌, ℕ, ◌+◌, ◌<◌, length, slice_index, IfOk};
+ghost use Rattle.std.specs.Prelude.{◌≡◌, ℕ, ◌+◌, ◌-◌, ◌<◌, ◌≤◌, length, reverse, slice_index, IfOk};
 ghost use Rattle.vpg_requirement.specs.Priorities.{next_priority};
 ghost use Rattle.vpg_parts.specs.Parts.{kind_of};
 ghost use Rattle.vpg_normal.specs.Sizes.{sizes_of};
-ghost use Rattle.vpg_normal.specs.Ranks.{crossed, share_of, greatest_share, priority_of, ArePriorities};
+ghost use Rattle.vpg_normal.specs.Ranks.{crossed, share_of, greatest_share, named_from, noted, priority_of, ArePriorities};
 
 use crate::look::{link_at, number_at};
 use std::alloc::{AllocError, Global};
@@ -54,21 +54,30 @@ fn share(
 }
 
 /// Returns the greatest priority of a fixpoint inside this one in which its variable stands; 0 where there is none.
-/// Its operand has this size.
+///
+/// Its operand has this size. `variables` has the places of all variables behind the fixpoint, the nearest one last.
 fn inner_priority(
     scopes: &[Option<u32>],
     fixpoints: &[Option<u32>],
     priorities: &[u32],
+    variables: &[u32],
     fixpoint: u32,
     size: u32,
 ) -> u32
-    requires { fixpoint + 1 + size < 4294967296 }
+    requires fits { fixpoint + 1 + size ≤ length fixpoints.now }
+    requires few { length fixpoints.now < 2147483648 }
+    requires variables { reverse variables.now ≡
+        named_from fixpoints.now (fixpoint + 1) (length fixpoints.now - (fixpoint + 1)) }
     ensures { result ≡ greatest_share scopes.now fixpoints.now priorities.now fixpoint (fixpoint + 1) size }
 {
-    let first = fixpoint + 1;
+    let end = fixpoint + 1 + size;
     let mut greatest = 0;
-    for offset in 0..size {
-        greatest = greatest.max(share(scopes, fixpoints, priorities, fixpoint, first + offset));
+    for left in (0..variables.len()).rev() {
+        let variable = variables[left];
+        if variable >= end {
+            return greatest;
+        }
+        greatest = greatest.max(share(scopes, fixpoints, priorities, fixpoint, variable));
     }
     greatest
 }
@@ -97,19 +106,33 @@ fn priority(
     scopes: &[Option<u32>],
     fixpoints: &[Option<u32>],
     priorities: &[u32],
+    variables: &[u32],
 ) -> u32
-    requires fits { place + 1 + slice_index sizes.now (place + 1) < 4294967296 }
+    requires fits { place + 1 + slice_index sizes.now (place + 1) ≤ length fixpoints.now }
+    requires few { length fixpoints.now < 2147483648 }
     requires low { (k : ℕ) → slice_index priorities.now k < 4294967295 }
+    requires variables { reverse variables.now ≡
+        named_from fixpoints.now (place + 1) (length fixpoints.now - (place + 1)) }
     ensures { result ≡ priority_of sizes.now scopes.now fixpoints.now priorities.now place symbol }
 {
     match symbol {
         Symbol::Fixpoint(kind) => {
             let size = number_at(sizes, place + 1);
-            let inner = inner_priority(scopes, fixpoints, priorities, place, size);
+            let inner = inner_priority(scopes, fixpoints, priorities, variables, place, size);
             next_priority(kind, inner)
         }
         _ => 0,
     }
+}
+
+/// Adds a place to those of variables, where a fixpoint is named there.
+fn note(variables: &mut Vec<u32>, named: Option<u32>, place: u32) -> Result<(), AllocError>
+    ensures { IfOk result (λ _. reverse variables.new.items ≡ noted named place (reverse variables.old.items)) }
+{
+    if named.is_some() {
+        variables.push(place)?;
+    }
+    Ok(())
 }
 
 /// Returns the priority of each fixpoint; 0 for other symbols.
@@ -122,14 +145,26 @@ pub fn priorities(
 ) -> Result<Vec<u32>, AllocError>
     requires few { length symbols.now < 2147483648 }
     requires sizes { sizes.now ≡ sizes_of symbols.now }
+    requires fixpoints { length fixpoints.now ≡ length symbols.now }
     ensures { IfOk result
         (λ priorities. ArePriorities symbols.now sizes.now scopes.now fixpoints.now priorities.items 0) }
 {
     let mut priorities = vec![in alloc; 0; symbols.len()]?;
+    let mut variables = Vec::new(alloc);
     for place in (0..symbols.len()).rev() {
         let symbol = symbols[place];
-        let priority = priority(symbol, place as u32, sizes, scopes, fixpoints, &priorities);
+        let at = place as u32;
+        let priority = priority(
+            symbol,
+            at,
+            sizes,
+            scopes,
+            fixpoints,
+            &priorities,
+            &variables,
+        );
         priorities[place] = priority;
+        note(&mut variables, link_at(fixpoints, at), at)?;
     }
     Ok(priorities)
 }
