@@ -139,7 +139,3 @@ too_many g ss before after item f e l fill = count (few_items g (map items.Symbo
 
 pub first_fill : (g : Basis) (ss : List Symbol) (is : List Item) (f : NormalForm) → ss ≡ [] → Fill g (f ∷ []) (reverse is) → Fill g (f ∷ []) (map items.Symbol ss ++ reverse is)
 first_fill g ss is f e fill = subst (λ (xs : List Symbol). Fill g (f ∷ []) (map items.Symbol xs ++ reverse is)) (sym e) fill
-
-pub none_long : {A : Type 0} (xs : List A) → length xs ≡ 0 → xs ≡ []
-none_long [] e = refl
-none_long (x ∷ xs) e = absurd (omega arith)

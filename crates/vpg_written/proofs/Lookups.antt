@@ -1,16 +1,15 @@
 -- Names that are looked up.
-use Rattle.std.proofs.Common.{◌≡◌, ℕ, zero, suc, ◌-◌, ◌<◌, ◌≤◌, ◌⊎◌, inl, inr, Bool, true, false, not, cond, List, [], ◌∷◌, ◌++◌, length, map, reverse, take, get_or, Option, Some, None, bytes_eq, refl, sym, ◌∙◌, ap, arith}
+use Rattle.std.proofs.Common.{◌≡◌, ℕ, zero, suc, ◌<◌, ◌≤◌, ◌⊎◌, inl, inr, Bool, true, false, not, cond, List, [], ◌∷◌, ◌++◌, length, map, reverse, get_or, Option, Some, None, bytes_eq, refl, sym, ◌∙◌, ap, arith}
 use Rattle.std.proofs.lemmas.Bool.{cases_Bool}
-use Rattle.std.proofs.lemmas.List.{reverse-append, take_more, take_all}
+use Rattle.std.proofs.lemmas.List.{reverse-append}
 use Rattle.vpg_requirement.specs.NormalForms.{NormalForm}
 use Rattle.vpg_formula.specs.declared.mark.Mark.{Mark}
 use Rattle.vpg_written.specs.Shapes.{constant_form}
-use Rattle.vpg_written.specs.Trees.{Tree, nothing, node, Around, place_of, form_named, tree_form, tree_at, name_at, before}
-use Rattle.vpg_written.specs.Naming.{binder_name, around_of, is_binder, names_of, latest_before}
+use Rattle.vpg_written.specs.Trees.{Tree, nothing, node, place_of, form_named, tree_form, tree_at, name_at, before}
+use Rattle.vpg_written.specs.Naming.{binder_name, around_of, names_of, latest_before}
 use Rattle.vpg_written.specs.Tasks.{Basis, form_at, AreTerms}
 use Rattle.vpg_written.specs.Openings.{IsNamed}
 use Rattle.vpg_written.specs.declared.task.Binder.{Binder}
-use Rattle.vpg_written.specs.declared.task.Binder.TheVariants as binders
 use Rattle.vpg_written.specs.declared.task.Term.{Term}
 use Rattle.vpg_written.proofs.Whole.{at_map}
 
@@ -22,19 +21,6 @@ map_append f (x ∷ xs) ys = ap (λ (t : List _). f x ∷ t) (map_append f xs ys
 
 pub around_more : (bs : List Binder) (b : Binder) → around_of (bs ++ b ∷ []) ≡ binder_name b ∷ around_of bs
 around_more bs b = ap reverse (map_append binder_name bs (b ∷ [])) ∙ reverse-append (map binder_name bs) (binder_name b ∷ [])
-
-place_step : (b : Binder) (a : Around) (i : ℕ) (x : List ℕ) → place_of (binder_name b ∷ a) i x ≡ cond (is_binder b x) (Some i) (place_of a (suc i) x)
-place_step binders.Hidden a i x = refl
-place_step (binders.Named y) a i x = refl
-
-cut_last : (bs : List Binder) (d : Binder) → 1 ≤ length bs → bs ≡ take (length bs - 1) bs ++ get_or bs (length bs - 1) d ∷ []
-cut_last bs d l = sym (take_all (length bs) bs (omega arith)) ∙ ap (λ (n : ℕ). take n bs) (omega arith) ∙ take_more bs (length bs - 1) d (omega arith)
-
-pub place_last : (bs : List Binder) (d : Binder) (i : ℕ) (x : List ℕ) → 1 ≤ length bs →
-    place_of (around_of bs) i x ≡ cond (is_binder (get_or bs (length bs - 1) d) x) (Some i) (place_of (around_of (take (length bs - 1) bs)) (suc i) x)
-place_last bs d i x l = ap (λ (cs : List Binder). place_of (around_of cs) i x) (cut_last bs d l)
-    ∙ ap (λ (a : Around). place_of a i x) (around_more (take (length bs - 1) bs) (get_or bs (length bs - 1) d))
-    ∙ place_step (get_or bs (length bs - 1) d) (around_of (take (length bs - 1) bs)) i x
 
 -- ---- entries
 

@@ -158,9 +158,6 @@ module _ (names : List (List ℕ)) (actions : List ActionFormula) where
 
   -- ---- operands
 
-  pub no_operands : (ts : List Tree) (ps : List Piece) → AreStacked names actions ts ps → AreOperands names actions 0 ts ps [] []
-  no_operands ts ps h = record { front = ps; whole = sym (append-nil ps); below = h; first_is = refl; last_is = refl }
-
   pub nothing_taken : (n : ℕ) (ts : List Tree) (ps none also : List Piece) → n ≡ 0 → none ≡ [] → also ≡ [] → AreStacked names actions ts ps → AreOperands names actions n ts ps none also
   nothing_taken zero ts ps none also z e k h = record {
     front = ps;
@@ -170,9 +167,6 @@ module _ (names : List (List ℕ)) (actions : List ActionFormula) where
     last_is = k;
   }
   nothing_taken (suc n) ts ps none also z e k h = absurd (omega arith)
-
-  pub one_operand : (ts : List Tree) (ps front last : List Piece) → IsLastTerm names actions ts ps front last → AreOperands names actions 1 ts ps [] last
-  one_operand ts ps front last h = record { front = front; whole = h.whole; below = h.below; first_is = refl; last_is = h.top }
 
   pub two_operands : (n : ℕ) (ts : List Tree) (ps front last before first : List Piece) → IsLastTerm names actions ts ps front last → IsLastTerm names actions (below_top ts) front before first → (n ≡ 0 → ⊥) → (n ≡ 1 → ⊥) → AreOperands names actions n ts ps first last
   two_operands zero ts ps front last before first h k z o = absurd (z refl)

@@ -1,22 +1,21 @@
 -- Tasks: steps in front of goals, and what is still to be written.
-use Rattle.std.proofs.Common.{◌≡◌, ℕ, ◌+◌, ◌≤◌, Bool, true, false, not, List, [], ◌∷◌, ◌++◌, length, reverse, refl, sym, subst, ◌∙◌, ap, arith}
+use Rattle.std.proofs.Common.{◌≡◌, ℕ, ◌≤◌, Bool, true, false, not, List, [], ◌∷◌, ◌++◌, length, reverse, refl, sym, subst, ◌∙◌, ap}
 use Rattle.std.proofs.lemmas.List.{reverse-append}
 use Rattle.vpg_requirement.specs.Actions.{ActionFormula}
 use Rattle.vpg_requirement.specs.NormalForms.{NormalForm, variable}
 use Rattle.vpg_parts.specs.Sets.{actions_at}
 use Rattle.vpg_formula.specs.declared.mark.Mark.{Mark}
 use Rattle.vpg_formula.specs.declared.mark.Mark.TheVariants as marks
-use Rattle.vpg_written.specs.Shapes.{constant_form, joined_form, step_form, shift_form, star, inevitable}
+use Rattle.vpg_written.specs.Shapes.{joined_form, step_form, shift_form, star, inevitable}
 use Rattle.vpg_written.specs.Trees.{Tree, nothing, node, actions_in, along, Around, tree_form, before}
 use Rattle.vpg_written.specs.Terms.{ArePartsOf}
 use Rattle.vpg_written.specs.Naming.{around_of}
-use Rattle.vpg_written.specs.Tasks.{Basis, IsTree, form_at, IsAt, IsPlace, IsGoal, IsWay, IsStepBy, IsStep, AreSteps, IsTask, IsOpening}
+use Rattle.vpg_written.specs.Tasks.{Basis, IsTree, form_at, IsAt, IsGoal, IsWay, IsStepBy, IsStep, AreSteps, IsTask, IsOpening}
 use Rattle.vpg_written.specs.Openings.{is_series, IsSeries, IsAlong, is_negation, IsNegation, IsSame, IsBare, is_opened, IsNamed}
 use Rattle.vpg_written.specs.declared.piece.Piece.{Piece}
 use Rattle.vpg_written.specs.declared.piece.Parts.{Parts}
 use Rattle.vpg_written.specs.declared.task.Binder.{Binder}
 use Rattle.vpg_written.specs.declared.task.Binder.TheVariants as binders
-use Rattle.vpg_written.specs.declared.task.Place.{Place}
 use Rattle.vpg_written.specs.declared.task.Way.{Way}
 use Rattle.vpg_written.specs.declared.task.Way.TheVariants as ways
 use Rattle.vpg_written.specs.declared.task.Step.{Step}
@@ -24,7 +23,7 @@ use Rattle.vpg_written.specs.declared.task.Goal.{Goal}
 use Rattle.vpg_written.specs.declared.task.Task.{Task}
 use Rattle.vpg_written.specs.declared.task.Opening.{Opening}
 use Rattle.vpg_written.specs.declared.task.Opening.TheVariants as openings
-use Rattle.vpg_written.proofs.Raising.{shift_constant, shift_step, shift_inner, shift_star, shift_along, shift_inevitable, shift_high, hidden_form, before_alone}
+use Rattle.vpg_written.proofs.Raising.{shift_step, shift_inner, shift_star, shift_along, shift_inevitable, hidden_form, before_alone}
 use Rattle.vpg_written.proofs.Lookups.{around_more}
 use Rattle.vpg_written.proofs.Arms.{Seen, seen}
 
@@ -42,9 +41,6 @@ module _ (g : Basis) where
 
   pub tree_at_place : (ps : List Piece) (sign : Bool) (n : ℕ) (bs : List Binder) (a : Around) (t : Tree) → n ≤ length g.entries → IsTree g t ps → around_of bs ≡ a → IsAt g ps sign n bs (form_at g n sign a t)
   tree_at_place ps sign n bs a t known term e = record { known = known; tree = t; term = term; form = ap (λ (b : Around). form_at g n sign b t) (sym e) }
-
-  pub place_copied : (p q : Place) (f : NormalForm) → q.term.now ≡ p.term.now → q.is_negated ≡ p.is_negated → q.earlier ≡ p.earlier → q.scope.items ≡ p.scope.items → IsPlace g p f → IsPlace g q f
-  place_copied p q f term sign earlier scope here = rw (term, sign, earlier, scope) here
 
   -- ---- steps
 
@@ -122,12 +118,6 @@ module _ (g : Basis) where
   }
 
   -- ---- goals inside one more fixpoint
-
-  pub variable_inside : (i n : ℕ) (f : NormalForm) → n ≡ i + 1 → f ≡ variable i → shift_form 0 f ≡ variable n
-  variable_inside i n f e is = ap (shift_form 0) is ∙ ap variable (shift_high 0 i (omega arith) ∙ omega (arith, e))
-
-  pub constant_inside : (b : Bool) (f : NormalForm) → f ≡ constant_form b → shift_form 0 f ≡ constant_form b
-  constant_inside b f e = ap (shift_form 0) e ∙ shift_constant 0 b
 
   pub inevitable_inside : (b : Bool) (f h : NormalForm) → f ≡ inevitable b h → shift_form 0 f ≡ inevitable b (shift_form 0 h)
   inevitable_inside b f h e = ap (shift_form 0) e ∙ shift_inevitable 0 b h
@@ -292,9 +282,6 @@ module _ (g : Basis) where
   pub named_tree : (t : Tree) (it : Parts) (x : List ℕ) → ArePartsOf g.names g.actions t it → it.piece.mark.now ≡ marks.Named x → IsNamed t x
   named_tree nothing it x parts e = absurd parts
   named_tree (node m s u) it x parts e = sym parts.mark ∙ e
-
-  pub empty_form : (n : ℕ) (sign : Bool) (a : Around) (t : Tree) (ps : List Piece) → IsTree g t ps → ps ≡ [] → form_at g n sign a t ≡ constant_form sign
-  empty_form n sign a t ps h e = ap (form_at g n sign a) (empty_tree t ps h e)
 
   -- ---- formulas without their negations
 

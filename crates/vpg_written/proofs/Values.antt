@@ -1,17 +1,17 @@
 -- Sets of actions that are made one by one.
-use Rattle.std.proofs.Common.{◌≡◌, ℕ, zero, suc, ◌+◌, ◌<◌, ◌≤◌, ◌⊎◌, inl, inr, Bool, true, false, not, ◌&&◌, ◌||◌, List, [], ◌∷◌, ◌++◌, length, get_or, refl, sym, subst, ◌∙◌, ap, ap₂, arith, length-append}
+use Rattle.std.proofs.Common.{◌≡◌, ℕ, zero, suc, ◌+◌, ◌<◌, ◌≤◌, ◌⊎◌, inl, inr, Bool, true, false, ◌&&◌, ◌||◌, List, [], ◌∷◌, ◌++◌, length, get_or, refl, sym, subst, ◌∙◌, ap, ap₂, arith, length-append}
 use Rattle.std.proofs.lemmas.Bool.{cases_lt}
 use Rattle.std.proofs.lemmas.List.{append-nil, get_or_append_left, get_or_at}
 use Rattle.vpg_requirement.specs.Actions as numbered
 use Rattle.vpg_requirement.specs.Actions.{ActionFormula, permits}
-use Rattle.vpg_parts.specs.Sets.{is_permitted, ArePermitted, actions_at}
+use Rattle.vpg_parts.specs.Sets.{ArePermitted, actions_at}
 use Rattle.vpg_formula.specs.Regular.{Label, action}
 use Rattle.vpg_formula.specs.declared.mark.Mark.{Mark}
 use Rattle.vpg_formula.specs.declared.mark.Mark.TheVariants as marks
 use Rattle.vpg_meaning.specs.Labels.{is_named, name_at, none_of_them, actions_named}
 use Rattle.vpg_meaning.proofs.Labels.{actions_are_admitted}
 use Rattle.vpg_written.specs.Trees.{Tree, node, actions_in}
-use Rattle.vpg_written.specs.Terms.{HasConstants, AreSets, IsSetOf, joined_actions, IsSetBy}
+use Rattle.vpg_written.specs.Terms.{HasConstants, AreSets, IsSetOf, IsSetBy}
 use Rattle.vpg_written.specs.Actions.{IsActionsOf}
 
 -- ---- values of a set, one by one
@@ -42,18 +42,10 @@ one_more_value f n xs ys x h e is = subst (HasValues f (n + 1)) (sym is) (record
 pub named_set : (label : Label) (names : List (List ℕ)) (set : List Bool) → HasValues (λ a. is_named label (name_at names a)) (length names) set → IsSetOf (length names) set (actions_named label 0 names)
 named_set label names set h = λ a l. actions_are_admitted names (action label) a l ∙ h.each a l
 
-pub complement_set : (count n : ℕ) (sets : List (List Bool)) (set : List Bool) (x : ActionFormula) → HasValues (λ a. not (is_permitted sets n a)) count set → ArePermitted count sets n x → IsSetOf count set (numbered.other_than x)
-complement_set count n sets set x h are = λ a l. ap not (are a l) ∙ h.each a l
-
 -- both, or one of them
 abbrev pub joined_test : Bool → Bool → Bool → Bool
 joined_test true a b = a && b
 joined_test false a b = a || b
-
-pub joined_set : (b : Bool) (count m n : ℕ) (sets : List (List Bool)) (set : List Bool) (x y : ActionFormula) → HasValues (λ a. joined_test b (is_permitted sets m a) (is_permitted sets n a)) count set →
-    ArePermitted count sets m x → ArePermitted count sets n y → IsSetOf count set (joined_actions b x y)
-joined_set true count m n sets set x y h are also = λ a l. ap₂ ◌&&◌ (are a l) (also a l) ∙ h.each a l
-joined_set false count m n sets set x y h are also = λ a l. ap₂ ◌||◌ (are a l) (also a l) ∙ h.each a l
 
 -- ---- one more set
 

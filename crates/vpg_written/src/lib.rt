@@ -10,8 +10,8 @@
 //! refused as soon as that is known.
 //!
 //! Definitions stand in `specs/`: `Translations` has what the public contract says. `Shapes` and `Trees` have the
-//! normal form of a formula as a tree of marks; `Parsing`, `Terms`, `Actions`, `Naming`, `Tasks`, `Openings`,
-//! `Entries` and `Whole` what the code keeps, which only private contracts name.
+//! normal form of a formula as a tree of marks; `Parsing`, `Terms`, `Actions`, `Naming`, `Tasks`, `Openings`, `Entries`
+//! and `Whole` what the code keeps, which only private contracts name.
 #![tactic(auto)]
 
 mod naming;
