@@ -31,9 +31,9 @@ use Rattle.vpg_model.specs.Pairs.{pair_at, pair_for, IsPairGame}
 use Rattle.vpg_model.specs.Sources.{transition_in, system_of}
 use Rattle.vpg_model.specs.Laws.{IsGameOfParts, IsRootOf, AreOfSystem}
 use Rattle.vpg_model.proofs.Decides.{game_of_parts_is_model, game_of_parts_decides}
-use Rattle.vpg_written.specs.Translations.{AreTranslated}
+use Rattle.vpg_written.specs.Translations.{formula_at, AreTranslated}
 use Rattle.vpg_normal.specs.Standing.{StandsAt}
-use Rattle.vpg_checking.specs.Checking.{entry_at, formula_at, HoldsIn, IsModelOfEntries}
+use Rattle.vpg_checking.specs.Checking.{entry_at, EntryHoldsIn, IsModelOfEntries}
 use Rattle.vpg_checking.proofs.Lists.{zip_at, zip_length}
 use Rattle.vpg_checking.proofs.Entries.{in_order, positive_at, forms_of, forms_length, form_is, all_closed}
 
@@ -104,7 +104,7 @@ module _ (system : NamedSystem) (entries : List Entry) (positive : All (IsPositi
 
     -- the formula means what is written
     written : (text : List ℕ) → SpellsRequirements text entries → RequirementsMeanWhatIsWritten → (n : ℕ) → n < length entries → (set : List Bool) →
-        Means (product_system (truth set) (system_of system)) [] (formula_at system.actions entries n) system.first ↔ HoldsIn system entries n set
+        Means (product_system (truth set) (system_of system)) [] (formula_at system.actions entries n) system.first ↔ EntryHoldsIn system entries n set
     written text spelled means n l set = means text entries spelled system.actions (product_system (truth set) (system_of system)) (closed_product (system_of system) of_system.closed set) (has_names system is set)
         n (entry_at entries n) (slice_get-get_or entries n (entry_at [] 0) l) system.first of_system.state
 
@@ -112,6 +112,6 @@ module _ (system : NamedSystem) (entries : List Entry) (positive : All (IsPositi
     game_is_model text spelled means lines = record {
       count = as_many_vertices;
       models = λ n l. game_of_parts_is_model states sets parts system.first roots pairs vertices game of_parts (length system.actions) (system_of system) of_system n (formula_at system.actions entries n) (root_is n l) lines;
-      decided = λ n l set. same_fact (Means (product_system (truth set) (system_of system)) [] (formula_at system.actions entries n) system.first) (HoldsIn system entries n set) (product_game (truth set) game) (get_or vertices n 0) (written text spelled means n l set)
+      decided = λ n l set. same_fact (Means (product_system (truth set) (system_of system)) [] (formula_at system.actions entries n) system.first) (EntryHoldsIn system entries n set) (product_game (truth set) game) (get_or vertices n 0) (written text spelled means n l set)
           (game_of_parts_decides states sets parts system.first roots pairs vertices game of_parts (length system.actions) (system_of system) of_system n (formula_at system.actions entries n) (root_is n l) set);
     }

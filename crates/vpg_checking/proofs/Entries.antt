@@ -8,7 +8,7 @@ use Rattle.vpg_requirement.specs.Priorities.{IsClosedBelow}
 use Rattle.vpg_formula.specs.Requirements.{Entry, AreEntries, no_entry, entry, begins_entry, SpellsEntries, alone, several, SpellsRequirements}
 use Rattle.vpg_formula.specs.Words.{words_of}
 use Rattle.vpg_meaning.specs.Translation.{formula_of, formulas_in_order}
-use Rattle.vpg_checking.specs.Checking.{formula_at}
+use Rattle.vpg_written.specs.Translations.{formula_at}
 
 -- ---- how many there are
 

@@ -9,24 +9,19 @@ use Rattle.vpg_system.specs.SystemText.{NamedSystem, IsTextOf}
 use Rattle.vpg_formula.specs.Written.{constant}
 use Rattle.vpg_formula.specs.Requirements.{Entry, SpellsRequirements}
 use Rattle.vpg_requirement.specs.Systems.{product_system}
-use Rattle.vpg_requirement.specs.Formulas.{Formula, nowhere}
 use Rattle.vpg_requirement.specs.Laws.{IsDecided}
-use Rattle.vpg_meaning.specs.Translation.{formulas_in_order}
 use Rattle.vpg_meaning.specs.Meaning.{Holds}
 use Rattle.vpg_model.specs.Sources.{system_of}
 use Rattle.vpg_model.specs.Laws.{IsModel}
+use Rattle.vpg_written.specs.Translations.{formula_at}
 
 -- the entry of this number; past the end there is none but `false`
 abbrev pub entry_at : List Entry → ℕ → Entry
 entry_at entries n = slice_index_or entries n (record { name = []; formula = constant false })
 
--- the formula that this entry stands for, where actions have these names
-abbrev pub formula_at : List (List ℕ) → List Entry → ℕ → Formula
-formula_at names entries n = slice_index_or (formulas_in_order names [] entries) n nowhere
-
 -- What this entry says, behind those before it, holds at the first state of the product that has these features.
-abbrev pub HoldsIn : NamedSystem → List Entry → ℕ → List Bool → Type 0
-HoldsIn system entries n set =
+abbrev pub EntryHoldsIn : NamedSystem → List Entry → ℕ → List Bool → Type 0
+EntryHoldsIn system entries n set =
     Holds system.actions (product_system (truth set) (system_of system)) (take n entries) (entry_at entries n).formula
     system.first
 
@@ -38,7 +33,7 @@ pub record IsModelOfEntries (lines : List Line) (system : NamedSystem) (entries 
   pub models : (n : ℕ) → n < length entries →
       IsModel lines game (system_of system) (formula_at system.actions entries n) system.first (slice_index roots n)
   pub decided : (n : ℕ) → n < length entries → (set : List Bool) →
-      IsDecided (HoldsIn system entries n set) (product_game (truth set) game) (slice_index roots n)
+      IsDecided (EntryHoldsIn system entries n set) (product_game (truth set) game) (slice_index roots n)
 
 -- The texts spell a system, with guards over features of these names, and requirements; the game is a model of these,
 -- and decides them, each at the vertex that is named for it.

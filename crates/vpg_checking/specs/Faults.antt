@@ -15,12 +15,11 @@ use Rattle.vpg_model.specs.Departures.{Departure}
 use Rattle.vpg_model.specs.Pairs.{pair_for, IsRefused}
 use Rattle.vpg_model.specs.Sources.{system_of}
 use Rattle.vpg_model.specs.Laws.{AreOfSystem, IsRootOf}
-use Rattle.vpg_written.specs.Translations.{IsTooLong}
+use Rattle.vpg_written.specs.Translations.{formula_at, IsTooLong}
 use Rattle.vpg_written.specs.declared.translation.TranslationFault.{TranslationFault}
 use Rattle.vpg_written.specs.declared.translation.TranslationFault.TheVariants as of_translation
 use Rattle.vpg_checking.specs.declared.fault.CheckingFault.{CheckingFault}
 use Rattle.vpg_checking.specs.declared.fault.CheckingFault.TheVariants as told
-use Rattle.vpg_checking.specs.Checking.{formula_at}
 
 -- ---- what is told: out of memory is a fault of no text
 
