@@ -10,3 +10,7 @@ pub mod PhraseCode
 pub mod Standings
 pub mod Entries
 pub mod EntryCode
+pub mod Naming
+pub mod Places
+pub mod NamingCode
+pub mod Faults

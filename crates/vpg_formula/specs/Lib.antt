@@ -15,3 +15,8 @@ pub mod Requirements
 pub mod EntryReading
 pub mod EntryCode
 pub mod ActionCode
+pub mod Naming
+pub mod Places
+pub mod Faults
+pub mod FaultCode
+pub mod NamingCode

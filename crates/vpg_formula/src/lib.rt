@@ -8,10 +8,12 @@
 //! In a whole text each name in a formula is bound there, under an even number of negations within its fixpoint, or it
 //! is an earlier entry's. `parse_formula` does not ask what names stand for.
 //!
-//! Definitions stand in `specs/`: `Words` (which words a text has), `Regular` and `RegularGrammar` (action and regular
-//! formulas), `Written` and `FormulaGrammar` (formulas), `Standings` (how the names of a formula stand), `Requirements`
-//! (whole texts), `Marks` (a formula as a list). `Reading` and `EntryReading` are the reader as functions on lists,
-//! `ReadCode`, `EntryCode` and `ActionCode` what its code keeps; only private contracts name them.
+//! Definitions stand in `specs/`: `Words` (which words a text has), `Places` (where they begin), `Regular` and
+//! `RegularGrammar` (action and regular formulas), `Written` and `FormulaGrammar` (formulas), `Standings` (how the
+//! names of a formula stand), `Naming` (which words are names), `Requirements` (whole texts), `Faults` (where a text is
+//! faulty), `Marks` (a formula as a list). `Reading` and `EntryReading` are the reader as functions on lists,
+//! `ReadCode`, `EntryCode`, `NamingCode`, `FaultCode` and `ActionCode` what its code keeps; only private contracts name
+//! them.
 #![tactic(auto)]
 
 mod fault;

@@ -7,6 +7,7 @@ ghost use Rattle.vpg_formula.specs.Written.{Phrase};
 ghost use Rattle.vpg_formula.specs.Marks.{regular_marks, phrase_marks, AreMarksOf};
 ghost use Rattle.vpg_formula.specs.Reading.{regular_at, formula_at};
 ghost use Rattle.vpg_formula.specs.ReadCode.{texts, GivesAll, is_memory, is_out_of_memory};
+ghost use Rattle.vpg_formula.specs.FaultCode.{place_left};
 
 use crate::fault::{DEEPEST, FormulaFault};
 use crate::formula::formula;
@@ -30,11 +31,15 @@ pub struct Formula {
 }
 
 /// The byte at which so many words are left.
-pub(crate) fn place(places: &[usize], left: usize) -> usize {
+pub(crate) fn place(places: &[usize], left: usize) -> usize
+    ensures { result ≡ place_left places.now left }
+{
     if left < places.len() {
-        places[places.len() - 1 - left]
-    } else {
-        0
+        return places[places.len() - 1 - left];
+    }
+    match places {
+        [] => 0,
+        [first, ..] => *first,
     }
 }
 

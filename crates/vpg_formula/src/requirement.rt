@@ -1,16 +1,20 @@
 //! Whole texts of requirements.
-ghost use Rattle.std.specs.Prelude.{◌≡◌, ◌<◌, ◌≤◌, ◌-◌, ℕ, List, ◌∷◌, [], ◌||◌, false, length, is_some, IfOk, IfErr, IfSome, IfNone, MatchResult};
+ghost use Rattle.std.specs.Prelude.{◌≡◌, ◌<◌, ◌≤◌, ◌-◌, ℕ, List, ◌∷◌, [], ◌||◌, true, false, length, is_some, IfOk, IfErr, IfSome, IfNone, MatchResult};
 ghost use Rattle.vpg_formula.specs.Requirements as spec;
 ghost use Rattle.vpg_formula.specs.Requirements.{SpellsRequirements, AreRequirements, IsRefused, marked};
 ghost use Rattle.vpg_formula.specs.EntryReading.{standings_of, body_at, item_behind, entries_at, lone_at, requirements_at};
 ghost use Rattle.vpg_formula.specs.ReadCode.{texts};
 ghost use Rattle.vpg_formula.specs.EntryCode.{words_in, entries_of, Goes, earlier_of, Halts, IsBody, IsHead, IsItem, AreRead, IsChecked, Refuses, AreWhole, is_halt_of_memory, is_fault_of_memory, is_halt_negated, is_fault_negated};
+ghost use Rattle.vpg_formula.specs.Faults.{IsAt};
+ghost use Rattle.vpg_formula.specs.FaultCode.{fault_at, HaltsAt, BodyAt, HeadAt, NegatedIn, NegatedAt, first_of, AreReadTo};
+ghost use Rattle.vpg_formula.specs.Naming.{at_first};
+ghost use Rattle.vpg_formula.specs.NamingCode.{left_mentions, NamesAt};
 
 use crate::fault::{DEEPEST, MOST_ENTRIES, RequirementFault};
 use crate::formula::formula;
 use crate::head::is_variable;
 use crate::mark::{Mark, Name};
-use crate::mentions::{Mention, mentions};
+use crate::mentions::{first_unknown, left_at, mentions};
 use crate::parse::{Formula, place};
 use crate::regular::after_word;
 use crate::stop::{Halt, Stop};
@@ -52,29 +56,12 @@ struct Items {
     negated: Option<usize>,
 }
 
-/// How many words are left at a name.
-fn left_at(mentions: &[Mention], index: usize) -> usize {
-    if index < mentions.len() {
-        mentions[index].left
-    } else {
-        0
-    }
-}
-
-/// How many words are left at the first name that is not known.
-fn first_unknown(mentions: &[Mention]) -> Option<usize> {
-    for mention in mentions {
-        if !mention.is_known {
-            return Some(mention.left);
-        }
-    }
-    None
-}
-
 /// The fault of a formula that ends with this one: that of a name in front of it that is not known, if there is one.
 fn leftmost(alloc: Global, entries: &[Entry], words: &[&[u8]], left: usize, halt: Halt) -> Halt
-    requires { is_halt_negated halt ≡ false }
-    ensures { is_halt_negated result ≡ false }
+    requires early { is_halt_negated halt ≡ false }
+    requires at { BodyAt (earlier_of entries.now) (texts words.now) halt }
+    ensures early { is_halt_negated result ≡ false }
+    ensures at { BodyAt (earlier_of entries.now) (texts words.now) result }
 {
     let Ok(mentions) = mentions(alloc, entries, words, left) else {
         return Halt::Memory;
@@ -93,7 +80,9 @@ fn check_names(
     words: &[&[u8]],
     end: usize,
 ) -> Result<Option<usize>, Halt>
-    ensures { IsChecked result (standings_of (earlier_of entries.now) marks.now) }
+    ensures checked { IsChecked result (standings_of (earlier_of entries.now) marks.now) }
+    ensures at { NamesAt result (standings_of (earlier_of entries.now) marks.now)
+        (left_mentions (earlier_of entries.now) at_first end (texts words.now)) }
 {
     let Ok(standings) = standings(alloc, entries, marks) else {
         return Err(Halt::Memory);
@@ -121,6 +110,8 @@ fn read_body<'a, 't>(
     ensures body { IfOk result (λ b. IsBody (earlier_of entries.now) b.0.negated b.0.marks.items
         (texts words.now) (texts b.1.now)) }
     ensures none { IfErr result (λ h. Halts h (body_at (earlier_of entries.now) (texts words.now))) }
+    ensures negated { IfOk result (λ b. NegatedIn (earlier_of entries.now) (texts words.now) b.0.negated) }
+    ensures at { IfErr result (λ h. BodyAt (earlier_of entries.now) (texts words.now) h) }
     ensures shorter { IfOk result (λ b. length b.1.now ≤ length words.now) }
 {
     let mut marks = Vec::new(alloc);
@@ -148,7 +139,7 @@ fn read_body<'a, 't>(
 }
 
 /// The first word, and those behind it.
-fn split_first<'a, 't>(words: &'a [&'t [u8]]) -> Option<(&'t [u8], &'a [&'t [u8]])>
+pub(crate) fn split_first<'a, 't>(words: &'a [&'t [u8]]) -> Option<(&'t [u8], &'a [&'t [u8]])>
     ensures words { words_in result ≡ texts words.now }
     ensures some { IfSome result (λ p. texts words.now ≡ p.0.now ∷ texts p.1.now) }
     ensures shorter { IfSome result (λ p. length p.1.now < length words.now) }
@@ -183,6 +174,8 @@ fn head<'a, 't>(
     ensures few { IfOk result (λ _. length entries.now < 64) }
     ensures none { IfErr result (λ h. Halts h (entries_at (64 - length entries.now) (earlier_of entries.now)
         (name.now ∷ texts words.now))) }
+    ensures at { IfErr result (λ h. HeadAt (earlier_of entries.now) (length entries.now) name.now
+        (texts words.now) h) }
     ensures shorter { IfOk result (λ rest. length rest.now ≤ length words.now) }
 {
     let left = words.len() + 1;
@@ -211,6 +204,8 @@ fn read_entry<'a, 't>(
     ensures item { IfOk result (λ i. IsItem (earlier_of entries.now) name.now i.0.negated
         (i.0.entry.name, i.0.entry.formula.marks.items) (texts words.now) (texts i.1.now)) }
     ensures none { IfErr result (λ h. Halts h (item_behind (earlier_of entries.now) name.now (texts words.now))) }
+    ensures negated { IfOk result (λ i. NegatedIn (earlier_of entries.now) (texts words.now) i.0.negated) }
+    ensures at { IfErr result (λ h. BodyAt (earlier_of entries.now) (texts words.now) h) }
     ensures shorter { IfOk result (λ i. length i.1.now ≤ length words.now) }
 {
     let (Body { marks, negated }, rest) = read_body(alloc, entries, words)?;
@@ -229,7 +224,8 @@ fn read_entry<'a, 't>(
 
 /// The first of two places, of which the first is that of earlier words.
 fn first_place(a: Option<usize>, b: Option<usize>) -> Option<usize>
-    ensures { is_some result ≡ is_some a || is_some b }
+    ensures some { is_some result ≡ is_some a || is_some b }
+    ensures first { result ≡ first_of a b }
 {
     match a {
         Some(left) => Some(left),
@@ -250,6 +246,12 @@ fn add_entry<'a, 't>(
     ensures none { (all : List (List ℕ)) →
         Goes items.old.negated (entries_of items.old.entries.items) all (name.now ∷ texts words.now) →
         IfErr result (λ h. Halts h (entries_at 64 [] all)) }
+    ensures read { (all : List (List ℕ)) →
+        AreReadTo items.old.negated (entries_of items.old.entries.items) all (name.now ∷ texts words.now) →
+        IfOk result (λ rest. AreReadTo items.new.negated (entries_of items.new.entries.items) all (texts rest.now)) }
+    ensures at { (all : List (List ℕ)) →
+        AreReadTo items.old.negated (entries_of items.old.entries.items) all (name.now ∷ texts words.now) →
+        IfErr result (λ h. HaltsAt all h) }
     ensures shorter { IfOk result (λ rest. length rest.now ≤ length words.now) }
 {
     let formula = head(&items.entries, name, words)?;
@@ -266,6 +268,8 @@ fn several(alloc: Global, words: &[&[u8]]) -> Result<Items, Halt>
     ensures items { IfOk result (λ i. AreRead i.negated (entries_of i.entries.items)
         (entries_at 64 [] (texts words.now))) }
     ensures none { IfErr result (λ h. Halts h (entries_at 64 [] (texts words.now))) }
+    ensures negated { IfOk result (λ i. NegatedAt (texts words.now) i.negated) }
+    ensures at { IfErr result (λ h. HaltsAt (texts words.now) h) }
 {
     let mut items = Items {
         entries: Vec::new(alloc),
@@ -283,6 +287,8 @@ fn several(alloc: Global, words: &[&[u8]]) -> Result<Items, Halt>
 fn alone(alloc: Global, words: &[&[u8]]) -> Result<Items, Halt>
     ensures items { IfOk result (λ i. AreRead i.negated (entries_of i.entries.items) (lone_at (texts words.now))) }
     ensures none { IfErr result (λ h. Halts h (lone_at (texts words.now))) }
+    ensures negated { IfOk result (λ i. NegatedIn [] (texts words.now) i.negated) }
+    ensures at { IfErr result (λ h. BodyAt [] (texts words.now) h) }
 {
     let mut entries = Vec::new(alloc);
     let (Body { marks, negated }, rest) = read_body(alloc, &entries, words)?;
@@ -304,6 +310,8 @@ fn read_all(alloc: Global, words: &[&[u8]]) -> Result<Items, Halt>
     ensures items { IfOk result (λ i. AreRead i.negated (entries_of i.entries.items)
         (requirements_at (texts words.now))) }
     ensures none { IfErr result (λ h. Halts h (requirements_at (texts words.now))) }
+    ensures negated { IfOk result (λ i. NegatedAt (texts words.now) i.negated) }
+    ensures at { IfErr result (λ h. HaltsAt (texts words.now) h) }
 {
     if begins_entry(words) {
         several(alloc, words)
@@ -316,6 +324,7 @@ fn read_all(alloc: Global, words: &[&[u8]]) -> Result<Items, Halt>
 fn whole(alloc: Global, words: &[&[u8]]) -> Result<Vec<Entry>, Halt>
     ensures whole { IfOk result (λ v. AreWhole (entries_of v.items) (requirements_at (texts words.now))) }
     ensures none { IfErr result (λ h. Refuses h (requirements_at (texts words.now))) }
+    ensures at { IfErr result (λ h. HaltsAt (texts words.now) h) }
 {
     let Items { entries, negated } = read_all(alloc, words)?;
     match negated {
@@ -328,6 +337,7 @@ fn whole(alloc: Global, words: &[&[u8]]) -> Result<Vec<Entry>, Halt>
 fn fault(words: &Words, halt: Halt) -> RequirementFault
     ensures memory { is_fault_of_memory result ≡ is_halt_of_memory halt }
     ensures negated { is_fault_negated result ≡ is_halt_negated halt }
+    ensures at { result ≡ fault_at words.now.places.items halt }
 {
     match halt {
         Halt::Syntax { left } => RequirementFault::Syntax {
@@ -372,6 +382,8 @@ impl Requirements {
             (λ e. e ≡ RequirementFault.Memory) }
         // A text is refused for a negated variable only where nothing else is wrong, and else where it spells none.
         ensures refused { IfErr result (λ e. IsRefused text.now e) }
+        // The fault is where it says.
+        ensures at { IfErr result (λ e. IsAt text.now e) }
     {
         let Ok(words) = split_words(alloc, text) else {
             return Err(RequirementFault::Memory);

@@ -5,6 +5,7 @@ ghost use Rattle.vpg_features.specs.Names.{is_name_byte};
 ghost use Rattle.vpg_formula.specs.Words.{is_blank, gap_len, is_keyword, starts_name, open_behind, action_len, quoted_len, deeper, is_closed, line_len, quote_len, name_len, is_pair, word_len, after_gap, words_of};
 ghost use Rattle.vpg_formula.specs.ReadCode.{texts};
 ghost use Rattle.vpg_formula.specs.ActionCode.{end_at};
+ghost use Rattle.vpg_formula.specs.FaultCode.{ArePlaces};
 
 use std::alloc::{AllocError, Global};
 use vpg_features::is_name_byte;
@@ -244,7 +245,10 @@ fn first_word(text: &[u8]) -> Option<(&[u8], &[u8])>
     ensures some { IfSome result (λ p. words_of text.now ≡ p.0.now ∷ words_of p.1.now) }
     ensures shorter { IfSome result (λ p. length p.0.now + length p.1.now ≤ length text.now) }
     ensures longer { IfSome result (λ p. 0 < length p.0.now) }
+    ensures rest { IfSome result (λ p. p.1.now ≡ drop (word_len (after_gap text.now)) (after_gap text.now)) }
+    ensures whole { IfSome result (λ p. length p.0.now + length p.1.now ≡ length (after_gap text.now)) }
     ensures none { IfNone result (words_of text.now ≡ []) }
+    ensures blank { IfNone result (after_gap text.now ≡ []) }
 {
     let text = after_gap(text);
     if text.is_empty() {
@@ -262,7 +266,8 @@ pub(crate) struct Words<'t> {
 
 /// The words of a text, in order.
 pub(crate) fn split_words(alloc: Global, text: &[u8]) -> Result<Words, AllocError>
-    ensures { IfOk result (λ w. texts w.words.items ≡ words_of text.now) }
+    ensures words { IfOk result (λ w. texts w.words.items ≡ words_of text.now) }
+    ensures places { IfOk result (λ w. ArePlaces text.now w.places.items) }
 {
     let mut words = Vec::new(alloc);
     let mut places = Vec::new(alloc);

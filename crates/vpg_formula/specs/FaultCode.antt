@@ -1,0 +1,102 @@
+-- What the code keeps of places in a text: how many words are left, as the places of the specs.
+use Rattle.std.specs.Prelude.{◌≡◌, ℕ, suc, ◌+◌, ◌-◌, ◌<◌, ◌≤◌, List, [], ◌++◌, length, Bool, true, false, not, if◌then◌else◌, nat_lt, slice_index_or, Option, Some, None, is_some}
+use Rattle.vpg_formula.specs.Words.{words_of}
+use Rattle.vpg_formula.specs.Places.{place_of}
+use Rattle.vpg_formula.specs.Written.{is_variable}
+use Rattle.vpg_formula.specs.Standings.{is_among}
+use Rattle.vpg_formula.specs.Requirements.{Entry, Marked, marked, AreEntries, are_positive}
+use Rattle.vpg_formula.specs.Faults.{IsTwiceAt, IsTooManyAt, IsUnknownAt, IsNegatedIn, IsNegatedAt}
+use Rattle.vpg_formula.specs.Naming.{mentions, first_unknown}
+use Rattle.vpg_formula.specs.declared.fault.RequirementFault.{RequirementFault}
+use Rattle.vpg_formula.specs.declared.fault.RequirementFault.TheVariants as faults
+use Rattle.vpg_formula.specs.declared.stop.Halt.{Halt}
+use Rattle.vpg_formula.specs.declared.stop.Halt.TheVariants as halts
+
+-- the places of a text's words, and its length behind them
+pub record ArePlaces (text : List ℕ) (places : List ℕ) : Type 0 where
+  pub count : length places ≡ suc (length (words_of text))
+  pub each : (k : ℕ) → k < length places → slice_index_or places k 0 ≡ place_of text k
+
+-- the place at which so many words are left; where there are not so many words, that of the first
+abbrev pub place_left : List ℕ → ℕ → ℕ
+place_left places left =
+    if nat_lt left (length places) then slice_index_or places (length places - 1 - left) 0
+    else slice_index_or places 0 0
+
+-- the fault in a text with these places
+abbrev pub fault_at : List ℕ → Halt → RequirementFault
+fault_at places (halts.Syntax left) = faults.Syntax (place_left places left)
+fault_at places (halts.Unknown left) = faults.UnknownVariable (place_left places left)
+fault_at places (halts.TooDeep left) = faults.TooDeep (place_left places left)
+fault_at places (halts.Twice left) = faults.Twice (place_left places left)
+fault_at places (halts.TooMany left) = faults.TooMany (place_left places left)
+fault_at places (halts.Negated left) = faults.NegatedVariable (place_left places left)
+fault_at places halts.Memory = faults.Memory
+
+-- so many words are left where this holds behind the others
+pub record IsLeft (ws : List (List ℕ)) (left : ℕ) (Is : ℕ → Type 0) : Type 0 where
+  pub words : ℕ
+  pub sum : words + left ≡ length ws
+  pub is : Is words
+
+-- Where words are no requirements.
+abbrev pub HaltsAt : List (List ℕ) → Halt → Type 0
+HaltsAt ws (halts.Twice left) = IsLeft ws left (IsTwiceAt ws)
+HaltsAt ws (halts.TooMany left) = IsLeft ws left (IsTooManyAt ws)
+HaltsAt ws (halts.Unknown left) = IsLeft ws left (IsUnknownAt ws)
+HaltsAt ws (halts.Negated left) = IsLeft ws left (IsNegatedAt ws)
+HaltsAt ws h = Unit {0}
+
+-- Where words begin no formula.
+abbrev pub BodyAt : List (List ℕ) → List (List ℕ) → Halt → Type 0
+BodyAt earlier ws halts.Memory = Unit {0}
+BodyAt earlier ws (halts.Syntax left) = Unit {0}
+BodyAt earlier ws (halts.TooDeep left) = Unit {0}
+BodyAt earlier ws (halts.Unknown left) = IsLeft ws left (λ k. first_unknown (mentions earlier ws) ≡ Some k)
+BodyAt earlier ws h = ⊥
+
+-- Where the first negated name of a formula is, if it has one.
+abbrev pub NegatedIn : List (List ℕ) → List (List ℕ) → Option ℕ → Type 0
+NegatedIn earlier ws None = Unit {0}
+NegatedIn earlier ws (Some left) = IsLeft ws left (IsNegatedIn earlier ws)
+
+-- Where the first of all is.
+abbrev pub NegatedAt : List (List ℕ) → Option ℕ → Type 0
+NegatedAt ws None = Unit {0}
+NegatedAt ws (Some left) = IsLeft ws left (IsNegatedAt ws)
+
+-- the first of two places, of which the first is that of earlier words
+abbrev pub first_of : Option ℕ → Option ℕ → Option ℕ
+first_of None b = b
+first_of (Some left) b = Some left
+
+-- the name of an entry that is not new
+pub record IsRepeated (earlier : List (List ℕ)) (name : List ℕ) (ws : List (List ℕ)) (left : ℕ) : Type 0 where
+  pub variable : is_variable name ≡ true
+  pub again : is_among earlier name ≡ true
+  pub all_left : left ≡ suc (length ws)
+
+-- the name of an entry behind 64 of them
+pub record IsBeyond (earlier : List (List ℕ)) (n : ℕ) (name : List ℕ) (ws : List (List ℕ)) (left : ℕ) : Type 0 where
+  pub many : 64 ≤ n
+  pub variable : is_variable name ≡ true
+  pub new : is_among earlier name ≡ false
+  pub all_left : left ≡ suc (length ws)
+
+-- Where words begin no entry behind so many of these names, for what stands in front of its formula.
+abbrev pub HeadAt : List (List ℕ) → ℕ → List ℕ → List (List ℕ) → Halt → Type 0
+HeadAt earlier n name ws (halts.Twice left) = IsRepeated earlier name ws left
+HeadAt earlier n name ws (halts.TooMany left) = IsBeyond earlier n name ws left
+HeadAt earlier n name ws (halts.Unknown left) = ⊥
+HeadAt earlier n name ws (halts.Negated left) = ⊥
+HeadAt earlier n name ws h = Unit {0}
+
+-- Entries that are read, with the first negated name, and the words behind them.
+pub record AreReadTo (negated : Option ℕ) (made : List Marked) (all rest : List (List ℕ)) : Type 0 where
+  pub entries : List Entry
+  pub put : made ≡ marked entries
+  pub front : List (List ℕ)
+  pub parts : all ≡ front ++ rest
+  pub are : AreEntries 64 [] front entries
+  pub tells : is_some negated ≡ not (are_positive [] entries)
+  pub place : NegatedAt all negated
