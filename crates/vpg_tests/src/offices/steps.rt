@@ -40,10 +40,13 @@ fn kept_open<L: Terms>(rt: &impl Abort, closed: Result<Ended<L>, TokensOut<L>>) 
     }
 }
 
-/// The office, which can't be closed, however often that is asked.
-fn refused<L: Terms, R: Wait + Abort>(rt: &R, office: Office<L>) -> Office<L> {
-    let office = kept_open(rt, office.close(rt));
-    kept_open(rt, office.close(rt))
+/// The office, which can't be closed. A front of no calls and one of the first session become its log.
+fn refused<L: Terms, R: Wait + Abort>(rt: &R, office: Office<L>, hand: &mut Hand<L>) -> Office<L> {
+    let office = kept_open(rt, office.close(rt)).unshare();
+    hand.sitting.early = office.log();
+    let seat = hand.sitting.seats.first_mut().expect(rt, "no session");
+    seat.front = office.log();
+    kept_open(rt, office.share().close(rt))
 }
 
 /// The token of a change, where one is held.
@@ -118,7 +121,7 @@ fn spend<L: Terms, R: Wait + Abort + AllocGlobal>(rt: &R, office: Office<L>, day
     let office = if day.before.is_empty() {
         office
     } else {
-        refused(rt, office)
+        refused(rt, office, &mut hand)
     };
     carry_out(rt, &office, &mut hand, day.name, day.steps);
     end(rt, office, &mut hand, day.closes);
