@@ -1,6 +1,10 @@
 pub mod Choices
 pub mod Contradictions
 pub mod Counting
+pub mod Making
+pub mod Models
 pub mod Naming
+pub mod Only
+pub mod Rooting
 pub mod Sights
 pub mod Told

@@ -3,7 +3,7 @@ use Rattle.std.proofs.Common.{◌≡◌, ℕ, Bool, true, false, true≢false, L
 use Rattle.std.specs.Prelude.{OnErr, if◌then◌else◌}
 use Rattle.vpg_diagram.specs.DiagramText.{NamedDiagram, IsTextOf}
 use Rattle.vpg_game.specs.Game.{NamedGame}
-use Rattle.vpg_family.specs.Families.{IsDiagramFault, IsGameFault, IsFamilyFault, IsSomeDiagram, IsUnread, SpellsFamily}
+use Rattle.vpg_family.specs.Families.{IsDiagramFault, IsGameFault, IsFamilyFault, IsUnread, SpellsFamily}
 use Rattle.vpg_family.specs.Pictures.{IsUndrawn, TellsContradiction}
 use Rattle.vpg_family.specs.declared.fault.Fault.{Fault}
 use Rattle.vpg_family.specs.declared.fault.Fault.TheVariants as told
@@ -55,9 +55,10 @@ unread_diagram text (told.Diagram fault) h = (text, h)
 unread_diagram text told.Memory h = tt
 unread_diagram text _ h = absurd h
 
-pub unread_game : (text : List ℕ) (fault : Fault) → IsSomeDiagram text → (fault ≡ told.Memory) ⊎ (fault ≡ told.GameUnreadable) → IsUnread fault
-unread_game text fault is (inl e) = subst IsUnread (sym e) tt
-unread_game text fault is (inr e) = subst IsUnread (sym e) (text, is)
+-- out of memory, or a fault that is told of files
+pub unread_as : (fault other : Fault) → IsUnread other → (fault ≡ told.Memory) ⊎ (fault ≡ other) → IsUnread fault
+unread_as fault other h (inl e) = subst IsUnread (sym e) tt
+unread_as fault other h (inr e) = subst IsUnread (sym e) h
 
 -- ---- results that failed or did not
 

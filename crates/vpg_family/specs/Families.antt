@@ -8,10 +8,16 @@ use Rattle.vpg_diagram.specs.DiagramText.{NamedDiagram, IsTextOf}
 use Rattle.vpg_diagram.specs.FeatureDiagram.{IsProduct}
 use Rattle.vpg_diagram.specs.TextFaults.{IsFirstFault}
 use Rattle.vpg_diagram.specs.declared.fault.DiagramFault.TheVariants as of_diagram
-use Rattle.vpg_game.specs.Game.{NamedGame, SpellsGame}
+use Rattle.vpg_game.specs.Game.{NamedGame, SpellsGame, graph_of}
 use Rattle.vpg_game.specs.Refused.{IsRefused}
 use Rattle.vpg_game.specs.declared.fault.GameFault.TheVariants as of_game
+use Rattle.vpg_formula.specs.Requirements.{Entry, SpellsRequirements, marked, names_of}
+use Rattle.vpg_checking.specs.Checking.{IsModelOfTexts}
+use Rattle.vpg_checking.specs.Faults.{IsCheckingFault}
+use Rattle.vpg_checking.specs.declared.fault.CheckingFault.TheVariants as of_model
 use Rattle.vpg_hope.specs.Plain.{projection, plain_text}
+use Rattle.vpg_family.specs.declared.files.GamePaths.{GamePaths}
+use Rattle.vpg_family.specs.declared.files.GamePaths.TheVariants as paths
 use Rattle.vpg_family.specs.declared.fault.Fault.{Fault}
 use Rattle.vpg_family.specs.declared.fault.Fault.TheVariants as told
 
@@ -41,12 +47,81 @@ IsFamilyFault diagram_text game_text fault = IsDiagramFault diagram_text fault
 abbrev pub IsSomeDiagram : List ℕ → Type 0
 IsSomeDiagram text = (diagram : NamedDiagram) × IsTextOf text diagram
 
--- What is told of two files that are no family, whatever their texts are: a fault of the game only where some text spells the diagram.
+-- ---- a system and its requirements in place of a game
+
+-- the names of entries
+abbrev pub entry_names : List Entry → List (List ℕ)
+entry_names entries = names_of (marked entries)
+
+-- the entry of this number has this name
+pub record IsNameOfEntry (text : List ℕ) (n : ℕ) (name : List ℕ) : Type 0 where
+  pub entries : List Entry
+  pub are_entries : SpellsRequirements text entries
+  pub name_is : slice_get (entry_names entries) n ≡ Some name
+
+-- What is told of the texts of a system and of requirements that have no game over a diagram.
+abbrev pub IsModelFault : NamedDiagram → List ℕ → List ℕ → Fault → Type 0
+IsModelFault diagram system_text requirements_text (told.System fault) =
+    IsCheckingFault diagram.names system_text requirements_text (of_model.System fault)
+IsModelFault diagram system_text requirements_text (told.Requirements fault) =
+    IsCheckingFault diagram.names system_text requirements_text (of_model.Requirements fault)
+IsModelFault diagram system_text requirements_text (told.TooManyParts name) =
+    (entry : ℕ) × IsCheckingFault diagram.names system_text requirements_text (of_model.TooManyParts entry) ×
+    IsNameOfEntry requirements_text entry name.items
+IsModelFault diagram system_text requirements_text (told.Model fault) =
+    IsCheckingFault diagram.names system_text requirements_text (of_model.Game fault)
+IsModelFault diagram system_text requirements_text told.Memory = ⊤
+IsModelFault diagram system_text requirements_text fault = ⊥
+
+-- the game is the model-checking game of these texts, and these are the names of the requirements and their vertices
+pub record IsModelOver (diagram : NamedDiagram) (system_text requirements_text : List ℕ) (game : NamedGame)
+    (names : List (List ℕ)) (vertices : List ℕ) : Type 0 where
+  pub model : IsModelOfTexts diagram.names diagram.lines system_text requirements_text (graph_of game) vertices
+  pub names_are : names ≡ entry_names model.entries
+
+-- the game is the model-checking game of some texts over the diagram, of requirements of these names at these vertices
+pub record IsModelled (diagram : NamedDiagram) (game : NamedGame) (names : List (List ℕ)) (vertices : List ℕ) :
+    Type 0 where
+  pub system_text : List ℕ
+  pub requirements_text : List ℕ
+  pub over : IsModelOver diagram system_text requirements_text game names vertices
+
+-- the texts spell a family whose game is such a one
+pub record IsModelledBy (diagram_text game_text : List ℕ) (names : List (List ℕ)) (vertices : List ℕ) : Type 0 where
+  pub diagram : NamedDiagram
+  pub game : NamedGame
+  pub spelled : SpellsFamily diagram_text game_text diagram game
+  pub modelled : IsModelled diagram game names vertices
+
+-- Where the paths name a system and requirements, the texts are those of their game.
+abbrev pub AreTextsOf : GamePaths → (diagram_text game_text : List ℕ) → List (List ℕ) → List ℕ → Type 0
+AreTextsOf (paths.Game path) diagram_text game_text names vertices = ⊤
+AreTextsOf (paths.Model files) diagram_text game_text names vertices = IsModelledBy diagram_text game_text names vertices
+
+-- Where the paths name a system and requirements, the family is that of their game.
+abbrev pub IsFamilyOf : GamePaths → NamedDiagram → NamedGame → Type 0
+IsFamilyOf (paths.Game path) diagram game = ⊤
+IsFamilyOf (paths.Model files) diagram game =
+    (names : List (List ℕ)) × (vertices : List ℕ) × IsModelled diagram game names vertices
+
+-- what is told of some texts of a system and of requirements that have no game over some diagram
+abbrev pub IsNoModel : Fault → Type 0
+IsNoModel fault = (diagram_text system_text requirements_text : List ℕ) × (diagram : NamedDiagram) ×
+    IsTextOf diagram_text diagram × IsModelFault diagram system_text requirements_text fault
+
+-- What is told of files that are no family, whatever their texts are: a fault of what stands in place of the game, or
+-- of the game, only where some text spells the diagram.
 abbrev pub IsUnread : Fault → Type 0
 IsUnread told.DiagramUnreadable = ⊤
 IsUnread (told.Diagram fault) = (text : List ℕ) × IsDiagramFault text (told.Diagram fault)
 IsUnread told.GameUnreadable = (text : List ℕ) × IsSomeDiagram text
 IsUnread (told.Game fault) = (diagram_text : List ℕ) × (game_text : List ℕ) × IsFamilyFault diagram_text game_text (told.Game fault)
+IsUnread told.SystemUnreadable = (text : List ℕ) × IsSomeDiagram text
+IsUnread told.RequirementsUnreadable = (text : List ℕ) × IsSomeDiagram text
+IsUnread (told.System fault) = IsNoModel (told.System fault)
+IsUnread (told.Requirements fault) = IsNoModel (told.Requirements fault)
+IsUnread (told.TooManyParts name) = IsNoModel (told.TooManyParts name)
+IsUnread (told.Model fault) = IsNoModel (told.Model fault)
 IsUnread told.Memory = ⊤
 IsUnread fault = ⊥
 

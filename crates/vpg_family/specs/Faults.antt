@@ -7,6 +7,12 @@ use Rattle.vpg_game.specs.declared.fault.GameFault.{GameFault}
 use Rattle.vpg_game.specs.declared.fault.GameFault.TheVariants as game
 use Rattle.vpg_diagram.specs.declared.fault.DiagramFault.{DiagramFault}
 use Rattle.vpg_diagram.specs.declared.fault.DiagramFault.TheVariants as diagram
+use Rattle.vpg_system.specs.declared.fault.SystemFault.{SystemFault}
+use Rattle.vpg_system.specs.declared.fault.SystemFault.TheVariants as system
+use Rattle.vpg_formula.specs.declared.fault.RequirementFault.{RequirementFault}
+use Rattle.vpg_formula.specs.declared.fault.RequirementFault.TheVariants as requirements
+use Rattle.vpg_model.specs.declared.fault.ModelFault.{ModelFault}
+use Rattle.vpg_model.specs.declared.fault.ModelFault.TheVariants as model
 use Rattle.vpg_script.specs.declared.command.LineFault.{LineFault}
 use Rattle.vpg_script.specs.declared.command.LineFault.TheVariants as stops
 use Rattle.vpg_family.specs.Counts.{labelled}
@@ -44,17 +50,49 @@ diagram_text (diagram.TooMany line) = labelled (codes "TooMany") line
 diagram_text (diagram.BadRange line) = labelled (codes "BadRange") line
 diagram_text diagram.Memory = codes "Memory"
 
+abbrev pub system_text : SystemFault → List ℕ
+system_text (system.NoHeader line) = labelled (codes "NoHeader") line
+system_text (system.TooMany line) = labelled (codes "TooMany") line
+system_text (system.Syntax line) = labelled (codes "Syntax") line
+system_text (system.WrongCount line) = labelled (codes "WrongCount") line
+system_text (system.Label line) = labelled (codes "Label") line
+system_text (system.NoState line) = labelled (codes "NoState") line
+system_text (system.Guard line at fault) = labelled (codes "Guard") line ++ labelled [] at ++ 32 ∷ guard_text fault
+system_text system.Memory = codes "Memory"
+
+abbrev pub requirements_text : RequirementFault → List ℕ
+requirements_text (requirements.Syntax at) = labelled (codes "Syntax") at
+requirements_text (requirements.UnknownVariable at) = labelled (codes "UnknownVariable") at
+requirements_text (requirements.TooDeep at) = labelled (codes "TooDeep") at
+requirements_text (requirements.Twice at) = labelled (codes "Twice") at
+requirements_text (requirements.TooMany at) = labelled (codes "TooMany") at
+requirements_text (requirements.NegatedVariable at) = labelled (codes "NegatedVariable") at
+requirements_text requirements.Memory = codes "Memory"
+
+abbrev pub model_text : ModelFault → List ℕ
+model_text model.TooManyVertices = codes "TooManyVertices"
+model_text model.TooManyEdges = codes "TooManyEdges"
+model_text model.TooWide = codes "TooWide"
+model_text model.Memory = codes "Memory"
+
 abbrev pub line_text : LineFault → List ℕ
 line_text stops.Word = codes "Word"
 line_text stops.Args = codes "Args"
 line_text stops.TooLong = codes "TooLong"
 
--- the text of a fault, of which those of guards', games', diagrams' and lines' faults are parts
+-- the text of a fault, of which those of the faults of guards, games, diagrams, systems, requirements, models and lines
+-- are parts
 abbrev pub fault_text : Fault → List ℕ
 fault_text told.DiagramUnreadable = codes "diagram unreadable"
 fault_text (told.Diagram fault) = codes "diagram " ++ diagram_text fault
 fault_text told.GameUnreadable = codes "game unreadable"
 fault_text (told.Game fault) = codes "game " ++ game_text fault
+fault_text told.SystemUnreadable = codes "system unreadable"
+fault_text (told.System fault) = codes "system " ++ system_text fault
+fault_text told.RequirementsUnreadable = codes "requirements unreadable"
+fault_text (told.Requirements fault) = codes "requirements " ++ requirements_text fault
+fault_text (told.TooManyParts name) = codes "requirements TooManyParts " ++ name.items
+fault_text (told.Model fault) = codes "model " ++ model_text fault
 fault_text told.ScriptUnreadable = codes "script unreadable"
 fault_text told.AtLimit = codes "game AtLimit"
 fault_text (told.Conflict feature) = codes "Conflict " ++ string_bytes feature

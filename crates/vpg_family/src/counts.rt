@@ -1,10 +1,12 @@
 //! The line that counts a family.
-ghost use Rattle.std.specs.Prelude.{◌≡◌, ◌++◌, OnOk};
+ghost use Rattle.std.specs.Prelude.{◌≡◌, ◌++◌, OnOk, option_map};
 ghost use Rattle.vpg_game.specs.Game.{edges_in};
-ghost use Rattle.vpg_family.specs.Counts.{labelled, counts_text};
+ghost use Rattle.vpg_formula.specs.EntryCode.{earlier_of};
+ghost use Rattle.vpg_family.specs.Counts.{labelled, root_line, roots_text, counts_text};
 
 use itoa::Buffer;
 use std::alloc::AllocError;
+use vpg_formula::Entry;
 use vpg_game::GuardedGame;
 
 /// The number of edges: of distinct successors, over all vertices.
@@ -40,5 +42,38 @@ pub(crate) fn put_counts(game: &GuardedGame, out: &mut Vec<u8>) -> Result<(), Al
     put_labelled(b" top", top, out)?;
     put_labelled(b"", dual_top, out)?;
     out.push(b'\n')?;
+    Ok(())
+}
+
+/// Appends the line of an entry and a vertex, where there are both.
+fn put_root(
+    entry: Option<&Entry>,
+    vertex: Option<&usize>,
+    out: &mut Vec<u8>,
+) -> Result<(), AllocError>
+    ensures { OnOk result (out.new.items ≡ out.old.items
+        ++ root_line (option_map (λ e. e.now.name) entry.entry) (option_map (λ v. v.now) vertex.entry)) }
+{
+    match (entry, vertex) {
+        (Some(entry), Some(vertex)) => {
+            put_labelled(entry.name.as_bytes(), *vertex as u64, out)?;
+            out.push(b'\n')?;
+            Ok(())
+        }
+        _ => Ok(()),
+    }
+}
+
+/// Appends a line for each entry, with its name and the vertex of its requirement.
+pub(crate) fn put_roots(
+    entries: &[Entry],
+    vertices: &[usize],
+    out: &mut Vec<u8>,
+) -> Result<(), AllocError>
+    ensures { OnOk result (out.new.items ≡ out.old.items ++ roots_text (earlier_of entries.now) vertices.now) }
+{
+    for n in 0..entries.len() {
+        put_root(entries.get(n), vertices.get(n), out)?;
+    }
     Ok(())
 }

@@ -1,16 +1,20 @@
 //! Lines that say where and why the files of a family, a script over it, or words for its features are refused.
 use crate::family::read_diagram;
 use crate::fault::Fault;
-use crate::files::Paths;
+use crate::files::{GamePaths, ModelPaths, Paths};
 use std::alloc::{AllocError, Global};
 use std::fs;
 use std::rt::Files;
 use vpg_diagram::DiagramFault;
+use vpg_formula::RequirementFault;
 use vpg_game::GameFault;
 use vpg_lint::{
-    explain_diagram, explain_game, explain_line, put_message, put_place, put_text, put_unknown,
+    explain_diagram, explain_game, explain_line, explain_parts, explain_requirements,
+    explain_system, put_message, put_place, put_text, put_unknown,
 };
+use vpg_model::ModelFault;
 use vpg_places::{declared_of, line_at, place_of};
+use vpg_system::SystemFault;
 
 /// The text of a file, where it can be read once more. A pipe gives its bytes once.
 fn text_of<R: Files + AllocGlobal>(rt: &R, path: &str) -> Option<Vec<u8>> {
@@ -52,6 +56,66 @@ fn put_game(
     };
     let message = explain_game(alloc, text, diagram.names(), fault)?;
     put_message(path, &message, out)
+}
+
+/// Appends why the text of a system is refused, over the features of a diagram.
+fn put_system(
+    alloc: Global,
+    path: &str,
+    text: &[u8],
+    diagram: &[u8],
+    fault: SystemFault,
+    out: &mut Vec<u8>,
+) -> Result<(), AllocError> {
+    let Ok(diagram) = read_diagram(alloc, diagram) else {
+        return Ok(());
+    };
+    let message = explain_system(alloc, text, diagram.names(), fault)?;
+    put_message(path, &message, out)
+}
+
+/// Appends why a text of requirements is refused.
+fn put_requirements(
+    alloc: Global,
+    path: &str,
+    text: &[u8],
+    fault: RequirementFault,
+    out: &mut Vec<u8>,
+) -> Result<(), AllocError> {
+    let message = explain_requirements(alloc, text, fault)?;
+    put_message(path, &message, out)
+}
+
+/// Appends that the requirement of a name is too long.
+fn put_long(
+    alloc: Global,
+    path: &str,
+    text: &[u8],
+    name: &[u8],
+    out: &mut Vec<u8>,
+) -> Result<(), AllocError> {
+    let message = explain_parts(alloc, text, name)?;
+    put_message(path, &message, out)
+}
+
+/// What there is too much of in a game that is made.
+fn limit_of(fault: ModelFault) -> &'static [u8] {
+    match fault {
+        ModelFault::TooManyVertices => b"more than 65,536 vertices",
+        ModelFault::TooManyEdges => b"more than 1,048,576 moves",
+        ModelFault::TooWide => b"a top measure above 2^62",
+        ModelFault::Memory => b"no memory",
+    }
+}
+
+/// Appends which limit the game of requirements passes.
+fn put_limit(path: &str, fault: ModelFault, out: &mut Vec<u8>) -> Result<(), AllocError> {
+    put_text(path.as_bytes(), out)?;
+    out.extend_from_slice(b": the game of the system and these requirements has ")?;
+    out.extend_from_slice(limit_of(fault))?;
+    out.extend_from_slice(
+        b"\n  hint: a vertex is a state and a part of a requirement; ask fewer requirements at a time\n",
+    )
 }
 
 /// Appends why a line of a script's text is no command.
@@ -126,12 +190,84 @@ fn put_of_diagram_file<R: Files + AllocGlobal>(
 fn put_of_game<R: Files + AllocGlobal>(
     rt: &R,
     alloc: Global,
-    paths: Paths<'_>,
+    path: &str,
+    diagram: &str,
     fault: GameFault,
     out: &mut Vec<u8>,
 ) -> Result<(), AllocError> {
-    match (text_of(rt, paths.game), text_of(rt, paths.diagram)) {
-        (Some(game), Some(diagram)) => put_game(alloc, paths.game, &game, &diagram, fault, out),
+    match (text_of(rt, path), text_of(rt, diagram)) {
+        (Some(game), Some(diagram)) => put_game(alloc, path, &game, &diagram, fault, out),
+        _ => Ok(()),
+    }
+}
+
+/// Appends why a system is refused, where the files can be read once more.
+fn put_of_system<R: Files + AllocGlobal>(
+    rt: &R,
+    alloc: Global,
+    path: &str,
+    diagram: &str,
+    fault: SystemFault,
+    out: &mut Vec<u8>,
+) -> Result<(), AllocError> {
+    match (text_of(rt, path), text_of(rt, diagram)) {
+        (Some(system), Some(diagram)) => put_system(alloc, path, &system, &diagram, fault, out),
+        _ => Ok(()),
+    }
+}
+
+/// Appends what a fault means that is told of requirements, where their file can be read once more.
+fn put_of_requirements<R: Files + AllocGlobal>(
+    rt: &R,
+    alloc: Global,
+    path: &str,
+    fault: &Fault,
+    out: &mut Vec<u8>,
+) -> Result<(), AllocError> {
+    let Some(text) = text_of(rt, path) else {
+        return Ok(());
+    };
+    match fault {
+        Fault::Requirements { fault } => put_requirements(alloc, path, &text, *fault, out),
+        Fault::TooManyParts { name } => put_long(alloc, path, &text, name, out),
+        _ => Ok(()),
+    }
+}
+
+/// Appends what a fault means that is told of a system, of its requirements, or of their game.
+fn put_of_model<R: Files + AllocGlobal>(
+    rt: &R,
+    alloc: Global,
+    files: ModelPaths<'_>,
+    diagram: &str,
+    fault: &Fault,
+    out: &mut Vec<u8>,
+) -> Result<(), AllocError> {
+    match fault {
+        Fault::SystemUnreadable => put_unreadable(files.system, out),
+        Fault::RequirementsUnreadable => put_unreadable(files.requirements, out),
+        Fault::System { fault } => put_of_system(rt, alloc, files.system, diagram, *fault, out),
+        Fault::Model { fault } => put_limit(files.requirements, *fault, out),
+        _ => put_of_requirements(rt, alloc, files.requirements, fault, out),
+    }
+}
+
+/// Appends what a fault means that is told of a game, or of what stands in its place.
+fn put_of_game_files<R: Files + AllocGlobal>(
+    rt: &R,
+    alloc: Global,
+    paths: Paths<'_>,
+    fault: &Fault,
+    out: &mut Vec<u8>,
+) -> Result<(), AllocError> {
+    match (paths.game, fault) {
+        (GamePaths::Game(path), Fault::GameUnreadable) => put_unreadable(path, out),
+        (GamePaths::Game(path), Fault::Game { fault }) => {
+            put_of_game(rt, alloc, path, paths.diagram, *fault, out)
+        }
+        (GamePaths::Model(files), _) => {
+            put_of_model(rt, alloc, files, paths.diagram, fault, out)
+        }
         _ => Ok(()),
     }
 }
@@ -161,11 +297,9 @@ fn put_explained<R: Files + AllocGlobal>(
 ) -> Result<(), AllocError> {
     match (fault, script) {
         (Fault::DiagramUnreadable, _) => put_unreadable(paths.diagram, out),
-        (Fault::GameUnreadable, _) => put_unreadable(paths.game, out),
         (Fault::ScriptUnreadable, Some(path)) => put_unreadable(path, out),
         (Fault::Diagram { .. } | Fault::Conflict { .. } | Fault::UnknownFeature { .. }, _) =>
             put_of_diagram_file(rt, alloc, paths.diagram, fault, out),
-        (Fault::Game { fault }, _) => put_of_game(rt, alloc, paths, *fault, out),
         (Fault::Line { line, .. }, Some(path)) => put_of_script(
             rt,
             alloc,
@@ -173,7 +307,7 @@ fn put_explained<R: Files + AllocGlobal>(
             *line as usize,
             out,
         ),
-        _ => Ok(()),
+        _ => put_of_game_files(rt, alloc, paths, fault, out),
     }
 }
 

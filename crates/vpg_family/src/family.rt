@@ -1,9 +1,9 @@
 //! A product family: a game over the features of a diagram.
 ghost use Rattle.std.specs.Arc.{arc_value};
-ghost use Rattle.std.specs.Prelude.{◌≡◌, Some, slice_get, map, IfOk, IfErr, OnErr};
-ghost use Rattle.vpg_diagram.specs.DiagramText.{IsTextOf};
+ghost use Rattle.std.specs.Prelude.{◌≡◌, Some, slice_get, map, IfOk, IfErr, OnErr, MatchResult};
+ghost use Rattle.vpg_diagram.specs.DiagramText.{NamedDiagram, IsTextOf};
 ghost use Rattle.vpg_diagram.specs.FeatureDiagram.{feature_count};
-ghost use Rattle.vpg_game.specs.Game.{SpellsGame};
+ghost use Rattle.vpg_game.specs.Game.{NamedGame, SpellsGame};
 ghost use Rattle.vpg_family.specs.Counts.{counts_text};
 ghost use Rattle.vpg_family.specs.Families.{IsDiagramFault, IsGameFault, SpellsFamily, IsFamilyFault, TellsConflict, IsUnknown, IsNamedSet, TellsUnknown, IsProjected, IsNotProjected};
 
@@ -26,6 +26,8 @@ pub struct Family {
 /// The diagram that a text spells.
 pub(crate) fn read_diagram(alloc: Global, text: &[u8]) -> Result<Diagram, Fault>
     ensures found { IfOk result (IsTextOf text.now) }
+    ensures only { (diagram : NamedDiagram) → IsTextOf text.now diagram →
+        MatchResult result (λ read. read ≡ diagram) (λ fault. fault ≡ Fault.Memory) }
     ensures refused { IfErr result (IsDiagramFault text.now) }
 {
     match Diagram::read(alloc, text) {
@@ -38,6 +40,8 @@ pub(crate) fn read_diagram(alloc: Global, text: &[u8]) -> Result<Diagram, Fault>
 /// The game over a diagram that a text spells.
 pub(crate) fn read_game(alloc: Global, text: &[u8], diagram: &Diagram) -> Result<GuardedGame, Fault>
     ensures found { IfOk result (SpellsGame diagram.now.names text.now) }
+    ensures only { (game : NamedGame) → SpellsGame diagram.now.names text.now game →
+        MatchResult result (λ read. read ≡ game) (λ fault. fault ≡ Fault.Memory) }
     ensures features { IfOk result (λ game. game.features ≡ feature_count diagram.now.lines) }
     ensures refused { IfErr result (IsGameFault diagram.now.names text.now) }
 {
@@ -91,6 +95,10 @@ impl Family {
     /// The family that the texts of a diagram and a game spell. A fault of the diagram is told before any of the game.
     pub fn read(alloc: Global, diagram: &[u8], game: &[u8]) -> Result<Family, Fault>
         ensures found { IfOk result (λ family. SpellsFamily diagram.now game.now (arc_value family.diagram) (arc_value family.game)) }
+        // What is spelled so is read, unless memory runs out.
+        ensures only { (d : NamedDiagram) (g : NamedGame) → SpellsFamily diagram.now game.now d g →
+            MatchResult result (λ family. (arc_value family.diagram ≡ d) × (arc_value family.game ≡ g))
+            (λ fault. fault ≡ Fault.Memory) }
         ensures features { IfOk result (λ family. (arc_value family.game).features ≡ feature_count (arc_value family.diagram).lines) }
         ensures refused { IfErr result (IsFamilyFault diagram.now game.now) }
     {

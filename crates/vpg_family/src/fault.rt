@@ -6,14 +6,26 @@ use std::alloc::AllocError;
 use std::fmt;
 use thiserror::Error;
 use vpg_diagram::DiagramFault;
+use vpg_formula::RequirementFault;
 use vpg_game::GameFault;
+use vpg_model::ModelFault;
 use vpg_script::LineFault;
+use vpg_system::SystemFault;
 
 /// Writes that a word names no feature, with `?` for each control character of the word.
 fn put_unknown<W: fmt::Write>(word: &String, f: &mut fmt::Formatter<W>) -> fmt::Result {
     f.write_str("UnknownFeature ")?;
     for c in word.chars() {
         f.write_char(if c.is_ascii_control() { '?' } else { c })?;
+    }
+    Ok(())
+}
+
+/// Writes that the requirement of a name is too long.
+fn put_long<W: fmt::Write>(name: &Vec<u8>, f: &mut fmt::Formatter<W>) -> fmt::Result {
+    f.write_str("requirements TooManyParts ")?;
+    for b in name {
+        f.write_char(char::from(*b))?;
     }
     Ok(())
 }
@@ -29,6 +41,20 @@ pub enum Fault {
     GameUnreadable,
     #[error("game {fault}")]
     Game { fault: GameFault },
+    #[error("system unreadable")]
+    SystemUnreadable,
+    #[error("system {fault}")]
+    System { fault: SystemFault },
+    #[error("requirements unreadable")]
+    RequirementsUnreadable,
+    #[error("requirements {fault}")]
+    Requirements { fault: RequirementFault },
+    /// The requirement of this name has more than 65,536 parts.
+    #[error(fmt = put_long)]
+    TooManyParts { name: Vec<u8> },
+    /// The game of a system and its requirements is beyond the limits of games.
+    #[error("model {fault}")]
+    Model { fault: ModelFault },
     #[error("script unreadable")]
     ScriptUnreadable,
     /// Some priority of the game is 65,536.

@@ -1,20 +1,41 @@
 //! The files that the words name.
 ghost use Rattle.std.specs.Arc.{arc_value};
-ghost use Rattle.std.specs.Prelude.{◌≡◌, ◌⊎◌, IfOk, IfErr, OnOk};
+ghost use Rattle.std.specs.Prelude.{◌≡◌, ◌⊎◌, IfOk, IfErr};
+ghost use Rattle.vpg_diagram.specs.DiagramText.{IsTextOf};
 ghost use Rattle.vpg_diagram.specs.FeatureDiagram.{feature_count};
-ghost use Rattle.vpg_family.specs.Families.{IsSpelled, IsUnread, IsDiagramFault, IsSomeDiagram};
+ghost use Rattle.vpg_formula.specs.EntryCode.{earlier_of};
+ghost use Rattle.vpg_family.specs.Families.{IsSpelled, IsUnread, IsSomeDiagram, IsModelledBy, AreTextsOf, IsFamilyOf};
 
-use crate::family::{self, Family};
+use crate::family::{Family, read_diagram};
 use crate::fault::Fault;
+use crate::modelling::{Modelled, model_of};
 use std::alloc::Global;
 use std::fs::{self, File};
 use std::io::{Error, ErrorKind};
 use std::rt::Files;
+use vpg_diagram::Diagram;
+use vpg_formula::Entry;
+
+/// The files that stand in place of a game.
+#[derive(Clone, Copy)]
+pub struct ModelPaths<'a> {
+    pub system: &'a str,
+    pub requirements: &'a str,
+}
+
+/// The files of a family's game.
+#[derive(Clone, Copy)]
+pub enum GamePaths<'a> {
+    /// The game has a file.
+    Game(&'a str),
+    /// It is the game of a system and its requirements.
+    Model(ModelPaths<'a>),
+}
 
 /// The files of a product family.
 #[derive(Clone, Copy)]
 pub struct Paths<'a> {
-    pub game: &'a str,
+    pub game: GamePaths<'a>,
     pub diagram: &'a str,
 }
 
@@ -28,58 +49,146 @@ fn unreadable(error: Error, fault: Fault) -> Fault
     }
 }
 
-/// Whether a text is a diagram, and why it is none.
-fn check_diagram(alloc: Global, text: &[u8]) -> Result<(), Fault>
-    ensures found { OnOk result (IsSomeDiagram text.now) }
-    ensures refused { IfErr result (IsDiagramFault text.now) }
+/// The text of a file, or what is told where it cannot be read.
+fn read_file<R: Files + AllocGlobal>(rt: &R, path: &str, fault: Fault) -> Result<Vec<u8>, Fault>
+    ensures refused { IfErr result (λ told. (told ≡ Fault.Memory) ⊎ (told ≡ fault)) }
 {
-    match family::read_diagram(alloc, text) {
-        Ok(_) => Ok(()),
-        Err(fault) => Err(fault),
+    match fs::read(rt, path) {
+        Ok(text) => Ok(text),
+        Err(error) => Err(unreadable(error, fault)),
     }
 }
 
-/// The texts of a family's files.
+/// The texts of a family.
 #[derive(Drop)]
 pub struct Texts {
     pub diagram: Vec<u8>,
     pub game: Vec<u8>,
+    /// The requirements that the game is made for. There are none where it has a file.
+    pub entries: Vec<Entry>,
+    /// The vertex of each of them.
+    pub vertices: Vec<usize>,
 }
 
-/// The texts of two files. That of the diagram is read, and refused, before the game's file is.
+/// The text of a diagram, and that of a game's file.
+fn game_texts<R: Files + AllocGlobal>(
+    rt: &R,
+    alloc: Global,
+    diagram: Vec<u8>,
+    path: &str,
+) -> Result<Texts, Fault>
+    requires { IsSomeDiagram diagram.items }
+    ensures refused { IfErr result IsUnread }
+{
+    match read_file(rt, path, Fault::GameUnreadable) {
+        Ok(game) => Ok(Texts {
+            diagram,
+            game,
+            entries: Vec::new(alloc),
+            vertices: Vec::new(alloc),
+        }),
+        Err(fault) => Err(fault),
+    }
+}
+
+/// The text of a diagram, and that of the game of a system and its requirements over it, by the texts of these.
+fn made_texts(
+    alloc: Global,
+    text: Vec<u8>,
+    diagram: &Diagram,
+    system: &[u8],
+    requirements: &[u8],
+) -> Result<Texts, Fault>
+    requires { IsTextOf text.items diagram.now }
+    ensures model { IfOk result (λ texts.
+        IsModelledBy texts.diagram.items texts.game.items (earlier_of texts.entries.items) texts.vertices.items) }
+    ensures refused { IfErr result IsUnread }
+{
+    match model_of(alloc, diagram, system, requirements) {
+        Ok(
+            Modelled {
+                game,
+                entries,
+                vertices,
+            },
+        ) => Ok(Texts {
+            diagram: text,
+            game,
+            entries,
+            vertices,
+        }),
+        Err(fault) => Err(fault),
+    }
+}
+
+/// The same by their files. Both are opened before either is refused.
+fn model_texts<R: Files + AllocGlobal>(
+    rt: &R,
+    alloc: Global,
+    text: Vec<u8>,
+    diagram: &Diagram,
+    files: ModelPaths<'_>,
+) -> Result<Texts, Fault>
+    requires { IsTextOf text.items diagram.now }
+    ensures model { IfOk result (λ texts.
+        IsModelledBy texts.diagram.items texts.game.items (earlier_of texts.entries.items) texts.vertices.items) }
+    ensures refused { IfErr result IsUnread }
+{
+    let system = match read_file(rt, files.system, Fault::SystemUnreadable) {
+        Ok(system) => system,
+        Err(fault) => return Err(fault),
+    };
+    let requirements = match read_file(rt, files.requirements, Fault::RequirementsUnreadable) {
+        Ok(requirements) => requirements,
+        Err(fault) => return Err(fault),
+    };
+    made_texts(alloc, text, diagram, &system, &requirements)
+}
+
+/// The texts of a family's files. That of the diagram is read, and refused, before any other is. Where a system and its
+/// requirements stand in place of the game, it is made: they are read, and then the system is refused before the
+/// requirements are.
 pub fn read_texts<R: Files + AllocGlobal>(
     rt: &R,
     alloc: Global,
     paths: Paths<'_>,
 ) -> Result<Texts, Fault>
+    // A game that is made is the model-checking game of some texts.
+    ensures model { IfOk result (λ texts.
+        AreTextsOf paths.entry.game texts.diagram.items texts.game.items (earlier_of texts.entries.items)
+        texts.vertices.items) }
     ensures refused { IfErr result IsUnread }
 {
-    let diagram = match fs::read(rt, paths.diagram) {
+    let text = match read_file(rt, paths.diagram, Fault::DiagramUnreadable) {
         Ok(text) => text,
-        Err(error) => return Err(unreadable(error, Fault::DiagramUnreadable)),
+        Err(fault) => return Err(fault),
     };
-    if let Err(fault) = check_diagram(alloc, &diagram) {
-        return Err(fault);
-    }
-    match fs::read(rt, paths.game) {
-        Ok(game) => Ok(Texts { diagram, game }),
-        Err(error) => Err(unreadable(error, Fault::GameUnreadable)),
+    let diagram = match read_diagram(alloc, &text) {
+        Ok(diagram) => diagram,
+        Err(fault) => return Err(fault),
+    };
+    match paths.game {
+        GamePaths::Game(path) => game_texts(rt, alloc, text, path),
+        GamePaths::Model(files) => model_texts(rt, alloc, text, &diagram, files),
     }
 }
 
-/// The family of two files. The diagram is read, and refused, before the game.
+/// The family of some files. The diagram is read, and refused, before the game, or what stands in its place.
 pub fn read_family<R: Files + AllocGlobal>(
     rt: &R,
     alloc: Global,
     paths: Paths<'_>,
 ) -> Result<Family, Fault>
     ensures spelled { IfOk result (λ family. IsSpelled (arc_value family.diagram) (arc_value family.game)) }
+    // A game that is made is the model-checking game of some texts.
+    ensures model { IfOk result (λ family.
+        IsFamilyOf paths.entry.game (arc_value family.diagram) (arc_value family.game)) }
     ensures features { IfOk result (λ family. (arc_value family.game).features ≡ feature_count (arc_value family.diagram).lines) }
     ensures refused { IfErr result IsUnread }
 {
     let texts = match read_texts(rt, alloc, paths) {
         Ok(texts) => texts,
-        Err(fault) => return Err(fault),
+        Err(unread) => return Err(unread),
     };
     match Family::read(alloc, &texts.diagram, &texts.game) {
         Ok(family) => Ok(family),
@@ -108,8 +217,5 @@ pub fn open_script<R: Files>(rt: &R, path: &str) -> Result<R::File, Fault>
 pub fn read_script<R: Files + AllocGlobal>(rt: &R, path: &str) -> Result<Vec<u8>, Fault>
     ensures refused { IfErr result (λ fault. (fault ≡ Fault.Memory) ⊎ (fault ≡ Fault.ScriptUnreadable)) }
 {
-    match fs::read(rt, path) {
-        Ok(text) => Ok(text),
-        Err(error) => Err(no_script(error)),
-    }
+    read_file(rt, path, Fault::ScriptUnreadable)
 }

@@ -4,8 +4,8 @@ ghost use Rattle.vpg_family.specs.Families.{IsFamilyFault};
 
 use crate::family::{read_diagram, read_game};
 use crate::fault::Fault;
-use crate::files::Paths;
-use crate::writing::{File, put_warned};
+use crate::files::{GamePaths, Paths};
+use crate::writing::{File, put_warned, put_warned_of_diagram};
 use std::alloc::{AllocError, Global};
 use vpg_diagram::Diagram;
 use vpg_game::GuardedGame;
@@ -23,19 +23,28 @@ fn warned(
         name: paths.diagram,
         text: diagram_text,
     };
-    let of_game = File {
-        name: paths.game,
-        text: game_text,
-    };
     let mut lines = Vec::new(alloc);
-    match put_warned(alloc, of_diagram, of_game, diagram, game, &mut lines) {
+    let put = match paths.game {
+        GamePaths::Game(name) => {
+            let of_game = File {
+                name,
+                text: game_text,
+            };
+            put_warned(alloc, of_diagram, of_game, diagram, game, &mut lines)
+        }
+        GamePaths::Model(_) => {
+            put_warned_of_diagram(alloc, of_diagram, game_text, diagram, game, &mut lines)
+        }
+    };
+    match put {
         Ok(()) => Ok(lines),
         Err(fault) => Err(fault),
     }
 }
 
 /// Lines that warn of what looks wrong in the family that the texts of these files spell, and a last one that counts
-/// the warnings. A fault of the diagram is told before any of the game.
+/// the warnings. A fault of the diagram is told before any of the game. Of a game that was made from a system and its
+/// requirements nothing is said: vertices without moves are no news in it.
 pub fn linted(
     alloc: Global,
     paths: Paths<'_>,

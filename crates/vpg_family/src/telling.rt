@@ -1,15 +1,18 @@
 //! The line that tells of a fault.
-ghost use Rattle.std.specs.Prelude.{◌≡◌, ◌∷◌, ◌++◌, map, codes, IfOk, OnOk};
+ghost use Rattle.std.specs.Prelude.{◌≡◌, [], ◌∷◌, ◌++◌, map, codes, IfOk, OnOk};
 ghost use Rattle.vpg_family.specs.Counts.{labelled};
-ghost use Rattle.vpg_family.specs.Faults.{shown_byte, guard_text, game_text, diagram_text, line_text, fault_text, fault_line};
+ghost use Rattle.vpg_family.specs.Faults.{shown_byte, guard_text, game_text, diagram_text, system_text, requirements_text, model_text, line_text, fault_text, fault_line};
 
 use crate::counts::put_labelled;
 use crate::fault::Fault;
 use std::alloc::{AllocError, Global};
 use vpg_diagram::DiagramFault;
+use vpg_formula::RequirementFault;
 use vpg_game::GameFault;
 use vpg_guards::GuardFault;
+use vpg_model::ModelFault;
 use vpg_script::LineFault;
+use vpg_system::SystemFault;
 
 /// A byte of a word as it is shown: `?` where it is a control character.
 fn shown_byte(byte: u8) -> u8
@@ -78,6 +81,102 @@ fn put_diagram_fault(fault: DiagramFault, out: &mut Vec<u8>) -> Result<(), Alloc
     }
 }
 
+/// Appends which guard of a system has which fault.
+fn put_system_guard(
+    line: usize,
+    at: usize,
+    fault: GuardFault,
+    out: &mut Vec<u8>,
+) -> Result<(), AllocError>
+    ensures { OnOk result (out.new.items
+        ≡ out.old.items ++ labelled (codes "Guard") line ++ labelled [] at ++ 32 ∷ guard_text fault) }
+{
+    put_labelled(b"Guard", line as u64, out)?;
+    put_labelled(b"", at as u64, out)?;
+    out.push(b' ')?;
+    put_guard_fault(fault, out)
+}
+
+fn put_system_fault(fault: SystemFault, out: &mut Vec<u8>) -> Result<(), AllocError>
+    ensures { OnOk result (out.new.items ≡ out.old.items ++ system_text fault) }
+{
+    match fault {
+        SystemFault::NoHeader { line } => put_labelled(b"NoHeader", line as u64, out),
+        SystemFault::TooMany { line } => put_labelled(b"TooMany", line as u64, out),
+        SystemFault::Syntax { line } => put_labelled(b"Syntax", line as u64, out),
+        SystemFault::WrongCount { line } => put_labelled(b"WrongCount", line as u64, out),
+        SystemFault::Label { line } => put_labelled(b"Label", line as u64, out),
+        SystemFault::NoState { line } => put_labelled(b"NoState", line as u64, out),
+        SystemFault::Guard { line, at, fault } => put_system_guard(line, at, fault, out),
+        SystemFault::Memory => out.extend_from_slice(b"Memory"),
+    }
+}
+
+fn put_requirement_fault(fault: RequirementFault, out: &mut Vec<u8>) -> Result<(), AllocError>
+    ensures { OnOk result (out.new.items ≡ out.old.items ++ requirements_text fault) }
+{
+    match fault {
+        RequirementFault::Syntax { at } => put_labelled(b"Syntax", at as u64, out),
+        RequirementFault::UnknownVariable { at } => put_labelled(
+            b"UnknownVariable",
+            at as u64,
+            out,
+        ),
+        RequirementFault::TooDeep { at } => put_labelled(b"TooDeep", at as u64, out),
+        RequirementFault::Twice { at } => put_labelled(b"Twice", at as u64, out),
+        RequirementFault::TooMany { at } => put_labelled(b"TooMany", at as u64, out),
+        RequirementFault::NegatedVariable { at } => put_labelled(
+            b"NegatedVariable",
+            at as u64,
+            out,
+        ),
+        RequirementFault::Memory => out.extend_from_slice(b"Memory"),
+    }
+}
+
+fn put_model_fault(fault: ModelFault, out: &mut Vec<u8>) -> Result<(), AllocError>
+    ensures { OnOk result (out.new.items ≡ out.old.items ++ model_text fault) }
+{
+    match fault {
+        ModelFault::TooManyVertices => out.extend_from_slice(b"TooManyVertices"),
+        ModelFault::TooManyEdges => out.extend_from_slice(b"TooManyEdges"),
+        ModelFault::TooWide => out.extend_from_slice(b"TooWide"),
+        ModelFault::Memory => out.extend_from_slice(b"Memory"),
+    }
+}
+
+/// Appends a word and why a system is refused.
+fn put_system(fault: SystemFault, out: &mut Vec<u8>) -> Result<(), AllocError>
+    ensures { OnOk result (out.new.items ≡ out.old.items ++ codes "system " ++ system_text fault) }
+{
+    out.extend_from_slice(b"system ")?;
+    put_system_fault(fault, out)
+}
+
+/// Appends a word and why requirements are refused.
+fn put_requirements(fault: RequirementFault, out: &mut Vec<u8>) -> Result<(), AllocError>
+    ensures { OnOk result (out.new.items ≡ out.old.items ++ codes "requirements " ++ requirements_text fault) }
+{
+    out.extend_from_slice(b"requirements ")?;
+    put_requirement_fault(fault, out)
+}
+
+/// Appends that a requirement of this name has too many parts.
+fn put_too_many_parts(name: &[u8], out: &mut Vec<u8>) -> Result<(), AllocError>
+    ensures { OnOk result (out.new.items ≡ out.old.items ++ codes "requirements TooManyParts " ++ name.now) }
+{
+    out.extend_from_slice(b"requirements TooManyParts ")?;
+    out.extend_from_slice(name)
+}
+
+/// Appends a word and which limit of games is passed.
+fn put_model(fault: ModelFault, out: &mut Vec<u8>) -> Result<(), AllocError>
+    ensures { OnOk result (out.new.items ≡ out.old.items ++ codes "model " ++ model_text fault) }
+{
+    out.extend_from_slice(b"model ")?;
+    put_model_fault(fault, out)
+}
+
 fn put_line_fault(fault: LineFault, out: &mut Vec<u8>) -> Result<(), AllocError>
     ensures { OnOk result (out.new.items ≡ out.old.items ++ line_text fault) }
 {
@@ -119,6 +218,12 @@ fn put_fault(fault: &Fault, out: &mut Vec<u8>) -> Result<(), AllocError>
             out.extend_from_slice(b"game ")?;
             put_game_fault(*fault, out)
         }
+        Fault::SystemUnreadable => out.extend_from_slice(b"system unreadable"),
+        Fault::System { fault } => put_system(*fault, out),
+        Fault::RequirementsUnreadable => out.extend_from_slice(b"requirements unreadable"),
+        Fault::Requirements { fault } => put_requirements(*fault, out),
+        Fault::TooManyParts { name } => put_too_many_parts(name, out),
+        Fault::Model { fault } => put_model(*fault, out),
         Fault::ScriptUnreadable => out.extend_from_slice(b"script unreadable"),
         Fault::AtLimit => out.extend_from_slice(b"game AtLimit"),
         Fault::Conflict { feature } => {

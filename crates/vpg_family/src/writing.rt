@@ -195,34 +195,36 @@ fn put_warnings(
     Ok(())
 }
 
-/// Appends a line that counts the warnings of two texts.
-fn put_count(diagram: &Warnings, game: &Warnings, out: &mut Vec<u8>) -> Result<(), AllocError> {
-    let count = diagram.list.len().saturating_add(game.list.len());
+/// Appends a line that counts so many warnings.
+fn put_count(count: usize, out: &mut Vec<u8>) -> Result<(), AllocError> {
     out.extend_from_slice(b"warnings ")?;
     put_number(count, out)?;
     out.extend_from_slice(b"\n")
 }
 
-/// Appends the warnings of a diagram and of a game, in files of these names.
-fn put_both(
+/// Appends the warnings of a diagram, in a file of this name. How many they are.
+fn put_of_diagram(
     alloc: Global,
-    of_diagram: File<'_>,
-    of_game: File<'_>,
+    file: File<'_>,
     diagram: &Diagram,
-    game: &GuardedGame,
-    names: &VertexNames,
+    about: &About<'_>,
     out: &mut Vec<u8>,
-) -> Result<(), AllocError> {
-    let about = About {
-        features: diagram.names(),
-        game,
-        names,
-    };
-    let in_diagram = warnings_of_diagram(alloc, of_diagram.text, diagram, game)?;
-    put_warnings(of_diagram, &about, &in_diagram, out)?;
-    let in_game = warnings_of_game(alloc, of_game.text, game, names.start())?;
-    put_warnings(of_game, &about, &in_game, out)?;
-    put_count(&in_diagram, &in_game, out)
+) -> Result<usize, AllocError> {
+    let warnings = warnings_of_diagram(alloc, file.text, diagram, about.game)?;
+    put_warnings(file, about, &warnings, out)?;
+    Ok(warnings.list.len())
+}
+
+/// Appends the warnings of a game, in a file of this name. How many they are.
+fn put_of_game(
+    alloc: Global,
+    file: File<'_>,
+    about: &About<'_>,
+    out: &mut Vec<u8>,
+) -> Result<usize, AllocError> {
+    let warnings = warnings_of_game(alloc, file.text, about.game, about.names.start())?;
+    put_warnings(file, about, &warnings, out)?;
+    Ok(warnings.list.len())
 }
 
 /// Appends a line for each warning of a family that was read from these files, `FILE:LINE:COLUMN: warning: ..`, and
@@ -236,5 +238,31 @@ pub fn put_warned(
     out: &mut Vec<u8>,
 ) -> Result<(), AllocError> {
     let names = VertexNames::read(alloc, of_game.text)?;
-    put_both(alloc, of_diagram, of_game, diagram, game, &names, out)
+    let about = About {
+        features: diagram.names(),
+        game,
+        names: &names,
+    };
+    let in_diagram = put_of_diagram(alloc, of_diagram, diagram, &about, out)?;
+    let in_game = put_of_game(alloc, of_game, &about, out)?;
+    put_count(in_diagram.saturating_add(in_game), out)
+}
+
+/// The same of the diagram alone, where the game has no file but this text.
+pub fn put_warned_of_diagram(
+    alloc: Global,
+    of_diagram: File<'_>,
+    game_text: &[u8],
+    diagram: &Diagram,
+    game: &GuardedGame,
+    out: &mut Vec<u8>,
+) -> Result<(), AllocError> {
+    let names = VertexNames::read(alloc, game_text)?;
+    let about = About {
+        features: diagram.names(),
+        game,
+        names: &names,
+    };
+    let in_diagram = put_of_diagram(alloc, of_diagram, diagram, &about, out)?;
+    put_count(in_diagram, out)
 }

@@ -4,9 +4,10 @@ mod asked;
 mod explained;
 mod faults;
 mod files;
+mod models;
 mod rows;
 
-use vpg_family::Paths;
+use vpg_family::{GamePaths, Paths};
 
 /// A root with two features, each of which may be left out.
 const DIAGRAM: &str = "root r\noptional r f\noptional r g\n";
@@ -16,6 +17,6 @@ const GAME: &str = "parity 1; 0 1 0 1[f],0; 1 2 1 0[g],1;";
 
 /// The files of a family that is explained or warned of.
 const PATHS: Paths<'static> = Paths {
-    game: "explained_game",
+    game: GamePaths::Game("explained_game"),
     diagram: "explained_diagram",
 };

@@ -4,7 +4,7 @@ use clap::Error;
 use clap::error::ErrorKind;
 use std::alloc::Global;
 use std::test::*;
-use vpg_family::Subject;
+use vpg_family::{GamePaths, Subject};
 use vpg_terminal::{Asked, Task, not_text, read};
 
 /// Words behind the program's name, with one blank between them, and behind ` = ` how they are taken.
@@ -89,6 +89,32 @@ check --help = shown
 draw --help = shown
 desk --help = shown
 lint --help = shown
+model --help = shown
+model s r d = model --system s --requirements r d
+model s r d --explain = model --system s --requirements r d, explained
+model s r = wrong
+model s r d x = wrong
+model --system s --requirements r d = wrong
+run --system s --requirements r d x = run --system s --requirements r d x, 1
+run d --system s x --requirements r --names = run --system s --requirements r d x, 1, names
+run --system s --requirements r d = wrong
+run --system s --requirements r d x y = wrong
+run --system s d x = wrong
+run --requirements r d x = wrong
+run --requirements r g d x = wrong
+run --system s --system s --requirements r d x = wrong
+desk --system s --requirements r d = desk --system s --requirements r d, 1, explained
+desk --system s --requirements r d x = wrong
+desk --system s --requirements r = wrong
+check --system s --requirements=r d --explain = check --system s --requirements r d, explained
+check --system s --requirements r d x = wrong
+check --system = wrong
+lint --system s --requirements r d = lint --system s --requirements r d, explained
+lint --system s --requirements r d x = wrong
+draw --system s --requirements r d = draw --system s --requirements r d
+draw --system s --requirements r d x --features = draw --system s --requirements r d x, features
+draw --system s --requirements r d x y = wrong
+project --system s --requirements r d f = wrong
 ";
 
 /// The most columns of a line of help.
@@ -117,6 +143,7 @@ fn command_of(task: &Task<'_>) -> &'static str {
         Task::BuiltIn => "built-in",
         Task::Run { .. } => "run",
         Task::Desk { .. } => "desk",
+        Task::Model { .. } => "model",
         Task::Project { .. } => "project",
         Task::Check { .. } => "check",
         Task::Lint { .. } => "lint",
@@ -130,10 +157,23 @@ fn put_path(path: &str, said: &mut Said) {
     said.put(path);
 }
 
+/// Writes the paths of a game's files.
+fn put_game(paths: GamePaths<'_>, said: &mut Said) {
+    match paths {
+        GamePaths::Game(path) => put_path(path, said),
+        GamePaths::Model(files) => {
+            said.put(" --system");
+            put_path(files.system, said);
+            said.put(" --requirements");
+            put_path(files.requirements, said);
+        }
+    }
+}
+
 /// Writes the paths of a task's files.
 fn put_paths(task: &Task<'_>, said: &mut Said) {
     if let Some(paths) = task.paths() {
-        put_path(paths.game, said);
+        put_game(paths.game, said);
         put_path(paths.diagram, said);
     }
     if let Some(script) = task.script() {
@@ -276,6 +316,17 @@ fn told_of_no_text(alloc: Global) -> Said {
     said
 }
 
+/// What is told of a word too many.
+const TOO_MANY: &str = "\
+wrong
+error: unexpected argument 'x' found
+
+Usage: vpgdesk check [OPTIONS] <GAME> <DIAGRAM>
+       vpgdesk check [OPTIONS] --system <SYSTEM> --requirements <FILE> <DIAGRAM>
+
+For more information, try '--help'.
+";
+
 /// Whether the version, help and words that are not text are told so.
 fn are_told(version: &str, help: &str, no_text: &str) -> bool {
     version == "shown\nvpgdesk 0.1.0\n"
@@ -291,7 +342,9 @@ fn told_texts(rt: HostRuntime) -> Result<(), Fail> {
     let version = taken(rt.alloc(), "--version");
     let help = taken(rt.alloc(), "--help");
     let no_text = told_of_no_text(rt.alloc());
+    let too_many = taken(rt.alloc(), "check --system s --requirements r d x");
     let are_told = are_told(version.text(), help.text(), no_text.text());
     assert!(rt; are_told);
+    assert_eq!(rt; too_many.text(), TOO_MANY);
     Ok(())
 }

@@ -1,11 +1,15 @@
 -- How a message points into a file, and where a fault stands as a reader gives it. This project's own.
-use Rattle.std.specs.Prelude.{◌≡◌, ℕ, ◌+◌, ◌||◌, ◌==◌, nat_lt, if◌then◌else◌, List, [], ◌∷◌, ◌++◌, Option, Some, None, map, take, codes, decimal}
+use Rattle.std.specs.Prelude.{◌≡◌, ℕ, ◌+◌, ◌||◌, ◌==◌, nat_lt, if◌then◌else◌, List, ◌∷◌, ◌++◌, Option, Some, None, map, take, codes, decimal}
 use Rattle.vpg_guards.specs.declared.fault.GuardFault.{GuardFault}
 use Rattle.vpg_guards.specs.declared.fault.GuardFault.TheVariants as guard
 use Rattle.vpg_game.specs.declared.fault.GameFault.{GameFault}
 use Rattle.vpg_game.specs.declared.fault.GameFault.TheVariants as game
 use Rattle.vpg_diagram.specs.declared.fault.DiagramFault.{DiagramFault}
 use Rattle.vpg_diagram.specs.declared.fault.DiagramFault.TheVariants as diagram
+use Rattle.vpg_system.specs.declared.fault.SystemFault.{SystemFault}
+use Rattle.vpg_system.specs.declared.fault.SystemFault.TheVariants as system
+use Rattle.vpg_formula.specs.declared.fault.RequirementFault.{RequirementFault}
+use Rattle.vpg_formula.specs.declared.fault.RequirementFault.TheVariants as requirements
 use Rattle.vpg_places.specs.Places.{line_of, column_of}
 use Rattle.vpg_places.specs.declared.place.Place.{Place}
 use Rattle.vpg_lint.specs.declared.message.Message.{Message}
@@ -56,3 +60,24 @@ line_of_fault (diagram.TwoParents line) = line
 line_of_fault (diagram.TooMany line) = line
 line_of_fault (diagram.BadRange line) = line
 line_of_fault diagram.Memory = 1
+
+-- the line that the reader of a system says has the fault, the first where it says none
+abbrev pub line_in_system : SystemFault → ℕ
+line_in_system (system.NoHeader line) = line
+line_in_system (system.TooMany line) = line
+line_in_system (system.Syntax line) = line
+line_in_system (system.WrongCount line) = line
+line_in_system (system.Label line) = line
+line_in_system (system.NoState line) = line
+line_in_system (system.Guard line at fault) = line
+line_in_system system.Memory = 1
+
+-- where the reader of requirements says that its fault stands
+abbrev pub offset_in_requirements : RequirementFault → Option ℕ
+offset_in_requirements (requirements.Syntax at) = Some at
+offset_in_requirements (requirements.UnknownVariable at) = Some at
+offset_in_requirements (requirements.TooDeep at) = Some at
+offset_in_requirements (requirements.Twice at) = Some at
+offset_in_requirements (requirements.TooMany at) = Some at
+offset_in_requirements (requirements.NegatedVariable at) = Some at
+offset_in_requirements requirements.Memory = None

@@ -31,23 +31,23 @@ fn word_len(text: &[u8]) -> usize
 }
 
 /// What stands behind an offset.
-fn behind(text: &[u8], at: usize) -> &[u8] {
+pub(crate) fn behind(text: &[u8], at: usize) -> &[u8] {
     text.get(at..).unwrap_or(&[])
 }
 
 /// The word, or the one byte, at an offset.
-fn word_at(text: &[u8], at: usize) -> &[u8] {
+pub(crate) fn word_at(text: &[u8], at: usize) -> &[u8] {
     let rest = behind(text, at);
     &rest[..word_len(rest)]
 }
 
 /// Appends what was found at an offset, and what was expected.
-fn put_found_at(text: &[u8], at: usize, expected: &[u8], out: &mut Said) {
+pub(crate) fn put_found_at(text: &[u8], at: usize, expected: &[u8], out: &mut Said) {
     put_found(word_at(text, at), b"the text", expected, out)
 }
 
 /// The number of the line in which an offset stands.
-fn line_of(text: &[u8], at: usize) -> usize {
+pub(crate) fn line_of(text: &[u8], at: usize) -> usize {
     place_of(text, at.min(text.len())).line
 }
 
@@ -199,7 +199,7 @@ fn put_guard_syntax(text: &[u8], at: usize, out: &mut Said) {
 }
 
 /// Appends what a guard's fault means, which stands at an offset of the text.
-fn put_guard_fault(
+pub(crate) fn put_guard_fault(
     alloc: Global,
     text: &[u8],
     at: usize,
@@ -277,7 +277,7 @@ fn put_too_wide(out: &mut Said) {
 }
 
 /// Where a guard's fault stands in the guard.
-fn offset_in_guard(fault: GuardFault) -> usize
+pub(crate) fn offset_in_guard(fault: GuardFault) -> usize
     ensures { result ≡ offset_in_guard fault }
 {
     match fault {

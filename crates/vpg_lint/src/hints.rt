@@ -12,6 +12,8 @@ pub(crate) enum Kind {
     Game,
     Diagram,
     Script,
+    System,
+    Requirements,
 }
 
 fn is_letter(b: u8) -> bool {
@@ -30,6 +32,9 @@ fn kind_of(text: &[u8]) -> Option<Kind> {
     let word = front(text);
     if word == b"parity".as_slice() {
         return Some(Kind::Game);
+    }
+    if word == b"des".as_slice() {
+        return Some(Kind::System);
     }
     if form_of(&LINES, word).is_some() {
         return Some(Kind::Diagram);
@@ -57,8 +62,20 @@ pub(crate) fn put_text_hint(text: &[u8], wanted: Kind, out: &mut Said) {
             b"this looks like the other file; GAME comes before DIAGRAM",
             out,
         ),
-        (Kind::Script, Some(Kind::Game | Kind::Diagram)) => put_hint(
+        (Kind::Game | Kind::Diagram, Some(Kind::System)) => put_hint(
+            b"this looks like a system, which is named behind `--system`",
+            out,
+        ),
+        (Kind::Script, Some(Kind::Game | Kind::Diagram | Kind::System)) => put_hint(
             b"this looks like no script; the words are GAME DIAGRAM SCRIPT",
+            out,
+        ),
+        (Kind::System, Some(Kind::Game | Kind::Diagram | Kind::Script)) => put_hint(
+            b"this looks like no system; the words are `--system SYSTEM --requirements FILE DIAGRAM`",
+            out,
+        ),
+        (Kind::Requirements, Some(Kind::Game | Kind::System)) => put_hint(
+            b"this looks like no requirements; the words are `--system SYSTEM --requirements FILE DIAGRAM`",
             out,
         ),
         (Kind::Game | Kind::Diagram, Some(Kind::Script)) => put_hint(

@@ -1,9 +1,10 @@
 //! Messages that point: where a fault of a text stands, what was found there, what was expected, the nearest name, and
 //! hints.
 //!
-//! `explain_game` and `explain_diagram` take the fault with which a text was refused, `explain_line` a line of a script
-//! that is no command, and each makes a message; `put_message` writes it. `put_unknown` says of a word alone that no
-//! feature has this name. Only lines and columns have contracts: what the words say is for people.
+//! `explain_game`, `explain_diagram`, `explain_system` and `explain_requirements` take the fault with which a text was
+//! refused, `explain_parts` a requirement that is too long, `explain_line` a line of a script that is no command. Each
+//! makes a message, and `put_message` writes it. `put_unknown` says of a word alone that no feature has this name. Only
+//! lines and columns have contracts: what the words say is for people.
 //!
 //! `specs/Messages` says where a fault stands as its reader gives it, and how a message is written. Lines and columns
 //! are those of `vpg_places`.
@@ -15,11 +16,16 @@ mod games;
 mod hints;
 mod message;
 mod naming;
+mod requirements;
 mod said;
 mod scripts;
+mod systems;
+mod tokens;
 
 pub use diagrams::explain_diagram;
 pub use games::{explain_game, put_unknown};
 pub use message::{Message, put_message, put_number, put_place, put_shown, put_text};
 pub use naming::nearest;
+pub use requirements::{explain_parts, explain_requirements};
 pub use scripts::explain_line;
+pub use systems::explain_system;

@@ -4,7 +4,7 @@
 //! diagram that are built in, and writes the answers to standard output. `run` does so with the files of a game, a
 //! diagram and a script, `project` writes the plain game of one product, `check` counts a game and tells its top
 //! measures, `lint` warns of what looks wrong in a family, and `draw` writes a picture, of the page that a script
-//! leaves where one is named.
+//! leaves where one is named. A system and its requirements may stand in place of the game, which `model` writes.
 //!
 //! The status is 0; 1 where the input is refused or something fails, and then one line on standard error, `vpgdesk: `
 //! and the fault, says what, and with `--explain` further lines behind it say where and why; 2 where the words are
@@ -30,8 +30,8 @@ use std::sync::Wait;
 use std::thread::Threads;
 use std::{env, io};
 use vpg_family::{
-    Family, Fault, Paths, Pictured, Subject, Texts, drawn, explained, line_of, linted, open_script,
-    read_family, read_script, read_texts,
+    Family, Fault, Paths, Pictured, Subject, Texts, checked, drawn, explained, line_of, linted,
+    open_script, read_family, read_script, read_texts,
 };
 use vpg_names::VertexNames;
 use vpg_report::{
@@ -139,7 +139,7 @@ fn run_built_in<T: Threads + Wait + Sync>(
     }
 }
 
-/// A family of two files, and the names of its vertices.
+/// A family of some files, and the names of its vertices.
 struct Known {
     family: Family,
     names: VertexNames,
@@ -165,7 +165,7 @@ fn known_of(alloc: Global, texts: &Texts) -> Result<Known, Fault>
     Ok(Known { family, names })
 }
 
-/// The same of two files.
+/// The same of some files.
 fn read_known(rt: &HostRuntime, alloc: Global, paths: Paths<'_>) -> Result<Known, Fault>
     ensures features { IfOk result (λ known.
         (arc_value known.family.game).features ≡ feature_count (arc_value known.family.diagram).lines) }
@@ -236,7 +236,7 @@ fn run_named<T: Threads + Wait + Sync>(
     }
 }
 
-/// The same on a family of two files.
+/// The same on a family of some files.
 fn run_named_files<T: Threads + Wait + Sync>(
     rt: &HostRuntime,
     threads: &T,
@@ -254,7 +254,7 @@ fn run_named_files<T: Threads + Wait + Sync>(
     }
 }
 
-/// Carries a script of a file out on a family of two files.
+/// Carries a script of a file out on a family of some files.
 fn run_files<T: Threads + Wait + Sync>(
     rt: &HostRuntime,
     threads: &T,
@@ -379,7 +379,7 @@ fn sit_at<T: Threads + Wait + Sync>(
     converse_here(rt, threads, alloc, known, lifters, writer)
 }
 
-/// The same on a family of two files.
+/// The same on a family of some files.
 fn sit<T: Threads + Wait + Sync>(
     rt: &HostRuntime,
     threads: &T,
@@ -409,13 +409,18 @@ fn projected(
     }
 }
 
-/// The line that counts a family.
+/// The line that counts a family, and a line for each requirement where its game is made for some.
 fn counted(rt: &HostRuntime, alloc: Global, paths: Paths<'_>) -> Result<Vec<u8>, Fault> {
-    match read_family(rt, alloc, paths) {
-        Ok(family) => match family.counted(alloc) {
-            Ok(line) => Ok(line),
-            Err(_) => Err(Fault::Memory),
-        },
+    match read_texts(rt, alloc, paths) {
+        Ok(texts) => checked(alloc, &texts),
+        Err(fault) => Err(fault),
+    }
+}
+
+/// The text of a family's game.
+fn game_text(rt: &HostRuntime, alloc: Global, paths: Paths<'_>) -> Result<Vec<u8>, Fault> {
+    match read_texts(rt, alloc, paths) {
+        Ok(Texts { game, .. }) => Ok(game),
         Err(fault) => Err(fault),
     }
 }
@@ -475,7 +480,7 @@ fn drawn_after_texts<T: Threads + Wait + Sync>(
     }
 }
 
-/// The same of two files.
+/// The same of some files.
 fn drawn_after_files<T: Threads + Wait + Sync>(
     rt: &HostRuntime,
     threads: &T,
@@ -545,6 +550,7 @@ fn carry_out<T: Threads + Wait + Sync>(
             let lifters = (*lifters).clamp(1, 64);
             sit(rt, threads, alloc, *paths, lifters, *names)
         }
+        Task::Model { paths } => put_made(rt, game_text(rt, alloc, *paths)),
         Task::Project { paths, features } => {
             put_made(rt, projected(rt, alloc, *paths, features))
         }

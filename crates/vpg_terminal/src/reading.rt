@@ -1,12 +1,12 @@
 //! How words are read.
 use crate::task::{Asked, Task};
 use crate::usage::{ABOUT, AFTER, SHORT_AFTER};
-use crate::verbs::{Argument, Kind, VERBS, Verb};
+use crate::verbs::{Argument, Kind, VERBS, Verb, verb_of};
 use clap::builder::ValueParser;
 use clap::error::ErrorKind;
 use clap::{Arg, ArgAction, ArgMatches, Command, Error};
 use std::alloc::{AllocError, Global};
-use vpg_family::{Paths, Subject};
+use vpg_family::{GamePaths, ModelPaths, Paths, Subject};
 
 /// The option whose value is a number of lifters.
 fn lifters<'a>(arg: Arg<'a>) -> Arg<'a> {
@@ -16,14 +16,29 @@ fn lifters<'a>(arg: Arg<'a>) -> Arg<'a> {
         .default_value("1")
 }
 
-fn arg_of<'a>(alloc: Global, argument: Argument) -> Arg<'a> {
+fn arg_of<'a>(alloc: Global, argument: Argument) -> Result<Arg<'a>, AllocError> {
     let arg = Arg::new(alloc, argument.name).help(argument.help);
     match argument.kind {
-        Kind::Word => arg.required(true),
-        Kind::Words => arg.required(true).num_args(1..),
-        Kind::Optional => arg,
-        Kind::Flag => arg.long(argument.name).action(ArgAction::SetTrue),
-        Kind::Lifters => lifters(arg),
+        Kind::Word => Ok(arg.required(true)),
+        Kind::Last => arg.required_unless_present("system"),
+        Kind::Words => Ok(arg.required(true).num_args(1..)),
+        Kind::Optional => Ok(arg),
+        Kind::Flag => Ok(arg.long(argument.name).action(ArgAction::SetTrue)),
+        Kind::Lifters => Ok(lifters(arg)),
+        Kind::File { value, with } => {
+            arg.long(argument.name).value_name(value).requires_arg(with)
+        }
+    }
+}
+
+/// A command with one more argument.
+fn with_argument<'a>(
+    command: Command<'a>,
+    arg: Result<Arg<'a>, AllocError>,
+) -> Result<Command<'a>, AllocError> {
+    match arg {
+        Ok(arg) => command.arg(arg),
+        Err(fault) => Err(fault),
     }
 }
 
@@ -35,13 +50,17 @@ fn with_arguments<'a>(
 ) -> Result<Command<'a>, AllocError> {
     let mut command = command;
     for argument in arguments {
-        command = command.arg(arg_of(alloc, *argument))?;
+        command = with_argument(command, arg_of(alloc, *argument))?;
     }
     Ok(command)
 }
 
 fn command_of<'a>(alloc: Global, verb: &Verb) -> Result<Command<'a>, AllocError> {
     let command = Command::new(alloc, verb.name).about(verb.about);
+    let command = match verb.usage {
+        Some(usage) => command.override_usage(usage),
+        None => command,
+    };
     with_arguments(alloc, command, verb.arguments)
 }
 
@@ -102,6 +121,19 @@ fn lacking(alloc: Global) -> Result<Error, AllocError> {
     )
 }
 
+/// What is told of a word too many.
+fn unexpected(alloc: Global, name: &str, word: &str) -> Result<Error, AllocError> {
+    let told = format!(in alloc; "unexpected argument '{word}' found")?;
+    let command = match verb_of(name) {
+        Some(verb) => command_of(alloc, &verb),
+        None => command(alloc),
+    };
+    match command {
+        Ok(mut command) => command.error(ErrorKind::UnknownArgument, told.as_str()),
+        Err(fault) => Err(fault),
+    }
+}
+
 /// What is told of a number with a sign.
 fn signed(alloc: Global) -> Result<Error, AllocError> {
     wrong(
@@ -119,12 +151,86 @@ fn has_sign(matches: &ArgMatches<'_>) -> bool {
     }
 }
 
-/// The files that a command names. It has them where it was accepted.
-fn paths_of<'a>(matches: &ArgMatches<'a>) -> Option<Paths<'a>> {
-    Some(Paths {
-        game: matches.get_str("GAME")?,
-        diagram: matches.get_str("DIAGRAM")?,
+/// The words of a command that name files.
+#[derive(Clone, Copy)]
+struct Files<'a> {
+    paths: Paths<'a>,
+    script: Option<&'a str>,
+    /// The first word too many.
+    unexpected: Option<&'a str>,
+}
+
+/// The files of a system, its requirements and a diagram.
+fn model_of<'a>(system: &'a str, requirements: &'a str, diagram: &'a str) -> Paths<'a> {
+    Paths {
+        game: GamePaths::Model(ModelPaths {
+            system,
+            requirements,
+        }),
+        diagram,
+    }
+}
+
+/// The files that the words of a command name, where it takes a script or not, and these two stand in place of a game.
+/// Each word stands where the one before it would.
+fn shifted<'a>(
+    matches: &ArgMatches<'a>,
+    takes_script: bool,
+    system: &'a str,
+    requirements: &'a str,
+) -> Option<Files<'a>> {
+    let paths = model_of(system, requirements, matches.get_str("GAME")?);
+    let behind = matches.get_str("DIAGRAM");
+    Some(if takes_script {
+        Files {
+            paths,
+            script: behind,
+            unexpected: matches.get_str("SCRIPT"),
+        }
+    } else {
+        Files {
+            paths,
+            script: None,
+            unexpected: behind,
+        }
     })
+}
+
+/// The files of the command `model`.
+fn model_files<'a>(matches: &ArgMatches<'a>) -> Option<Files<'a>> {
+    let system = matches.get_str("SYSTEM")?;
+    let requirements = matches.get_str("REQUIREMENTS")?;
+    Some(Files {
+        paths: model_of(system, requirements, matches.get_str("DIAGRAM")?),
+        script: None,
+        unexpected: None,
+    })
+}
+
+/// The files of a command over a game.
+fn game_files<'a>(matches: &ArgMatches<'a>) -> Option<Files<'a>> {
+    Some(Files {
+        paths: Paths {
+            game: GamePaths::Game(matches.get_str("GAME")?),
+            diagram: matches.get_str("DIAGRAM")?,
+        },
+        script: matches.get_str("SCRIPT"),
+        unexpected: None,
+    })
+}
+
+/// The files that a command names. It has them where it was accepted.
+fn files_of<'a>(name: &str, matches: &ArgMatches<'a>) -> Option<Files<'a>> {
+    if name == "model" {
+        return model_files(matches);
+    }
+    match (matches.get_str("system"), matches.get_str("requirements")) {
+        (Some(system), Some(requirements)) => {
+            let takes_script = name == "run" || name == "draw";
+            shifted(matches, takes_script, system, requirements)
+        }
+        _ => game_files(matches),
+    }
 }
 
 fn features<'a>(alloc: Global, matches: &ArgMatches<'a>) -> Result<Vec<&'a str>, AllocError> {
@@ -143,31 +249,29 @@ fn subject(matches: &ArgMatches<'_>) -> Subject {
     }
 }
 
-/// The task of a command over a family, `None` where it lacks a word.
+/// The task of a command over a family of these files, `None` where it lacks a word.
 fn task_of<'a>(
     alloc: Global,
     name: &str,
+    files: Files<'a>,
     matches: &ArgMatches<'a>,
 ) -> Result<Option<Task<'a>>, AllocError> {
-    let Some(paths) = paths_of(matches) else {
-        return Ok(None);
-    };
+    let Files { paths, script, .. } = files;
     match name {
-        "run" => Ok(
-            matches.get_str("SCRIPT").map(|script| Task::Run {
-                paths,
-                script,
-                lifters: matches.get_one("lifters").unwrap_or(1),
-                strict: matches.get_flag("strict"),
-                keep_going: matches.get_flag("keep-going"),
-                names: matches.get_flag("names"),
-            }),
-        ),
+        "run" => Ok(script.map(|script| Task::Run {
+            paths,
+            script,
+            lifters: matches.get_one("lifters").unwrap_or(1),
+            strict: matches.get_flag("strict"),
+            keep_going: matches.get_flag("keep-going"),
+            names: matches.get_flag("names"),
+        })),
         "desk" => Ok(Some(Task::Desk {
             paths,
             lifters: matches.get_one("lifters").unwrap_or(1),
             names: matches.get_flag("names"),
         })),
+        "model" => Ok(Some(Task::Model { paths })),
         "project" => Ok(Some(Task::Project {
             paths,
             features: features(alloc, matches)?,
@@ -177,7 +281,7 @@ fn task_of<'a>(
         "draw" => Ok(Some(Task::Draw {
             paths,
             subject: subject(matches),
-            script: matches.get_str("SCRIPT"),
+            script,
         })),
         _ => Ok(None),
     }
@@ -193,16 +297,35 @@ fn refused<'a>(told: Result<Error, AllocError>) -> Result<Asked<'a>, Error> {
     Err(told?)
 }
 
+/// What a command over a family of these files asks for.
+fn asked_of<'a>(
+    alloc: Global,
+    name: &str,
+    files: Files<'a>,
+    matches: &ArgMatches<'a>,
+) -> Result<Asked<'a>, Error> {
+    match task_of(alloc, name, files, matches)? {
+        Some(task) => Ok(Asked {
+            task,
+            explains: explains(name, matches),
+        }),
+        None => refused(lacking(alloc)),
+    }
+}
+
 /// What a command over a family asks for.
 fn asked<'a>(alloc: Global, name: &str, matches: &ArgMatches<'a>) -> Result<Asked<'a>, Error> {
     if has_sign(matches) {
         return refused(signed(alloc));
     }
-    match task_of(alloc, name, matches)? {
-        Some(task) => Ok(Asked {
-            task,
-            explains: explains(name, matches),
-        }),
+    match files_of(name, matches) {
+        Some(
+            Files {
+                unexpected: Some(word),
+                ..
+            },
+        ) => refused(unexpected(alloc, name, word)),
+        Some(files) => asked_of(alloc, name, files, matches),
         None => refused(lacking(alloc)),
     }
 }

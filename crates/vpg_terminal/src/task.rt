@@ -34,6 +34,10 @@ pub enum Task<'a> {
         /// The names of vertices stand beside answers.
         names: bool,
     },
+    /// The game of a system and its requirements.
+    Model {
+        paths: Paths<'a>,
+    },
     /// The plain game of the product that has just these features.
     Project {
         paths: Paths<'a>,
@@ -73,6 +77,7 @@ impl Drop for Task<'_> {
                 lifters: _,
                 names: _,
             } => {}
+            Task::Model { paths: _ } => {}
             Task::Project {
                 paths: _,
                 features: _,
@@ -95,6 +100,7 @@ impl<'a> Task<'a> {
             Task::BuiltIn => None,
             Task::Run { paths, .. } => Some(*paths),
             Task::Desk { paths, .. } => Some(*paths),
+            Task::Model { paths } => Some(*paths),
             Task::Project { paths, .. } => Some(*paths),
             Task::Check { paths } => Some(*paths),
             Task::Lint { paths } => Some(*paths),

@@ -9,7 +9,12 @@ feature diagram that says which sets of features are products. A script selects
 and excludes features, takes decisions back, and settles two tables of progress
 measures. They show for each vertex whether it is hopeless (Even wins it in no
 product that is left) and whether it is sure (Odd wins it in none). What cannot
-be shown is called possible, or unsure.";
+be shown is called possible, or unsure.
+
+In place of a game there may be a transition system with guards, and a file of
+requirements, formulas of the mu-calculus. Each requirement is a vertex of their
+game: it is sure where it holds in every product that is left, and hopeless
+where it holds in none.";
 
 /// What the words leave open: scripts, statuses, examples.
 pub(crate) const AFTER: &str = "\
@@ -72,6 +77,7 @@ Examples:
   vpgdesk desk game diagram
   vpgdesk project game diagram lift sensor overload
   vpgdesk draw game diagram | dot -Tsvg > game.svg
+  vpgdesk check --system system --requirements requirements diagram
 
 All formats, commands, answers and faults: docs/FORMATS.md";
 
@@ -89,6 +95,43 @@ is built in. `vpgdesk --help` tells of scripts, statuses and examples.";
 
 pub(crate) const GAME_HELP: &str = "A parity game in PGSolver's format with guards, `0 2 1 1[f];`";
 
+pub(crate) const SYSTEM_HELP: &str =
+    "A system in Aldebaran format with guards, `(0, \"a [f]\", 1)`";
+
+pub(crate) const REQUIREMENTS_HELP: &str =
+    "A formula as in mCRL2, or entries `live = always can a;`";
+
+pub(crate) const TAKEN_SYSTEM_HELP: &str = "In place of GAME: the behaviour of the family";
+
+pub(crate) const TAKEN_REQUIREMENTS_HELP: &str = "The formulas that the system is to meet";
+
+/// How `run` is called.
+pub(crate) const RUN_USAGE: &str = "\
+vpgdesk run [OPTIONS] <GAME> <DIAGRAM> <SCRIPT>
+       vpgdesk run [OPTIONS] --system <SYSTEM> --requirements <FILE>
+                   <DIAGRAM> <SCRIPT>";
+
+/// How `desk` is called.
+pub(crate) const DESK_USAGE: &str = "\
+vpgdesk desk [OPTIONS] <GAME> <DIAGRAM>
+       vpgdesk desk [OPTIONS] --system <SYSTEM> --requirements <FILE> <DIAGRAM>";
+
+/// How `check` is called.
+pub(crate) const CHECK_USAGE: &str = "\
+vpgdesk check [OPTIONS] <GAME> <DIAGRAM>
+       vpgdesk check [OPTIONS] --system <SYSTEM> --requirements <FILE> <DIAGRAM>";
+
+/// How `lint` is called.
+pub(crate) const LINT_USAGE: &str = "\
+vpgdesk lint <GAME> <DIAGRAM>
+       vpgdesk lint --system <SYSTEM> --requirements <FILE> <DIAGRAM>";
+
+/// How `draw` is called.
+pub(crate) const DRAW_USAGE: &str = "\
+vpgdesk draw [OPTIONS] <GAME> <DIAGRAM> [SCRIPT]
+       vpgdesk draw [OPTIONS] --system <SYSTEM> --requirements <FILE>
+                    <DIAGRAM> [SCRIPT]";
+
 pub(crate) const DIAGRAM_HELP: &str =
     "A feature diagram, a line each: `root r`, `optional r f`, ..";
 
@@ -96,9 +139,9 @@ pub(crate) const SCRIPT_HELP: &str = "One command a line, as `select f`, `settle
 
 pub(crate) const DRAWN_SCRIPT_HELP: &str = "Draw the page that the lines of this file leave";
 
-pub(crate) const LIFTERS_HELP: &str = "How many threads raise the tables, 1 to 64";
+pub(crate) const LIFTERS_HELP: &str = "Threads that raise the tables, 1 to 64";
 
-pub(crate) const STRICT_HELP: &str = "End at the first line that is refused, with status 3";
+pub(crate) const STRICT_HELP: &str = "End at the first refused line, with status 3";
 
 pub(crate) const KEEP_GOING_HELP: &str = "Answer a line with a fault `refused ..`, and go on";
 

@@ -1,7 +1,9 @@
 //! The commands of the program, and their arguments.
 use crate::usage::{
-    DIAGRAM_HELP, DRAWN_SCRIPT_HELP, EXPLAIN_HELP, FEATURE_HELP, FEATURES_HELP, GAME_HELP,
-    KEEP_GOING_HELP, LIFTERS_HELP, NAMES_HELP, SCRIPT_HELP, STRICT_HELP,
+    CHECK_USAGE, DESK_USAGE, DIAGRAM_HELP, DRAW_USAGE, DRAWN_SCRIPT_HELP, EXPLAIN_HELP,
+    FEATURE_HELP, FEATURES_HELP, GAME_HELP, KEEP_GOING_HELP, LIFTERS_HELP, LINT_USAGE, NAMES_HELP,
+    REQUIREMENTS_HELP, RUN_USAGE, SCRIPT_HELP, STRICT_HELP, SYSTEM_HELP, TAKEN_REQUIREMENTS_HELP,
+    TAKEN_SYSTEM_HELP,
 };
 
 /// How an argument of a command is given.
@@ -9,6 +11,8 @@ use crate::usage::{
 pub(crate) enum Kind {
     /// A word that has to be there.
     Word,
+    /// The last word, which has to be there unless a system stands in place of the game.
+    Last,
     /// One such word or more.
     Words,
     /// A word that may be left out.
@@ -17,6 +21,11 @@ pub(crate) enum Kind {
     Flag,
     /// An option whose value is a number of lifters.
     Lifters,
+    /// An option whose value is a file, and which goes with another option.
+    File {
+        value: &'static str,
+        with: &'static str,
+    },
 }
 
 /// An argument of a command.
@@ -32,6 +41,8 @@ pub(crate) struct Argument {
 pub(crate) struct Verb {
     pub(crate) name: &'static str,
     pub(crate) about: &'static str,
+    /// How it is called, where not all arguments stand together.
+    pub(crate) usage: Option<&'static str>,
     pub(crate) arguments: &'static [Argument],
 }
 
@@ -45,6 +56,42 @@ const DIAGRAM: Argument = Argument {
     kind: Kind::Word,
     name: "DIAGRAM",
     help: DIAGRAM_HELP,
+};
+
+const LAST_DIAGRAM: Argument = Argument {
+    kind: Kind::Last,
+    name: "DIAGRAM",
+    help: DIAGRAM_HELP,
+};
+
+const SYSTEM: Argument = Argument {
+    kind: Kind::Word,
+    name: "SYSTEM",
+    help: SYSTEM_HELP,
+};
+
+const REQUIREMENTS: Argument = Argument {
+    kind: Kind::Word,
+    name: "REQUIREMENTS",
+    help: REQUIREMENTS_HELP,
+};
+
+const TAKEN_SYSTEM: Argument = Argument {
+    kind: Kind::File {
+        value: "SYSTEM",
+        with: "requirements",
+    },
+    name: "system",
+    help: TAKEN_SYSTEM_HELP,
+};
+
+const TAKEN_REQUIREMENTS: Argument = Argument {
+    kind: Kind::File {
+        value: "FILE",
+        with: "system",
+    },
+    name: "requirements",
+    help: TAKEN_REQUIREMENTS_HELP,
 };
 
 const EXPLAIN: Argument = Argument {
@@ -66,7 +113,7 @@ const NAMES: Argument = Argument {
 };
 
 const SCRIPT: Argument = Argument {
-    kind: Kind::Word,
+    kind: Kind::Last,
     name: "SCRIPT",
     help: SCRIPT_HELP,
 };
@@ -101,38 +148,90 @@ const FEATURES: Argument = Argument {
     help: FEATURES_HELP,
 };
 
-/// The commands in the order of the help. All are over the two files of a family.
-pub(crate) static VERBS: [Verb; 6] = [
+/// The commands in the order of the help. All are over the files of a family.
+pub(crate) static VERBS: [Verb; 7] = [
     Verb {
         name: "run",
         about: "Carries a script out on a family",
+        usage: Some(RUN_USAGE),
         arguments: &[
-            GAME, DIAGRAM, EXPLAIN, SCRIPT, LIFTERS, STRICT, KEEP_GOING, NAMES,
+            GAME,
+            DIAGRAM,
+            EXPLAIN,
+            SCRIPT,
+            TAKEN_SYSTEM,
+            TAKEN_REQUIREMENTS,
+            LIFTERS,
+            STRICT,
+            KEEP_GOING,
+            NAMES,
         ],
     },
     Verb {
         name: "desk",
         about: "Answers commands as they are typed, on a family",
-        arguments: &[GAME, DIAGRAM, LIFTERS, NAMES],
+        usage: Some(DESK_USAGE),
+        arguments: &[
+            GAME,
+            LAST_DIAGRAM,
+            TAKEN_SYSTEM,
+            TAKEN_REQUIREMENTS,
+            LIFTERS,
+            NAMES,
+        ],
+    },
+    Verb {
+        name: "model",
+        about: "Writes the game of a system and its requirements",
+        usage: None,
+        arguments: &[SYSTEM, REQUIREMENTS, DIAGRAM, EXPLAIN],
     },
     Verb {
         name: "project",
         about: "Writes the plain parity game of one product",
+        usage: None,
         arguments: &[GAME, DIAGRAM, EXPLAIN, FEATURE],
     },
     Verb {
         name: "check",
         about: "Counts vertices, edges, features and measures",
-        arguments: &[GAME, DIAGRAM, EXPLAIN],
+        usage: Some(CHECK_USAGE),
+        arguments: &[
+            GAME,
+            LAST_DIAGRAM,
+            TAKEN_SYSTEM,
+            TAKEN_REQUIREMENTS,
+            EXPLAIN,
+        ],
     },
     Verb {
         name: "lint",
         about: "Says where a family is, or looks, wrong",
-        arguments: &[GAME, DIAGRAM],
+        usage: Some(LINT_USAGE),
+        arguments: &[GAME, LAST_DIAGRAM, TAKEN_SYSTEM, TAKEN_REQUIREMENTS],
     },
     Verb {
         name: "draw",
         about: "Draws the game as a Graphviz text",
-        arguments: &[GAME, DIAGRAM, EXPLAIN, DRAWN_SCRIPT, FEATURES],
+        usage: Some(DRAW_USAGE),
+        arguments: &[
+            GAME,
+            LAST_DIAGRAM,
+            EXPLAIN,
+            DRAWN_SCRIPT,
+            TAKEN_SYSTEM,
+            TAKEN_REQUIREMENTS,
+            FEATURES,
+        ],
     },
 ];
+
+/// The command of a name.
+pub(crate) fn verb_of(name: &str) -> Option<Verb> {
+    for verb in &VERBS {
+        if verb.name == name {
+            return Some(*verb);
+        }
+    }
+    None
+}

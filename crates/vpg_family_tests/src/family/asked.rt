@@ -33,7 +33,12 @@ fn projected(alloc: Global, family: &Family, features: &str) -> Result<Vec<u8>, 
 fn texts(alloc: Global, row: &Row<'_>) -> Result<Texts, AllocError> {
     let diagram = Vec::from_slice(alloc, row.diagram.as_bytes())?;
     let game = Vec::from_slice(alloc, row.game.as_bytes())?;
-    Ok(Texts { diagram, game })
+    Ok(Texts {
+        diagram,
+        game,
+        entries: Vec::new(alloc),
+        vertices: Vec::new(alloc),
+    })
 }
 
 /// The picture of the page that a script left.

@@ -7,6 +7,8 @@ use std::test::*;
 use vpg_family::{Fault, explained, read_family};
 use vpg_script::LineFault;
 
+const GAME_FILE: &str = "explained_game";
+
 const SCRIPT: &str = "explained_script";
 
 /// The texts of a diagram, a game and a script, and what is said of the first that is refused.
@@ -81,13 +83,13 @@ fn put_files(rt: &HostRuntime, said: &mut Said) {
 
 fn are_written(rt: &HostRuntime, row: &Row) -> bool {
     fs::write(rt, PATHS.diagram, row.diagram).is_ok()
-        && fs::write(rt, PATHS.game, row.game).is_ok()
+        && fs::write(rt, GAME_FILE, row.game).is_ok()
         && fs::write(rt, SCRIPT, row.script).is_ok()
 }
 
 fn are_removed(rt: &HostRuntime) -> bool {
     fs::remove_file(rt, PATHS.diagram).is_ok()
-        && fs::remove_file(rt, PATHS.game).is_ok()
+        && fs::remove_file(rt, GAME_FILE).is_ok()
         && fs::remove_file(rt, SCRIPT).is_ok()
 }
 

@@ -5,7 +5,7 @@ use vpg_family::Fault;
 use vpg_script::LineFault;
 
 /// How many they are.
-const FAULTS: u32 = 10;
+const FAULTS: u32 = 12;
 
 /// The fault at a place.
 fn fault_at(place: u32) -> Fault {
@@ -22,6 +22,8 @@ fn fault_at(place: u32) -> Fault {
         6 => Fault::Write,
         7 => Fault::LogFull,
         8 => Fault::Stray,
+        9 => Fault::SystemUnreadable,
+        10 => Fault::RequirementsUnreadable,
         _ => Fault::Memory,
     }
 }
@@ -36,6 +38,8 @@ vpgdesk: script Read
 vpgdesk: Write
 vpgdesk: script LogFull
 vpgdesk: script Stray
+vpgdesk: system unreadable
+vpgdesk: requirements unreadable
 vpgdesk: Memory
 ";
 

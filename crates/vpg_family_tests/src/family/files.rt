@@ -4,7 +4,7 @@ use crate::said::Said;
 use std::alloc::Global;
 use std::fs;
 use std::test::*;
-use vpg_family::{Family, Fault, Paths, open_script, read_family};
+use vpg_family::{Family, Fault, GamePaths, Paths, open_script, read_family};
 
 /// The files of a game and a diagram, and what is told of them. `none` is missing, `.` is a folder, and `empty` has no
 /// bytes.
@@ -30,7 +30,11 @@ fn put_counts(family: Result<Family, Fault>, said: &mut Said) {
 fn holds(rt: &HostRuntime, alloc: Global, row: [&str; 3]) -> bool {
     let [game, diagram, told] = row;
     let mut said = Said::new(alloc);
-    put_counts(read_family(rt, alloc, Paths { game, diagram }), &mut said);
+    let paths = Paths {
+        game: GamePaths::Game(game),
+        diagram,
+    };
+    put_counts(read_family(rt, alloc, paths), &mut said);
     said.text() == told
 }
 

@@ -1,5 +1,5 @@
-use Rattle.std.proofs.Common.{ℕ, List, subst}
-use Rattle.vpg_game.specs.Game.{SpellsGame}
+use Rattle.std.proofs.Common.{ℕ, List, sym, subst}
+use Rattle.vpg_game.specs.Game.{NamedGame, SpellsGame}
 use Rattle.vpg_game.specs.Refused.{IsRefused}
 use Rattle.vpg_family.proofs.family.read_game.Goals as goal
 
@@ -10,3 +10,11 @@ returns-in_default-clause-refused c =
 pub returns-in-Ok-clause-found : goal.returns-in-Ok-clause-found
 returns-in-Ok-clause-found c =
     subst (λ (names : List (List ℕ)). SpellsGame names c.args.text.now c.in-Ok.game) c.names.ensures.names c.in-Ok.ensures.found
+
+pub returns-in-Ok-clause-only : goal.returns-in-Ok-clause-only
+returns-in-Ok-clause-only c =
+    λ (game : NamedGame) h. c.in-Ok.ensures.only game (subst (λ (names : List (List ℕ)). SpellsGame names c.args.text.now game) (sym c.names.ensures.names) h)
+
+pub returns-in_default-clause-only : goal.returns-in_default-clause-only
+returns-in_default-clause-only c =
+    λ (game : NamedGame) h. absurd (c.in_default.not-Memory (c.in-Err.ensures.only game (subst (λ (names : List (List ℕ)). SpellsGame names c.args.text.now game) (sym c.names.ensures.names) h)))

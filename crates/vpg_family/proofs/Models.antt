@@ -1,0 +1,57 @@
+-- Families whose game is made from a system and its requirements.
+use Rattle.std.proofs.Common.{◌≡◌, ℕ, List, [], ◌∷◌, map, Option, Some, refl, sym, ap, subst, ◌∙◌}
+use Rattle.std.specs.Prelude.{slice_get, option_map}
+use Rattle.std.proofs.lemmas.Option.{slice_get-map}
+use Rattle.vpg_diagram.specs.DiagramText.{NamedDiagram, IsTextOf}
+use Rattle.vpg_game.specs.Game.{NamedGame}
+use Rattle.vpg_formula.specs.Requirements.{AreRequirements, names_of}
+use Rattle.vpg_formula.specs.EntryCode.{entries_of}
+use Rattle.vpg_formula.specs.declared.requirement.Entry as code
+use Rattle.vpg_family.specs.Families.{entry_names, IsNameOfEntry, SpellsFamily, IsModelFault, IsModelled, IsModelledBy, AreTextsOf, IsFamilyOf, IsUnread}
+use Rattle.vpg_family.specs.declared.fault.Fault.{Fault}
+use Rattle.vpg_family.specs.declared.fault.Fault.TheVariants as told
+use Rattle.vpg_family.specs.declared.files.GamePaths.{GamePaths}
+use Rattle.vpg_family.specs.declared.files.GamePaths.TheVariants as paths
+
+-- what is told of texts without a game is told of files
+pub unread_model : (text system_text requirements_text : List ℕ) (diagram : NamedDiagram) (fault : Fault) → IsTextOf text diagram → IsModelFault diagram system_text requirements_text fault → IsUnread fault
+unread_model text system_text requirements_text diagram (told.System fault) is h = (text, system_text, requirements_text, diagram, is, h)
+unread_model text system_text requirements_text diagram (told.Requirements fault) is h = (text, system_text, requirements_text, diagram, is, h)
+unread_model text system_text requirements_text diagram (told.TooManyParts name) is h = (text, system_text, requirements_text, diagram, is, h)
+unread_model text system_text requirements_text diagram (told.Model fault) is h = (text, system_text, requirements_text, diagram, is, h)
+unread_model text system_text requirements_text diagram told.Memory is h = tt
+unread_model text system_text requirements_text diagram _ is h = absurd h
+
+-- a family that is the same is modelled as well
+moved : (diagram d : NamedDiagram) (game g : NamedGame) (names : List (List ℕ)) (vertices : List ℕ) → (d ≡ diagram) × (g ≡ game) → IsModelled diagram game names vertices → IsModelled d g names vertices
+moved diagram d game g names vertices (e, f) h =
+    subst (λ (x : NamedDiagram). IsModelled x g names vertices) (sym e) (subst (λ (x : NamedGame). IsModelled diagram x names vertices) (sym f) h)
+
+-- texts that spell one family alone spell that of their paths
+pub family_of_paths : (files : GamePaths) (diagram_text game_text one other : List ℕ) (names : List (List ℕ)) (vertices : List ℕ) (d : NamedDiagram) (g : NamedGame) → one ≡ diagram_text → other ≡ game_text
+    → ((diagram : NamedDiagram) (game : NamedGame) → SpellsFamily one other diagram game → (d ≡ diagram) × (g ≡ game)) → AreTextsOf files diagram_text game_text names vertices → IsFamilyOf files d g
+family_of_paths (paths.Game path) diagram_text game_text one other names vertices d g e f only h = tt
+family_of_paths (paths.Model files) diagram_text game_text one other names vertices d g e f only h =
+    let spelled : SpellsFamily one other h.diagram h.game =
+    subst (λ (t : List ℕ). SpellsFamily t other h.diagram h.game) (sym e) (subst (λ (t : List ℕ). SpellsFamily diagram_text t h.diagram h.game) (sym f) h.spelled)
+    in
+    (names, vertices, moved h.diagram d h.game g names vertices (only h.diagram h.game spelled) h.modelled)
+
+-- ---- the name of an entry
+
+-- the names of entries that were read
+pub read_names : (made : List code.Entry) → names_of (entries_of made) ≡ map (λ (e : code.Entry). e.name) made
+read_names [] = refl
+read_names (e ∷ es) = ap (λ (l : List (List ℕ)). e.name ∷ l) (read_names es)
+
+-- an entry that was read has the name of one that is spelled
+pub entry_named : (text : List ℕ) (made : List code.Entry) (n : ℕ) (it : code.Entry) (name : List ℕ) → AreRequirements text (entries_of made) → slice_get made n ≡ Some it → name ≡ it.name → IsNameOfEntry text n name
+entry_named text made n it name h at is =
+    let names : entry_names h.entries ≡ map (λ (e : code.Entry). e.name) made = sym (ap names_of h.are) ∙ read_names made in
+    record {
+      entries = h.entries;
+      are_entries = h.spelled;
+      name_is =
+          ap (λ (l : List (List ℕ)). slice_get l n) names ∙ slice_get-map (λ (e : code.Entry). e.name) made n
+          ∙ ap (λ (o : Option code.Entry). option_map (λ (e : code.Entry). e.name) o) at ∙ ap (λ (l : List ℕ). Some l) (sym is);
+    }

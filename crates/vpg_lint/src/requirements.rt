@@ -1,0 +1,413 @@
+//! What a fault of a text of requirements means.
+ghost use Rattle.std.specs.Prelude.{◌≡◌, IfOk, IfSome};
+ghost use Rattle.vpg_places.specs.Places.{IsWithin};
+ghost use Rattle.vpg_lint.specs.Messages.{offset_in_requirements, IsPlaceOf};
+
+use crate::diagrams::NAME_RULE;
+use crate::games::{behind, line_of, put_found_at, word_at};
+use crate::hints::{Kind, put_text_hint};
+use crate::message::{Message, put_hint, put_hint_line, put_hint_with};
+use crate::naming::nearest_of;
+use crate::said::Said;
+use crate::tokens::tokens_of;
+use std::alloc::{AllocError, Global};
+use vpg_formula::RequirementFault;
+use vpg_places::{Word, place_of};
+
+/// How an entry is written.
+const ENTRY: &[u8] = b"an entry is written `NAME = FORMULA;`";
+
+/// The word of a list at a place, empty where there is none.
+fn word<'t>(words: &[Word<'t>], place: usize) -> &'t [u8] {
+    match words.get(place) {
+        Some(word) => word.bytes,
+        None => b"",
+    }
+}
+
+/// The last word but so many.
+fn last<'t>(words: &[Word<'t>], before: usize) -> &'t [u8] {
+    match words.len().checked_sub(before.saturating_add(1)) {
+        Some(place) => word(words, place),
+        None => b"",
+    }
+}
+
+/// Whether the words end between `<` and `>`, or `[` and `]`.
+fn ends_in_path(words: &[Word<'_>]) -> bool {
+    let mut inside = false;
+    for word in words {
+        match word.bytes {
+            [b'<' | b'['] => inside = true,
+            [b'>' | b']'] => inside = false,
+            _ => {}
+        }
+    }
+    inside
+}
+
+/// Whether a word is one of these.
+fn is_one_of(word: &[u8], others: &[&str]) -> bool {
+    others.iter().any(|it| it.as_bytes() == word)
+}
+
+/// What is expected behind a word between `<` and `>`, or `[` and `]`.
+fn expected_in_path(before: &[u8]) -> &'static [u8] {
+    match before {
+        [b'<' | b'[' | b'(' | b'!' | b'.' | b'+' | b'&' | b'|'] => {
+            b"an action, `true`, `false`, `!` or `(`"
+        }
+        _ => b"`.`, `+`, `*`, `&&`, `||`, or what closes it",
+    }
+}
+
+/// Whether a word ends a formula, where it stands behind another.
+fn ends_formula(before: &[u8], word: &[u8]) -> bool {
+    match word {
+        [b')' | b'"', ..] => true,
+        _ if is_one_of(before, &["after", "mu", "nu"]) => false,
+        _
+            if is_one_of(
+                word,
+                &["again", "and", "always", "never", "possibly", "inevitably"],
+            ) => { false }
+        [b, ..] => b.is_ascii_alphanumeric() || *b == b'_',
+        [] => false,
+    }
+}
+
+/// What is expected behind the last word outside of paths, where it stands behind another.
+fn expected_behind(before: &[u8], word: &[u8]) -> &'static [u8] {
+    if word.is_empty() {
+        return b"a formula, or entries `NAME = FORMULA;`";
+    }
+    if is_one_of(before, &["mu", "nu"]) {
+        return b"`.` and a formula";
+    }
+    match word {
+        b";" => b"the name of an entry, or the end of the text",
+        b"mu" | b"nu" => b"the name of a variable",
+        b"deadlock" => b"`free`",
+        b"again" if before != b"and".as_slice() => b"`and again`",
+        b"and" => b"`again`",
+        b"can" | b"will" | b"after" => b"an action, `true`, `!` or `(`",
+        _ if ends_formula(before, word) => b"`&&`, `||`, `=>`, or the end of the formula",
+        _ => b"a formula",
+    }
+}
+
+/// What is expected behind words.
+fn expected(words: &[Word<'_>]) -> &'static [u8] {
+    if ends_in_path(words) {
+        expected_in_path(last(words, 0))
+    } else {
+        expected_behind(last(words, 1), last(words, 0))
+    }
+}
+
+/// A hint of a sign that other formats have and this one has not.
+fn hint_of_sign(found: &[u8]) -> Option<&'static [u8]> {
+    match found {
+        [b'#', ..] | [b'/', ..] => Some(b"a comment begins with `%`"),
+        [b'&', ..] => Some(b"`&&` stands for and"),
+        [b'|', ..] => Some(b"`||` stands for or"),
+        [b'~', ..] | [b'-', ..] => Some(b"`!` stands for not"),
+        [b':', ..] | [b'=', ..] => Some(ENTRY),
+        [b'"', ..] => Some(b"a name in quotes is an action, and ends on its line"),
+        [b'0'..=b'9', ..] => Some(NAME_RULE),
+        [b'(', ..] => Some(b"arguments stand at once behind the name of an action"),
+        _ => None,
+    }
+}
+
+/// A hint of a word that other languages have and this one has not.
+fn hint_of_word(word: &[u8]) -> Option<&'static [u8]> {
+    if is_one_of(word, &["and", "AND", "or", "OR", "not", "NOT", "implies"]) {
+        Some(b"`&&`, `||`, `!` and `=>` stand for and, or, not and implies")
+    } else if is_one_of(word, &["forall", "exists", "val", "delay", "yaled"]) {
+        Some(b"formulas have no data: neither quantifiers nor `val`, nor times")
+    } else if is_one_of(word, &["AG", "AF", "EF", "EG", "AX", "EX"]) {
+        Some(
+            b"`always`, `never`, `possibly` and `inevitably` say so; `[true]` and `<true>` are next",
+        )
+    } else if word.len() > 64 {
+        Some(NAME_RULE)
+    } else {
+        None
+    }
+}
+
+/// A hint of a word that cannot stand behind a formula.
+fn hint_of_two(words: &[Word<'_>], found: &[u8]) -> Option<&'static [u8]> {
+    let begins = found
+        .first()
+        .is_some_and(|b| b.is_ascii_alphabetic() || *b == b'_');
+    if begins && !ends_in_path(words) && ends_formula(last(words, 1), last(words, 0)) {
+        Some(b"is `&&`, `||`, or the `;` of an entry missing before it?")
+    } else {
+        None
+    }
+}
+
+/// Appends a hint of what stands behind words at an offset.
+fn put_syntax_hint(text: &[u8], at: usize, words: &[Word<'_>], out: &mut Said) {
+    let found = behind(text, at);
+    let hint = hint_of_word(word_at(text, at))
+        .or(hint_of_sign(found))
+        .or(hint_of_two(words, found));
+    if let Some(hint) = hint {
+        put_hint(hint, out);
+    }
+    if at < 8 {
+        put_text_hint(text, Kind::Requirements, out);
+    }
+}
+
+/// The words before an offset.
+fn words_before<'a, 't>(words: &'a [Word<'t>], at: usize) -> &'a [Word<'t>] {
+    let count = words.iter().take_while(|word| word.at < at).count();
+    words.get(..count).unwrap_or(words)
+}
+
+/// Appends what stands where it can't.
+fn put_syntax(text: &[u8], at: usize, words: &[Word<'_>], out: &mut Said) {
+    let before = words_before(words, at);
+    put_found_at(text, at, expected(before), out);
+    put_syntax_hint(text, at, before, out)
+}
+
+/// Whether a `=` of a text is one by itself.
+fn is_single(text: &[u8], word: &Word<'_>) -> bool {
+    word.bytes == b"=".as_slice() && !behind(text, word.at).starts_with(b"=>")
+}
+
+/// Whether the word at a place names an entry.
+fn names_entry(text: &[u8], words: &[Word<'_>], place: usize) -> bool {
+    let begins = place == 0 || word(words, place.saturating_sub(1)) == b";".as_slice();
+    match words.get(place.saturating_add(1)) {
+        Some(next) => begins && is_single(text, next),
+        None => false,
+    }
+}
+
+/// Whether the word at a place names the variable of a fixpoint.
+fn names_variable(words: &[Word<'_>], place: usize) -> bool {
+    place > 0 && is_one_of(word(words, place.saturating_sub(1)), &["mu", "nu"])
+}
+
+/// Where the first word stands that names an entry, or a variable, as another word does.
+fn declared(text: &[u8], words: &[Word<'_>], name: &[u8], entries: bool) -> Option<usize> {
+    for (place, it) in words.iter().enumerate() {
+        let declares = if entries {
+            names_entry(text, words, place)
+        } else {
+            names_variable(words, place)
+        };
+        if declares && it.bytes == name {
+            return Some(it.at);
+        }
+    }
+    None
+}
+
+/// The names of entries and of variables before an offset.
+fn known_before<'t>(
+    alloc: Global,
+    text: &[u8],
+    words: &[Word<'t>],
+    at: usize,
+) -> Result<Vec<&'t [u8]>, AllocError> {
+    let mut known = Vec::new(alloc);
+    for (place, it) in words.iter().enumerate() {
+        let declares = names_entry(text, words, place) || names_variable(words, place);
+        if declares && it.at < at {
+            known.push(it.bytes)?;
+        }
+    }
+    Ok(known)
+}
+
+/// The words that stand before a formula.
+const WORDS: [&str; 11] = [
+    "always",
+    "never",
+    "possibly",
+    "inevitably",
+    "again",
+    "deadlock",
+    "can",
+    "will",
+    "after",
+    "true",
+    "false",
+];
+
+/// Adds the words that stand before a formula.
+fn add_words(known: &mut Vec<&[u8]>) -> Result<(), AllocError> {
+    for word in WORDS {
+        known.push(word.as_bytes())?;
+    }
+    Ok(())
+}
+
+/// The name, or the word, that another was perhaps meant to be.
+fn nearest_before<'t>(
+    alloc: Global,
+    text: &[u8],
+    words: &[Word<'t>],
+    at: usize,
+    name: &[u8],
+) -> Result<Option<&'t [u8]>, AllocError> {
+    let mut known = known_before(alloc, text, words, at)?;
+    add_words(&mut known)?;
+    nearest_of(alloc, &known, name)
+}
+
+/// Appends the name, or the word, that another was perhaps meant to be.
+fn put_nearest(
+    alloc: Global,
+    text: &[u8],
+    words: &[Word<'_>],
+    at: usize,
+    name: &[u8],
+    out: &mut Said,
+) {
+    match nearest_before(alloc, text, words, at, name) {
+        Ok(Some(other)) => put_hint_with(b"is ", other, b" meant?", out),
+        Ok(None) => put_hint(
+            b"an action stands behind `can`, `will` or `after`, or between `<` and `>` or `[` and `]`",
+            out,
+        ),
+        Err(_) => out.refuse(),
+    }
+}
+
+/// Appends that a name is that of nothing.
+fn put_unknown(alloc: Global, text: &[u8], at: usize, words: &[Word<'_>], out: &mut Said) {
+    let name = word_at(text, at);
+    put_found_at(
+        text,
+        at,
+        b"a variable that is bound there, or the name of an entry before",
+        out,
+    );
+    if let Some(hint) = hint_of_word(name) {
+        return put_hint(hint, out);
+    }
+    if let Some(at) = declared(text, words, name, true) {
+        let hint = b"an entry is named before it is used; it is named on line ";
+        return put_hint_line(hint, line_of(text, at), out);
+    }
+    if let Some(at) = declared(text, words, name, false) {
+        return put_hint_line(b"it is bound elsewhere, on line ", line_of(text, at), out);
+    }
+    put_nearest(alloc, text, words, at, name, out)
+}
+
+/// Appends that two entries have one name.
+fn put_twice(text: &[u8], at: usize, words: &[Word<'_>], out: &mut Said) {
+    put_found_at(text, at, b"a name that no entry before has", out);
+    if let Some(first) = declared(text, words, word_at(text, at), true) {
+        put_hint_line(
+            b"the other entry stands on line ",
+            line_of(text, first),
+            out,
+        );
+    }
+}
+
+/// Appends that a variable is negated.
+fn put_negated(text: &[u8], at: usize, out: &mut Said) {
+    put_found_at(
+        text,
+        at,
+        b"a variable under an even number of negations within its fixpoint",
+        out,
+    );
+    put_hint(b"`!`, `never` and the left side of `=>` negate", out)
+}
+
+/// Appends what a fault means that stands at an offset of a text of these words.
+fn put_placed(
+    alloc: Global,
+    text: &[u8],
+    at: usize,
+    words: &[Word<'_>],
+    fault: RequirementFault,
+    out: &mut Said,
+) {
+    match fault {
+        RequirementFault::Syntax { .. } => put_syntax(text, at, words, out),
+        RequirementFault::UnknownVariable { .. } => put_unknown(alloc, text, at, words, out),
+        RequirementFault::TooDeep { .. } => {
+            put_found_at(
+                text,
+                at,
+                b"at most 64 parts that are open at one place",
+                out,
+            )
+        }
+        RequirementFault::Twice { .. } => put_twice(text, at, words, out),
+        RequirementFault::TooMany { .. } => put_found_at(text, at, b"at most 64 entries", out),
+        RequirementFault::NegatedVariable { .. } => put_negated(text, at, out),
+        RequirementFault::Memory => out.put(b"memory ran out\n"),
+    }
+}
+
+/// Where the reader says that a fault stands, at the front where it says nothing.
+fn offset_of(fault: RequirementFault) -> usize
+    ensures { IfSome (offset_in_requirements fault) (λ at. result ≡ at) }
+{
+    match fault {
+        RequirementFault::Syntax { at } => at,
+        RequirementFault::UnknownVariable { at } => at,
+        RequirementFault::TooDeep { at } => at,
+        RequirementFault::Twice { at } => at,
+        RequirementFault::TooMany { at } => at,
+        RequirementFault::NegatedVariable { at } => at,
+        RequirementFault::Memory => 0,
+    }
+}
+
+/// What the fault means with which `Requirements::read` refused a text. It stands where the reader says.
+pub fn explain_requirements(
+    alloc: Global,
+    text: &[u8],
+    fault: RequirementFault,
+) -> Result<Message, AllocError>
+    ensures place { IfOk result (λ message.
+        IfSome (offset_in_requirements fault) (λ at. IsPlaceOf text.now at message.place)) }
+    ensures within { IfOk result (λ message. IsWithin text.now message.place.line message.place.column) }
+{
+    let mut said = Said::new(alloc);
+    let at = offset_of(fault);
+    match tokens_of(alloc, text) {
+        Ok(words) => put_placed(alloc, text, at, &words, fault, &mut said),
+        Err(_) => said.refuse(),
+    }
+    said.into_message(place_of(text, at.min(text.len())))
+}
+
+/// Where the entry of a name stands, at the front where there is none.
+fn entry_at(alloc: Global, text: &[u8], name: &[u8], out: &mut Said) -> usize {
+    match tokens_of(alloc, text) {
+        Ok(words) => declared(text, &words, name, true).unwrap_or(0),
+        Err(_) => out.refused(),
+    }
+}
+
+/// That the entry of a name has too many parts. It stands where the entry is named.
+pub fn explain_parts(alloc: Global, text: &[u8], name: &[u8]) -> Result<Message, AllocError>
+    ensures { IfOk result (λ message. IsWithin text.now message.place.line message.place.column) }
+{
+    let mut said = Said::new(alloc);
+    let at = entry_at(alloc, text, name, &mut said);
+    said.put(b"`");
+    said.put_shown(name);
+    said.put(b"` has more than 65,536 parts\n");
+    put_hint(
+        b"the parts of an entry count anew wherever a later one names it",
+        &mut said,
+    );
+    said.into_message(place_of(text, at.min(text.len())))
+}

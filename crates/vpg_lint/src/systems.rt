@@ -1,0 +1,393 @@
+//! What a fault of a system's text means.
+ghost use Rattle.std.specs.Prelude.{◌≡◌, IfOk};
+ghost use Rattle.vpg_places.specs.Places.{line_text, IsColumnOf};
+ghost use Rattle.vpg_lint.specs.Messages.{line_in_system};
+
+use crate::diagrams::is_less;
+use crate::faulty::Faulty;
+use crate::games::{offset_in_guard, put_guard_fault};
+use crate::hints::{Kind, put_text_hint};
+use crate::message::{Message, put_found, put_hint, put_hint_line, put_hint_with};
+use crate::said::Said;
+use std::alloc::{AllocError, Global};
+use vpg_guards::{GuardFault, Names};
+use vpg_places::{Line, Word, line_at, lines_of};
+use vpg_system::SystemFault;
+
+fn is_blank(b: u8) -> bool {
+    b == b' ' || b == b'\t'
+}
+
+/// Whether a byte is a word of its own.
+fn is_sign(b: u8) -> bool {
+    b == b'(' || b == b')' || b == b','
+}
+
+/// Whether a word is a number.
+fn is_number(word: &[u8]) -> bool {
+    !word.is_empty() && word.iter().all(|b| b.is_ascii_digit())
+}
+
+/// Adds the bytes of a line from one offset to another, where there are any.
+fn push_word<'t>(
+    line: &'t [u8],
+    begin: usize,
+    end: usize,
+    words: &mut Vec<Word<'t>>,
+) -> Result<(), AllocError> {
+    match line.get(begin..end) {
+        None | Some([]) => Ok(()),
+        Some(bytes) => {
+            words.push(Word { at: begin, bytes })?;
+            Ok(())
+        }
+    }
+}
+
+/// The words of a line: each sign is one, and so is what stands between signs and blanks.
+fn words_of<'t>(alloc: Global, line: &'t [u8]) -> Result<Vec<Word<'t>>, AllocError> {
+    let mut words = Vec::new(alloc);
+    let mut begin = 0usize;
+    for (i, b) in line.iter().enumerate() {
+        if is_sign(*b) || is_blank(*b) {
+            push_word(line, begin, i, &mut words)?;
+            begin = i.saturating_add(1);
+        }
+        if is_sign(*b) {
+            push_word(line, i, begin, &mut words)?;
+        }
+    }
+    push_word(line, begin, line.len(), &mut words)?;
+    Ok(words)
+}
+
+/// Whether a word of a header may stand at a place.
+fn fits_header(place: usize, word: &[u8]) -> bool {
+    match place {
+        0 => word == b"des".as_slice(),
+        1 => word == b"(".as_slice(),
+        2 | 4 | 6 => is_number(word),
+        3 | 5 => word == b",".as_slice(),
+        7 => word == b")".as_slice(),
+        _ => word.is_empty(),
+    }
+}
+
+/// What a header has at a place.
+fn expected_in_header(place: usize) -> &'static [u8] {
+    match place {
+        0 => b"`des`",
+        1 => b"`(`",
+        2 => b"the number of the first state",
+        4 => b"the number of transitions",
+        6 => b"the number of states",
+        3 | 5 => b"`,`",
+        7 => b"`)`",
+        _ => b"the end of the line",
+    }
+}
+
+/// The place at which a line is no header.
+fn header_departure(faulty: &Faulty<'_>) -> usize {
+    for place in 0..8 {
+        if !fits_header(place, faulty.word(place).bytes) {
+            return place;
+        }
+    }
+    8
+}
+
+/// Appends why a line is no header.
+fn put_no_header(faulty: &Faulty<'_>, out: &mut Said) -> usize {
+    let place = header_departure(faulty);
+    let at = faulty.put_found(place, expected_in_header(place), out);
+    put_hint(
+        b"the first line is written `des (FIRST, TRANSITIONS, STATES)`",
+        out,
+    );
+    put_text_hint(faulty.text, Kind::System, out);
+    at
+}
+
+/// Appends what a header counts too much of.
+fn put_too_many(faulty: &Faulty<'_>, out: &mut Said) -> usize {
+    if is_less(b"1048576", faulty.word(4).bytes) {
+        return faulty.put_found(4, b"at most 1,048,576 transitions", out);
+    }
+    faulty.put_found(6, b"at most 65,536 states", out)
+}
+
+/// The place of the last `,` of a line, and how many there are.
+fn last_comma(words: &[Word<'_>]) -> (usize, usize) {
+    let mut last = 0;
+    let mut count = 0usize;
+    for (place, word) in words.iter().enumerate() {
+        if word.bytes == b",".as_slice() {
+            last = place;
+            count = count.saturating_add(1);
+        }
+    }
+    (last, count)
+}
+
+/// The place at which a line with two `,` is no transition, and what is expected there.
+fn departure_behind(faulty: &Faulty<'_>, last: usize) -> (usize, &'static [u8]) {
+    let (target, close) = (last.saturating_add(1), last.saturating_add(2));
+    let end = last.saturating_add(3);
+    if !is_number(faulty.word(target).bytes) {
+        (target, b"the number of the target")
+    } else if faulty.word(close).bytes != b")".as_slice() {
+        (close, b"`)`")
+    } else if faulty.words.len() > end {
+        (end, b"the end of the line")
+    } else {
+        (3, b"a label in quotes, or one without `,` and `\"`")
+    }
+}
+
+/// The place at which a line is no transition, and what is expected there.
+fn departure(faulty: &Faulty<'_>) -> (usize, &'static [u8]) {
+    let (last, commas) = last_comma(&faulty.words);
+    if faulty.word(0).bytes != b"(".as_slice() {
+        (0, b"`(`")
+    } else if !is_number(faulty.word(1).bytes) {
+        (1, b"the number of the source")
+    } else if faulty.word(2).bytes != b",".as_slice() {
+        (2, b"`,`")
+    } else if commas < 2 {
+        (faulty.words.len(), b"`,` and the number of the target")
+    } else {
+        departure_behind(faulty, last)
+    }
+}
+
+/// Appends why a line is no transition.
+fn put_syntax(faulty: &Faulty<'_>, out: &mut Said) -> usize {
+    let (place, expected) = departure(faulty);
+    let at = faulty.put_found(place, expected, out);
+    put_hint(
+        b"a transition is written `(SOURCE, \"LABEL\", TARGET)`",
+        out,
+    );
+    at
+}
+
+/// Whether a line has a byte that is no blank.
+fn is_written(line: &Line<'_>) -> bool {
+    line.bytes.iter().any(|b| !is_blank(*b))
+}
+
+/// The header, and how many lines that are not blank stand behind it.
+fn header_in<'t>(lines: &[Line<'t>]) -> Option<(Line<'t>, usize)> {
+    let mut header = None;
+    let mut behind = 0usize;
+    for line in lines {
+        if is_written(line) {
+            match header {
+                Some(_) => behind = behind.saturating_add(1),
+                None => header = Some(*line),
+            }
+        }
+    }
+    header.map(|it| (it, behind))
+}
+
+/// The header of a text, and how many lines that are not blank stand behind it.
+fn header_of<'t>(alloc: Global, text: &'t [u8]) -> Result<Option<(Line<'t>, usize)>, AllocError> {
+    let lines = lines_of(alloc, text)?;
+    Ok(header_in(&lines))
+}
+
+/// Appends that a header, behind which so many lines stand, counts others than there are.
+fn put_count_of(faulty: &Faulty<'_>, header: Line<'_>, behind: usize, out: &mut Said) -> usize {
+    if header.number == faulty.line.number {
+        let at = faulty.put_found(4, b"the number of transitions below", out);
+        put_hint_line(b"lines below that are not blank: ", behind, out);
+        return at;
+    }
+    let at = faulty.put_found(0, b"no more transitions than the header counts", out);
+    put_hint_line(b"the header stands on line ", header.number, out);
+    at
+}
+
+/// Appends that a header counts other transitions than there are.
+fn put_wrong_count(alloc: Global, faulty: &Faulty<'_>, out: &mut Said) -> usize {
+    match header_of(alloc, faulty.text) {
+        Ok(Some((header, behind))) => put_count_of(faulty, header, behind, out),
+        Ok(None) => 0,
+        Err(_) => out.refused(),
+    }
+}
+
+/// Appends which state a header, of these words, does not count.
+fn put_state_of(faulty: &Faulty<'_>, is_header: bool, states: &[u8], out: &mut Said) -> usize {
+    let place = if is_header {
+        2
+    } else if is_less(faulty.word(1).bytes, states) {
+        faulty.words.len().saturating_sub(2)
+    } else {
+        1
+    };
+    let at = faulty.put_found(place, b"a state", out);
+    put_hint_with(
+        b"states are the numbers below ",
+        states,
+        b", as the header says",
+        out,
+    );
+    at
+}
+
+/// Appends which state a header does not count.
+fn put_state_in(alloc: Global, faulty: &Faulty<'_>, header: Line<'_>, out: &mut Said) -> usize {
+    match words_of(alloc, header.bytes) {
+        Ok(words) => {
+            let states: &[u8] = match words.get(6) {
+                Some(word) => word.bytes,
+                None => b"",
+            };
+            put_state_of(faulty, header.number == faulty.line.number, states, out)
+        }
+        Err(_) => out.refused(),
+    }
+}
+
+/// Appends which state the header does not count.
+fn put_no_state(alloc: Global, faulty: &Faulty<'_>, out: &mut Said) -> usize {
+    match header_of(alloc, faulty.text) {
+        Ok(Some((header, _))) => put_state_in(alloc, faulty, header, out),
+        Ok(None) => 0,
+        Err(_) => out.refused(),
+    }
+}
+
+/// What stands between the first `,` of a line and the last, without the blanks round it, and where it begins.
+fn label_in<'t>(faulty: &Faulty<'t>) -> (usize, &'t [u8]) {
+    let (last, _) = last_comma(&faulty.words);
+    let from = faulty.word(2).at.saturating_add(1);
+    let text = faulty
+        .line
+        .bytes
+        .get(from..faulty.word(last).at)
+        .unwrap_or(&[]);
+    let label = text.trim_ascii_start();
+    let blanks = text.len().saturating_sub(label.len());
+    (from.saturating_add(blanks), label.trim_ascii_end())
+}
+
+/// A label without quotes round it.
+fn unquoted(label: &[u8]) -> &[u8] {
+    match label {
+        [b'"', inside @ .., b'"'] => inside.trim_ascii(),
+        _ => label,
+    }
+}
+
+/// A hint of a label that is no name with at most one guard.
+fn hint_of_label(label: &[u8]) -> Option<&'static [u8]> {
+    match label {
+        [b'[', ..] => Some(b"the name of the action is missing before the guard"),
+        [.., b']'] => Some(b"is a `[` missing before the guard?"),
+        _ => None,
+    }
+}
+
+/// Appends why a label is none.
+fn put_label(faulty: &Faulty<'_>, out: &mut Said) -> usize {
+    let (at, label) = label_in(faulty);
+    let expected = b"the name of an action, and then perhaps a guard between `[` and `]`";
+    put_found(label, b"the label", expected, out);
+    if let Some(hint) = hint_of_label(unquoted(label)) {
+        put_hint(hint, out);
+    }
+    at
+}
+
+/// Appends what a guard's fault means, where the guard stands at an offset of the line.
+fn put_guard(
+    alloc: Global,
+    faulty: &Faulty<'_>,
+    names: &Names,
+    at: usize,
+    fault: GuardFault,
+    out: &mut Said,
+) -> usize {
+    let at = at.saturating_add(offset_in_guard(fault));
+    put_guard_fault(alloc, faulty.line.bytes, at, names, fault, out);
+    at
+}
+
+/// Appends that memory ran out.
+fn put_memory(out: &mut Said) -> usize {
+    out.put(b"memory ran out\n");
+    0
+}
+
+/// Appends what is wrong with a line. Where it stands in the line.
+fn put_line_fault(
+    alloc: Global,
+    faulty: &Faulty<'_>,
+    names: &Names,
+    fault: SystemFault,
+    out: &mut Said,
+) -> usize {
+    match fault {
+        SystemFault::NoHeader { .. } => put_no_header(faulty, out),
+        SystemFault::TooMany { .. } => put_too_many(faulty, out),
+        SystemFault::Syntax { .. } => put_syntax(faulty, out),
+        SystemFault::WrongCount { .. } => put_wrong_count(alloc, faulty, out),
+        SystemFault::Label { .. } => put_label(faulty, out),
+        SystemFault::NoState { .. } => put_no_state(alloc, faulty, out),
+        SystemFault::Guard { at, fault, .. } => put_guard(alloc, faulty, names, at, fault, out),
+        SystemFault::Memory => put_memory(out),
+    }
+}
+
+/// The number of the line that has a fault.
+fn line_of_fault(fault: SystemFault) -> usize
+    ensures { result ≡ line_in_system fault }
+{
+    match fault {
+        SystemFault::NoHeader { line } => line,
+        SystemFault::TooMany { line } => line,
+        SystemFault::Syntax { line } => line,
+        SystemFault::WrongCount { line } => line,
+        SystemFault::Label { line } => line,
+        SystemFault::NoState { line } => line,
+        SystemFault::Guard { line, .. } => line,
+        SystemFault::Memory => 1,
+    }
+}
+
+/// Appends what is wrong with a line of a text. Where it stands in the line.
+fn put_fault(
+    alloc: Global,
+    text: &[u8],
+    line: Line<'_>,
+    names: &Names,
+    fault: SystemFault,
+    out: &mut Said,
+) -> usize {
+    match words_of(alloc, line.bytes) {
+        Ok(words) => put_line_fault(alloc, &Faulty { text, line, words }, names, fault, out),
+        Err(_) => out.refused(),
+    }
+}
+
+/// What the fault means with which `System::read` refused a text, over features of these names. It stands on the line
+/// that the reader says, at the word that is wrong, in the middle of a guard too.
+pub fn explain_system(
+    alloc: Global,
+    text: &[u8],
+    names: &Names,
+    fault: SystemFault,
+) -> Result<Message, AllocError>
+    ensures line { IfOk result (λ message. message.place.line ≡ line_in_system fault) }
+    ensures column { IfOk result (λ message.
+        IsColumnOf (line_text text.now (line_in_system fault)) message.place.column) }
+{
+    let line = line_at(text, line_of_fault(fault));
+    let mut said = Said::new(alloc);
+    let at = put_fault(alloc, text, line, names, fault, &mut said);
+    said.into_message(line.place(at))
+}
