@@ -334,14 +334,17 @@ impl<L: Terms> Calls for Hand<L> {
                 Ok((session, front)) => Answer::Joined(session.number(), front.len()),
                 Err(_) => Answer::NoPlace,
             },
-            Call::Meet => match self.sitting.seats.as_mut_slice() {
-                [one, two] => {
-                    office.meet(rt, &mut one.front, &two.front);
-                    one.front.headline();
-                    Answer::Has(one.front.len())
+            Call::Meet => {
+                let seats = &mut self.sitting.seats;
+                if seats.len() != 2 {
+                    return Answer::NoPlace;
                 }
-                _ => Answer::NoPlace,
-            },
+                let other = seats[1].front.copy();
+                let front = &mut seats[0].front;
+                office.meet(rt, front, &other);
+                front.headline();
+                Answer::Has(front.len())
+            }
             _ => Answer::NoCall,
         }
     }
