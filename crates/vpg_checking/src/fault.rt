@@ -6,7 +6,7 @@ use vpg_model::ModelFault;
 use vpg_system::SystemFault;
 use vpg_written::TranslationFault;
 
-/// Why the texts of a system and of requirements have no game. The first reason that holds is told, in this order.
+/// The reason that a system and requirements have no game: the first that holds, in this order.
 #[derive(Clone, Copy, Debug, PartialEq, Eq, Error)]
 pub enum CheckingFault {
     /// The text of the system is refused.

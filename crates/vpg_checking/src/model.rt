@@ -92,8 +92,8 @@ impl Model {
 
     /// Returns the game of a system and its requirements, as their texts spell them, over the features of a diagram.
     ///
-    /// Of the faults the first is told, in the order of `CheckingFault`: that of the system's text, that of the
-    /// requirements' text, a requirement of more than 65,536 parts, a limit of games.
+    /// Returns the first fault, in the order of `CheckingFault`: that of the system's text, that of the requirements'
+    /// text, a requirement of more than 65,536 parts, a limit of games.
     pub fn read(
         alloc: Global,
         system: &[u8],

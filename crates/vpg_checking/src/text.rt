@@ -10,7 +10,7 @@ use vpg_features::Names;
 use vpg_labels::{Label, with_labels};
 use vpg_parts::{FALSE_PLACE, Kind, Part};
 
-/// What a part is, in a word.
+/// Returns the word for a part.
 fn word_of(part: Part) -> &'static str {
     match part {
         Part::True => "true",

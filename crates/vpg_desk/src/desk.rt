@@ -216,7 +216,7 @@ impl Desk {
         }
     }
 
-    /// What the present tables say of a vertex. Where it is hopeless Odd wins from it in every product that is left,
+    /// Returns the verdict of a vertex by the present tables. If it is hopeless Odd wins there in every product left,
     /// and where it is sure Even does, by one strategy and against every opponent. It is never both.
     pub fn verdict(&self, v: u32) -> Verdict
         requires { v < length self.now.game.vertices }

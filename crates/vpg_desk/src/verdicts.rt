@@ -34,7 +34,7 @@ fn verdicts_by(
 }
 
 impl Desk {
-    /// What the present tables say of each vertex, in file order: each as `verdict` says it.
+    /// Returns the verdict of each vertex by the present tables, in file order, as `verdict` does.
     pub fn verdicts(&self, alloc: Global) -> Result<Vec<Verdict>, AllocError>
         ensures count { IfOk result (λ said. length said.items ≡ length self.now.game.vertices) }
         ensures each { IfOk result (λ said. (v : ℕ) (one : Said) → get_elem? said.items v ≡ some one →

@@ -1,4 +1,4 @@
-//! What is counted of a family by its texts.
+//! Counts of a family, from its texts.
 ghost use Rattle.std.specs.Prelude.{IfOk, IfErr};
 ghost use Rattle.vpg_formula.specs.EntryCode.{earlier_of};
 ghost use Rattle.vpg_family.specs.Families.{IsFamilyFault};
@@ -10,7 +10,7 @@ use crate::fault::Fault;
 use crate::files::Texts;
 use std::alloc::Global;
 
-/// The line that counts the family that these texts spell, and behind it a line `NAME V` for each requirement.
+/// Returns the line that counts the family of these texts, then a line `NAME V` for each requirement.
 pub fn checked(alloc: Global, texts: &Texts) -> Result<Vec<u8>, Fault>
     ensures text { IfOk result (λ text. IsChecked texts.now.diagram.items texts.now.game.items
         (earlier_of texts.now.entries.items) texts.now.vertices.items text.items) }

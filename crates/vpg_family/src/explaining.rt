@@ -98,7 +98,7 @@ fn put_long(
     put_message(path, &message, out)
 }
 
-/// What there is too much of in a game that is made.
+/// Returns the words for the limit that a made game exceeds.
 fn limit_of(fault: ModelFault) -> &'static [u8] {
     match fault {
         ModelFault::TooManyVertices => b"more than 65,536 vertices",

@@ -118,7 +118,7 @@ fn put_times(line: &[u8], times: u32, out: &mut Vec<u8>) -> bool {
     done
 }
 
-/// How many calls the log of a run takes.
+/// The number of calls that the log of a run takes.
 const ROOM: u32 = 1_048_576;
 
 /// Whether the log of a run takes 1,048,576 calls and no more: each line is one, and is read by itself.

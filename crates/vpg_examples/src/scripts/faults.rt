@@ -1,4 +1,4 @@
-//! What faults of calls and of lines show themselves as.
+//! The texts of faults of calls and of lines.
 
 use std::alloc::Global;
 use std::error::Error;
