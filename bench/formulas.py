@@ -345,6 +345,7 @@ class PlainSystem:
     def __init__(self, states, steps):
         self.states, self.steps = states, steps
         self.all = (1 << states) - 1
+        self.singles = [1 << s for s in range(states)]
         self.relations = {}
 
     def relation(self, path):
@@ -379,14 +380,11 @@ class PlainSystem:
                     known[row] |= second[s]
         return [known[row] for row in first]
 
-    def where(self, test):
-        return sum(1 << s for s in range(self.states) if test(s))
-
     def some(self, relation, goal):
-        return self.where(lambda s: relation[s] & goal)
+        return sum([single for single, row in zip(self.singles, relation) if row & goal])
 
     def every(self, relation, goal):
-        return self.where(lambda s: not relation[s] & ~goal)
+        return self.all & ~self.some(relation, self.all & ~goal)
 
     def reaching(self, rows, goal):
         """The states from which a relation leads to the goal, in no step or more."""
@@ -468,7 +466,6 @@ def closed(relation):
     """The transitive closure (Warshall 1962)."""
     rows = list(relation)
     for middle in range(len(rows)):
-        for s, row in enumerate(rows):
-            if row >> middle & 1:
-                rows[s] |= rows[middle]
+        beyond, single = rows[middle], 1 << middle
+        rows = [row | beyond if row & single else row for row in rows]
     return rows

@@ -14,6 +14,7 @@ with slips of each hundredth. A word `--direct` at their end lets `run --system 
 the game.
 Where a requirement holds is calculated on the system of each product, by `formulas.py`.
 """
+import functools
 import os
 import random
 import re
@@ -346,16 +347,26 @@ def guard_holds(guard, product):
     return kind == "true"
 
 
-def plain_system(system, product):
-    steps = [(s, name, t) for s, name, guard, t in system.transitions if guard_holds(guard, product)]
-    return PlainSystem(system.states, steps)
+def reachable_part(system, product):
+    """What can be reached in the system of a product: how many states, numbered as they are found, and the steps."""
+    outgoing = {}
+    for s, name, guard, t in system.transitions:
+        if guard_holds(guard, product):
+            outgoing.setdefault(s, []).append((name, t))
+    numbers, found, steps = {system.first: 0}, [system.first], []
+    for s in found:
+        for name, t in outgoing.get(s, ()):
+            if t not in numbers:
+                numbers[t] = len(numbers)
+                found.append(t)
+            steps.append((numbers[s], name, numbers[t]))
+    return len(found), tuple(steps)
 
 
-def features_in(guard):
-    if guard[0] == "feature":
-        return {guard[1]}
-    parts = {"not": guard[1:], "and": guard[-1], "or": guard[-1]}.get(guard[0], ())
-    return set().union(*map(features_in, parts))
+def held_at_first(part, requirements):
+    """The requirements that hold at the first state of such a part."""
+    sets = PlainSystem(*part).entries(requirements)
+    return {name for name, where in sets.items() if where & 1}
 
 
 def products_of(d):
@@ -383,20 +394,18 @@ def read_as(word, reader, *texts):
 
 
 class Family:
-    """A system and its requirements, and in which products each holds at the first state."""
+    """A system and its requirements, and in which products each holds at the first state. Products in which the same
+    can be reached are looked at once; `each` may look at several systems at a time."""
 
-    def __init__(self, system, requirements, diagram):
+    def __init__(self, system, requirements, diagram, each=map):
         self.d = oracle.read_diagram(diagram)
         self.system = read_as("system", read_system, system, self.d.names)
         self.requirements = read_as("requirements", read_requirements, requirements)
         self.names = [name for name, _ in self.requirements]
-        named, known = set().union(*(features_in(g) for _, _, g, _ in self.system.transitions)), {}
-        self.products = {}
-        for product in products_of(self.d):
-            if product & named not in known:
-                sets = plain_system(self.system, product).entries(self.requirements)
-                known[product & named] = {name for name, where in sets.items() if where >> self.system.first & 1}
-            self.products[product] = known[product & named]
+        parts = {product: reachable_part(self.system, product) for product in products_of(self.d)}
+        different = list(dict.fromkeys(parts.values()))
+        held = dict(zip(different, each(functools.partial(held_at_first, requirements=self.requirements), different)))
+        self.products = {product: held[part] for product, part in parts.items()}
 
     def left(self, choices):
         """The products that agree with these decisions, and what holds in each."""
@@ -426,22 +435,28 @@ def tell_products(paths):
         print(f"{name}: holds in {len(holds)}; all of them{shared(holds)}; all others{shared(fails)}")
 
 
-def tell_asserts(paths):
-    """Holds each assertion of a script about an entry to the products that are left there."""
-    family, faults = Family(*map(read_file, paths[:3])), 0
+def asserted(family, script):
+    """For each assertion of a script about an entry: its words, in how many products it holds and how many are left
+    there, and those of its words that are wrong."""
     desk = oracle.Desk([], family.d)
-    for line in read_file(paths[3]).splitlines():
+    for line in script.splitlines():
         words = [word for word in line.split() if not word.endswith(":")]
         if words[:1] == ["assert"] and words[1] in family.names:
             left = family.left(desk.choices())
             holding = sum(words[1] in held for held in left.values())
             true = {"hopeless": holding == 0, "possible": holding > 0, "sure": holding == len(left)}
             true["unsure"] = not true["sure"]
-            wrong = [word for word in words[2:] if not true[word]]
-            faults += len(wrong)
-            print(f"{' '.join(words)}: holds in {holding} of {len(left)}{', WRONG' if wrong else ''}")
+            yield words, holding, len(left), [word for word in words[2:] if not true[word]]
         elif words[:1] and words[0] in ("select", "exclude", "retract", "undo", "redo", "keep", "forget"):
             desk.carry_out(words)
+
+
+def tell_asserts(paths):
+    """Holds each assertion of a script about an entry to the products that are left there."""
+    faults = 0
+    for words, holding, left, wrong in asserted(Family(*map(read_file, paths[:3])), read_file(paths[3])):
+        faults += len(wrong)
+        print(f"{' '.join(words)}: holds in {holding} of {left}{', WRONG' if wrong else ''}")
     return 1 if faults else 0
 
 
