@@ -33,10 +33,6 @@ BY_HAND = {
 }
 
 
-def is_in(product, guard, names):
-    return requirements.guard_holds(requirements.GuardReader(guard, names).whole(), product)
-
-
 class Example:
     """A folder, and in which products each of its requirements holds."""
 
@@ -48,6 +44,9 @@ class Example:
     def text(self, file):
         return requirements.read_file(f"{self.folder}/{file}")
 
+    def is_in(self, product, guard):
+        return requirements.guard_holds(requirements.GuardReader(guard, self.family.d.names).whole(), product)
+
     def expect(self, is_so, what):
         if not is_so:
             self.faults.append(f"{self.name}: {what}")
@@ -57,8 +56,8 @@ class Example:
         rows = [line.split(": ") for line in self.text("holds").splitlines()]
         self.expect([row[0] for row in rows] == self.family.names, "holds: not the names of the requirements")
         for name, guard in rows:
-            wrong = [p for p, held in self.family.products.items() if is_in(p, guard, self.family.d.names) != (name in held)]
-            self.expect(not wrong, f"holds: {name} in {len(wrong)} products, as {' '.join(sorted(min(wrong, default=())))}")
+            wrong = [p for p, held in self.family.products.items() if self.is_in(p, guard) != (name in held)]
+            self.expect(not wrong, f"holds: {name} in {len(wrong)} products, as {sorted(min(wrong, default=()))}")
 
     def hold_table(self):
         """Holds the numbers of the page's table to the products. `none` is 0."""
@@ -83,8 +82,8 @@ class Example:
     def hold_made(self):
         """Holds the system to what `make.py` writes."""
         if os.path.exists(f"{self.folder}/make.py"):
-            made = subprocess.run([sys.executable, f"{self.folder}/make.py"], capture_output=True, text=True, check=True)
-            self.expect(made.stdout == self.text("system.aut"), "make.py writes another system.aut")
+            made = subprocess.check_output([sys.executable, f"{self.folder}/make.py"], text=True)
+            self.expect(made == self.text("system.aut"), "make.py writes another system.aut")
 
     def hold_game(self):
         """Holds the game that was written by hand to the products."""
@@ -96,17 +95,24 @@ class Example:
         for product, held in self.family.products.items():
             won = products.Plain(game, self.family.d.names, product).solve()[0]
             for name, vertex in vertices.items():
-                is_other = name in others and is_in(product, others[name], self.family.d.names)
-                self.expect((place[vertex] in won) == (name in held or is_other), f"{folder}: {vertex} in {sorted(product)}")
+                is_other = name in others and self.is_in(product, others[name])
+                is_won = place[vertex] in won
+                self.expect(is_won == (name in held or is_other), f"{folder}: {vertex} in {sorted(product)}")
 
     def hold(self):
         self.hold_guards()
         self.hold_table()
         self.hold_made()
         self.hold_game()
-        system, count = self.family.system, self.hold_script()
-        return (f"{self.name}: {system.states} states, {len(system.transitions)} transitions, {len(self.family.d.names)}"
-                f" features, {len(self.family.products)} products, {len(self.family.names)} requirements, {count} assertions")
+        counts = {
+            "states": self.family.system.states,
+            "transitions": len(self.family.system.transitions),
+            "features": len(self.family.d.names),
+            "products": len(self.family.products),
+            "requirements": len(self.family.names),
+            "assertions": self.hold_script(),
+        }
+        return f"{self.name}: {', '.join(f'{count} {what}' for what, count in counts.items())}"
 
 
 def main(words):
