@@ -2,7 +2,7 @@
 """Does what docs/TUTORIAL.md says, and compares the answers with those that stand in it.
 
     python3 bench/tutorial.py PROGRAM       with this vpgdesk, as crates/vpgdesk/out/vpgdesk
-    python3 bench/tutorial.py --oracle      with bench/oracle.py: `run`, with `--names` too; the rest is left out
+    python3 bench/tutorial.py --oracle      with bench/oracle.py: `run` on games, also with `--names`; the rest is left out
     python3 bench/tutorial.py --list        names the steps, and runs nothing
 
 A step is a file or a command. A file is an indented block after a paragraph that ends in "a file `NAME`:". A command is
@@ -24,7 +24,7 @@ import termios
 
 ROOT = os.path.dirname(os.path.dirname(os.path.abspath(__file__)))
 TEXT = f"{ROOT}/docs/TUTORIAL.md"
-FILE = re.compile(r"\ba\s+file\s+`(\w+)`[^.]*:$")
+FILE = re.compile(r"\ba\s+file\s+`([\w.]+)`[^.]*:$")
 ORACLE = """#!/bin/sh
 [ "$1" = run ] && shift || exit 9
 [ "$1" = --names ] || [ "${{1#-}}" = "$1" ] || exit 9
@@ -120,7 +120,7 @@ def wide(text):
 def follow(program):
     """Does each step, and yields what goes wrong."""
     with tempfile.TemporaryDirectory() as top:
-        work, tools = f"{top}/pump", f"{top}/tools"
+        work, tools = f"{top}/door", f"{top}/tools"
         os.mkdir(work)
         os.mkdir(tools)
         os.symlink(f"{ROOT}/examples", f"{top}/examples")
@@ -136,10 +136,10 @@ def follow(program):
                     it.write(rest)
                 continue
             asked = {**os.environ, "PATH": f"{tools}:{os.environ['PATH']}"}
+            if not program and ("--system" in head or is_typed(head, rest)):
+                print(f"left out: {head}")
+                continue
             if is_typed(head, rest):
-                if not program:
-                    print(f"left out: {head}, at a terminal")
-                    continue
                 shown = typed(head, [line[2:] for line in rest if line.startswith("> ")], work, asked)
                 found = shown.rstrip("\n").split("\n")
                 if not is_answer(rest, found) or wide(shown):
