@@ -2,7 +2,7 @@
 """Does what docs/TUTORIAL.md says, and compares the answers with those that stand in it.
 
     python3 bench/tutorial.py PROGRAM       with this vpgdesk, as crates/vpgdesk/out/vpgdesk
-    python3 bench/tutorial.py --oracle      with bench/oracle.py: `run` on games, also with `--names`; the rest is left out
+    python3 bench/tutorial.py --oracle      with bench/oracle.py: `run` on games; the rest is left out
     python3 bench/tutorial.py --list        names the steps, and runs nothing
 
 A step is a file or a command. A file is an indented block after a paragraph that ends in "a file `NAME`:". A command is
