@@ -357,9 +357,10 @@ class Desk(oracle.Desk):
                 yield tuple(it in product for it in self.d.names)
 
 
-def answers(texts, script, each=map):
+def answers(texts, script, each=map, is_named=False):
     """What the program answers to a script that calls vertices by the names of requirements."""
     desk = Desk(texts, each)
+    shown = oracle.read_names(desk.model.text()) if is_named else {}
     numbers = {name: number for number, name in desk.names.items()}
     out = []
     for line in script.splitlines():
@@ -367,7 +368,7 @@ def answers(texts, script, each=map):
         if words and not words[0].startswith("#"):
             is_of_feature = words[0] == "why" and words[1] in desk.d.names
             called = words if is_of_feature else [numbers.get(word, word) for word in words]
-            out.append(oracle.answered(desk, called))
+            out.append(oracle.with_names(called[0], oracle.answered(desk, called), shown))
     return "".join(line + "\n" for line in out)
 
 

@@ -2,7 +2,7 @@
 """Does what docs/TUTORIAL.md says, and compares the answers with those that stand in it.
 
     python3 bench/tutorial.py PROGRAM       with this vpgdesk, as crates/vpgdesk/out/vpgdesk
-    python3 bench/tutorial.py --oracle      with bench/oracle.py: `run` on games; the rest is left out
+    python3 bench/tutorial.py --oracle      with bench/oracle.py and bench/modelled.py: `run`; the rest is left out
     python3 bench/tutorial.py --list        names the steps, and runs nothing
 
 A step is a file or a command. A file is an indented block after a paragraph that ends in "a file `NAME`:". A command is
@@ -26,10 +26,37 @@ ROOT = os.path.dirname(os.path.dirname(os.path.abspath(__file__)))
 TEXT = f"{ROOT}/docs/TUTORIAL.md"
 FILE = re.compile(r"\ba\s+file\s+`([\w.]+)`[^.]*:$")
 ORACLE = """#!/bin/sh
-[ "$1" = run ] && shift || exit 9
-[ "$1" = --names ] || [ "${{1#-}}" = "$1" ] || exit 9
-exec "{python}" "{root}/bench/oracle.py" "$@"
+exec "{python}" "{root}/bench/tutorial.py" --stand-in "$@"
 """
+LEFT_OUT = 9
+
+
+def stand_in(words):
+    """Does what `vpgdesk run` does with these words, by the oracle."""
+    import modelled
+    import oracle
+
+    values, options, names = {}, set(), []
+    while words:
+        word = words.pop(0)
+        if word in ("--system", "--requirements"):
+            values[word] = words.pop(0)
+        elif word in ("--names", "--strict"):
+            options.add(word)
+        else:
+            names.append(word)
+    if names[:1] != ["run"] or any(name.startswith("-") for name in names):
+        return LEFT_OUT
+    *texts, script = [modelled.requirements.read_file(path) for path in (*values.values(), *names[1:])]
+    is_named = "--names" in options
+    made = modelled.answers(texts, script, is_named=is_named) if values else oracle.answers(*texts, script, is_named)
+    lines = made.splitlines(True)
+    refused = [k for k, line in enumerate(lines) if line.startswith("refused")] if "--strict" in options else []
+    sys.stdout.write("".join(lines[: refused[0] + 1] if refused else lines))
+    sys.stdout.flush()
+    if refused:
+        sys.stderr.write(f"vpgdesk: script Line {refused[0] + 1} Refused\n")
+    return 3 if refused or any(line.startswith("fails") for line in lines) else 0
 
 
 def blocks(text):
@@ -136,7 +163,7 @@ def follow(program):
                     it.write(rest)
                 continue
             asked = {**os.environ, "PATH": f"{tools}:{os.environ['PATH']}"}
-            if not program and ("--system" in head or is_typed(head, rest)):
+            if not program and is_typed(head, rest):
                 print(f"left out: {head}")
                 continue
             if is_typed(head, rest):
@@ -148,7 +175,7 @@ def follow(program):
             ran = subprocess.run(
                 ["sh", "-c", head], cwd=work, env=asked, stdout=subprocess.PIPE, stderr=subprocess.STDOUT, text=True
             )
-            if not program and ran.returncode == 9:
+            if not program and ran.returncode == LEFT_OUT:
                 print(f"left out: {head}")
                 continue
             found = ran.stdout.rstrip("\n").split("\n") if ran.stdout else []
@@ -157,6 +184,8 @@ def follow(program):
 
 
 def main(words):
+    if words[:1] == ["--stand-in"]:
+        return stand_in(words[1:])
     if len(words) != 1:
         print(__doc__)
         return 2
