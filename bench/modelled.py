@@ -6,8 +6,9 @@
     python3 bench/modelled.py --compare VPGDESK CASES SEED           # random families: whether `model` writes that game
 
 A requirement becomes a normal form (`along`, `form_of`), its parts stand in one list in Polish notation (`Parts`), and
-vertices are numbered as a breadth-first search finds them. Guards that are joined may be written otherwise by the
-program, as long as they are as true in each set of features; all else is compared byte by byte.
+vertices are numbered as a breadth-first search finds them. A guard that names a feature twice is written in Blake's
+form (`sharp`), with a word `--plain` at the end as it was joined. The program may write guards otherwise, as long as
+they are as true in each set of features; all else is compared byte by byte.
 """
 import collections
 import functools
@@ -170,14 +171,62 @@ class Parts:
         return max(k for k, root in enumerate(self.roots) if root <= place)
 
 
+# ---- guards
+
+
+def either(guards):
+    """The `or` of guards, which has the parts of those that are one."""
+    if len(guards) == 1:
+        return guards[0]
+    return ("or", [part for g in guards for part in (g[1] if g[0] == "or" else [g])])
+
+
+def features_in(guard):
+    """The features that a guard names, each as often as it does."""
+    if guard[0] == "feature":
+        return [guard[1]]
+    parts = {"not": guard[1:], "and": guard[-1], "or": guard[-1]}.get(guard[0], ())
+    return [name for part in parts for name in features_in(part)]
+
+
+def implicants(names, is_true):
+    """The prime implicants of a truth function of these features, as tuples of pairs: a feature, and whether in."""
+    if not names:
+        return [()] if is_true(frozenset()) else []
+    first, rest = names[0], names[1:]
+    with_it = lambda chosen: is_true(chosen | {first})
+    both = implicants(rest, lambda chosen: with_it(chosen) and is_true(chosen))
+    ins = [((first, True), *cube) for cube in implicants(rest, with_it) if cube not in both]
+    outs = [((first, False), *cube) for cube in implicants(rest, is_true) if cube not in both]
+    return ins + outs + both
+
+
+def some_of(kind, empty, parts):
+    return (empty,) if not parts else parts[0] if len(parts) == 1 else (kind, parts)
+
+
+def sharp(guard, names):
+    """The guard itself where it names no feature twice; else its Blake form (Blake 1937), unless that is too long."""
+    named = features_in(guard)
+    if len(set(named)) == len(named) or len(set(named)) > 10:
+        return guard
+    order = [name for name in names if name in named]
+    cubes = implicants(order, lambda chosen: requirements.guard_holds(guard, chosen))
+    literal = lambda name, is_in: ("feature", name) if is_in else ("not", ("feature", name))
+    blake = [some_of("and", "true", [literal(*it) for it in cube]) for cube in cubes]
+    return some_of("or", "false", blake) if len(cubes) <= 64 else guard
+
+
 # ---- games
 
 
 class Game:
-    """A game: for each vertex its state, its part and its moves, a list of guards for each target."""
+    """A game: for each vertex its state, its part and its moves, a list of guards for each target. `finish` says how a
+    guard is written that was joined."""
 
-    def __init__(self, system, entries):
+    def __init__(self, system, entries, finish):
         self.system, self.names = system, [name for name, _ in entries]
+        self.finish, self.finished = finish, {}
         self.parts = Parts([form_of(f, entries[:k]) for k, (_, f) in enumerate(entries)])
         self.steps = {}
         for source, name, guard, target in system.transitions:
@@ -220,6 +269,12 @@ class Game:
             for part in inner:
                 yield ("true",), self.pair(state, part)
 
+    def finished_guard(self, guard):
+        text = requirements.guard_text(guard)
+        if text not in self.finished:
+            self.finished[text] = self.finish(guard)
+        return self.finished[text]
+
     def line(self, at):
         """The head of an entry of the game's text, its moves as pairs of a target and a guard, and its name."""
         state, place = self.pairs[at]
@@ -227,7 +282,7 @@ class Game:
         owner = 1 if kind in ("true", "and", "every") else 0
         word = WORDS.get(kind, kind)
         name = word if place < 2 else f"{state} {self.names[self.parts.entry(place)]}: {word}"
-        moves = [(to, either(guards)) for to, guards in self.moves[at].items()]
+        moves = [(to, self.finished_guard(either(guards))) for to, guards in self.moves[at].items()]
         return f"{at} {self.parts.priorities.get(place, 0)} {owner}", moves, name
 
     def text(self):
@@ -238,16 +293,10 @@ class Game:
         return "\n".join(lines) + "\n"
 
 
-def either(guards):
-    """The `or` of guards, which has the parts of those that are one."""
-    if len(guards) == 1:
-        return guards[0]
-    return ("or", [part for g in guards for part in (g[1] if g[0] == "or" else [g])])
-
-
-def game_of(texts):
-    d = oracle.read_diagram(texts[2])
-    return Game(requirements.read_system(texts[0], d.names), formulas.read_requirements(texts[1]))
+def game_of(texts, is_plain=False):
+    names = oracle.read_diagram(texts[2]).names
+    finish = (lambda guard: guard) if is_plain else lambda guard: sharp(guard, names)
+    return Game(requirements.read_system(texts[0], names), formulas.read_requirements(texts[1]), finish)
 
 
 # ---- answers
@@ -327,8 +376,8 @@ class Table(oracle.Table):
 class Desk(oracle.Desk):
     """A desk whose `settle` has no limit. Products are looked for by brute force, among those of requirements."""
 
-    def __init__(self, texts, each=map):
-        self.family, self.model = requirements.Family(*texts, each), game_of(texts)
+    def __init__(self, texts, each=map, is_plain=False):
+        self.family, self.model = requirements.Family(*texts, each), game_of(texts, is_plain)
         super().__init__(oracle.read_game(self.model.text()), self.family.d)
         self.names = dict(zip(map(str, self.model.roots), self.model.names))
         self.known_tops = functools.lru_cache(maxsize=None)(self.is_top)
@@ -357,9 +406,9 @@ class Desk(oracle.Desk):
                 yield tuple(it in product for it in self.d.names)
 
 
-def answers(texts, script, each=map, is_named=False):
+def answers(texts, script, each=map, is_named=False, is_plain=False):
     """What the program answers to a script that calls vertices by the names of requirements."""
-    desk = Desk(texts, each)
+    desk = Desk(texts, each, is_plain)
     shown = oracle.read_names(desk.model.text()) if is_named else {}
     numbers = {name: number for number, name in desk.names.items()}
     out = []
@@ -375,16 +424,9 @@ def answers(texts, script, each=map, is_named=False):
 # ---- comparison
 
 
-def features_in(guard):
-    if guard[0] == "feature":
-        return {guard[1]}
-    parts = {"not": guard[1:], "and": guard[-1], "or": guard[-1]}.get(guard[0], ())
-    return set().union(*map(features_in, parts))
-
-
 def are_alike(one, other):
     """Whether two guards are as true in each set of features."""
-    names = sorted(features_in(one) | features_in(other))
+    names = sorted({*features_in(one), *features_in(other)})
     sets = [frozenset(it) for size in range(len(names) + 1) for it in itertools.combinations(names, size)]
     return all(requirements.guard_holds(one, it) == requirements.guard_holds(other, it) for it in sets)
 
@@ -419,13 +461,18 @@ def compare(path, cases, seed):
 
 
 def main(words):
+    is_plain = words[-1:] == ["--plain"]
+    words = words[: len(words) - is_plain]
     if words[:1] == ["--compare"] and len(words) == 4:
         return compare(words[1], int(words[2]), words[3])
     is_run = words[:1] == ["--run"] and len(words) == 5
     if not is_run and len(words) != 3:
         sys.exit(__doc__)
     texts = [requirements.read_file(path) for path in words[is_run:][:3]]
-    sys.stdout.write(answers(texts, requirements.read_file(words[4])) if is_run else game_of(texts).text())
+    if is_run:
+        sys.stdout.write(answers(texts, requirements.read_file(words[4]), is_plain=is_plain))
+    else:
+        sys.stdout.write(game_of(texts, is_plain).text())
     return 0
 
 
