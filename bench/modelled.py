@@ -353,23 +353,29 @@ class Table(oracle.Table):
         inner = self.won(inside - lost)
         return inner if even else inner | lost
 
-    def least(self):
-        """The least measures that no lift raises."""
+    def won_by_even(self):
         inside, won = set(range(len(self.kept))), set()
         for even in (True, False):
             stuck = {v for v in inside if self.even[v] != even and not any(w in inside for w in self.kept[v])}
             caught = self.attracted(even, stuck, inside)
             inside -= caught
             won |= caught if even else set()
-        won |= self.won(inside)
+        return won | self.won(inside)
+
+    def least(self):
+        """The least measures that no lift raises."""
+        won = self.won_by_even()
         table = [0 if v in won else self.most for v in range(len(self.kept))]
-        todo = collections.deque(won)
+        todo, waits = collections.deque(sorted(won, reverse=True)), set(won)
         while todo:
             v = todo.popleft()
+            waits.discard(v)
             number = self.lift(table, v)
             if number > table[v]:
                 table[v] = number
-                todo.extend(w for w in self.before[v] if w in won)
+                more = [w for w in self.before[v] if w in won and w not in waits]
+                todo.extend(more)
+                waits.update(more)
         return table
 
 
@@ -393,8 +399,7 @@ class Desk(oracle.Desk):
         known = oracle.closure(self.d, list(choices))
         if oracle.has_conflict(known):
             return True
-        game = Table(self.game, self.known_values(known), t)
-        return game.least()[v] == game.most
+        return v not in Table(self.game, self.known_values(known), t).won_by_even()
 
     def makes_top(self, t, v):
         return lambda choices: self.known_tops(t, v, tuple(choices))
