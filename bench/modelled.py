@@ -385,7 +385,7 @@ class Desk(oracle.Desk):
     def __init__(self, texts, each=map, is_plain=False):
         self.family, self.model = requirements.Family(*texts, each), game_of(texts, is_plain)
         super().__init__(oracle.read_game(self.model.text()), self.family.d)
-        self.names = dict(zip(map(str, self.model.roots), self.model.names))
+        self.requirement_at = dict(zip(map(str, self.model.roots), self.model.names))
         self.known_tops = functools.lru_cache(maxsize=None)(self.is_top)
 
     def games(self):
@@ -405,7 +405,7 @@ class Desk(oracle.Desk):
         return lambda choices: self.known_tops(t, v, tuple(choices))
 
     def met(self, identifier, t, decided=None):
-        name = self.names[str(identifier)]
+        name = self.requirement_at[str(identifier)]
         for product, held in self.family.left(self.choices() if decided is None else decided).items():
             if (name in held) == (t == 0):
                 yield tuple(it in product for it in self.d.names)
@@ -415,7 +415,7 @@ def answers(texts, script, each=map, is_named=False, is_plain=False):
     """What the program answers to a script that calls vertices by the names of requirements."""
     desk = Desk(texts, each, is_plain)
     shown = oracle.read_names(desk.model.text()) if is_named else {}
-    numbers = {name: number for number, name in desk.names.items()}
+    numbers = {name: number for number, name in desk.requirement_at.items()}
     out = []
     for line in script.splitlines():
         words = [word for word in line.split() if not word.endswith(":")]
