@@ -32,6 +32,7 @@ mod answering;
 mod asking;
 mod explaining;
 mod forcing;
+mod grounds;
 pub mod laws;
 mod offering;
 mod question;

@@ -85,7 +85,7 @@ fn search(
 }
 
 // Marks the vertices that a play from the first one can come to.
-fn reached(
+pub(crate) fn reached(
     alloc: Global,
     arena: &Arena,
     moves: &[Option<u32>],

@@ -1,14 +1,21 @@
 //! A search for a product that meets an aim.
-ghost use Rattle.std.specs.Prelude.{◌≡◌, ◌≢◌, ◌<◌, ◌≤◌, ◌+◌, ℕ, length, slice_index_or, IfOk, IfSome, IsNone};
+ghost use Rattle.std.specs.Prelude.{◌≡◌, ◌≢◌, ◌<◌, ◌≤◌, ◌+◌, ◌++◌, ◌∷◌, [], List, ℕ, true, false, length};
+ghost use Rattle.std.specs.Prelude.{slice_index_or, IfOk, IfSome, IsNone, IsSome};
 ghost use Rattle.vpg_guards.specs.declared.tri.Tri.TheVariants.{Unknown};
 ghost use Rattle.vpg_guards.specs.Known.{AreAllKnown};
+ghost use Rattle.vpg_diagram.specs.DiagramText.{NamedDiagram};
+ghost use Rattle.vpg_diagram.specs.declared.clause.Literal.{Literal};
+ghost use Rattle.vpg_game.specs.Game.{NamedGame};
 ghost use Rattle.vpg_measure.specs.Games.{ArePageGames};
 ghost use Rattle.vpg_partial.specs.TableLaws.{AreChoicesOf, IsKnownTable};
 ghost use Rattle.vpg_why.specs.Explained.{choices};
 ghost use Rattle.vpg_why.specs.Found.{HasRoom, IsOutlook, IsOutlookExact, IsFound, IsFoundExact};
-ghost use Rattle.vpg_why.specs.Suffices.{IsAim, IsBarred, MayMeet, AimSettles, AlwaysSettles, IsSettled, most_trials};
+ghost use Rattle.vpg_why.specs.Products.{NoneMeets};
+ghost use Rattle.vpg_why.specs.Reasons.{either_of, HasMarks, IsReason, IsReasoned, IsReasonedExact};
+ghost use Rattle.vpg_why.specs.Suffices.{choice, IsAim, IsBarred, MayMeet, AimSettles, AlwaysSettles, IsSettled, most_trials};
 
 use crate::asking::{closed, games_with, is_top, with_one};
+use crate::grounds::{grounds, kept_by};
 use crate::question::{Aim, Limits, Question, Shown};
 use std::alloc::{AllocError, Global};
 use vpg_guards::Tri;
@@ -190,6 +197,166 @@ pub(crate) fn look(
     }
 }
 
+/// What a search found, with a reason where it is nothing.
+#[derive(Drop)]
+pub enum Reasoned {
+    /// A product that is left and meets the aim.
+    Product(Example),
+    /// There is none: for each decision, whether it is one of those that alone leave none.
+    Nothing(Vec<bool>),
+    /// A limit was met.
+    Unsettled,
+}
+
+/// Marks, and the one that stood last.
+#[derive(Drop)]
+pub(crate) struct Front {
+    pub(crate) marks: Vec<bool>,
+    pub(crate) last: bool,
+}
+
+// The marks without the last one.
+fn without_last(marks: Vec<bool>) -> Front
+    requires { 0 < length marks.items }
+    ensures { marks.items ≡ result.marks.items ++ result.last ∷ [] }
+{
+    let mut front = marks;
+    match front.pop() {
+        Some(last) => Front { marks: front, last },
+        None => unreachable!(),
+    }
+}
+
+// What is marked in either list.
+fn either(alloc: Global, one: &[bool], other: &[bool]) -> Result<Vec<bool>, AllocError>
+    requires { length one.now ≡ length other.now }
+    ensures { IfOk result (λ marks. marks.items ≡ either_of one.now other.now) }
+{
+    let mut marks = Vec::new(alloc);
+    for i in 0..one.len() {
+        marks.push(one[i] | other[i])?;
+    }
+    Ok(marks)
+}
+
+// What both halves of a split leave. The first has a reason, which names the feature, or met a limit; of the other this
+// was found, with a last mark for the feature.
+fn both(
+    alloc: Global,
+    count: usize,
+    one: Option<Vec<bool>>,
+    other: Reasoned,
+) -> Result<Reasoned, AllocError>
+    requires first { IfSome one (λ marks. length marks.items ≡ count) }
+    requires second { HasMarks other (count + 1) }
+    ensures found { (game : NamedGame) (diagram : NamedDiagram) (aim : Aim) (chosen : List Literal) (f : ℕ) →
+        IfSome one (λ marks. IsReason game diagram aim chosen (choice f true ∷ []) marks.items) →
+        IsReasoned game diagram aim (chosen ++ choice f false ∷ []) other →
+        IfOk result (IsReasoned game diagram aim chosen) }
+    ensures exact { IsSome one → IsReasonedExact other → IfOk result IsReasonedExact }
+{
+    match other {
+        Reasoned::Product(found) => match one {
+            Some(_) => Ok(Reasoned::Product(found)),
+            None => Ok(Reasoned::Product(Example {
+                features: found.features,
+                first: false,
+            })),
+        },
+        Reasoned::Nothing(marks) => {
+            let front = without_last(marks);
+            if !front.last {
+                return Ok(Reasoned::Nothing(front.marks));
+            }
+            match one {
+                Some(first) => {
+                    let marks = either(alloc, &first, &front.marks)?;
+                    Ok(Reasoned::Nothing(marks))
+                }
+                None => Ok(Reasoned::Unsettled),
+            }
+        }
+        Reasoned::Unsettled => Ok(Reasoned::Unsettled),
+    }
+}
+
+// Which of some decisions that leave nothing do so alone: the guess, where it holds, or else all of them.
+fn reason(
+    alloc: Global,
+    order: &Order,
+    aim: Aim,
+    decisions: &[Decision],
+    limits: Limits,
+) -> Result<Vec<bool>, AllocError>
+    requires named { AreChoicesOf order.now.diagram.lines (choices decisions.now) }
+    requires aim { IsAim order.now.game aim }
+    requires lost { NoneMeets order.now.game order.now.diagram aim (choices decisions.now) }
+    ensures { IfOk result (λ marks.
+        IsReason order.now.game order.now.diagram aim (choices decisions.now) [] marks.items) }
+{
+    let marks = grounds(alloc, order, aim, decisions, limits)?;
+    let kept = kept_by(alloc, decisions, &marks)?;
+    match look(alloc, order, aim, &kept, limits)? {
+        Outlook::Lost => Ok(marks),
+        _ => Ok(vec![in alloc; true; decisions.len()]?),
+    }
+}
+
+// As `search`, with a reason if there is nothing. Where the reason of a split's first half does not name the feature,
+// the second half is left out: no product in it meets the aim either.
+pub(crate) fn search_with_reasons(
+    alloc: Global,
+    order: &Order,
+    aim: Aim,
+    decisions: &[Decision],
+    limits: Limits,
+    depth: u32,
+    trials: &mut u64,
+) -> Result<Reasoned, AllocError>
+    requires named { AreChoicesOf order.now.diagram.lines (choices decisions.now) }
+    requires aim { IsAim order.now.game aim }
+    ensures found { IfOk result (IsReasoned order.now.game order.now.diagram aim (choices decisions.now)) }
+    ensures spent { IfOk result (λ found. trials.old ≤ trials.new + most_trials depth) }
+    ensures settled { IfOk result
+        (λ found. HasRoom order.now.diagram (choices decisions.now) depth trials.old →
+        AimSettles limits.rounds order.now.game order.now.diagram aim → IsReasonedExact found) }
+{
+    if depth == 0 || *trials == 0 {
+        return Ok(Reasoned::Unsettled);
+    }
+    *trials -= 1;
+    let feature = match look(alloc, order, aim, decisions, limits)? {
+        Outlook::Lost => {
+            let marks = reason(alloc, order, aim, decisions, limits)?;
+            return Ok(Reasoned::Nothing(marks));
+        }
+        Outlook::Met(features) => {
+            return Ok(Reasoned::Product(Example {
+                features,
+                first: true,
+            }));
+        }
+        Outlook::Open { feature } => feature,
+        Outlook::Unsettled => return Ok(Reasoned::Unsettled),
+    };
+    let more = with_one(alloc, decisions, feature, true)?;
+    let one = match search_with_reasons(alloc, order, aim, &more, limits, depth - 1, trials)? {
+        Reasoned::Product(found) => return Ok(Reasoned::Product(found)),
+        Reasoned::Nothing(marks) => {
+            let front = without_last(marks);
+            if !front.last {
+                return Ok(Reasoned::Nothing(front.marks));
+            }
+            Some(front.marks)
+        }
+        Reasoned::Unsettled => None,
+    };
+    let more = with_one(alloc, decisions, feature, false)?;
+    let other = search_with_reasons(alloc, order, aim, &more, limits, depth - 1, trials)?;
+    let found = both(alloc, decisions.len(), one, other)?;
+    Ok(found)
+}
+
 /// As `find`, among the products that agree with the decisions: one split lies within another at most so deep, and each
 /// look takes one of the trials. Where these are used up it gives up.
 pub fn search(
@@ -209,37 +376,10 @@ pub fn search(
         (λ found. HasRoom order.now.diagram (choices decisions.now) depth trials.old →
         AimSettles limits.rounds order.now.game order.now.diagram aim → IsFoundExact found) }
 {
-    if depth == 0 || *trials == 0 {
-        return Ok(Found::Unsettled);
-    }
-    *trials -= 1;
-    let feature = match look(alloc, order, aim, decisions, limits)? {
-        Outlook::Lost => return Ok(Found::Nothing),
-        Outlook::Met(features) => {
-            return Ok(Found::Product(Example {
-                features,
-                first: true,
-            }));
-        }
-        Outlook::Open { feature } => feature,
-        Outlook::Unsettled => return Ok(Found::Unsettled),
-    };
-    let more = with_one(alloc, decisions, feature, true)?;
-    let with_it = search(alloc, order, aim, &more, limits, depth - 1, trials)?;
-    if let Found::Product(found) = with_it {
-        return Ok(Found::Product(found));
-    }
-    let more = with_one(alloc, decisions, feature, false)?;
-    let without = search(alloc, order, aim, &more, limits, depth - 1, trials)?;
-    if let Found::Nothing = with_it {
-        return Ok(without);
-    }
-    match without {
-        Found::Product(found) => Ok(Found::Product(Example {
-            features: found.features,
-            first: false,
-        })),
-        _ => Ok(Found::Unsettled),
+    match search_with_reasons(alloc, order, aim, decisions, limits, depth, trials)? {
+        Reasoned::Product(example) => Ok(Found::Product(example)),
+        Reasoned::Nothing(_) => Ok(Found::Nothing),
+        Reasoned::Unsettled => Ok(Found::Unsettled),
     }
 }
 

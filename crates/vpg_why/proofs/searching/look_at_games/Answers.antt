@@ -1,4 +1,4 @@
-use Rattle.std.proofs.Common.{List, refl, sym, subst}
+use Rattle.std.proofs.Common.{List, sym, subst}
 use Rattle.vpg_guards.specs.declared.tri.Tri.{Tri}
 use Rattle.vpg_why.specs.Explained.{choices}
 use Rattle.vpg_why.specs.Suffices.{IsTopUnder, IsLowUnder}
