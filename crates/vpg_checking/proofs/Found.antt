@@ -9,7 +9,7 @@ use Rattle.vpg_checking.specs.Checking.{vertex_named}
 many_names : (es : List code.Entry) → length (earlier_of es) ≡ length es
 many_names es = length-map (entries_of es) (λ (e : Marked). e.0) ∙ length-map es (λ (e : code.Entry). (e.name, e.formula.marks.items))
 
-name_of : (es : List code.Entry) (n : ℕ) (e : code.Entry) → n < length es → e ≡ get_or es n e → get_or (earlier_of es) n [] ≡ e.name
+pub name_of : (es : List code.Entry) (n : ℕ) (e : code.Entry) → n < length es → e ≡ get_or es n e → get_or (earlier_of es) n [] ≡ e.name
 name_of [] n e l is = absurd (omega (arith, l))
 name_of (d ∷ es) zero e l is = ap (λ (x : code.Entry). x.name) (sym is)
 name_of (d ∷ es) (suc n) e l is = name_of es n e (omega (arith, l)) is

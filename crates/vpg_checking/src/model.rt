@@ -1,14 +1,17 @@
 //! The game of a family.
-ghost use Rattle.std.specs.Prelude.{◌≡◌, ◌≤◌, List, bytes_eq, IfOk, IfErr};
+ghost use Rattle.std.specs.Prelude.{◌≡◌, ◌≤◌, List, map, bytes_eq, IfOk, IfErr};
 ghost use Rattle.vpg_diagram.specs.FeatureDiagram.{Line, feature_count};
 ghost use Rattle.vpg_game.specs.Game.{graph_of, vertex_ids, IsAtLimit};
-ghost use Rattle.vpg_model.specs.Pairs.{AreNumbered};
+ghost use Rattle.vpg_model.specs.Pairs.{AreNumbered, pair_for};
+ghost use Rattle.vpg_part_texts.specs.SetTexts.{set_text};
 ghost use Rattle.vpg_formula.specs.EntryCode.{entries_of, earlier_of};
 ghost use Rattle.vpg_formula.specs.Requirements as spec;
 ghost use Rattle.vpg_formula.specs.Requirements.{SpellsRequirements, marked};
 ghost use Rattle.vpg_system.specs.System.{IsSystem};
+ghost use Rattle.vpg_system.specs.SystemText.{NamedSystem, IsTextOf};
 ghost use Rattle.vpg_checking.specs.Checking.{IsModelOfEntries, IsModelOfTexts, AreNamed, vertex_named};
 ghost use Rattle.vpg_checking.specs.Faults.{IsCheckingFault, IsRequirementsFault};
+ghost use Rattle.vpg_checking.specs.Texts.{AreVerticesOf};
 
 use crate::fault::CheckingFault;
 use indexmap::IndexSet;
@@ -19,6 +22,7 @@ use vpg_game::GuardedGame;
 use vpg_meaning::laws::{requirements_are_positive, requirements_mean_what_is_written};
 use vpg_model::{Built, Source, build};
 use vpg_normal::{Arena, parts_of};
+use vpg_part_texts::{Text, set_texts};
 use vpg_system::System;
 use vpg_system::laws::spelled_are_systems;
 use vpg_written::{Translation, translate};
@@ -36,11 +40,13 @@ pub struct Model {
     /// The requirements.
     pub requirements: Requirements,
     /// The state of each vertex, and the place of its part.
-    pub(crate) pairs: IndexSet<(u32, u32)>,
+    pub pairs: IndexSet<(u32, u32)>,
     /// The places of the requirements.
-    pub(crate) places: Vec<u32>,
+    pub places: Vec<u32>,
     /// The system, and the parts of all requirements.
-    pub(crate) source: Source,
+    pub source: Source,
+    /// The texts of the sets of actions that parts name.
+    pub sets: Vec<Text>,
 }
 
 /// Whether the requirement has this name.
@@ -68,6 +74,11 @@ impl Model {
         ensures named { IfOk result (λ model. (entries : List spec.Entry) →
             SpellsRequirements text.now entries →
             AreNamed entries (earlier_of model.requirements.entries.items) model.roots.items) }
+        ensures vertices { IfOk result (λ model. AreVerticesOf model.source.states.items model.source.sets.items
+            model.source.parts.items (map (pair_for model.source.parts.items system.now.first) model.places.items)
+            model.pairs.keys model.roots.items (graph_of model.game)) }
+        ensures sets { IfOk result (λ model.
+            model.sets.items ≡ map (set_text system.now.actions) model.source.sets.items) }
         ensures refused { IfErr result (IsRequirementsFault system.now text.now) }
     {
         requirements_are_positive();
@@ -78,6 +89,7 @@ impl Model {
             parts,
             roots: places,
         } = parts_of(alloc, &forms)?;
+        let texts = set_texts(alloc, system, sets.as_slice())?;
         let source = Source::of(alloc, system, sets, parts)?;
         let Built { pairs, roots, game } = build(alloc, &source, system.first(), &places)?;
         Ok(Model {
@@ -87,6 +99,7 @@ impl Model {
             pairs,
             places,
             source,
+            sets: texts,
         })
     }
 
@@ -112,6 +125,13 @@ impl Model {
         ensures named { IfOk result (λ model. (entries : List spec.Entry) →
             SpellsRequirements requirements.now entries →
             AreNamed entries (earlier_of model.requirements.entries.items) model.roots.items) }
+        // Its vertices are pairs of a state and a part, from the first state on; the sets of actions have their texts.
+        ensures vertices { IfOk result (λ model. (s : NamedSystem) → IsTextOf diagram.now.names system.now s →
+            AreVerticesOf model.source.states.items model.source.sets.items model.source.parts.items
+            (map (pair_for model.source.parts.items s.first) model.places.items) model.pairs.keys
+            model.roots.items (graph_of model.game)) }
+        ensures sets { IfOk result (λ model. (s : NamedSystem) → IsTextOf diagram.now.names system.now s →
+            model.sets.items ≡ map (set_text s.actions) model.source.sets.items) }
         ensures refused { IfErr result (IsCheckingFault diagram.now.names system.now requirements.now) }
     {
         spelled_are_systems();

@@ -1,98 +1,151 @@
 //! The text of a model's game.
-ghost use Rattle.std.specs.Prelude.{◌≡◌, length, IfOk, OnOk, OnErr};
+ghost use Rattle.std.specs.Prelude.{◌≡◌, ◌≤◌, ◌++◌, ℕ, List, [], length, map, filter, nat_eq, nat_le, slice_index_or, IfOk, OnOk, OnErr};
 ghost use Rattle.vpg_game.specs.Game.{IsAtLimit, SpellsGame};
-ghost use Rattle.vpg_checking.specs.Texts.{WritesGame};
+ghost use Rattle.vpg_formula.specs.EntryCode.{earlier_of};
+ghost use Rattle.vpg_labels.specs.Labels.{SpellsNamed, labels_from, start_told};
+ghost use Rattle.vpg_part_texts.specs.PartTexts.{numbers_from};
+ghost use Rattle.vpg_checking.specs.Texts.{WritesGame, WritesNames, entry_of, name_front, part_name, vertex_name};
 
 use crate::model::Model;
 use itoa::Buffer;
 use std::alloc::{AllocError, Global};
 use vpg_features::Names;
 use vpg_labels::{Label, with_labels};
-use vpg_parts::{FALSE_PLACE, Kind, Part};
+use vpg_part_texts::{Wording, numbers};
+use vpg_parts::FALSE_PLACE;
 
-/// Returns the word for a part.
-fn word_of(part: Part) -> &'static str {
-    match part {
-        Part::True => "true",
-        Part::False => "false",
-        Part::And(_, _) => "&&",
-        Part::Or(_, _) => "||",
-        Part::SomeStep(_, _) => "<>",
-        Part::EveryStep(_, _) => "[]",
-        Part::Fixpoint {
-            kind: Kind::Least,
-            ..
-        } => "mu",
-        Part::Fixpoint {
-            kind: Kind::Greatest,
-            ..
-        } => "nu",
-        Part::Variable { .. } => "variable",
+/// Returns how many of these places are no greater than one.
+fn count_upto(places: &[u32], place: u32) -> usize
+    ensures { result ≡ length (filter (λ root. nat_le root place) places.now) }
+{
+    let mut count = 0;
+    for root in places {
+        if *root <= place {
+            count += 1;
+        }
     }
+    count
 }
 
 impl Model {
-    /// The name of the requirement that a part is of: of the last one whose place is no greater.
-    fn requirement_of(&self, place: u32) -> &[u8] {
-        let mut found = 0;
-        for n in 0..self.places.len() {
-            let root = self.places[n];
-            if root > FALSE_PLACE && root <= place {
-                found = n;
-            }
-        }
-        match self.requirements.entries.get(found) {
+    /// The number of the requirement that a part is of: the last one whose place is no greater.
+    fn requirement_of(&self, place: u32) -> usize
+        ensures { result ≡ entry_of self.now.places.items place }
+    {
+        count_upto(&self.places, place).saturating_sub(1)
+    }
+
+    /// The name of a requirement.
+    fn name_of(&self, entry: usize) -> &[u8]
+        ensures { result.now ≡ slice_index_or (earlier_of self.now.requirements.entries.items) entry [] }
+    {
+        match self.requirements.entries.get(entry) {
             Some(entry) => entry.name.as_bytes(),
             None => b"",
         }
     }
 
-    /// The label of a vertex: its state, the requirement that its part is of, and what the part is. `true` and `false`
-    /// have these words alone.
-    fn label(&self, alloc: Global, state: u32, place: u32) -> Result<Label, AllocError> {
+    /// The place of a requirement's root.
+    fn root_of(&self, entry: usize) -> u32
+        ensures { result ≡ slice_index_or self.now.places.items entry 0 }
+    {
+        match self.places.get(entry) {
+            Some(root) => *root,
+            None => 0,
+        }
+    }
+
+    /// Writes what stands in front of the part in a vertex's name.
+    fn put_front(&self, state: u32, place: u32, out: &mut Vec<u8>) -> Result<(), AllocError>
+        ensures { OnOk result (out.new.items ≡ out.old.items
+            ++ name_front (earlier_of self.now.requirements.entries.items) self.now.places.items state place) }
+    {
+        if place <= FALSE_PLACE {
+            return Ok(());
+        }
+        let mut buffer = Buffer::new();
+        out.extend_from_slice(buffer.format(state).as_bytes())?;
+        out.push(b' ')?;
+        out.extend_from_slice(self.name_of(self.requirement_of(place)))?;
+        out.extend_from_slice(b": ")?;
+        Ok(())
+    }
+
+    /// What a part is called.
+    fn part_name(&self, alloc: Global, numbers: &[usize], place: u32) -> Result<Vec<u8>, AllocError>
+        requires { numbers.now ≡ numbers_from 0 self.now.source.parts.items }
+        ensures { IfOk result (λ text. text.items ≡ part_name self.now.source.parts.items self.now.sets.items
+            (slice_index_or self.now.places.items (entry_of self.now.places.items place) 0) place) }
+    {
+        let wording = Wording {
+            parts: self.source.parts.as_slice(),
+            sets: self.sets.as_slice(),
+            numbers,
+            root: self.root_of(self.requirement_of(place)),
+        };
+        wording.text(alloc, place)
+    }
+
+    /// The name of the vertex of a state and a part.
+    fn label(&self, alloc: Global, numbers: &[usize], pair: (u32, u32)) -> Result<Label, AllocError>
+        requires { numbers.now ≡ numbers_from 0 self.now.source.parts.items }
+        ensures { IfOk result (λ label. label ≡ vertex_name (earlier_of self.now.requirements.entries.items)
+            self.now.places.items self.now.source.parts.items self.now.sets.items pair) }
+    {
+        let (state, place) = pair;
         let mut bytes = Vec::new(alloc);
-        if place > FALSE_PLACE {
-            let mut buffer = Buffer::new();
-            bytes.extend_from_slice(buffer.format(state).as_bytes())?;
-            bytes.extend_from_slice(b" ")?;
-            bytes.extend_from_slice(self.requirement_of(place))?;
-            bytes.extend_from_slice(b": ")?;
-        }
-        if let Some(part) = self.source.parts.get(place as usize) {
-            bytes.extend_from_slice(word_of(*part).as_bytes())?;
-        }
+        self.put_front(state, place, &mut bytes)?;
+        let name = self.part_name(alloc, numbers, place)?;
+        bytes.extend_from_slice(&name)?;
         Ok(Label { bytes })
     }
 
-    /// The labels of all vertices, in order.
-    fn labels(&self, alloc: Global) -> Result<Vec<Label>, AllocError> {
+    /// The names of all vertices, in order.
+    fn labels(&self, alloc: Global) -> Result<Vec<Label>, AllocError>
+        ensures { IfOk result (λ labels. labels.items ≡
+            map (vertex_name (earlier_of self.now.requirements.entries.items) self.now.places.items
+            self.now.source.parts.items self.now.sets.items) self.now.pairs.keys) }
+    {
+        let numbers = numbers(alloc, &self.source.parts)?;
+        let pairs = self.pairs.as_slice();
         let mut labels = Vec::new(alloc);
-        for v in 0..self.pairs.len() {
-            if let Some((state, place)) = self.pairs.get_index(v) {
-                labels.push(self.label(alloc, *state, *place)?)?;
-            }
+        for pair in pairs {
+            labels.push(self.label(alloc, &numbers, *pair)?)?;
         }
         Ok(labels)
     }
 
-    /// The text of the game with these labels.
+    /// The text of the game with these names.
     fn text(&self, alloc: Global, names: &Names) -> Result<Vec<u8>, AllocError>
         requires { length names.now ≡ self.now.game.features }
-        ensures { IfOk result (λ text. ¬ IsAtLimit self.now.game → SpellsGame names.now text.items self.now.game) }
+        ensures { IfOk result (λ text. ¬ IsAtLimit self.now.game → SpellsNamed names.now text.items self.now.game
+            (record {
+              names = labels_from (map (vertex_name (earlier_of self.now.requirements.entries.items)
+                  self.now.places.items self.now.source.parts.items self.now.sets.items) self.now.pairs.keys)
+                  0 (length self.now.game.vertices);
+              start = start_told (nat_eq (length self.now.requirements.entries.items) 1);
+            })) }
     {
         let mut plain = Vec::new(alloc);
         self.game.write(alloc, names, &mut plain)?;
         let labels = self.labels(alloc)?;
-        with_labels(alloc, &plain, &labels)
+        let is_started = self.requirements.entries.len() == 1;
+        with_labels(alloc, &plain, &labels, is_started)
     }
 
-    /// Writes the text of the game behind what is there, over the features of these names. Each vertex has a name: its
-    /// state, the requirement that its part is of, and what the part is (`0 stops: nu`); or `true` or `false` alone.
+    /// Writes the text of the game behind what is there, over the features of these names. Each vertex has a name: the
+    /// number of its state, the requirement that its part is of, and the part (`0 stops: [true]X`); or `true` or
+    /// `false` alone. The text says where the game starts if there is one requirement.
     pub fn write(&self, alloc: Global, names: &Names, out: &mut Vec<u8>) -> Result<(), AllocError>
         requires { length names.now ≡ self.now.game.features }
         // What is written spells the game. None that `read` returns is at the limit.
         ensures ok { OnOk result
             (¬ IsAtLimit self.now.game → WritesGame names.now self.now.game out.old.items out.new.items) }
+        // The names are those of the states and parts of the vertices, and the start is the one requirement's vertex.
+        ensures names { OnOk result (¬ IsAtLimit self.now.game → WritesNames names.now self.now.game
+            (length self.now.requirements.entries.items)
+            (map (vertex_name (earlier_of self.now.requirements.entries.items) self.now.places.items
+            self.now.source.parts.items self.now.sets.items) self.now.pairs.keys) out.old.items out.new.items) }
         ensures err { OnErr result (out.new.items ≡ out.old.items) }
     {
         let text = self.text(alloc, names)?;

@@ -1,9 +1,9 @@
 //! Labels in the text of a game.
-ghost use Rattle.std.specs.Prelude.{◌≡◌, ◌+◌, ◌<◌, ◌≤◌, ◌++◌, ◌∷◌, [], filter, not, ◌==◌, List, ℕ, IfOk, OnOk, slice_index_or};
+ghost use Rattle.std.specs.Prelude.{◌≡◌, ◌+◌, ◌<◌, ◌≤◌, ◌++◌, ◌∷◌, [], filter, List, ℕ, IfOk, OnOk, length, slice_index_or};
 ghost use Rattle.vpg_game.specs.Game.{NamedGame, SpellsGame};
 ghost use Rattle.vpg_game.specs.Grammar.{File, IsFile, file_text};
-ghost use Rattle.vpg_labels.specs.Labels.{labelled_file};
-ghost use Rattle.vpg_labels.specs.Labelling.{mode_behind, named_behind, label_text, labelled_text, is_end};
+ghost use Rattle.vpg_labels.specs.Labels.{is_plain, labels_from, labelled_file, start_told, SpellsNamed};
+ghost use Rattle.vpg_labels.specs.Labelling.{mode_behind, vertex_behind, label_text, before_text, kept_text, labelled_text};
 
 use std::alloc::{AllocError, Global};
 use std::marker::Model;
@@ -25,9 +25,15 @@ impl Model for Label {
 /// Where in a text a byte stands.
 #[derive(Clone, Copy, Debug, PartialEq, Eq)]
 enum Mode {
+    /// In front of the first entry.
+    Front,
+    Header,
+    /// In a `start`, which is left out.
+    Start,
+    /// In an entry, or between entries.
     Between,
-    Heading,
     Guard,
+    /// In a name, which is left out.
     Quoted,
 }
 
@@ -37,32 +43,29 @@ impl Mode {
         ensures { result ≡ mode_behind self b }
     {
         match self {
-            Mode::Between => match b {
-                b'"' => Mode::Quoted,
-                b'[' => Mode::Guard,
-                b'p' | b's' => Mode::Heading,
-                _ => Mode::Between,
-            },
-            Mode::Heading if b == b';' => Mode::Between,
+            Mode::Front if b.is_ascii_digit() => Mode::Between,
+            Mode::Front if b == b'p' => Mode::Header,
+            Mode::Front if b == b's' => Mode::Start,
+            Mode::Between if b == b'"' => Mode::Quoted,
+            Mode::Between if b == b'[' => Mode::Guard,
+            Mode::Header | Mode::Start if b == b';' => Mode::Front,
             Mode::Guard if b == b']' => Mode::Between,
             Mode::Quoted if b == b'"' => Mode::Between,
             _ => self,
         }
     }
+}
 
-    /// Whether an entry ends with this byte.
-    fn ends(self, b: u8) -> bool
-        ensures { result ≡ is_end self b }
-    {
-        matches!(self, Mode::Between) && b == b';'
+/// Writes the bytes that a name may have.
+fn put_plain(bytes: &[u8], out: &mut Vec<u8>) -> Result<(), AllocError>
+    ensures { OnOk result (out.new.items ≡ out.old.items ++ filter is_plain bytes.now) }
+{
+    for b in bytes {
+        if *b != b'"' && *b != b'\n' && *b != b'\r' {
+            out.push(*b)?;
+        }
     }
-
-    /// Whether the present entry has a name behind this byte, if it had one before or not.
-    fn named(self, before: bool, b: u8) -> bool
-        ensures { result ≡ named_behind self before b }
-    {
-        before || (matches!(self, Mode::Between) && b == b'"')
-    }
+    Ok(())
 }
 
 /// The bytes of a vertex's label.
@@ -75,82 +78,118 @@ fn label_at(labels: &[Label], v: usize) -> &[u8]
     }
 }
 
-/// Writes bytes without quotes.
-fn put_unquoted(bytes: &[u8], out: &mut Vec<u8>) -> Result<(), AllocError>
-    ensures { OnOk result (out.new.items ≡ out.old.items ++ filter (λ b. not (b == 34)) bytes.now) }
+/// Writes a vertex's label in quotes.
+fn put_label(labels: &[Label], v: usize, out: &mut Vec<u8>) -> Result<(), AllocError>
+    ensures { OnOk result (out.new.items ≡ out.old.items ++ label_text labels.now v) }
 {
-    for b in bytes {
-        if *b != b'"' {
-            out.push(*b)?;
-        }
-    }
-    Ok(())
-}
-
-/// Writes what comes before the end of an entry: the label in quotes, if the entry has no name.
-fn put_name(labels: &[Label], named: bool, v: usize, out: &mut Vec<u8>) -> Result<(), AllocError>
-    ensures { OnOk result (out.new.items ≡ out.old.items ++ label_text labels.now named v) }
-{
-    if named {
-        return Ok(());
-    }
     out.extend_from_slice(b" \"")?;
-    put_unquoted(label_at(labels, v), out)?;
+    put_plain(label_at(labels, v), out)?;
     out.push(b'"')?;
     Ok(())
 }
 
-/// Where a text stands: what the next byte is in, whether the present entry has a name, and its vertex.
+/// Where a text stands: what the next byte is in, and the vertex of the present entry.
 #[derive(Clone, Copy)]
 struct Place {
     mode: Mode,
-    named: bool,
     v: usize,
 }
 
-/// Writes the next byte of a text, behind a label where an entry without a name ends.
-fn put_byte(labels: &[Label], place: Place, b: u8, out: &mut Vec<u8>) -> Result<Place, AllocError>
-    requires { place.v < usize.MAX }
-    ensures written { IfOk result (λ next. (rest : List ℕ) →
-        out.new.items ++ labelled_text labels.now next.mode next.named next.v rest ≡
-        out.old.items ++ labelled_text labels.now place.mode place.named place.v (b ∷ rest)) }
-    ensures few { IfOk result (λ next. next.v ≤ place.v + 1) }
-{
-    if place.mode.ends(b) {
-        put_name(labels, place.named, place.v, out)?;
-        out.push(b)?;
-        return Ok(Place {
-            mode: Mode::Between,
-            named: false,
-            v: place.v + 1,
-        });
+impl Place {
+    /// Where the text stands behind a byte.
+    fn behind(self, b: u8) -> Place
+        requires { self.v < usize.MAX }
+        ensures mode { result.mode ≡ mode_behind self.mode b }
+        ensures vertex { result.v ≡ vertex_behind self.mode self.v b }
+        ensures few { result.v ≤ self.v + 1 }
+    {
+        let mode = self.mode.behind(b);
+        if matches!(self.mode, Mode::Between) && b == b';' {
+            return Place {
+                mode,
+                v: self.v + 1,
+            };
+        }
+        Place { mode, v: self.v }
     }
-    out.push(b)?;
-    Ok(Place {
-        mode: place.mode.behind(b),
-        named: place.mode.named(place.named, b),
-        v: place.v,
-    })
+
+    /// Writes what comes in front of a byte: the start, or the label of an entry.
+    fn put_before(
+        self,
+        labels: &[Label],
+        is_started: bool,
+        b: u8,
+        out: &mut Vec<u8>,
+    ) -> Result<(), AllocError>
+        ensures { OnOk result
+            (out.new.items ≡ out.old.items ++ before_text labels.now is_started self.mode self.v b) }
+    {
+        match self.mode {
+            Mode::Front if is_started && b.is_ascii_digit() => {
+                out.extend_from_slice(b"start 0;\n")
+            }
+            Mode::Between if b == b';' => put_label(labels, self.v, out),
+            _ => Ok(()),
+        }
+    }
+
+    /// Writes the byte, but for those of a start and of names.
+    fn put_kept(self, b: u8, out: &mut Vec<u8>) -> Result<(), AllocError>
+        ensures { OnOk result (out.new.items ≡ out.old.items ++ kept_text self.mode b) }
+    {
+        match self.mode {
+            Mode::Front if b == b's' => {}
+            Mode::Between if b == b'"' => {}
+            Mode::Start | Mode::Quoted => {}
+            _ => out.push(b)?,
+        }
+        Ok(())
+    }
 }
 
-/// Returns the text of a game in which each entry without a name has the label of its vertex, less its quotes. A vertex
-/// without a label gets the empty name. Of a text that spells no game it may return anything.
-pub fn with_labels(alloc: Global, text: &[u8], labels: &[Label]) -> Result<Vec<u8>, AllocError>
+/// Writes the next byte of a text, behind what comes in front of it.
+fn put_byte(
+    labels: &[Label],
+    is_started: bool,
+    place: Place,
+    b: u8,
+    out: &mut Vec<u8>,
+) -> Result<Place, AllocError>
+    requires { place.v < usize.MAX }
+    ensures written { IfOk result (λ next. (rest : List ℕ) →
+        out.new.items ++ labelled_text labels.now is_started next.mode next.v rest ≡
+        out.old.items ++ labelled_text labels.now is_started place.mode place.v (b ∷ rest)) }
+    ensures few { IfOk result (λ next. next.v ≤ place.v + 1) }
+{
+    place.put_before(labels, is_started, b, out)?;
+    place.put_kept(b, out)?;
+    Ok(place.behind(b))
+}
+
+/// Returns the text of a game in which each entry has the label of its vertex for a name, less its quotes and ends of
+/// lines. With `is_started` the text says that the game starts at the vertex 0, and else nowhere. Names and a start
+/// that the text has are left out. Of a text that spells no game it may return anything.
+pub fn with_labels(
+    alloc: Global,
+    text: &[u8],
+    labels: &[Label],
+    is_started: bool,
+) -> Result<Vec<u8>, AllocError>
     // However the text is taken for a game, all else stays as it is.
     ensures labelled { (features : List (List ℕ)) (file : File) → IsFile features file → text.now ≡ file_text file →
-        IfOk result (λ out. out.items ≡ file_text (labelled_file labels.now file)) }
-    // So it spells the same game.
-    ensures same { (features : List (List ℕ)) (game : NamedGame) → SpellsGame features text.now game →
-        IfOk result (λ out. SpellsGame features out.items game) }
+        IfOk result (λ out. out.items ≡ file_text (labelled_file labels.now is_started file)) }
+    // So it spells the same game, with these names and this start.
+    ensures named { (features : List (List ℕ)) (game : NamedGame) → SpellsGame features text.now game →
+        IfOk result (λ out. SpellsNamed features out.items game
+        (record { names = labels_from labels.now 0 (length game.vertices); start = start_told is_started })) }
 {
     let mut out = Vec::new(alloc);
     let mut place = Place {
-        mode: Mode::Between,
-        named: false,
+        mode: Mode::Front,
         v: 0,
     };
     for b in text {
-        place = put_byte(labels, place, *b, &mut out)?;
+        place = put_byte(labels, is_started, place, *b, &mut out)?;
     }
     Ok(out)
 }

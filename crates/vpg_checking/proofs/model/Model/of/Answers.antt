@@ -1,11 +1,13 @@
-use Rattle.std.proofs.Common.{◌≡◌, ◌<◌, ◌≤◌, List, ℕ, length, ap, sym, subst, ◌∙◌, refl, []}
+use Rattle.std.proofs.Common.{◌≡◌, ◌<◌, ◌≤◌, List, ℕ, length, map, ap, sym, subst, ◌∙◌, refl, []}
 use Rattle.std.proofs.lemmas.Result.{err_from_is_err_and}
 use Rattle.vpg_parts.specs.declared.symbol.Symbol.{Symbol}
 use Rattle.vpg_game.specs.Game.{graph_of}
+use Rattle.vpg_model.specs.Pairs.{pair_for, IsPairGame}
 use Rattle.vpg_checking.proofs.Lists.{below_limit}
 use Rattle.vpg_formula.specs.Requirements.{Marked, names_of}
 use Rattle.vpg_checking.specs.Checking.{AreNamed}
 use Rattle.vpg_checking.proofs.Named.{are_named}
+use Rattle.vpg_checking.proofs.Paired.{are_vertices}
 use Rattle.vpg_checking.proofs.Whole.{few_forms, some_roots, found, none_found}
 use Rattle.vpg_checking.proofs.Refused.{game_refused}
 use Rattle.vpg_checking.proofs.model.Model.of.Goals as goal
@@ -58,3 +60,10 @@ pub returns-clause-named : goal.returns-clause-named
 returns-clause-named c = λ entries spelled.
     subst (λ (made : List Marked). AreNamed entries (names_of made) c.in_ok-pairs.field-0.roots.items) (sym (c.in_ok-requirements.ensures.only entries spelled))
     (are_named c.args.text.now entries c.in_ok-pairs.field-0.roots.items spelled (returns-clause-model c [] entries spelled).count)
+
+pub returns-clause-vertices : goal.returns-clause-vertices
+returns-clause-vertices c =
+    let same_roots : c.deref-2.result.now ≡ c.in_ok-parts.field-0.roots.items = rw (c.deref-2.ensures.value, c.in_ok-parts.places-is) refl in
+    are_vertices c.in_ok-source.source.states.items c.in_ok-source.source.sets.items c.in_ok-source.source.parts.items c.args.system.now.first c.in_ok-parts.field-0.roots.items c.deref-2.result.now c.in_ok-pairs.field-0.pairs.keys c.in_ok-pairs.field-0.roots.items (graph_of c.in_ok-pairs.field-0.game) same_roots
+    (subst (λ (first : ℕ). IsPairGame c.in_ok-source.source.states.items c.in_ok-source.source.sets.items c.in_ok-source.source.parts.items (map (pair_for c.in_ok-source.source.parts.items first) c.deref-2.result.now) c.in_ok-pairs.field-0.pairs.keys c.in_ok-pairs.field-0.roots.items (graph_of c.in_ok-pairs.field-0.game))
+    c.first.ensures c.in_ok-pairs.ensures.pairs)

@@ -1,8 +1,9 @@
-use Rattle.std.proofs.Common.{◌≢◌, List, ℕ, subst}
+use Rattle.std.proofs.Common.{◌≢◌, List, ℕ, map, sym, ap, subst, ◌∙◌}
 use Rattle.std.proofs.lemmas.Result.{err_from_is_err_and}
 use Rattle.vpg_system.specs.SystemText.{NamedSystem, IsTextOf}
 use Rattle.vpg_system.specs.TextFaults.{IsFirstFault}
 use Rattle.vpg_system.specs.declared.fault.SystemFault.TheVariants.{Memory}
+use Rattle.vpg_part_texts.specs.SetTexts.{set_text}
 use Rattle.vpg_checking.proofs.Lists.{both_ok}
 use Rattle.vpg_checking.proofs.Refused.{system_refused}
 use Rattle.vpg_checking.proofs.model.Model.read.Goals as goal
@@ -26,3 +27,9 @@ returns-clause-found c = both_ok c.of.result _ _ _
       model = models c.args.diagram.now.lines spelled.0 spelled.1;
     })
     c.of.ensures.spelled c.of.ensures.model
+
+pub returns-clause-sets : goal.returns-clause-sets
+returns-clause-sets c = both_ok c.of.result _ _ _
+    (λ model sets same s is. sets ∙ ap (λ (t : NamedSystem). map (set_text t.actions) model.source.sets.items)
+    (c.in_ok-system.ensures.only s (subst (λ (names : List (List ℕ)). IsTextOf names c.args.system.now s) (sym c.names.ensures.names) is)))
+    c.of.ensures.sets c.of.ensures.sets

@@ -1,0 +1,55 @@
+-- What a run says of requirements, where its game is that of the texts of a system and of requirements. This project's
+-- own.
+use Rattle.std.specs.Prelude.{◌≡◌, ◌⊎◌, ℕ, ◌<◌, Bool, List, length, slice_index, IsTrue}
+use Rattle.vpg_verdict.specs.declared.verdict.Verdict.{Verdict}
+use Rattle.vpg_diagram.specs.DiagramText.{NamedDiagram}
+use Rattle.vpg_game.specs.Game.{NamedGame, graph_of}
+use Rattle.vpg_partial.specs.KnownLaws.{IsRemaining}
+use Rattle.vpg_trail.specs.Page.{Entry, choices_of}
+use Rattle.vpg_desk.specs.State.{IsOpened}
+use Rattle.vpg_system.specs.SystemText.{NamedSystem}
+use Rattle.vpg_formula.specs.Requirements as written
+use Rattle.vpg_checking.specs.Checking.{EntryHoldsIn, IsModelOfTexts}
+use Rattle.vpg_script.specs.Script as script
+use Rattle.vpg_serving.specs.Output.{Machine, Answered}
+use Rattle.vpg_texts.specs.Changed.{seen_at}
+use Rattle.vpg_texts.specs.Scene.{Scene, scene_of}
+use Rattle.vpg_report.specs.Run.{Between, begun, answering}
+use Rattle.vpg_report.specs.Winners.{AreTrue, SaysVerdicts, IsRefusal}
+
+-- A verdict is so of a requirement on the page: hopeless, it fails in each product that is left; sure, it holds in
+-- each.
+pub record IsTrueOf (scene : Scene) (page : List Entry) (Holds : List Bool → Type 0) (verdict : Verdict) : Type 0 where
+  pub fails : IsTrue verdict.hopeless → (set : List Bool) → IsRemaining scene.lines (choices_of page) set →
+      Holds set → ⊥
+  pub holds : IsTrue verdict.sure → (set : List Bool) → IsRemaining scene.lines (choices_of page) set → Holds set
+
+-- the verdict at the vertex of each entry is so of what the entry says
+abbrev pub AreTrueOfEntries : Scene → NamedSystem → List written.Entry → List ℕ → List Entry → List Verdict → Type 0
+AreTrueOfEntries scene system entries roots page verdicts = (n : ℕ) → n < length entries →
+    IsTrueOf scene page (EntryHoldsIn system entries n) (seen_at verdicts (slice_index roots n))
+
+-- An answer that isn't a refusal says of vertices what is true of the page, and of what the entries say.
+abbrev pub SpeaksOfEntries : Scene → NamedSystem → List written.Entry → List ℕ → List Entry → script.Command →
+    List ℕ → Type 0
+SpeaksOfEntries scene system entries roots page command text =
+    IsRefusal text ⊎
+    ((verdicts : List Verdict) × AreTrue scene page verdicts ×
+    AreTrueOfEntries scene system entries roots page verdicts × SaysVerdicts scene command verdicts text)
+
+-- Each request is answered as by a run, and by what is so of the entries on the page at that point.
+abbrev pub speaking : Scene → ℕ → NamedSystem → List written.Entry → List ℕ → Machine Between
+speaking scene lifters system entries roots old request text new =
+    answering scene lifters old request text new ×
+    SpeaksOfEntries scene system entries roots old.book.present request.command text
+
+-- What a run of an office on the game of two texts writes in answer to `show`, `assert` and `changed` is so of the
+-- requirements that the second text spells, in the system that the first one spells.
+abbrev pub AnswersSpeakOfRequirements : Type 0
+AnswersSpeakOfRequirements =
+    (game : NamedGame) (diagram : NamedDiagram) (system_text requirements_text : List ℕ) (roots : List ℕ)
+    (made : IsModelOfTexts diagram.names diagram.lines system_text requirements_text (graph_of game) roots)
+    (lifters : ℕ) (lines : List (List ℕ)) (text : List ℕ) (new : Between) →
+    IsOpened game diagram →
+    Answered (answering (scene_of game diagram) lifters) begun lines text new →
+    Answered (speaking (scene_of game diagram) lifters made.system made.entries roots) begun lines text new

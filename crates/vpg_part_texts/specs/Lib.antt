@@ -1,0 +1,2 @@
+pub mod PartTexts
+pub mod SetTexts
