@@ -81,7 +81,7 @@ each_some P Q R f (c ∷ cs) h (inr k) = each_some P Q R f cs h.1 k
 
 -- ---- which cubes are the same
 
-same_value : (a b : Bool) → Decides (beq a b) (a ≡ b)
+pub same_value : (a b : Bool) → Decides (beq a b) (a ≡ b)
 same_value true true = (λ e. refl, λ e. refl)
 same_value true false = (λ e. absurd cc, λ e. absurd cc)
 same_value false true = (λ e. absurd cc, λ e. absurd cc)

@@ -7,3 +7,6 @@ pub mod Made
 pub mod Steps
 pub mod Minimal
 pub mod AllPrimes
+pub mod Different
+pub mod NamedOnce
+pub mod Sharpened

@@ -46,7 +46,7 @@ contains_from_among x (y ∷ ys) (inr h) =
 
 -- ---- filters
 
-among_any : (y : ℕ) (xs : List ℕ) → Among y xs → list_any (λ h. nat_eq h y) xs ≡ true
+pub among_any : (y : ℕ) (xs : List ℕ) → Among y xs → list_any (λ h. nat_eq h y) xs ≡ true
 among_any y [] h = absurd h
 among_any y (x ∷ xs) (inl e) = rw ((Decides-eqb x y).1 e) refl
 among_any y (x ∷ xs) (inr h) = at (nat_eq x y) (among_any y xs h)
@@ -55,7 +55,7 @@ among_any y (x ∷ xs) (inr h) = at (nat_eq x y) (among_any y xs h)
     at true e = refl
     at false e = e
 
-any_among : (y : ℕ) (xs : List ℕ) → list_any (λ h. nat_eq h y) xs ≡ true → Among y xs
+pub any_among : (y : ℕ) (xs : List ℕ) → list_any (λ h. nat_eq h y) xs ≡ true → Among y xs
 any_among y [] e = absurd cc
 any_among y (x ∷ xs) e = at (nat_eq x y) refl (any_among y xs) e
   where

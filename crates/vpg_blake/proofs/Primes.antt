@@ -120,7 +120,7 @@ row_put x v [] set h = refl
 row_put x v (y ∷ ys) set h = ap₂ (λ (b : Bool) (row : List Bool). b ∷ row) (put_other x y v set h.0) (row_put x v ys set h.1)
 
 module _ (known : List Tri) where
-  put_completes : (x : ℕ) (v : Bool) (set : List Bool) → Agrees (slice_index_or known x Unknown) v → IsCompletion known set → IsCompletion known (put x v set)
+  pub put_completes : (x : ℕ) (v : Bool) (set : List Bool) → Agrees (slice_index_or known x Unknown) v → IsCompletion known set → IsCompletion known (put x v set)
   put_completes x v set a h y = at (nat_eq y x) refl
     where
       at : (b : Bool) → nat_eq y x ≡ b → Agrees (slice_index_or known y Unknown) (slice_index_or (put x v set) y false)
@@ -141,7 +141,7 @@ module _ (known : List Tri) where
       ∙ h (put x v set) (put_completes x v set a done)
 
 -- a set that agrees with what is known
-abbrev is_yes : Tri → Bool
+abbrev pub is_yes : Tri → Bool
 is_yes No = false
 is_yes Unknown = false
 is_yes Yes = true
@@ -151,7 +151,7 @@ least_agrees No = refl
 least_agrees Unknown = tt
 least_agrees Yes = refl
 
-least_completes : (known : List Tri) → IsCompletion known (map is_yes known)
+pub least_completes : (known : List Tri) → IsCompletion known (map is_yes known)
 least_completes [] zero = tt
 least_completes [] (suc y) = tt
 least_completes (t ∷ known) zero = least_agrees t

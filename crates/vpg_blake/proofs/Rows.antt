@@ -4,10 +4,12 @@ use Rattle.std.proofs.lemmas.Bool.Decides.{Decides-eqb}
 use Rattle.std.proofs.lemmas.List.{length-append}
 use Rattle.std.specs.Bool.{beq}
 use Rattle.std.specs.List.{list_any}
-use Rattle.std.specs.Prelude.{◌&&◌, nat_eq, slice_index_or, slice_set, if◌then◌else◌}
+use Rattle.std.specs.Cmp.Lexicographic.{pointwise}
+use Rattle.std.specs.Prelude.{◌&&◌, ◌||◌, nat_eq, slice_index_or, slice_set, if◌then◌else◌}
 use Rattle.vpg_guards.specs.Formula.{Formula, truth}
-use Rattle.vpg_blake.specs.Blake.{Cube, implicants, merged, set_with}
+use Rattle.vpg_blake.specs.Blake.{Cube, implicants, merged, set_with, is_same_literal, has_cube, unshared, with_literal}
 use Rattle.vpg_blake.specs.Tables.{table_from, both_true, table_implicants}
+use Rattle.vpg_blake.proofs.Cubes.{literal, Each, each_weaker, same_cube_back}
 use Rattle.vpg_blake.proofs.Primes.{EachNumber, row_of}
 use Rattle.vpg_blake.proofs.Named.{Among, number_weaker}
 
@@ -178,3 +180,40 @@ nowhere_none (x ∷ xs) table e =
     ap₂ (λ (ins outs : List Cube). merged x ins outs (table_implicants xs (both_true with without)))
     (nowhere_none xs with (never_take (length table / 2) table e)) (nowhere_none xs without (never_drop (length table / 2) table e))
     ∙ ap (merged x [] []) (nowhere_none xs (both_true with without) (never_both with without (never_take (length table / 2) table e)))
+
+-- ---- a table whose halves are the same: its first feature is of no account
+
+both_self : (table : List Bool) → both_true table table ≡ table
+both_self [] = refl
+both_self (true ∷ table) = ap (λ (rest : List Bool). true ∷ rest) (both_self table)
+both_self (false ∷ table) = ap (λ (rest : List Bool). false ∷ rest) (both_self table)
+
+or_left : (a b : Bool) → a ≡ true → (a || b) ≡ true
+or_left true b e = refl
+or_left false b e = absurd cc
+
+or_right : (a b : Bool) → b ≡ true → (a || b) ≡ true
+or_right true b e = refl
+or_right false b e = e
+
+has_itself : (cs : List Cube) → Each (λ c. has_cube cs c ≡ true) cs
+has_itself [] = tt
+has_itself (c ∷ cs) = (
+  or_left (pointwise is_same_literal c c) (has_cube cs c) (same_cube_back c),
+  each_weaker (λ d. has_cube cs d ≡ true) (λ d. has_cube (c ∷ cs) d ≡ true) (λ d e. or_right (pointwise is_same_literal c d) (has_cube cs d) e) cs (has_itself cs),
+)
+
+none_unshared : (cs shared : List Cube) → Each (λ c. has_cube shared c ≡ true) cs → unshared cs shared ≡ []
+none_unshared [] shared h = refl
+none_unshared (c ∷ cs) shared h = rw h.0 (none_unshared cs shared h.1)
+
+merged_self : (x : ℕ) (cs : List Cube) → merged x cs cs cs ≡ cs
+merged_self x cs = ap (λ (ds : List Cube). with_literal (literal x true) ds ++ (with_literal (literal x false) ds ++ cs)) (none_unshared cs cs (has_itself cs))
+
+pub same_halves : (x : ℕ) (xs : List ℕ) (table : List Bool) → take (length table / 2) table ≡ drop (length table / 2) table
+    → table_implicants (x ∷ xs) table ≡ table_implicants xs (take (length table / 2) table)
+same_halves x xs table e =
+    let with = take (length table / 2) table in
+    ap (λ (t : List Bool). merged x (table_implicants xs with) (table_implicants xs t) (table_implicants xs (both_true with t))) (sym e)
+    ∙ ap (λ (t : List Bool). merged x (table_implicants xs with) (table_implicants xs with) (table_implicants xs t)) (both_self with)
+    ∙ merged_self x (table_implicants xs with)

@@ -2,7 +2,7 @@
 use Rattle.std.proofs.Common.{◌≡◌, ℕ, zero, suc, ◌+◌, ◌-◌, ◌/◌, ◌<◌, ◌≤◌, Bool, true, false, List, [], ◌∷◌, ◌++◌, length, take, drop, get_or, refl, sym, ap, ap₂, subst, ◌∙◌, arith, append_assoc, replicate}
 use Rattle.std.proofs.lemmas.Bool.Decides.{Decides-eqb}
 use Rattle.std.proofs.lemmas.List.{drop_more, drop_all, length-map, length-replicate}
-use Rattle.std.specs.Prelude.{All, not, ◌||◌, filter, find, cond, nat_eq, Option, Some, None, MatchOption}
+use Rattle.std.specs.Prelude.{Result, Ok, Err, IfOk, All, not, ◌||◌, filter, find, cond, nat_eq, Option, Some, None, MatchOption}
 use Rattle.std.specs.List.{list_any, range_with_len}
 use Rattle.std.specs.Cmp.Lexicographic.{pointwise}
 use Rattle.std.specs.Global.{Vec}
@@ -16,7 +16,7 @@ use Rattle.vpg_blake.specs.declared.literal.Literal.{Literal}
 use Rattle.vpg_blake.proofs.Cubes.{literal}
 use Rattle.vpg_blake.proofs.Primes.{EachNumber}
 use Rattle.vpg_blake.proofs.Named.{features_below}
-use Rattle.vpg_blake.proofs.Rows.{guard_implicants}
+use Rattle.vpg_blake.proofs.Rows.{guard_implicants, same_halves}
 
 -- ---- guards of lists
 
@@ -166,6 +166,13 @@ merged_made x xs features table with out both s sA sB i o none one two whole spl
     ∙ ap (merged x (table_implicants xs (take (length table / 2) table)) (table_implicants xs (drop (length table / 2) table)))
     (s-is ∙ ap (table_implicants xs) (both-is ∙ ap₂ both_true with-is out-is))
     ∙ ap (λ (fs : List ℕ). table_implicants fs table) (sym split)
+
+pub same_made : {E : Type 0} (x : ℕ) (xs features : List ℕ) (table with out : List Bool) (r : Result (Vec (Vec Literal)) E) → features ≡ x ∷ xs
+    → with ≡ take (length table / 2) table → out ≡ drop (length table / 2) table → with ≡ out
+    → IfOk r (λ v. cubes_in v.items ≡ table_implicants xs with) → IfOk r (λ v. cubes_in v.items ≡ table_implicants features table)
+same_made x xs features table with out (Ok v) split with-is out-is same made =
+    made ∙ ap (table_implicants xs) with-is ∙ sym (same_halves x xs table (sym with-is ∙ same ∙ out-is)) ∙ ap (λ (fs : List ℕ). table_implicants fs table) (sym split)
+same_made x xs features table with out (Err e) split with-is out-is same made = tt
 
 -- ---- the cubes that are not shared
 

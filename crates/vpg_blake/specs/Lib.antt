@@ -1,3 +1,4 @@
 pub mod Blake
+pub mod Sharp
 pub mod Tables
 pub mod Laws

@@ -71,6 +71,10 @@ pub(crate) fn implicants(
     };
     let feature = *first;
     let (with, without) = table.split_at(table.len() / 2);
+    // The feature is of no account here, so the three tables below are one.
+    if with == without {
+        return implicants(alloc, rest, with);
+    }
     let mut shared = implicants(alloc, rest, &both_hold(alloc, with, without)?)?;
     let ins = implicants(alloc, rest, with)?;
     let outs = implicants(alloc, rest, without)?;

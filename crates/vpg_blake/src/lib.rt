@@ -5,8 +5,9 @@
 //! still become false (Blake 1937, Quine 1955). Guards that were joined by `or` are unknown more often: `f | !f` is
 //! unknown while `f` is, and its Blake form is `true`.
 //!
-//! The crate above that makes games uses `blake_form` on guards that it joined. Definitions stand in `specs/Blake`;
-//! `specs/Tables` has the steps of the work, and only private contracts name it.
+//! The crate above that makes games uses `sharp_form` on each guard: one that names no feature twice is unknown only
+//! then, too, and stays as it is. Definitions stand in `specs/Blake` and `specs/Sharp`; `specs/Tables` has the steps of
+//! the work, and only private contracts name it.
 #![tactic(auto)]
 
 mod form;
@@ -14,7 +15,9 @@ mod implicants;
 pub mod laws;
 mod literal;
 mod making;
+mod sharp;
 mod table;
 
 pub use form::{MOST_IMPLICANTS, MOST_NAMED, blake_form};
 pub use literal::Literal;
+pub use sharp::sharp_form;

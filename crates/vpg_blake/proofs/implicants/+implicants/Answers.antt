@@ -1,6 +1,10 @@
-use Rattle.std.proofs.Common.{ap, sym, ◌∙◌}
+use Rattle.std.proofs.Common.{refl, ap, sym, ◌∙◌}
+use Rattle.std.specs.Bool.{beq}
+use Rattle.std.specs.Cmp.Lexicographic.{pointwise}
+use Rattle.std.proofs.lemmas.Slice.Eq.{slice_eq-Decides}
+use Rattle.vpg_blake.proofs.Cubes.{same_value}
 use Rattle.vpg_blake.specs.Blake.{cubes_in}
-use Rattle.vpg_blake.proofs.Steps.{merged_made}
+use Rattle.vpg_blake.proofs.Steps.{merged_made, same_made}
 use Rattle.vpg_blake.proofs.Rows.{nowhere_none}
 use Rattle.vpg_blake.proofs.implicants.+implicants.Goals as goal
 
@@ -17,3 +21,11 @@ returns t c =
 pub returns-then-not-contains : goal.returns-then-not-contains
 returns-then-not-contains t c =
     ap cubes_in c.new-cubes.ensures.items ∙ sym (nowhere_none c.args.features.now c.args.table.now (sym c.contains.ensures.value ∙ c.if-not-contains.true))
+
+pub returns-then-eq-2 : goal.returns-then-eq-2
+returns-then-eq-2 t c =
+    let with = c.split_at.result.0.now in
+    let without = c.split_at.result.1.now in
+    same_made c.in-Some.first.now c.in-Some.rest.now c.args.features.now c.args.table.now with without c.implicants.result
+    c.in-Some.ensures.cases.0 c.split_at.ensures.front c.split_at.ensures.back
+    ((slice_eq-Decides same_value with without (pointwise beq with without) refl).0 (sym c.eq-2.ensures ∙ c.if-eq-2.true)) c.implicants.ensures
