@@ -93,7 +93,7 @@ PLAIN = re.compile(rb"\Aparity " + N + rb";\n(?:" + N + rb" " + N + rb" [01](?: 
 COUNTS = re.compile(rb"\Avertices " + N + rb" edges " + N + rb" features " + N + rb" top " + N + rb" " + N + rb"\n\Z")
 TOLD = re.compile(rb"\A(?:Configures|Carries|Counts|Writes|Reads|Answers|Draws|Says|Print|vpgdesk [0-9])")
 # a picture of a file's names: these may hold any byte but a quote, and are written without control characters
-PICTURE = re.compile(rb"\Adigraph (?:game|features) \{\n(?:  [^\x00-\x1f]*;\n)*\}\n\Z")
+PICTURE = re.compile(rb"\Adigraph (?:game|features|system) \{\n(?:  [^\x00-\x1f]*;\n)*\}\n\Z")
 WARNINGS = re.compile(
     rb"\A(?:[^\x00-\x1f\x7f]*(?::[1-9][0-9]*:[1-9][0-9]*: warning: [^\x00-\x1f\x7f]+"
     + rb"|: warning: [a-z ]+: [1-9][0-9]* more)\n)*warnings " + N + rb"\n\Z"
@@ -320,7 +320,7 @@ def damaged(rng, text):
 STRANGE_WORDS = [
     "", " ", "-", "--", "-h", "--help", "-V", "--version", "--lifters", "--lifters=4", "0", "64", "65", "run", "project", "check", "help", "rum", "RUN", "--runn", "-x", "é", "game", "script",
     "no/such", ".", "/", "a\nb", "a\tb", "\x1b[31m", "r", "f", "x" * 65, "x" * 5000, "=", "--=", "-hV", b"\xff", b"\xc3", b"f\x80",
-    "--strict", "--keep-going", "--names", "--explain", "--features", "desk", "lint", "draw",
+    "--strict", "--keep-going", "--names", "--explain", "--features", "--states", "--system", "desk", "lint", "draw",
 ]
 
 

@@ -29,5 +29,6 @@ feature_name names f = slice_index_or names f []
 abbrev pub choice_text : List (List ℕ) → Literal → List ℕ
 choice_text names c = 32 ∷ (if c.value then 43 else 45) ∷ feature_name names c.feature
 
+-- ` +F` or ` -F` for each decision
 abbrev pub choices_text : List (List ℕ) → List Literal → List ℕ
 choices_text names choices = flat_map (choice_text names) choices

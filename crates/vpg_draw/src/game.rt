@@ -112,7 +112,9 @@ fn vertices(
     Ok(())
 }
 
-pub(crate) fn style(value: Tri, out: &mut Vec<u8>) -> Result<(), AllocError>
+/// Appends the style of an edge by its guard's value, up to the end of the line: solid where it is true, dashed where
+/// it is open, dotted where it is false.
+pub fn style(value: Tri, out: &mut Vec<u8>) -> Result<(), AllocError>
     ensures { OnOk result (out.new.items ≡ out.old.items ++ style_text value) }
 {
     match value {

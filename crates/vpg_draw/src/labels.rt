@@ -38,7 +38,7 @@ fn label_byte(b: u8, out: &mut Vec<u8>) -> Result<(), AllocError>
 }
 
 /// Appends bytes as they stand between quotes.
-pub(crate) fn escaped(bytes: &[u8], out: &mut Vec<u8>) -> Result<(), AllocError>
+pub fn escaped(bytes: &[u8], out: &mut Vec<u8>) -> Result<(), AllocError>
     ensures { OnOk result (out.new.items ≡ out.old.items ++ flat_map label_byte bytes.now) }
 {
     for b in bytes {
@@ -88,11 +88,7 @@ fn choice(names: &Names, d: &Decision, out: &mut Vec<u8>) -> Result<(), AllocErr
 }
 
 /// Appends what decisions choose.
-pub(crate) fn choices(
-    names: &Names,
-    decisions: &[Decision],
-    out: &mut Vec<u8>,
-) -> Result<(), AllocError>
+pub fn choices(names: &Names, decisions: &[Decision], out: &mut Vec<u8>) -> Result<(), AllocError>
     requires { All (λ d. d.feature < length names.now) decisions.now }
     ensures { OnOk result (out.new.items ≡ out.old.items ++ choices_text names.now (map literal_of decisions.now)) }
 {

@@ -8,6 +8,9 @@
 //!
 //! `draw_features` draws the features by what is known of them, and the lines of a diagram's text as edges and groups.
 //!
+//! Pictures of other crates take from here what stands between quotes (`escaped`), how decisions are told (`choices`)
+//! and how edges look by their guards (`style`).
+//!
 //! `specs/Labels` says what stands between quotes, `specs/GameDrawing`, `specs/PartDrawing` and `specs/FeatureDrawing`
 //! what the pictures are. Graphviz's documentation has the language; the choice of shapes and colours is this project's
 //! own, with the owners' shapes of PGSolver.
@@ -19,5 +22,6 @@ mod labels;
 mod part;
 
 pub use features::draw_features;
-pub use game::draw_game;
+pub use game::{draw_game, style};
+pub use labels::{choices, escaped};
 pub use part::draw_part;

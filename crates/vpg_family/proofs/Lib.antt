@@ -6,5 +6,6 @@ pub mod Models
 pub mod Naming
 pub mod Only
 pub mod Rooting
+pub mod Shown
 pub mod Sights
 pub mod Told

@@ -31,6 +31,7 @@ moved diagram d game g names vertices (e, f) h =
 pub family_of_paths : (files : GamePaths) (diagram_text game_text one other : List ℕ) (names : List (List ℕ)) (vertices : List ℕ) (d : NamedDiagram) (g : NamedGame) → one ≡ diagram_text → other ≡ game_text
     → ((diagram : NamedDiagram) (game : NamedGame) → SpellsFamily one other diagram game → (d ≡ diagram) × (g ≡ game)) → AreTextsOf files diagram_text game_text names vertices → IsFamilyOf files d g
 family_of_paths (paths.Game path) diagram_text game_text one other names vertices d g e f only h = tt
+family_of_paths (paths.System path) diagram_text game_text one other names vertices d g e f only h = tt
 family_of_paths (paths.Model files) diagram_text game_text one other names vertices d g e f only h =
     let spelled : SpellsFamily one other h.diagram h.game =
     subst (λ (t : List ℕ). SpellsFamily t other h.diagram h.game) (sym e) (subst (λ (t : List ℕ). SpellsFamily diagram_text t h.diagram h.game) (sym f) h.spelled)

@@ -97,12 +97,14 @@ pub record IsModelledBy (diagram_text game_text : List ℕ) (names : List (List 
 abbrev pub AreTextsOf : GamePaths → (diagram_text game_text : List ℕ) → List (List ℕ) → List ℕ → Type 0
 AreTextsOf (paths.Game path) diagram_text game_text names vertices = ⊤
 AreTextsOf (paths.Model files) diagram_text game_text names vertices = IsModelledBy diagram_text game_text names vertices
+AreTextsOf (paths.System path) diagram_text game_text names vertices = ⊤
 
 -- Where the paths name a system and requirements, the family is that of their game.
 abbrev pub IsFamilyOf : GamePaths → NamedDiagram → NamedGame → Type 0
 IsFamilyOf (paths.Game path) diagram game = ⊤
 IsFamilyOf (paths.Model files) diagram game =
     (names : List (List ℕ)) × (vertices : List ℕ) × IsModelled diagram game names vertices
+IsFamilyOf (paths.System path) diagram game = ⊤
 
 -- what is told of some texts of a system and of requirements that have no game over some diagram
 abbrev pub IsNoModel : Fault → Type 0

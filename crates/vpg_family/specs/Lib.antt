@@ -4,4 +4,5 @@ pub mod Families
 pub mod Faults
 pub mod Pages
 pub mod Pictures
+pub mod Systems
 pub mod Warned

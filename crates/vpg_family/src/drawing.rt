@@ -27,7 +27,7 @@ pub enum Subject {
 }
 
 /// What a diagram makes known without any decision.
-fn known_alone(alloc: Global, diagram: &Diagram) -> Result<Partial, Fault>
+pub(crate) fn known_alone(alloc: Global, diagram: &Diagram) -> Result<Partial, Fault>
     ensures known { IfOk result (IsKnownTable diagram.now.lines []) }
     ensures refused { IfErr result (TellsContradiction diagram.now) }
 {

@@ -268,6 +268,10 @@ fn put_of_game_files<R: Files + AllocGlobal>(
         (GamePaths::Model(files), _) => {
             put_of_model(rt, alloc, files, paths.diagram, fault, out)
         }
+        (GamePaths::System(path), Fault::SystemUnreadable) => put_unreadable(path, out),
+        (GamePaths::System(path), Fault::System { fault }) => {
+            put_of_system(rt, alloc, path, paths.diagram, *fault, out)
+        }
         _ => Ok(()),
     }
 }

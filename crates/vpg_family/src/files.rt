@@ -30,6 +30,8 @@ pub enum GamePaths<'a> {
     Game(&'a str),
     /// It is the game of a system and its requirements.
     Model(ModelPaths<'a>),
+    /// There is none, but a system that is drawn.
+    System(&'a str),
 }
 
 /// The files of a product family.
@@ -68,6 +70,8 @@ pub struct Texts {
     pub entries: Vec<Entry>,
     /// The vertex of each of them.
     pub vertices: Vec<usize>,
+    /// The text of the system. It is empty where the game has a file.
+    pub system: Vec<u8>,
 }
 
 /// The text of a diagram, and that of a game's file.
@@ -86,6 +90,29 @@ fn game_texts<R: Files + AllocGlobal>(
             game,
             entries: Vec::new(alloc),
             vertices: Vec::new(alloc),
+            system: Vec::new(alloc),
+        }),
+        Err(fault) => Err(fault),
+    }
+}
+
+/// The text of a diagram, and that of a system's file. There is no game.
+fn system_texts<R: Files + AllocGlobal>(
+    rt: &R,
+    alloc: Global,
+    diagram: Vec<u8>,
+    path: &str,
+) -> Result<Texts, Fault>
+    requires { IsSomeDiagram diagram.items }
+    ensures refused { IfErr result IsUnread }
+{
+    match read_file(rt, path, Fault::SystemUnreadable) {
+        Ok(system) => Ok(Texts {
+            diagram,
+            game: Vec::new(alloc),
+            entries: Vec::new(alloc),
+            vertices: Vec::new(alloc),
+            system,
         }),
         Err(fault) => Err(fault),
     }
@@ -96,7 +123,7 @@ fn made_texts(
     alloc: Global,
     text: Vec<u8>,
     diagram: &Diagram,
-    system: &[u8],
+    system: Vec<u8>,
     requirements: &[u8],
 ) -> Result<Texts, Fault>
     requires { IsTextOf text.items diagram.now }
@@ -104,7 +131,7 @@ fn made_texts(
         IsModelledBy texts.diagram.items texts.game.items (earlier_of texts.entries.items) texts.vertices.items) }
     ensures refused { IfErr result IsUnread }
 {
-    match model_of(alloc, diagram, system, requirements) {
+    match model_of(alloc, diagram, &system, requirements) {
         Ok(
             Modelled {
                 game,
@@ -116,6 +143,7 @@ fn made_texts(
             game,
             entries,
             vertices,
+            system,
         }),
         Err(fault) => Err(fault),
     }
@@ -142,7 +170,7 @@ fn model_texts<R: Files + AllocGlobal>(
         Ok(requirements) => requirements,
         Err(fault) => return Err(fault),
     };
-    made_texts(alloc, text, diagram, &system, &requirements)
+    made_texts(alloc, text, diagram, system, &requirements)
 }
 
 /// The texts of a family's files. That of the diagram is read, and refused, before any other is. Where a system and its
@@ -170,6 +198,7 @@ pub fn read_texts<R: Files + AllocGlobal>(
     match paths.game {
         GamePaths::Game(path) => game_texts(rt, alloc, text, path),
         GamePaths::Model(files) => model_texts(rt, alloc, text, &diagram, files),
+        GamePaths::System(path) => system_texts(rt, alloc, text, path),
     }
 }
 

@@ -6,12 +6,13 @@
 //! wrong in them: a diagram without a product, features that are in no product or that no guard names, vertices without
 //! moves or that the game never reaches, a start that is no vertex. `redrawn` gives the picture of a page that a script
 //! left, from what the script wrote, and `Pictured` is a sink that passes answers on with the names of vertices in
-//! pictures. Each fault of the program is a `Fault`, `line_of` is the line that tells of it, and `explained` are lines
-//! that say where and why. The crate knows no desk: scripts are carried out above it.
+//! pictures. `system_drawn` and `system_redrawn` draw a system in place of its game. Each fault of the program is a
+//! `Fault`, `line_of` is the line that tells of it, and `explained` are lines that say where and why. The crate knows
+//! no desk: scripts are carried out above it.
 //!
 //! `specs/Families` says which texts spell a family, when its game is made, and which words name a product;
-//! `specs/Counts`, `specs/Checked`, `specs/Pictures`, `specs/Pages` and `specs/Faults` what is written, `specs/Warned`
-//! where warnings stand. All are this project's own.
+//! `specs/Counts`, `specs/Checked`, `specs/Pictures`, `specs/Systems`, `specs/Pages` and `specs/Faults` what is
+//! written, `specs/Warned` where warnings stand. All are this project's own.
 #![tactic(auto)]
 
 mod checking;
@@ -29,6 +30,7 @@ mod pages;
 mod parts;
 mod pictured;
 mod products;
+mod systems;
 mod telling;
 mod warnings;
 mod writing;
@@ -44,4 +46,5 @@ pub use files::{
 pub use linting::linted;
 pub use pages::redrawn;
 pub use pictured::Pictured;
+pub use systems::{system_drawn, system_redrawn};
 pub use telling::line_of;

@@ -32,7 +32,7 @@ fn warned(
             };
             put_warned(alloc, of_diagram, of_game, diagram, game, &mut lines)
         }
-        GamePaths::Model(_) => {
+        GamePaths::Model(_) | GamePaths::System(_) => {
             put_warned_of_diagram(alloc, of_diagram, game_text, diagram, game, &mut lines)
         }
     };

@@ -46,9 +46,9 @@ struct Shown {
 /// The same, what the decisions make known, and where the picture begins in what was written.
 #[derive(Drop)]
 pub(crate) struct Seen {
-    decisions: Vec<Decision>,
+    pub(crate) decisions: Vec<Decision>,
     verdicts: Vec<Verdict>,
-    known: Partial,
+    pub(crate) known: Partial,
     begins: usize,
 }
 

@@ -5,7 +5,7 @@ use clap::error::ErrorKind;
 use std::alloc::Global;
 use std::test::*;
 use vpg_family::{GamePaths, Subject};
-use vpg_terminal::{Asked, Task, not_text, read};
+use vpg_terminal::{Asked, Picture, Task, not_text, read};
 
 /// Words behind the program's name, with one blank between them, and behind ` = ` how they are taken.
 ///
@@ -114,6 +114,18 @@ lint --system s --requirements r d x = wrong
 draw --system s --requirements r d = draw --system s --requirements r d
 draw --system s --requirements r d x --features = draw --system s --requirements r d x, features
 draw --system s --requirements r d x y = wrong
+draw --system s --requirements r d --states = draw --system s --requirements r d, states
+draw --states --system s d x --requirements r = draw --system s --requirements r d x, states
+draw --system s --requirements r d --states --features = wrong
+draw --system s --requirements r --states = wrong
+draw --system s d = draw --system s d, states
+draw d --system s --explain = draw --system s d, states, explained
+draw --system s d --states = draw --system s d, states
+draw --system s d --features = wrong
+draw --system s d x = wrong
+draw --system s = wrong
+draw g d --states = wrong
+draw --requirements r d = wrong
 project --system s --requirements r d f = wrong
 ";
 
@@ -167,6 +179,10 @@ fn put_game(paths: GamePaths<'_>, said: &mut Said) {
             said.put(" --requirements");
             put_path(files.requirements, said);
         }
+        GamePaths::System(path) => {
+            said.put(" --system");
+            put_path(path, said);
+        }
     }
 }
 
@@ -202,6 +218,16 @@ fn put_features(features: &[&str], said: &mut Said) {
     }
 }
 
+/// Writes what is drawn, where it is not the game.
+fn put_picture(picture: Picture, said: &mut Said) {
+    put_where(
+        picture == Picture::Family(Subject::Features),
+        "features",
+        said,
+    );
+    put_where(picture == Picture::System, "states", said);
+}
+
 /// Writes what a task says beside its files.
 fn put_options(task: &Task<'_>, said: &mut Said) {
     match task {
@@ -222,7 +248,7 @@ fn put_options(task: &Task<'_>, said: &mut Said) {
             put_where(*names, "names", said);
         }
         Task::Project { features, .. } => put_features(features, said),
-        Task::Draw { subject, .. } => put_where(*subject == Subject::Features, "features", said),
+        Task::Draw { picture, .. } => put_picture(*picture, said),
         _ => {}
     }
 }

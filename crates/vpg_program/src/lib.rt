@@ -4,7 +4,8 @@
 //! diagram that are built in, and writes the answers to standard output. `run` does so with the files of a game, a
 //! diagram and a script, `project` writes the plain game of one product, `check` counts a game and tells its top
 //! measures, `lint` warns of what looks wrong in a family, and `draw` writes a picture, of the page that a script
-//! leaves where one is named. A system and its requirements may stand in place of the game, which `model` writes.
+//! leaves where one is named. A system and its requirements may stand in place of the game, which `model` writes; and
+//! `draw` draws the system itself.
 //!
 //! The status is 0; 1 where the input is refused or something fails, and then one line on standard error, `vpgdesk: `
 //! and the fault, says what, and with `--explain` further lines behind it say where and why; 2 where the words are
@@ -30,16 +31,19 @@ use std::sync::Wait;
 use std::thread::Threads;
 use std::{env, io};
 use vpg_family::{
-    Family, Fault, Paths, Pictured, Subject, Texts, checked, drawn, explained, line_of, linted,
-    open_script, read_family, read_script, read_texts,
+    Family, Fault, Paths, Pictured, Texts, checked, drawn, explained, line_of, linted, open_script,
+    read_family, read_script, read_texts, system_drawn,
 };
 use vpg_names::VertexNames;
 use vpg_report::{
     DIAGRAM, End, GAME, drawn_after, end_of, ended, refused_line, run_script, status,
+    system_drawn_after,
 };
 use vpg_script::{Device, Sink, Source};
 use vpg_serving::{Ending, Manner};
-use vpg_terminal::{Asked, Ear, Heard, Named, Setting, Task, Typed, command_list, not_text, read};
+use vpg_terminal::{
+    Asked, Ear, Heard, Named, Picture, Setting, Task, Typed, command_list, not_text, read,
+};
 
 /// Each line is answered, and a fault ends the script.
 const PLAIN: Manner = Manner {
@@ -425,15 +429,23 @@ fn game_text(rt: &HostRuntime, alloc: Global, paths: Paths<'_>) -> Result<Vec<u8
     }
 }
 
-/// A picture of a family.
-fn picture(
+/// A picture of a family of these texts.
+fn picture_of(alloc: Global, texts: &Texts, picture: Picture) -> Result<Vec<u8>, Fault> {
+    match picture {
+        Picture::Family(subject) => drawn(alloc, subject, &texts.diagram, &texts.game),
+        Picture::System => system_drawn(alloc, &texts.diagram, &texts.system),
+    }
+}
+
+/// The same of some files.
+fn picture_of_files(
     rt: &HostRuntime,
     alloc: Global,
     paths: Paths<'_>,
-    subject: Subject,
+    picture: Picture,
 ) -> Result<Vec<u8>, Fault> {
     match read_texts(rt, alloc, paths) {
-        Ok(texts) => drawn(alloc, subject, &texts.diagram, &texts.game),
+        Ok(texts) => picture_of(alloc, &texts, picture),
         Err(fault) => Err(fault),
     }
 }
@@ -446,13 +458,29 @@ fn warned(rt: &HostRuntime, alloc: Global, paths: Paths<'_>) -> Result<Vec<u8>, 
     }
 }
 
-/// The picture of a family, of which these are the texts, on the page that a script of a file leaves, and how the
-/// script ends.
+/// The picture of a family, of which these are the texts, on the page that a script leaves, and how the script ends.
+fn drawn_after_script<T: Threads + Wait + Sync>(
+    threads: &T,
+    alloc: Global,
+    picture: Picture,
+    texts: &Texts,
+    family: &Family,
+    script: &[u8],
+) -> Result<(Ending, Vec<u8>), Fault>
+    requires { (arc_value family.now.game).features ≡ feature_count (arc_value family.now.diagram).lines }
+{
+    match picture {
+        Picture::Family(subject) => drawn_after(threads, alloc, subject, texts, family, script),
+        Picture::System => system_drawn_after(threads, alloc, texts, family, script),
+    }
+}
+
+/// The same of a script of a file.
 fn drawn_after_file<T: Threads + Wait + Sync>(
     rt: &HostRuntime,
     threads: &T,
     alloc: Global,
-    subject: Subject,
+    picture: Picture,
     texts: &Texts,
     family: &Family,
     script: &str,
@@ -460,7 +488,7 @@ fn drawn_after_file<T: Threads + Wait + Sync>(
     requires { (arc_value family.now.game).features ≡ feature_count (arc_value family.now.diagram).lines }
 {
     match read_script(rt, script) {
-        Ok(script) => drawn_after(threads, alloc, subject, texts, family, &script),
+        Ok(script) => drawn_after_script(threads, alloc, picture, texts, family, &script),
         Err(fault) => Err(fault),
     }
 }
@@ -470,12 +498,12 @@ fn drawn_after_texts<T: Threads + Wait + Sync>(
     rt: &HostRuntime,
     threads: &T,
     alloc: Global,
-    subject: Subject,
+    picture: Picture,
     texts: &Texts,
     script: &str,
 ) -> Result<(Ending, Vec<u8>), Fault> {
     match Family::read(alloc, &texts.diagram, &texts.game) {
-        Ok(family) => drawn_after_file(rt, threads, alloc, subject, texts, &family, script),
+        Ok(family) => drawn_after_file(rt, threads, alloc, picture, texts, &family, script),
         Err(fault) => Err(fault),
     }
 }
@@ -486,11 +514,11 @@ fn drawn_after_files<T: Threads + Wait + Sync>(
     threads: &T,
     alloc: Global,
     paths: Paths<'_>,
-    subject: Subject,
+    picture: Picture,
     script: &str,
 ) -> Result<(Ending, Vec<u8>), Fault> {
     match read_texts(rt, alloc, paths) {
-        Ok(texts) => drawn_after_texts(rt, threads, alloc, subject, &texts, script),
+        Ok(texts) => drawn_after_texts(rt, threads, alloc, picture, &texts, script),
         Err(fault) => Err(fault),
     }
 }
@@ -501,11 +529,11 @@ fn draw_after<T: Threads + Wait + Sync>(
     threads: &T,
     alloc: Global,
     paths: Paths<'_>,
-    subject: Subject,
+    picture: Picture,
     script: &str,
 ) -> Result<End, Fault> {
-    match drawn_after_files(rt, threads, alloc, paths, subject, script) {
-        Ok((ending, picture)) => match put_out(rt, &picture) {
+    match drawn_after_files(rt, threads, alloc, paths, picture, script) {
+        Ok((ending, text)) => match put_out(rt, &text) {
             Ok(_) => Ok(ended(ending)),
             Err(fault) => Err(fault),
         },
@@ -557,14 +585,14 @@ fn carry_out<T: Threads + Wait + Sync>(
         Task::Check { paths } => put_made(rt, counted(rt, alloc, *paths)),
         Task::Draw {
             paths,
-            subject,
+            picture,
             script: None,
-        } => put_made(rt, picture(rt, alloc, *paths, *subject)),
+        } => put_made(rt, picture_of_files(rt, alloc, *paths, *picture)),
         Task::Draw {
             paths,
-            subject,
+            picture,
             script: Some(script),
-        } => draw_after(rt, threads, alloc, *paths, *subject, script),
+        } => draw_after(rt, threads, alloc, *paths, *picture, script),
         Task::Lint { paths } => put_made(rt, warned(rt, alloc, *paths)),
     }
 }

@@ -4,9 +4,10 @@ use Rattle.vpg_diagram.specs.DiagramText.{NamedDiagram}
 use Rattle.vpg_game.specs.Game.{NamedGame}
 use Rattle.vpg_serving.specs.declared.serving.Ending.{Ending}
 use Rattle.vpg_family.specs.Pages.{IsRedrawn}
+use Rattle.vpg_family.specs.Systems.{IsSystemRedrawn}
 use Rattle.vpg_family.specs.declared.drawing.Subject.{Subject}
 use Rattle.vpg_report.specs.Runs.{IsRun}
-use Rattle.vpg_report.specs.Draws.{drawing_script, plain, AreWritten, IsDrawnAfter}
+use Rattle.vpg_report.specs.Draws.{drawing_script, plain, AreWritten, IsDrawnAfter, IsSystemDrawnAfter}
 
 -- devices that hold the script and nothing before the run, and what was written after it
 pub is_written : (diagram : NamedDiagram) (game : NamedGame) (script written : List ℕ) (ending : Ending) (input rest before after : Option (List ℕ))
@@ -28,4 +29,15 @@ drawn subject diagram seen game sighted diagram_text game_text script written te
   subst (λ (x : NamedDiagram). IsRedrawn subject x game diagram_text game_text written picture) d
       (subst (λ (x : NamedGame). IsRedrawn subject seen x diagram_text game_text written picture) g
       (subst (λ (x : List ℕ). IsRedrawn subject seen sighted diagram_text game_text x picture) w of_page)),
+)
+
+pub system_drawn : (diagram seen : NamedDiagram) (game sighted : NamedGame) (system_text script written text picture : List ℕ) (ending : Ending)
+    → AreWritten diagram game script ending written → IsSystemRedrawn seen sighted system_text text picture
+    → seen ≡ diagram → sighted ≡ game → text ≡ written → IsSystemDrawnAfter diagram game system_text script ending picture
+system_drawn diagram seen game sighted system_text script written text picture ending ran of_page d g w = (
+  written,
+  ran,
+  subst (λ (x : NamedDiagram). IsSystemRedrawn x game system_text written picture) d
+      (subst (λ (x : NamedGame). IsSystemRedrawn seen x system_text written picture) g
+      (subst (λ (x : List ℕ). IsSystemRedrawn seen sighted system_text x picture) w of_page)),
 )

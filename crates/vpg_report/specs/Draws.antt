@@ -5,6 +5,7 @@ use Rattle.vpg_game.specs.Game.{NamedGame}
 use Rattle.vpg_serving.specs.declared.serving.Manner.{Manner}
 use Rattle.vpg_serving.specs.declared.serving.Ending.{Ending}
 use Rattle.vpg_family.specs.Pages.{IsRedrawn}
+use Rattle.vpg_family.specs.Systems.{IsSystemRedrawn}
 use Rattle.vpg_family.specs.declared.drawing.Subject.{Subject}
 use Rattle.vpg_report.specs.Runs.{IsRun}
 
@@ -28,3 +29,10 @@ abbrev pub IsDrawnAfter : Subject → NamedDiagram → NamedGame → (diagram_te
 IsDrawnAfter subject diagram game diagram_text game_text script ending picture =
     (written : List ℕ) × AreWritten diagram game script ending written ×
     IsRedrawn subject diagram game diagram_text game_text written picture
+
+-- What is written ends in the picture of the game on a page, and on this page the system that a text spells is drawn.
+abbrev pub IsSystemDrawnAfter : NamedDiagram → NamedGame → (system_text script : List ℕ) → Ending →
+    (picture : List ℕ) → Type 0
+IsSystemDrawnAfter diagram game system_text script ending picture =
+    (written : List ℕ) × AreWritten diagram game script ending written ×
+    IsSystemRedrawn diagram game system_text written picture

@@ -2,13 +2,13 @@
 ghost use Rattle.std.specs.Arc.{arc_value};
 ghost use Rattle.std.specs.Prelude.{◌≡◌, IfOk};
 ghost use Rattle.vpg_diagram.specs.FeatureDiagram.{feature_count};
-ghost use Rattle.vpg_report.specs.Draws.{drawing_script, AreWritten, IsDrawnAfter};
+ghost use Rattle.vpg_report.specs.Draws.{drawing_script, AreWritten, IsDrawnAfter, IsSystemDrawnAfter};
 
 use crate::running::run_script;
 use std::alloc::{AllocError, Global};
 use std::sync::Wait;
 use std::thread::Threads;
-use vpg_family::{Family, Fault, Subject, Texts, redrawn};
+use vpg_family::{Family, Fault, Subject, Texts, redrawn, system_redrawn};
 use vpg_script::Device;
 use vpg_serving::{Ending, Manner};
 
@@ -73,4 +73,24 @@ pub fn drawn_after<T: Threads + Wait + Sync>(
         Ok(picture) => Ok((ending, picture)),
         Err(fault) => Err(fault),
     }
+}
+
+/// The picture of the system of a family, of which these are the texts, on the page that a script leaves, and how the
+/// script ends.
+#[tactic(auto, using(crate::proofs::Draws::system_drawn))]
+pub fn system_drawn_after<T: Threads + Wait + Sync>(
+    rt: &T,
+    alloc: Global,
+    texts: &Texts,
+    family: &Family,
+    script: &[u8],
+) -> Result<(Ending, Vec<u8>), Fault>
+    requires { (arc_value family.now.game).features ≡ feature_count (arc_value family.now.diagram).lines }
+    ensures { IfOk result (λ drawn. IsSystemDrawnAfter (arc_value family.now.diagram) (arc_value family.now.game)
+        texts.now.system.items script.now drawn.0 drawn.1.items) }
+{
+    let again = family.again()?;
+    let (ending, written) = answered(rt, alloc, again, script)?;
+    let picture = system_redrawn(alloc, &family.diagram, &family.game, texts, &written)?;
+    Ok((ending, picture))
 }

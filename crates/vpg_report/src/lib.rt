@@ -1,11 +1,11 @@
 //! Runs: a script is carried out on a desk, and each of its lines answered; and how the program ends behind them.
 //!
 //! The program above uses `run_script`, which carries a script out at an office of a family in a manner and tells a
-//! fault as the program does; `drawn_after` draws the page that a script leaves. `End` is how the program ends where
-//! nothing fails, `end_of` what a run makes of it, `status` its exit status, and `refused_line` tells where a strict
-//! script was refused. `DIAGRAM` and `GAME` are the family that is built in. Below it, `run_as` opens a desk and
-//! carries a script out on it; `run` does so without a manner. At the end of a run, also after a fault, all tokens are
-//! spent and the desk is closed.
+//! fault as the program does; `drawn_after` draws the page that a script leaves, and `system_drawn_after` the system on
+//! it. `End` is how the program ends where nothing fails, `end_of` what a run makes of it, `status` its exit status,
+//! and `refused_line` tells where a strict script was refused. `DIAGRAM` and `GAME` are the family that is built in.
+//! Below it, `run_as` opens a desk and carries a script out on it; `run` does so without a manner. At the end of a run,
+//! also after a fault, all tokens are spent and the desk is closed.
 //!
 //! The texts of a page are `show` (its decisions, tables and verdicts), `trail` (its entries), `products` (what is
 //! known of each feature), `put_known` (the same of one), `plan` (what Even does where everything is known and settled)
@@ -52,7 +52,7 @@ mod runs;
 
 pub use built_in::{DIAGRAM, GAME};
 pub use client::Client;
-pub use drawing::drawn_after;
+pub use drawing::{drawn_after, system_drawn_after};
 pub use ending::{End, end_of, ended, refused_line, status};
 pub use engine::Engine;
 pub use fault::{ClientFault, Returned, Token};

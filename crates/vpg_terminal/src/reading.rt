@@ -1,5 +1,5 @@
 //! How words are read.
-use crate::task::{Asked, Task};
+use crate::task::{Asked, Picture, Task};
 use crate::usage::{ABOUT, AFTER, SHORT_AFTER};
 use crate::verbs::{Argument, Kind, VERBS, Verb, verb_of};
 use clap::builder::ValueParser;
@@ -16,6 +16,19 @@ fn lifters<'a>(arg: Arg<'a>) -> Arg<'a> {
         .default_value("1")
 }
 
+/// An option without a value, which goes with another one, and without a third.
+fn choice<'a>(
+    arg: Arg<'a>,
+    name: &'a str,
+    with: &'a str,
+    without: &'a str,
+) -> Result<Arg<'a>, AllocError> {
+    match arg.long(name).action(ArgAction::SetTrue).requires_arg(with) {
+        Ok(arg) => arg.conflicts_with(without),
+        Err(fault) => Err(fault),
+    }
+}
+
 fn arg_of<'a>(alloc: Global, argument: Argument) -> Result<Arg<'a>, AllocError> {
     let arg = Arg::new(alloc, argument.name).help(argument.help);
     match argument.kind {
@@ -24,10 +37,12 @@ fn arg_of<'a>(alloc: Global, argument: Argument) -> Result<Arg<'a>, AllocError> 
         Kind::Words => Ok(arg.required(true).num_args(1..)),
         Kind::Optional => Ok(arg),
         Kind::Flag => Ok(arg.long(argument.name).action(ArgAction::SetTrue)),
+        Kind::Choice { with, without } => choice(arg, argument.name, with, without),
         Kind::Lifters => Ok(lifters(arg)),
         Kind::File { value, with } => {
             arg.long(argument.name).value_name(value).requires_arg(with)
         }
+        Kind::Lone { value } => Ok(arg.long(argument.name).value_name(value)),
     }
 }
 
@@ -196,6 +211,24 @@ fn shifted<'a>(
     })
 }
 
+/// The files of a system that is drawn alone. It takes no script, and no picture of features.
+fn system_files<'a>(matches: &ArgMatches<'a>, system: &'a str) -> Option<Files<'a>> {
+    let diagram = matches.get_str("GAME")?;
+    let of_features = if matches.get_flag("features") {
+        Some("--features")
+    } else {
+        None
+    };
+    Some(Files {
+        paths: Paths {
+            game: GamePaths::System(system),
+            diagram,
+        },
+        script: None,
+        unexpected: matches.get_str("DIAGRAM").or(of_features),
+    })
+}
+
 /// The files of the command `model`.
 fn model_files<'a>(matches: &ArgMatches<'a>) -> Option<Files<'a>> {
     let system = matches.get_str("SYSTEM")?;
@@ -229,6 +262,7 @@ fn files_of<'a>(name: &str, matches: &ArgMatches<'a>) -> Option<Files<'a>> {
             let takes_script = name == "run" || name == "draw";
             shifted(matches, takes_script, system, requirements)
         }
+        (Some(system), None) => system_files(matches, system),
         _ => game_files(matches),
     }
 }
@@ -241,11 +275,14 @@ fn features<'a>(alloc: Global, matches: &ArgMatches<'a>) -> Result<Vec<&'a str>,
     Ok(features)
 }
 
-fn subject(matches: &ArgMatches<'_>) -> Subject {
-    if matches.get_flag("features") {
-        Subject::Features
+/// What is drawn of these files.
+fn picture_of(paths: Paths<'_>, matches: &ArgMatches<'_>) -> Picture {
+    if matches!(paths.game, GamePaths::System(_)) || matches.get_flag("states") {
+        Picture::System
+    } else if matches.get_flag("features") {
+        Picture::Family(Subject::Features)
     } else {
-        Subject::Game
+        Picture::Family(Subject::Game)
     }
 }
 
@@ -280,7 +317,7 @@ fn task_of<'a>(
         "lint" => Ok(Some(Task::Lint { paths })),
         "draw" => Ok(Some(Task::Draw {
             paths,
-            subject: subject(matches),
+            picture: picture_of(paths, matches),
             script,
         })),
         _ => Ok(None),

@@ -9,6 +9,15 @@ pub struct Asked<'a> {
     pub explains: bool,
 }
 
+/// What is drawn.
+#[derive(Clone, Copy, PartialEq, Eq)]
+pub enum Picture {
+    /// The game, or the feature diagram.
+    Family(Subject),
+    /// The system.
+    System,
+}
+
 /// What is to be done.
 pub enum Task<'a> {
     /// A script from standard input, on the family that is built in.
@@ -54,7 +63,7 @@ pub enum Task<'a> {
     /// A picture of a family, on the page that a script leaves where there is one.
     Draw {
         paths: Paths<'a>,
-        subject: Subject,
+        picture: Picture,
         script: Option<&'a str>,
     },
 }
@@ -86,7 +95,7 @@ impl Drop for Task<'_> {
             Task::Lint { paths: _ } => {}
             Task::Draw {
                 paths: _,
-                subject: _,
+                picture: _,
                 script: _,
             } => {}
         }

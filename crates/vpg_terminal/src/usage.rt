@@ -77,6 +77,7 @@ Examples:
   vpgdesk desk game diagram
   vpgdesk project game diagram lift sensor overload
   vpgdesk draw game diagram | dot -Tsvg > game.svg
+  vpgdesk draw --system system diagram | dot -Tsvg > system.svg
   vpgdesk check --system system --requirements requirements diagram
 
 All formats, commands, answers and faults: docs/FORMATS.md";
@@ -102,6 +103,8 @@ pub(crate) const REQUIREMENTS_HELP: &str =
     "A formula as in mCRL2, or entries `live = always can a;`";
 
 pub(crate) const TAKEN_SYSTEM_HELP: &str = "In place of GAME: the behaviour of the family";
+
+pub(crate) const DRAWN_SYSTEM_HELP: &str = "In place of GAME: a system, drawn itself if alone";
 
 pub(crate) const TAKEN_REQUIREMENTS_HELP: &str = "The formulas that the system is to meet";
 
@@ -130,7 +133,8 @@ vpgdesk lint <GAME> <DIAGRAM>
 pub(crate) const DRAW_USAGE: &str = "\
 vpgdesk draw [OPTIONS] <GAME> <DIAGRAM> [SCRIPT]
        vpgdesk draw [OPTIONS] --system <SYSTEM> --requirements <FILE>
-                    <DIAGRAM> [SCRIPT]";
+                    <DIAGRAM> [SCRIPT]
+       vpgdesk draw [OPTIONS] --system <SYSTEM> <DIAGRAM>";
 
 pub(crate) const DIAGRAM_HELP: &str =
     "A feature diagram, a line each: `root r`, `optional r f`, ..";
@@ -151,5 +155,7 @@ pub(crate) const FEATURE_HELP: &str =
     "The features of the product, all of them, the root among them";
 
 pub(crate) const FEATURES_HELP: &str = "Draw the feature diagram in place of the game";
+
+pub(crate) const STATES_HELP: &str = "Draw the system in place of its game";
 
 pub(crate) const EXPLAIN_HELP: &str = "Say where and why an input is refused";

@@ -1,9 +1,9 @@
 //! The commands of the program, and their arguments.
 use crate::usage::{
-    CHECK_USAGE, DESK_USAGE, DIAGRAM_HELP, DRAW_USAGE, DRAWN_SCRIPT_HELP, EXPLAIN_HELP,
-    FEATURE_HELP, FEATURES_HELP, GAME_HELP, KEEP_GOING_HELP, LIFTERS_HELP, LINT_USAGE, NAMES_HELP,
-    REQUIREMENTS_HELP, RUN_USAGE, SCRIPT_HELP, STRICT_HELP, SYSTEM_HELP, TAKEN_REQUIREMENTS_HELP,
-    TAKEN_SYSTEM_HELP,
+    CHECK_USAGE, DESK_USAGE, DIAGRAM_HELP, DRAW_USAGE, DRAWN_SCRIPT_HELP, DRAWN_SYSTEM_HELP,
+    EXPLAIN_HELP, FEATURE_HELP, FEATURES_HELP, GAME_HELP, KEEP_GOING_HELP, LIFTERS_HELP,
+    LINT_USAGE, NAMES_HELP, REQUIREMENTS_HELP, RUN_USAGE, SCRIPT_HELP, STATES_HELP, STRICT_HELP,
+    SYSTEM_HELP, TAKEN_REQUIREMENTS_HELP, TAKEN_SYSTEM_HELP,
 };
 
 /// How an argument of a command is given.
@@ -19,12 +19,21 @@ pub(crate) enum Kind {
     Optional,
     /// An option without a value.
     Flag,
+    /// Such an option, which goes with another one, and without a third.
+    Choice {
+        with: &'static str,
+        without: &'static str,
+    },
     /// An option whose value is a number of lifters.
     Lifters,
     /// An option whose value is a file, and which goes with another option.
     File {
         value: &'static str,
         with: &'static str,
+    },
+    /// Such an option, which may stand alone.
+    Lone {
+        value: &'static str,
     },
 }
 
@@ -83,6 +92,12 @@ const TAKEN_SYSTEM: Argument = Argument {
     },
     name: "system",
     help: TAKEN_SYSTEM_HELP,
+};
+
+const DRAWN_SYSTEM: Argument = Argument {
+    kind: Kind::Lone { value: "SYSTEM" },
+    name: "system",
+    help: DRAWN_SYSTEM_HELP,
 };
 
 const TAKEN_REQUIREMENTS: Argument = Argument {
@@ -146,6 +161,15 @@ const FEATURES: Argument = Argument {
     kind: Kind::Flag,
     name: "features",
     help: FEATURES_HELP,
+};
+
+const STATES: Argument = Argument {
+    kind: Kind::Choice {
+        with: "system",
+        without: "features",
+    },
+    name: "states",
+    help: STATES_HELP,
 };
 
 /// The commands in the order of the help. All are over the files of a family.
@@ -212,16 +236,17 @@ pub(crate) static VERBS: [Verb; 7] = [
     },
     Verb {
         name: "draw",
-        about: "Draws the game as a Graphviz text",
+        about: "Draws a game, or a system, as a Graphviz text",
         usage: Some(DRAW_USAGE),
         arguments: &[
             GAME,
             LAST_DIAGRAM,
             EXPLAIN,
             DRAWN_SCRIPT,
-            TAKEN_SYSTEM,
+            DRAWN_SYSTEM,
             TAKEN_REQUIREMENTS,
             FEATURES,
+            STATES,
         ],
     },
 ];

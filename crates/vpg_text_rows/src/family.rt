@@ -1,4 +1,4 @@
-//! A family with the names of its vertices, and its pictures.
+//! A family with the names of its vertices, its pictures, and that of a system over its features.
 ghost use Rattle.std.specs.Prelude.{◌≡◌, length};
 
 use crate::decisions::{are_below, close_checked, decisions_of};
@@ -10,6 +10,8 @@ use vpg_draw::{draw_features, draw_game};
 use vpg_game::GuardedGame;
 use vpg_names::VertexNames;
 use vpg_partial::{Decision, Partial};
+use vpg_system::System;
+use vpg_system_draw::{draw_system, reachable};
 use vpg_verdict::Verdict;
 
 /// A diagram with each form of line, of which mistakes are looked for in games.
@@ -18,6 +20,14 @@ alternative i: graph strict\nexcludes g i\nrequires strict h\n";
 
 const GAME: &[u8] = b"parity 9; start 3;\n3 1 0 7[g|i],3[h] \"says \\ & done, or so\";\n7 2 1 3[!h];
 8 0 0 9[true], 9 [strict] \"two\nlines; [not a guard] p s\";\n9 65535 1 \"\";\n";
+
+/// Transitions between the same two states, and actions with quotes, a backslash and an ampersand.
+const SYSTEM: &[u8] = b"des (1, 7, 4)
+(1, \"send(\"d1\") [g]\", 2)\n(1, \"send(\"d2\") [g]\", 2)\n(2, \"path\\to\", 1)\n(2, \"a&b [strict | h]\", 1)
+(3, tau, 1)\n(1, \"tau [i]\", 3)\n(2, \"tau [!f]\", 2)\n";
+
+/// Two of its transitions are marked, and the last one stands past the end.
+const MARKS: [bool; 6] = [false, true, false, false, false, true];
 
 /// A verdict for each vertex: hopeless at each second, sure at two of four.
 fn verdicts(vertices: usize, line: &mut Line) -> Vec<Verdict> {
@@ -78,7 +88,48 @@ fn put_diagram(diagram: &Diagram, known: &Partial, decisions: &[Decision], line:
     line.note(done);
 }
 
-/// Draws both under the decisions of a row.
+/// Draws a system over the diagram's features.
+fn put_drawn(
+    diagram: &Diagram,
+    system: &System,
+    known: &Partial,
+    decisions: &[Decision],
+    line: &mut Line,
+) {
+    let names = diagram.names();
+    let fits = names.len() == system.features()
+        && known.values().len() == system.features()
+        && are_below(system.features(), decisions);
+    line.note(fits);
+    if !fits {
+        return;
+    }
+    let Ok(reached) = reachable(line.alloc, system, known) else {
+        line.note(false);
+        return;
+    };
+    let done = draw_system(
+        line.alloc,
+        system,
+        names,
+        known,
+        decisions,
+        &reached,
+        &MARKS,
+        &mut line.text,
+    );
+    line.note(done.is_ok());
+}
+
+/// Draws the system.
+fn put_system(diagram: &Diagram, known: &Partial, decisions: &[Decision], line: &mut Line) {
+    match System::read(line.alloc, SYSTEM, diagram.names()) {
+        Ok(system) => put_drawn(diagram, &system, known, decisions, line),
+        Err(_) => line.note(false),
+    }
+}
+
+/// Draws them under the decisions of a row.
 fn put_decided(
     diagram: &Diagram,
     game: &GuardedGame,
@@ -90,6 +141,7 @@ fn put_decided(
         if let Some(known) = close_checked(diagram, &decisions, line) {
             put_game(diagram, game, names, &known, &decisions, line);
             put_diagram(diagram, &known, &decisions, line);
+            put_system(diagram, &known, &decisions, line);
         }
     }
 }

@@ -8,9 +8,10 @@
 //!
 //! Behind the facts of guards, feature diagrams, games, systems and decisions comes what is shown at a terminal.
 //! `family` has a family, and makes up verdicts of it, so that each of the four is there. The program writes where its
-//! game starts, its two pictures under each list of decisions of `pictures`, and what is said of each text of
-//! `mistakes`. At last come answers about pages (`pages`): why a verdict is so, what else could be decided, a product
-//! that is won. Where words name files, these are tables of such questions, and the program answers them alone.
+//! game starts, its two pictures and that of a system under each list of decisions of `pictures`, and what is said of
+//! each text of `mistakes`. At last come answers about pages (`pages`): why a verdict is so, what else could be
+//! decided, a product that is won. Where words name files, these are tables of such questions, and the program answers
+//! them alone.
 //!
 //! Nothing has more than one way out that could be let go at its end: an answer goes into a `Line`, which also notes
 //! that something found no memory, and the program ends once a line lacks something.

@@ -4,11 +4,13 @@ ghost use Rattle.std.specs.Prelude.{◌≡◌};
 ghost use Rattle.vpg_diagram.specs.FeatureDiagram.{feature_count};
 
 use super::PATHS;
-use super::rows::{Row, TABLES, row_of};
+use super::rows::{Row, SYSTEM, TABLES, row_of};
 use crate::said::Said;
 use std::alloc::{AllocError, Global};
 use std::test::*;
-use vpg_family::{Family, Fault, Pictured, Subject, Texts, drawn, linted, redrawn};
+use vpg_family::{
+    Family, Fault, Pictured, Subject, Texts, drawn, linted, redrawn, system_drawn, system_redrawn,
+};
 use vpg_names::VertexNames;
 use vpg_script::{Device, Sink};
 use vpg_terminal::named_text;
@@ -33,11 +35,13 @@ fn projected(alloc: Global, family: &Family, features: &str) -> Result<Vec<u8>, 
 fn texts(alloc: Global, row: &Row<'_>) -> Result<Texts, AllocError> {
     let diagram = Vec::from_slice(alloc, row.diagram.as_bytes())?;
     let game = Vec::from_slice(alloc, row.game.as_bytes())?;
+    let system = Vec::from_slice(alloc, SYSTEM.as_bytes())?;
     Ok(Texts {
         diagram,
         game,
         entries: Vec::new(alloc),
         vertices: Vec::new(alloc),
+        system,
     })
 }
 
@@ -49,6 +53,22 @@ fn page(alloc: Global, family: &Family, row: &Row<'_>, subject: Subject) -> Resu
         Ok(texts) => redrawn(
             alloc,
             subject,
+            &family.diagram,
+            &family.game,
+            &texts,
+            row.text.as_bytes(),
+        ),
+        Err(_) => Err(Fault::Memory),
+    }
+}
+
+/// The picture of the system on the page that a script left.
+fn system_page(alloc: Global, family: &Family, row: &Row<'_>) -> Result<Vec<u8>, Fault>
+    requires { (arc_value family.now.game).features ≡ feature_count (arc_value family.now.diagram).lines }
+{
+    match texts(alloc, row) {
+        Ok(texts) => system_redrawn(
+            alloc,
             &family.diagram,
             &family.game,
             &texts,
@@ -109,6 +129,7 @@ fn of_family(alloc: Global, family: &Family, row: &Row<'_>) -> Result<Vec<u8>, F
         "project" => projected(alloc, family, row.text),
         "redraw" => page(alloc, family, row, Subject::Game),
         "redraw-features" => page(alloc, family, row, Subject::Features),
+        "redraw-system" => system_page(alloc, family, row),
         _ => with_names(alloc, family, row),
     }
 }
@@ -128,6 +149,7 @@ fn answer(alloc: Global, row: &Row<'_>) -> Result<Vec<u8>, Fault> {
     match row.asked {
         "draw" => drawn(alloc, Subject::Game, diagram, game),
         "draw-features" => drawn(alloc, Subject::Features, diagram, game),
+        "draw-system" => system_drawn(alloc, diagram, game),
         "lint" => linted(alloc, PATHS, diagram, game),
         _ => of_texts(alloc, row),
     }

@@ -12,6 +12,17 @@ const HERE: &str = "0 1 0 1[f],0 \"he\\re\"; 1 2 1 0[g],1;";
 /// The vertex 1 has no name.
 const DOOR: &str = "0 1 0 1[f],0 \"door\topen\"; 1 2 1 0[g],1; 12 0 1 0 \"+f or fewer\";";
 
+/// A system of three states: transitions that look alike between the same two, and actions as mCRL2 writes them.
+pub(super) const SYSTEM: &str = "des (0, 7, 3)
+(0, \"send(\"a\") [f]\", 1)
+(0, \"tau\", 0)
+(0, \"log(\"\\\") [f]\", 1)
+(1, \"a&b [r]\", 0)
+(1, \"stop [f & g | !f]\", 2)
+(1, \"back\", 0)
+(2, \"never [!r]\", 2)
+";
+
 /// 62 vertices of odd priorities, one each: no game has a greater top.
 const WIDEST: &str = "\
     0 1 0 0; 1 3 0 1; 2 5 0 2; 3 7 0 3; 4 9 0 4; 5 11 0 5; 6 13 0 6; 7 15 0 7; 8 17 0 8; 9 19 0 9; 10 21 0 10; \
@@ -26,7 +37,9 @@ const WIDEST: &str = "\
 #[derive(Drop)]
 pub(super) struct Row<'t> {
     /// A word. `project` is asked of the words of a text with one blank between them, `redraw` of what a script wrote,
-    /// `pass-on` and `name` of an answer; `draw` and `redraw` are so of the game, and with `-features` of the diagram.
+    /// `pass-on` and `name` of an answer; `draw` and `redraw` are so of the game, with `-features` of the diagram, and
+    /// with `-system` of a system: `draw-system` of the one that stands in place of the game, `redraw-system` of the
+    /// one above.
     pub(super) asked: &'t str,
     pub(super) text: &'t str,
     pub(super) diagram: &'t str,
@@ -44,6 +57,7 @@ fn meant(part: &str) -> &str {
         "WIDEST" => WIDEST,
         "HERE" => HERE,
         "DOOR" => DOOR,
+        "SYSTEM" => SYSTEM,
         _ => part,
     }
 }
@@ -71,7 +85,9 @@ pub(super) fn row_of(writing: &str) -> Row<'_> {
 
 /// The rows, each with a `§` behind it. The parts of a row stand beside `¦`: a remark, what is asked, the texts of the
 /// diagram and of the game or their names, the text that is asked about, and what is written.
-pub(super) static TABLES: [&str; 7] = [REFUSED, DONE, PICTURES, PAGES, PASSED, NAMED, WARNED];
+pub(super) static TABLES: [&str; 8] = [
+    REFUSED, DONE, PICTURES, SYSTEMS, PAGES, PASSED, NAMED, WARNED,
+];
 
 /// Families that are refused, and words that name no product.
 const REFUSED: &str = "\
@@ -135,6 +151,52 @@ const PICTURES: &str = "\
 }
 §\
 ¦draw-features¦NONE¦DOT¦¦vpgdesk: Conflict r\n§\
+";
+
+/// Pictures of systems.
+const SYSTEMS: &str = "\
+¦draw-system¦DIAGRAM¦SYSTEM¦¦digraph system {
+  graph [label=\"decisions\", labelloc=t, rankdir=LR];
+  node [shape=circle, style=filled];
+  0 [penwidth=3, fillcolor=white, color=gray40];
+  1 [fillcolor=white, color=gray40];
+  2 [fillcolor=white, color=gray40];
+  0 -> 0 [label=\"tau\", style=solid];
+  1 -> 0 [label=\"a&amp;b [r]\\nback\", style=solid];
+  0 -> 1 [label=\"send(\\\"a\\\") [f]\\nlog(\\\"\\\\\\\") [f]\", style=dashed, color=steelblue, fontcolor=steelblue];
+  1 -> 2 [label=\"stop [f & g | !f]\", style=dashed, color=steelblue, fontcolor=steelblue];
+  2 -> 2 [label=\"never [!r]\", style=dotted, color=gray70, fontcolor=gray50];
+}
+§\
+Without f nothing leads from the first state to the others.¦redraw-system¦DIAGRAM¦HERE¦done 1
+digraph game {
+  graph [label=\"decisions -f\", labelloc=t, rankdir=LR];
+  node [style=filled];
+  0 [shape=diamond, label=\"0 : 1\", fillcolor=mistyrose, color=firebrick];
+  1 [shape=box, label=\"1 : 2\", fillcolor=white, color=gray40];
+  0 -> 1 [label=\"f\", style=dotted, color=gray70, fontcolor=gray50];
+  0 -> 0 [style=solid];
+  1 -> 0 [label=\"g\", style=dashed, color=steelblue, fontcolor=steelblue];
+  1 -> 1 [style=solid];
+}
+¦digraph system {
+  graph [label=\"decisions -f\", labelloc=t, rankdir=LR];
+  node [shape=circle, style=filled];
+  0 [penwidth=3, fillcolor=white, color=gray40];
+  1 [fillcolor=gray92, color=gray70, fontcolor=gray60];
+  2 [fillcolor=gray92, color=gray70, fontcolor=gray60];
+  0 -> 0 [label=\"tau\", style=solid];
+  1 -> 0 [label=\"a&amp;b [r]\\nback\", style=solid];
+  1 -> 2 [label=\"stop [f & g | !f]\", style=solid];
+  0 -> 1 [label=\"send(\\\"a\\\") [f]\\nlog(\\\"\\\\\\\") [f]\", style=dotted, color=gray70, fontcolor=gray50];
+  2 -> 2 [label=\"never [!r]\", style=dotted, color=gray70, fontcolor=gray50];
+}
+§\
+¦redraw-system¦DIAGRAM¦HERE¦done 1\n¦vpgdesk: script LogFull\n§\
+¦draw-system¦root¦¦¦vpgdesk: diagram Syntax 1\n§\
+¦draw-system¦DIAGRAM¦des (0, 1, 1)\n¦¦vpgdesk: system WrongCount 1\n§\
+¦draw-system¦NONE¦des (0, 0, 0)\n¦¦vpgdesk: system NoState 1\n§\
+¦draw-system¦NONE¦des (0, 0, 1)\n¦¦vpgdesk: Conflict r\n§\
 ";
 
 /// Pictures of pages that scripts left, from what the scripts wrote.

@@ -1,0 +1,6 @@
+pub mod Joins
+pub mod Noting
+pub mod Numbered
+pub mod Rows
+pub mod Said
+pub mod Searching
