@@ -1,4 +1,5 @@
 //! What sessions note of their calls, word by word.
+use crate::offices::calls::end_of;
 use std::alloc::Global;
 use std::fmt::{Display, Write};
 use vpg_measure::{Harvest, Order, Table};
@@ -50,7 +51,10 @@ pub fn put_fault<L: Terms, F: Display + Copy + Drop>(notes: &mut Notes, fault: F
             notes.put("refused");
             notes.put(fault);
         }
-        _ => notes.is_whole = false,
+        other => {
+            end_of(other);
+            notes.is_whole = false;
+        }
     }
 }
 
