@@ -17,6 +17,9 @@ const FAMILIES: [&str; 5] = [
     "sessions",
 ];
 
+/// Those with a script about each vertex and each product, or each 32nd of body comfort (`bench/each.py`).
+const EACH: [&str; 4] = ["mine_pump", "vending_machine", "elevator", "body_comfort"];
+
 /// Where a file of a family is.
 fn path_of(alloc: Global, family: &str, file: &str) -> Result<String, AllocError> {
     format!(in alloc; "{family}/{file}")
@@ -28,8 +31,8 @@ fn text_of(rt: &HostRuntime, alloc: Global, family: &str, file: &str) -> Result<
     Ok(fs::read(rt, path.as_str())?)
 }
 
-fn script_of(rt: &HostRuntime, alloc: Global, family: &str) -> Result<File> {
-    let path = path_of(alloc, family, "script")?;
+fn script_of(rt: &HostRuntime, alloc: Global, family: &str, file: &str) -> Result<File> {
+    let path = path_of(alloc, family, file)?;
     Ok(File::open(rt, path.as_str())?)
 }
 
@@ -57,15 +60,15 @@ fn answer<T: Threads + Wait + Sync>(
     }
 }
 
-/// Carries out the script of a family. The runtime is handed in twice: for its files, and for threads.
+/// Carries out a script of a family. The runtime is handed in twice: for its files, and for threads.
 fn carry_out<T: Threads + Wait + Sync>(
     rt: &HostRuntime,
     threads: &T,
     alloc: Global,
     name: &str,
+    file: &str,
 ) -> Result<()> {
-    println!(rt; "{name}")?;
-    let script = script_of(rt, alloc, name)?;
+    let script = script_of(rt, alloc, name, file)?;
     let family = family_in(rt, alloc, name)?;
     answer(rt, threads, alloc, &family, script)
 }
@@ -77,7 +80,21 @@ pub(crate) fn carry_out_all<T: Threads + Wait + Sync>(
     alloc: Global,
 ) -> Result<()> {
     for name in FAMILIES {
-        carry_out(rt, threads, alloc, name).context(name)?;
+        println!(rt; "{name}")?;
+        carry_out(rt, threads, alloc, name, "script").context(name)?;
+    }
+    Ok(())
+}
+
+/// Carries out the scripts about each vertex and each product.
+pub(crate) fn carry_out_each<T: Threads + Wait + Sync>(
+    rt: &HostRuntime,
+    threads: &T,
+    alloc: Global,
+) -> Result<()> {
+    for name in EACH {
+        println!(rt; "{name}, each product")?;
+        carry_out(rt, threads, alloc, name, "each").context(name)?;
     }
     Ok(())
 }
