@@ -14,12 +14,12 @@ module _ (n : ℕ) (g : Formula) where
   -- in Blake's form, or as it was where that is too long
   made_sharp : (made : Formula) → (IsShort n g → (known : List Tri) (b : Bool) → IsCertain known g b → kleene known made ≡ tri_of b) → ((IsShort n g → ⊥) → made ≡ g)
       → ((set : List Bool) → truth set made ≡ truth set g) → IsShort n made → IsSharp made
-  made_sharp made sharp kept same short known b certain = decide (cases_lt 10 (length (named_below n g))) (cases_lt 64 (length (prime_implicants n g)))
+  made_sharp made sharp kept same short known b certain = decide (cases_lt 6 (length (named_below n g))) (cases_lt 64 (length (prime_implicants n g)))
     where
       long : (IsShort n g → ⊥) → ⊥
       long h = h (subst (IsShort n) (kept h) short)
 
-      decide : (10 < length (named_below n g)) ⊎ (length (named_below n g) ≤ 10) → (64 < length (prime_implicants n g)) ⊎ (length (prime_implicants n g) ≤ 64) → kleene known made ≡ tri_of b
+      decide : (6 < length (named_below n g)) ⊎ (length (named_below n g) ≤ 6) → (64 < length (prime_implicants n g)) ⊎ (length (prime_implicants n g) ≤ 64) → kleene known made ≡ tri_of b
       decide (inl many) q = absurd (long (λ h. omega (arith, many, h.few_features)))
       decide (inr few) (inl many) = absurd (long (λ h. omega (arith, many, h.few_implicants)))
       decide (inr few) (inr less) = sharp (record { few_features = few; few_implicants = less }) known b (λ set done. sym (same set) ∙ certain set done)

@@ -224,7 +224,7 @@ too_many n g cubes e lt short =
     let long : length (cubes_in cubes) ≡ length cubes = length-map cubes (λ (v : Vec Literal). v.items) in
     omega (arith, long, ap length e, lt, short.few_implicants)
 
-pub few_enough : (n : ℕ) (g : Formula) (xs : List ℕ) (cubes : List (Vec Literal)) → xs ≡ named_below n g → length xs ≤ 10
+pub few_enough : (n : ℕ) (g : Formula) (xs : List ℕ) (cubes : List (Vec Literal)) → xs ≡ named_below n g → length xs ≤ 6
     → cubes_in cubes ≡ prime_implicants n g → length cubes ≤ 64 → IsShort n g
 few_enough n g xs cubes named-is few e le =
     let long : length (cubes_in cubes) ≡ length cubes = length-map cubes (λ (v : Vec Literal). v.items) in

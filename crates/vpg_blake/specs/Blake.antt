@@ -109,9 +109,9 @@ disjunction cubes = or_of (cube_parts cubes)
 abbrev pub blake : ℕ → Formula → Formula
 blake n g = disjunction (prime_implicants n g)
 
--- it names at most ten features, and has at most 64 prime implicants
+-- it names at most six features, and has at most 64 prime implicants
 pub record IsShort (n : ℕ) (g : Formula) : Type 0 where
-  pub few_features : length (named_below n g) ≤ 10
+  pub few_features : length (named_below n g) ≤ 6
   pub few_implicants : length (prime_implicants n g) ≤ 64
 
 -- in each product that agrees with what is known, the guard has this truth

@@ -14,10 +14,10 @@ use std::alloc::{AllocError, Global};
 use vpg_guards::Guard;
 
 /// The most features that a guard may name to be brought into Blake's form, as the work grows with 3 to their number.
-pub const MOST_NAMED: usize = 10;
+pub const MOST_NAMED: usize = 6;
 
-/// The most prime implicants that Blake's form may have. A guard of ten features may have thousands; a form so long
-/// would serve no reader, and be slow in each evaluation.
+/// The most prime implicants that Blake's form may have: a form that is longer would serve no reader, and be slow in
+/// each evaluation.
 pub const MOST_IMPLICANTS: usize = 64;
 
 /// The `or` of the guard's prime implicants, unless the guard names too many features or has too many of them.

@@ -6,3 +6,4 @@ pub mod Refused
 pub mod Found
 pub mod Named
 pub mod Paired
+pub mod Still

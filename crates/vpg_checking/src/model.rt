@@ -3,6 +3,7 @@ ghost use Rattle.std.specs.Prelude.{◌≡◌, ◌≤◌, List, map, bytes_eq, I
 ghost use Rattle.vpg_diagram.specs.FeatureDiagram.{Line, feature_count};
 ghost use Rattle.vpg_game.specs.Game.{graph_of, vertex_ids, IsAtLimit};
 ghost use Rattle.vpg_model.specs.Pairs.{AreNumbered, pair_for};
+ghost use Rattle.vpg_model.specs.Sharpening.{AreSharp};
 ghost use Rattle.vpg_part_texts.specs.SetTexts.{set_text};
 ghost use Rattle.vpg_formula.specs.EntryCode.{entries_of, earlier_of};
 ghost use Rattle.vpg_formula.specs.Requirements as spec;
@@ -16,11 +17,12 @@ ghost use Rattle.vpg_checking.specs.Texts.{AreVerticesOf};
 use crate::fault::CheckingFault;
 use indexmap::IndexSet;
 use std::alloc::Global;
+use std::mem;
 use vpg_diagram::Diagram;
 use vpg_formula::{Entry, Requirements};
 use vpg_game::GuardedGame;
 use vpg_meaning::laws::{requirements_are_positive, requirements_mean_what_is_written};
-use vpg_model::{Built, Source, build};
+use vpg_model::{Built, Source, build, sharpened};
 use vpg_normal::{Arena, parts_of};
 use vpg_part_texts::{Text, set_texts};
 use vpg_system::System;
@@ -58,16 +60,17 @@ fn is_named(entry: &Entry, name: &[u8]) -> bool
 
 impl Model {
     /// The game of a system and of the requirements that a text spells.
-    fn of(alloc: Global, system: &System, text: &[u8]) -> Result<Model, CheckingFault>
-        requires few_features { system.now.features ≤ 512 }
-        requires system { IsSystem system.now }
+    fn of(alloc: Global, system: System, text: &[u8]) -> Result<Model, CheckingFault>
+        requires few_features { system.features ≤ 512 }
+        requires system { IsSystem system }
         ensures spelled { IfOk result (λ _. (entries : List spec.Entry) × SpellsRequirements text.now entries) }
         ensures model { IfOk result (λ model. (lines : List Line) (entries : List spec.Entry) →
             SpellsRequirements text.now entries →
-            IsModelOfEntries lines system.now entries (graph_of model.game) model.roots.items) }
-        ensures features { IfOk result (λ model. model.game.features ≡ system.now.features) }
+            IsModelOfEntries lines system entries (graph_of model.game) model.roots.items) }
+        ensures features { IfOk result (λ model. model.game.features ≡ system.features) }
         ensures numbered { IfOk result (λ model. AreNumbered (vertex_ids model.game.vertices)) }
         ensures below { IfOk result (λ model. ¬ IsAtLimit model.game) }
+        ensures sharp { IfOk result (λ model. AreSharp model.game.features (graph_of model.game)) }
         ensures requirements { IfOk result (λ model. (entries : List spec.Entry) →
             SpellsRequirements text.now entries →
             entries_of model.requirements.entries.items ≡ marked entries) }
@@ -75,23 +78,27 @@ impl Model {
             SpellsRequirements text.now entries →
             AreNamed entries (earlier_of model.requirements.entries.items) model.roots.items) }
         ensures vertices { IfOk result (λ model. AreVerticesOf model.source.states.items model.source.sets.items
-            model.source.parts.items (map (pair_for model.source.parts.items system.now.first) model.places.items)
+            model.source.parts.items (map (pair_for model.source.parts.items system.first) model.places.items)
             model.pairs.keys model.roots.items (graph_of model.game)) }
         ensures sets { IfOk result (λ model.
-            model.sets.items ≡ map (set_text system.now.actions) model.source.sets.items) }
-        ensures refused { IfErr result (IsRequirementsFault system.now text.now) }
+            model.sets.items ≡ map (set_text system.actions) model.source.sets.items) }
+        ensures refused { IfErr result (IsRequirementsFault system text.now) }
     {
         requirements_are_positive();
         requirements_mean_what_is_written();
         let requirements = Requirements::read(alloc, text)?;
-        let Translation { sets, forms } = translate(alloc, system, &requirements)?;
+        let Translation { sets, forms } = translate(alloc, &system, &requirements)?;
         let Arena {
             parts,
             roots: places,
         } = parts_of(alloc, &forms)?;
-        let texts = set_texts(alloc, system, sets.as_slice())?;
-        let source = Source::of(alloc, system, sets, parts)?;
-        let Built { pairs, roots, game } = build(alloc, &source, system.first(), &places)?;
+        let texts = set_texts(alloc, &system, sets.as_slice())?;
+        let source = Source::of(alloc, &system, sets, parts)?;
+        let first = system.first();
+        // The source has all of the system that the game is made of.
+        mem::drop(system);
+        let Built { pairs, roots, game } = build(alloc, &source, first, &places)?;
+        let game = sharpened(alloc, game)?;
         Ok(Model {
             game,
             roots,
@@ -119,6 +126,8 @@ impl Model {
         ensures features { IfOk result (λ model. model.game.features ≡ feature_count diagram.now.lines) }
         ensures numbered { IfOk result (λ model. AreNumbered (vertex_ids model.game.vertices)) }
         ensures below { IfOk result (λ model. ¬ IsAtLimit model.game) }
+        // The three-valued value of each guard is known as early as it can be, unless the guard is too long for that.
+        ensures sharp { IfOk result (λ model. AreSharp model.game.features (graph_of model.game)) }
         ensures requirements { IfOk result (λ model. (entries : List spec.Entry) →
             SpellsRequirements requirements.now entries →
             entries_of model.requirements.entries.items ≡ marked entries) }
@@ -136,7 +145,7 @@ impl Model {
     {
         spelled_are_systems();
         let system = System::read(alloc, system, diagram.names())?;
-        Model::of(alloc, &system, requirements)
+        Model::of(alloc, system, requirements)
     }
 
     /// The vertex of the requirement of this name, if there is one.

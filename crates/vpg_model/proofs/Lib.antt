@@ -6,3 +6,5 @@ pub mod Preorder
 pub mod Made
 pub mod Sourced
 pub mod Decides
+pub mod SharpGames
+pub mod Alike

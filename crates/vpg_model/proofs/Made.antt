@@ -55,10 +55,10 @@ place_is ids k h l = ap (place_of ids) (from_zero k) ∙ place_from ids 0 k (λ 
 
 -- ---- edges
 
-abbrev edge_of : SpelledSuccessor → GuardedEdge Guard
+abbrev pub edge_of : SpelledSuccessor → GuardedEdge Guard
 edge_of s = record { to = s.id; guard = s.guard }
 
-joined_same : (ids : List ℕ) (edges : List (GuardedEdge Guard)) (ss : List SpelledSuccessor) → AreNumbered ids → All (λ (s : SpelledSuccessor). s.id < length ids) ss → joined_edges ids edges ss ≡ join_edges edges (map edge_of ss)
+pub joined_same : (ids : List ℕ) (edges : List (GuardedEdge Guard)) (ss : List SpelledSuccessor) → AreNumbered ids → All (λ (s : SpelledSuccessor). s.id < length ids) ss → joined_edges ids edges ss ≡ join_edges edges (map edge_of ss)
 joined_same ids edges [] h inside = refl
 joined_same ids edges (s ∷ ss) h inside = ap (λ (n : ℕ). joined_edges ids (join_edge edges (record { to = n; guard = s.guard })) ss) (place_is ids s.id h (inside 0 s (omega arith)))
     ∙ joined_same ids (join_edge edges (edge_of s)) ss h (λ k d l. inside (suc k) d (omega arith))

@@ -54,7 +54,7 @@ fn successors(
         (λ successors. AreSuccessors pairs.old.keys pairs.new.keys moves.items successors.items) }
     ensures refused { IfErr result (IsGrowthFault pairs.old.keys pairs.new.keys (targets moves.items)) }
 {
-    let mut successors = Vec::new(alloc);
+    let mut successors = Vec::with_capacity(alloc, moves.len())?;
     for step in moves {
         let Move { guard, to } = step;
         let at = place(pairs, to)?;

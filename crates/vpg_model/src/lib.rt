@@ -3,12 +3,13 @@
 //! [`Source::of`] takes a system that was read. [`build`] takes a [`Source`]: the states with their transitions, the
 //! sets of actions that requirements name, and the parts of the requirements. It returns the guarded game of what can
 //! be reached from the roots at the first state, in the order of a breadth-first search, or says which limit of games
-//! is passed. A vertex is a pair of two numbers: a state, and the place of a part.
+//! is passed. A vertex is a pair of two numbers: a state, and the place of a part. [`sharpened`] then writes guards so
+//! that their three-valued values are known as early as they can be.
 //!
 //! The definitions stand in `specs/`: `Pairs`, the game in words of pairs alone, and when it is refused; `Forms`, the
 //! system and the normal forms that the lists stand for; `Laws`, that the game is theirs, is a model of formulas, and
-//! decides them; `Sources`, a system that was read as the theorem's. `Departures` serves models, and `Searching`
-//! private contracts. This crate knows no products and no winning.
+//! decides them; `Sources`, a system that was read as the theorem's; `Sharpening`, games that differ in guards alone.
+//! `Departures` serves models, and `Searching` private contracts. This crate knows no products and no winning.
 #![tactic(auto)]
 
 mod building;
@@ -16,12 +17,14 @@ mod fault;
 pub mod laws;
 mod making;
 mod moves;
+mod sharpening;
 mod source;
 mod sourcing;
 
 pub use building::{Built, build};
 pub use fault::ModelFault;
 pub use moves::Move;
+pub use sharpening::sharpened;
 pub use source::{Source, State, Transition};
 
 #[cfg(test)]
