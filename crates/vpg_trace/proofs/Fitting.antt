@@ -1,9 +1,9 @@
 -- The transition that is told is one by which the move goes.
-use Rattle.std.proofs.Common.{◌≡◌, ℕ, zero, suc, ◌+◌, ◌<◌, ◌≤◌, ◌⊎◌, ◌&&◌, inl, inr, Bool, true, false, cond, List, [], ◌∷◌, length, get_or, Option, Some, None, Contains, refl, sym, ap, ap₂, ◌∙◌, subst, arith}
+use Rattle.std.proofs.Common.{◌≡◌, ℕ, ◌+◌, ◌<◌, ◌≤◌, ◌⊎◌, ◌&&◌, inl, inr, Bool, true, false, cond, List, [], ◌∷◌, length, get_or, Option, Some, None, Contains, refl, sym, ap, ap₂, ◌∙◌, subst, arith}
 use Rattle.std.specs.Prelude.{◌==◌, nat_lt, position, IfSome, IsSome, is_some}
 use Rattle.std.specs.List.{position_or_len}
 use Rattle.std.proofs.lemmas.Bool.{cases_Bool, cases_eq, and_parts, and_from, eqb-true, eq-eqb, ltb-false, lt-ltb, le-ltb, false≢true}
-use Rattle.std.proofs.lemmas.List.{get_or_default, get_or_read}
+use Rattle.std.proofs.lemmas.List.{get_or_read}
 use Rattle.std.proofs.lemmas.List.Quantifiers.{position-Some}
 use Rattle.std.proofs.lemmas.List.Sums.{position_or_len_is, fails_before_first}
 use Rattle.std.proofs.lemmas.Option.{same_Some}
@@ -17,7 +17,7 @@ use Rattle.vpg_parts.specs.Sets.{is_permitted}
 use Rattle.vpg_model.specs.Departures.{Departure}
 use Rattle.vpg_model.specs.Pairs.{pair_for, departures_at}
 use Rattle.vpg_trace.specs.declared.taking.Taken.{Taken}
-use Rattle.vpg_trace.specs.Taking.{IsStep, departure_at, first_fit, fits, is_pair, is_value, no_departure, taken_along, taken_at, taken_by, taken_from, taken_if_open, value_told}
+use Rattle.vpg_trace.specs.Taking.{IsStep, first_fit, fits, is_pair, is_value, no_departure, taken_along, taken_at, taken_by, taken_from, value_told}
 use Rattle.vpg_trace.specs.Telling.{IsTakenBy}
 
 -- ---- first places

@@ -1,5 +1,5 @@
 -- Each move from a box or a diamond goes by a transition, in the game of a system and requirements.
-use Rattle.std.proofs.Common.{◌≡◌, ℕ, zero, suc, ◌<◌, ◌≤◌, ◌⊎◌, inl, inr, Bool, true, false, List, [], ◌∷◌, length, get_or, map, Option, Contains, refl, sym, ap, ◌∙◌, subst, arith}
+use Rattle.std.proofs.Common.{◌≡◌, ℕ, zero, suc, ◌<◌, ◌≤◌, ◌⊎◌, inl, inr, Bool, true, false, List, [], ◌∷◌, length, get_or, map, Contains, refl, sym, ap, ◌∙◌, subst, arith}
 use Rattle.std.specs.Prelude.{filter, ◌==◌, IsSome, if◌then◌else◌}
 use Rattle.std.specs.List.{AllZip}
 use Rattle.std.proofs.lemmas.Bool.{cases_Bool, cases_lt, eqb-true, false≢true}
@@ -15,10 +15,9 @@ use Rattle.vpg_guards.specs.Known.{kleene, tri_or}
 use Rattle.vpg_guards.proofs.LawProofs.{joined_guards_mean_both}
 use Rattle.vpg_edges.specs.Edges.{GuardedEdge, join_edge}
 use Rattle.vpg_game.specs.Guarded.{GuardedVertex, GuardedGame, dual}
-use Rattle.vpg_hope.specs.Games.{Game, Vertex, HasEdge, isolated, successors_of}
-use Rattle.vpg_hope.specs.Hope.{cautious_game, keeps_in_hope, restrict}
+use Rattle.vpg_hope.specs.Games.{Vertex, HasEdge, isolated}
+use Rattle.vpg_hope.specs.Hope.{cautious_game, keeps_in_hope}
 use Rattle.vpg_hope.proofs.Edges.{Contains-cases, Contains-first, Contains-later, not_in_nil}
-use Rattle.vpg_measure.specs.TwoGames.{game_for}
 use Rattle.vpg_verdict.specs.declared.which.Which.{Which}
 use Rattle.vpg_verdict.specs.declared.which.Which.TheVariants.{Hopeful, Dual}
 use Rattle.vpg_why.specs.Moves.{caution_for}
@@ -29,10 +28,9 @@ use Rattle.vpg_parts.specs.declared.part.Part.TheVariants.{True, False, And, Or,
 use Rattle.vpg_parts.specs.Parts.{resolved_part}
 use Rattle.vpg_parts.specs.Sets.{is_permitted}
 use Rattle.vpg_model.specs.Departures.{Departure, PairMove}
-use Rattle.vpg_model.specs.Pairs.{AreEdges, IsPairEdge, IsPairGame, IsPairRow, departures_at, leaving_moves, moves_by, pair_at, pair_for, pair_moves}
+use Rattle.vpg_model.specs.Pairs.{IsPairEdge, IsPairRow, departures_at, leaving_moves, moves_by, pair_at, pair_for, pair_moves}
 use Rattle.vpg_trace.specs.Laws.{EachGameIsNoLess, IsNoLess, IsNoLessGame, IsNoLessVertex, MovesGoByTransitions}
-use Rattle.vpg_trace.specs.Taking.{IsStep, taken_along, taken_at, taken_from}
-use Rattle.vpg_trace.specs.Traces.{Moves}
+use Rattle.vpg_trace.specs.Taking.{IsStep, taken_along, taken_at}
 use Rattle.vpg_trace.proofs.Fitting.{some_along}
 use Rattle.vpg_trace.proofs.Moving.{filtered}
 

@@ -1,10 +1,9 @@
 -- What a walk shows, visit by visit.
-use Rattle.std.proofs.Common.{◌≡◌, ℕ, zero, suc, ◌+◌, ◌<◌, ◌≤◌, ◌⊎◌, ◌||◌, inl, inr, Bool, true, false, cond, List, [], ◌∷◌, ◌++◌, length, get_or, Option, Some, None, Contains, refl, sym, ap, ◌∙◌, subst, arith, append-nil}
-use Rattle.std.specs.Prelude.{◌≢◌, ◌==◌, nat_lt, position}
+use Rattle.std.proofs.Common.{◌≡◌, ℕ, zero, suc, ◌+◌, ◌<◌, ◌≤◌, ◌⊎◌, inl, inr, Bool, true, false, cond, List, [], ◌∷◌, ◌++◌, length, get_or, Option, Some, None, Contains, refl, sym, ap, ◌∙◌, subst, arith}
+use Rattle.std.specs.Prelude.{◌==◌, nat_lt, position}
 use Rattle.std.specs.List.{position_or_len}
-use Rattle.std.proofs.lemmas.Bool.{cases_Bool, cases_lt, eqb-true, eq-eqb, eqb-false, ltb-true, ltb-false, lt-ltb, or_cases, false≢true}
-use Rattle.std.proofs.lemmas.List.{get_or_append_left, get_or_push, get_or_past, length_push, length-append}
-use Rattle.std.proofs.lemmas.List.Elements.{Contains-append_left, Contains-append_right, Contains-append_cases}
+use Rattle.std.proofs.lemmas.Bool.{cases_Bool, cases_lt, eqb-true, eqb-false, ltb-false, or_cases, false≢true}
+use Rattle.std.proofs.lemmas.List.{get_or_append_left, get_or_push, get_or_past, length_push}
 use Rattle.std.proofs.lemmas.List.Quantifiers.{position-Some}
 use Rattle.std.proofs.lemmas.List.Sums.{fails_before_first}
 use Rattle.vpg_hope.specs.Games.{Game}
@@ -13,9 +12,9 @@ use Rattle.vpg_trace.specs.declared.walking.End.{End}
 use Rattle.vpg_trace.specs.declared.walking.End.TheVariants.{GoesOn, Loop, Seen, Stands, Cut}
 use Rattle.vpg_trace.specs.declared.walking.Visit.{Visit}
 use Rattle.vpg_trace.specs.declared.walking.Waiting.{Waiting}
-use Rattle.vpg_trace.specs.Traces.{ComesFrom, EndsAs, IsAbove, IsComplete, IsFirst, IsFollowed, IsTrace, Moves, same, back}
-use Rattle.vpg_trace.specs.Walks.{depth_before, end_of, end_where, first_visit, fresh_end, is_above, moves_from, no_visit, opened, visit_at, visit_before, visit_of, waiting_by, waiting_from}
-use Rattle.vpg_trace.proofs.Moving.{is_move, move_in}
+use Rattle.vpg_trace.specs.Traces.{ComesFrom, EndsAs, IsAbove, IsFirst, IsFollowed, Moves, same, back}
+use Rattle.vpg_trace.specs.Walks.{depth_before, end_of, end_where, first_visit, is_above, moves_from, no_visit, visit_at, visit_before, visit_of, waiting_by, waiting_from}
+use Rattle.vpg_trace.proofs.Moving.{move_in}
 
 -- ---- one visit more
 

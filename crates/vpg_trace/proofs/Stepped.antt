@@ -1,8 +1,8 @@
 -- The code of the walk, step by step.
-use Rattle.std.proofs.Common.{◌≡◌, ℕ, zero, suc, ◌+◌, ◌-◌, ◌<◌, ◌≤◌, true, List, [], ◌∷◌, ◌++◌, length, get_or, drop, reverse, Option, Some, None, refl, sym, ap, ap₂, ◌∙◌, subst, arith, append-nil, append_assoc}
+use Rattle.std.proofs.Common.{◌≡◌, ℕ, zero, suc, ◌+◌, ◌-◌, ◌<◌, ◌≤◌, true, List, [], ◌∷◌, ◌++◌, length, get_or, drop, reverse, Option, Some, refl, sym, ap, ap₂, ◌∙◌, arith}
 use Rattle.std.specs.Prelude.{Bool, ◌==◌, ◌||◌, not}
 use Rattle.std.proofs.lemmas.Bool.{ne_eqb}
-use Rattle.std.proofs.lemmas.List.{reverse-append, length-reverse, nil_from_length, drop_more, drop_all}
+use Rattle.std.proofs.lemmas.List.{reverse-append, nil_from_length, drop_more}
 use Rattle.vpg_hope.specs.Games.{Game}
 use Rattle.vpg_trace.specs.declared.walking.Visit.{Visit}
 use Rattle.vpg_trace.specs.declared.walking.Waiting.{Waiting}

@@ -1,24 +1,20 @@
 -- A step that is not marked is one of the system of each product that is left.
-use Rattle.std.proofs.Common.{◌≡◌, ℕ, ◌<◌, Bool, true, false, List, length, get_or, map, Contains, refl, sym, ap, ◌∙◌, subst}
+use Rattle.std.proofs.Common.{◌≡◌, ℕ, ◌<◌, Bool, true, List, length, get_or, Contains, sym, ap, ◌∙◌, subst}
 use Rattle.std.specs.Prelude.{filter, ◌==◌}
-use Rattle.std.proofs.lemmas.List.{get_or_default}
 use Rattle.std.proofs.lemmas.List.Elements.{Contains-get_or}
 use Rattle.vpg_guards.specs.declared.tri.Tri.{Tri}
 use Rattle.vpg_guards.specs.declared.tri.Tri.TheVariants.{Yes}
 use Rattle.vpg_guards.specs.Formula.{Formula as Guard, truth}
-use Rattle.vpg_guards.specs.Known.{Agrees, IsCompletion, kleene}
+use Rattle.vpg_guards.specs.Known.{Agrees, kleene}
 use Rattle.vpg_guards.proofs.Kleene.{known_values_hold}
 use Rattle.vpg_partial.proofs.Tables.{remaining_products_complete}
-use Rattle.vpg_parts.specs.declared.part.Part.{Part}
-use Rattle.vpg_requirement.specs.Systems.{Step, Transition, System, product_system}
+use Rattle.vpg_requirement.specs.Systems.{Transition, System, product_system}
 use Rattle.vpg_requirement.proofs.Steps.{contains_mapped}
 use Rattle.vpg_model.specs.Departures.{Departure}
-use Rattle.vpg_model.specs.Forms.{AreDepartures, transitions_from}
+use Rattle.vpg_model.specs.Forms.{AreDepartures}
 use Rattle.vpg_model.specs.Pairs.{departures_at}
-use Rattle.vpg_trace.specs.declared.taking.Taken.{Taken}
-use Rattle.vpg_trace.specs.Laws.{UnmarkedStepsAreThere, step_of}
+use Rattle.vpg_trace.specs.Laws.{UnmarkedStepsAreThere}
 use Rattle.vpg_trace.specs.Taking.{departure_at, no_departure, value_told}
-use Rattle.vpg_trace.specs.Telling.{IsTakenBy}
 use Rattle.vpg_trace.proofs.Moving.{filtered, kept}
 
 -- the transition with its source

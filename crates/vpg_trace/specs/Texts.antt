@@ -1,5 +1,5 @@
 -- The text of a walk: a line for each step of the system, and one for each end. This project's own.
-use Rattle.std.specs.Prelude.{◌≡◌, ℕ, zero, suc, ◌+◌, ◌&&◌, Bool, true, false, if◌then◌else◌, Option, Some, None, List, [], ◌∷◌, ◌++◌, length, codes, decimal, is_some, slice_index_or}
+use Rattle.std.specs.Prelude.{ℕ, zero, suc, ◌+◌, ◌&&◌, Bool, true, false, if◌then◌else◌, Option, Some, None, List, [], ◌∷◌, ◌++◌, length, codes, decimal, is_some, slice_index_or}
 use Rattle.vpg_guards.specs.declared.tri.Tri.{Tri}
 use Rattle.vpg_guards.specs.Formula.{Formula, always}
 use Rattle.vpg_guards.specs.Writing.{guard_text}
@@ -14,7 +14,7 @@ use Rattle.vpg_trace.specs.declared.walking.End.{End}
 use Rattle.vpg_trace.specs.declared.walking.End.TheVariants.{GoesOn, Loop, Seen, Stands, Cut}
 use Rattle.vpg_trace.specs.declared.walking.Visit.{Visit}
 use Rattle.vpg_trace.specs.Taking.{taken_from, departure_at}
-use Rattle.vpg_trace.specs.Walks.{visit_at, visit_before}
+use Rattle.vpg_trace.specs.Walks.{visit_at}
 
 -- two blanks for each side branch that it stands in
 abbrev pub indent : ℕ → List ℕ

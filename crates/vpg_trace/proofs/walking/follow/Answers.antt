@@ -1,4 +1,4 @@
-use Rattle.std.proofs.Common.{◌≡◌, ◌++◌, ◌∷◌, [], List, ap, length, reverse, rules, vec_len, ◌∙◌}
+use Rattle.std.proofs.Common.{◌≡◌, ◌++◌, [], List, ap, length, reverse, rules, vec_len, ◌∙◌}
 use Rattle.std.specs.Prelude.{not}
 use Rattle.vpg_trace.specs.declared.walking.Waiting.{Waiting}
 use Rattle.vpg_trace.specs.Walks.{is_left, start_at, walk, walked}
