@@ -5,5 +5,4 @@ pub mod Whole
 pub mod Refused
 pub mod Found
 pub mod Named
-pub mod Paired
 pub mod Still

@@ -59,7 +59,7 @@ pub struct Source {
 
 impl Source {
     /// The part at a place. Where there is none, it is `false`.
-    pub(crate) fn part(&self, place: u32) -> Part
+    pub fn part(&self, place: u32) -> Part
         ensures { result ≡ part_at self.now.parts.items place }
     {
         match self.parts.get(place as usize) {
@@ -69,7 +69,7 @@ impl Source {
     }
 
     /// Whether a set has an action.
-    pub(crate) fn is_permitted(&self, set: u32, action: u32) -> bool
+    pub fn is_permitted(&self, set: u32, action: u32) -> bool
         ensures { result ≡ is_permitted self.now.sets.items set action }
     {
         match self.sets.get(set as usize) {
@@ -82,7 +82,7 @@ impl Source {
     }
 
     /// The vertex of a part at a state.
-    pub(crate) fn pair_for(&self, state: u32, place: u32) -> (u32, u32)
+    pub fn pair_for(&self, state: u32, place: u32) -> (u32, u32)
         ensures { result ≡ pair_for self.now.parts.items state place }
     {
         match self.part(place) {
@@ -94,7 +94,7 @@ impl Source {
     }
 
     /// The part that decides at a place: for a variable it is the fixpoint.
-    pub(crate) fn resolved_part(&self, place: u32) -> Part
+    pub fn resolved_part(&self, place: u32) -> Part
         ensures { result ≡ resolved_part self.now.parts.items place }
     {
         match self.part(place) {

@@ -7,7 +7,6 @@ use Rattle.vpg_checking.proofs.Lists.{below_limit}
 use Rattle.vpg_formula.specs.Requirements.{Marked, names_of}
 use Rattle.vpg_checking.specs.Checking.{AreNamed}
 use Rattle.vpg_checking.proofs.Named.{are_named}
-use Rattle.vpg_checking.proofs.Paired.{are_vertices}
 use Rattle.vpg_checking.proofs.Whole.{few_forms, some_roots, found, none_found}
 use Rattle.vpg_checking.proofs.Refused.{game_refused}
 use Rattle.vpg_checking.proofs.Still.{still_model_of}
@@ -71,10 +70,14 @@ returns-clause-named c = λ entries spelled.
 pub returns-clause-vertices : goal.returns-clause-vertices
 returns-clause-vertices c =
     let same_roots : c.deref-2.result.now ≡ c.in_ok-parts.field-0.roots.items = rw (c.deref-2.ensures.value, c.in_ok-parts.places-is) refl in
-    let built = are_vertices c.in_ok-source.source.states.items c.in_ok-source.source.sets.items c.in_ok-source.source.parts.items c.args.system.first c.in_ok-parts.field-0.roots.items c.deref-2.result.now c.in_ok-pairs.field-0.pairs.keys c.in_ok-pairs.field-0.roots.items (graph_of c.in_ok-pairs.field-0.game) same_roots
-            (subst (λ (first : ℕ). IsPairGame c.in_ok-source.source.states.items c.in_ok-source.source.sets.items c.in_ok-source.source.parts.items (map (pair_for c.in_ok-source.source.parts.items first) c.deref-2.result.now) c.in_ok-pairs.field-0.pairs.keys c.in_ok-pairs.field-0.roots.items (graph_of c.in_ok-pairs.field-0.game))
-            c.first-first.ensures c.in_ok-pairs.ensures.pairs) in
-    record { built = built.built; is_built = built.is_built; alike = c.in_ok-game.ensures.same }
+    record {
+      built = graph_of c.in_ok-pairs.field-0.game;
+      is_built = subst (λ (ks : List ℕ). IsPairGame c.in_ok-source.source.states.items c.in_ok-source.source.sets.items c.in_ok-source.source.parts.items (map (pair_for c.in_ok-source.source.parts.items c.args.system.first) ks) c.in_ok-pairs.field-0.pairs.keys c.in_ok-pairs.field-0.roots.items (graph_of c.in_ok-pairs.field-0.game))
+          same_roots
+          (subst (λ (first : ℕ). IsPairGame c.in_ok-source.source.states.items c.in_ok-source.source.sets.items c.in_ok-source.source.parts.items (map (pair_for c.in_ok-source.source.parts.items first) c.deref-2.result.now) c.in_ok-pairs.field-0.pairs.keys c.in_ok-pairs.field-0.roots.items (graph_of c.in_ok-pairs.field-0.game))
+          c.first-first.ensures c.in_ok-pairs.ensures.pairs);
+      alike = c.in_ok-game.ensures.same;
+    }
 
 pub returns-clause-sharp : goal.returns-clause-sharp
 returns-clause-sharp c = subst (λ (n : ℕ). AreSharp n (graph_of c.in_ok-game.game)) (sym c.in_ok-game.ensures.features) c.in_ok-game.ensures.sharp

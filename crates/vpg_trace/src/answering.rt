@@ -1,0 +1,251 @@
+//! The answer of a trace: how a page's verdict at a vertex comes about.
+ghost use Rattle.std.specs.Arc.{arc_value};
+ghost use Rattle.std.specs.Prelude.{◌≡◌, ◌↔◌, ◌<◌, ◌++◌, IfOk, IsTrue, OnOk, length, slice_index};
+ghost use Rattle.vpg_game.specs.Game.{graph_of, vertex_ids};
+ghost use Rattle.vpg_measure.specs.Games.{ArePageGames};
+ghost use Rattle.vpg_measure.specs.Orders.{order_table, other_table};
+ghost use Rattle.vpg_measure.specs.TwoGames.{top_for};
+ghost use Rattle.vpg_model.specs.Forms.{HasLabels};
+ghost use Rattle.vpg_model.specs.Pairs.{HaveGuards};
+ghost use Rattle.vpg_why.specs.Explained.{choices};
+ghost use Rattle.vpg_why.specs.Moves.{caution_for};
+ghost use Rattle.vpg_trace.specs.Answering.{Appends, TellsTrace, TellsWon, IsWalkTold, behaviour_of, head_line, neither_line, page_of, unsettled_line, walk_along};
+ghost use Rattle.vpg_trace.specs.Texts.{family_of, trace_text};
+ghost use Rattle.vpg_trace.specs.Walks.{is_left};
+
+use crate::walking::follow;
+use crate::writing::{put_number, put_trace};
+use indexmap::IndexSet;
+use std::alloc::{AllocError, Global};
+use vpg_game::GuardedGame;
+use vpg_hope::Arena;
+use vpg_measure::{Order, PageGames};
+use vpg_model::Source;
+use vpg_partial::Partial;
+use vpg_system::System;
+use vpg_verdict::Which;
+use vpg_why::{Limits, Moves, winning_moves};
+
+/// Whether the page's table has the top at the vertex.
+fn has_top(order: &Order, which: Which, vertex: u32) -> bool
+    requires { vertex < length order.now.game.vertices }
+    ensures { IsTrue result ↔
+        (slice_index (order_table which order.now) vertex ≡ top_for which (graph_of order.now.game)) }
+{
+    order.table(which).get(vertex) == order.shape(which).top()
+}
+
+/// The table whose top says that the player of this one wins.
+fn other_table(which: Which) -> Which
+    ensures { result ≡ other_table which }
+{
+    match which {
+        Which::Hopeful => Which::Dual,
+        Which::Dual => Which::Hopeful,
+    }
+}
+
+/// The cautious game of a player, who stands as Even there.
+fn caution(
+    alloc: Global,
+    game: &GuardedGame,
+    known: &Partial,
+    which: Which,
+) -> Result<Arena, AllocError>
+    requires { length known.now ≡ game.now.features }
+    ensures { IfOk result (λ arena. arena ≡ caution_for known.now which (graph_of game.now)) }
+{
+    match which {
+        Which::Hopeful => Arena::cautious(alloc, game, known),
+        Which::Dual => Arena::cautious_of_dual(alloc, game, known),
+    }
+}
+
+/// Appends the line of a verdict.
+fn put_head(verdict: Which, identifier: u32, out: &mut Vec<u8>) -> Result<(), AllocError>
+    ensures { OnOk result (out.new.items ≡ out.old.items ++ head_line verdict identifier) }
+{
+    match verdict {
+        Which::Hopeful => out.extend_from_slice(b"hopeless ")?,
+        Which::Dual => out.extend_from_slice(b"sure ")?,
+    }
+    put_number(identifier as u64, out)?;
+    out.extend_from_slice(b"\n")
+}
+
+/// Appends that a vertex is neither hopeless nor sure.
+fn put_neither(identifier: u32, out: &mut Vec<u8>) -> Result<(), AllocError>
+    ensures { OnOk result (out.new.items ≡ out.old.items ++ neither_line identifier) }
+{
+    out.extend_from_slice(b"possible ")?;
+    put_number(identifier as u64, out)?;
+    out.extend_from_slice(b" unsure\n")
+}
+
+fn put_unsettled(out: &mut Vec<u8>) -> Result<(), AllocError>
+    ensures { OnOk result (out.new.items ≡ out.old.items ++ unsettled_line) }
+{
+    out.extend_from_slice(b"unsettled\n")
+}
+
+/// The identifier of a vertex.
+fn identifier(order: &Order, vertex: u32) -> u32
+    requires { vertex < length order.now.game.vertices }
+    ensures { result ≡ slice_index (vertex_ids order.now.game.vertices) vertex }
+{
+    order.game().id(vertex)
+}
+
+/// Appends the walk along these moves of a player, under what the page's decisions make known.
+fn put_walk(
+    alloc: Global,
+    order: &Order,
+    games: &PageGames,
+    system: &System,
+    source: &Source,
+    pairs: &IndexSet<(u32, u32)>,
+    mover: Which,
+    vertex: u32,
+    moves: &[Option<u32>],
+    out: &mut Vec<u8>,
+) -> Result<(), AllocError>
+    requires games { ArePageGames order.now.game order.now.diagram (choices order.now.decisions) games.now }
+    requires guards { HaveGuards order.now.game.features source.now.states.items }
+    requires labels { HasLabels (length system.now.actions) source.now.states.items }
+    ensures { OnOk result (out.new.items ≡ out.old.items
+        ++ trace_text (family_of order.now.diagram.names system.now.actions games.now.known source.now.states.items
+        source.now.sets.items source.now.parts.items pairs.now.keys)
+        (walk_along (page_of order.now) games.now.known mover vertex moves.now).visits
+        (is_left (walk_along (page_of order.now) games.now.known mover vertex moves.now).waiting)) }
+{
+    let known = games.known();
+    let arena = caution(alloc, order.game(), known, mover)?;
+    let trace = follow(alloc, &arena, moves, vertex)?;
+    put_trace(
+        alloc,
+        order.diagram().names(),
+        system,
+        source,
+        pairs,
+        known.values(),
+        &trace,
+        out,
+    )
+}
+
+/// Appends the verdict by which a player wins, and the walk along these moves.
+fn put_won(
+    alloc: Global,
+    order: &Order,
+    system: &System,
+    source: &Source,
+    pairs: &IndexSet<(u32, u32)>,
+    mover: Which,
+    vertex: u32,
+    moves: &[Option<u32>],
+    out: &mut Vec<u8>,
+) -> Result<(), AllocError>
+    requires vertex { vertex < length order.now.game.vertices }
+    requires guards { HaveGuards order.now.game.features source.now.states.items }
+    requires labels { HasLabels (length system.now.actions) source.now.states.items }
+    ensures { OnOk result (IsWalkTold (page_of order.now) (behaviour_of system.now.actions source.now.states.items
+        source.now.sets.items source.now.parts.items pairs.now.keys) mover vertex moves.now out.old.items
+        out.new.items) }
+{
+    put_head(other_table(mover), identifier(order, vertex), out)?;
+    put_walk(
+        alloc,
+        order,
+        order.games(),
+        system,
+        source,
+        pairs,
+        mover,
+        vertex,
+        moves,
+        out,
+    )
+}
+
+/// Appends how a player wins, where the page says so: Even for the first table, Odd for the second.
+fn won(
+    alloc: Global,
+    order: &Order,
+    system: &System,
+    source: &Source,
+    pairs: &IndexSet<(u32, u32)>,
+    mover: Which,
+    vertex: u32,
+    limits: Limits,
+    out: &mut Vec<u8>,
+) -> Result<(), AllocError>
+    requires vertex { vertex < length order.now.game.vertices }
+    requires verdict { slice_index (order_table (other_table mover) order.now) vertex ≡
+        top_for (other_table mover) (graph_of order.now.game) }
+    requires guards { HaveGuards order.now.game.features source.now.states.items }
+    requires labels { HasLabels (length system.now.actions) source.now.states.items }
+    ensures { OnOk result (Appends (TellsWon (page_of order.now) (behaviour_of system.now.actions
+        source.now.states.items source.now.sets.items source.now.parts.items pairs.now.keys) limits mover vertex)
+        out.old.items out.new.items) }
+{
+    match winning_moves(alloc, order, mover, vertex, limits)? {
+        Moves::Winning(moves) => put_won(
+            alloc, order, system, source, pairs, mover, vertex, &moves, out,
+        ),
+        Moves::Nothing => unreachable!(),
+        Moves::Unsettled => put_unsettled(out),
+    }
+}
+
+/// Appends how the verdict of a page at a vertex comes about: where it is hopeless a walk along moves of Odd that win
+/// in each product that is left, where it is sure one along moves of Even. Or that it is neither, or that the limits
+/// leave no room.
+///
+/// The game is that of the system and of the requirements that the source has; the pairs are its vertices. The first
+/// line is the verdict, `hopeless 0` or `sure 0`; the walk follows, as of `put_trace`, up to the line `steps 12`. Else
+/// there is one line: `possible 0 unsure`, or `unsettled`. The one error is want of memory.
+pub fn put_answer(
+    alloc: Global,
+    order: &Order,
+    system: &System,
+    source: &Source,
+    pairs: &IndexSet<(u32, u32)>,
+    vertex: u32,
+    limits: Limits,
+    out: &mut Vec<u8>,
+) -> Result<(), AllocError>
+    requires vertex { vertex < length order.now.game.vertices }
+    requires guards { HaveGuards order.now.game.features source.now.states.items }
+    requires labels { HasLabels (length system.now.actions) source.now.states.items }
+    ensures { OnOk result (Appends (TellsTrace (page_of order.now) (behaviour_of system.now.actions
+        source.now.states.items source.now.sets.items source.now.parts.items pairs.now.keys) limits vertex)
+        out.old.items out.new.items) }
+{
+    if has_top(order, Which::Hopeful, vertex) {
+        won(
+            alloc,
+            order,
+            system,
+            source,
+            pairs,
+            Which::Dual,
+            vertex,
+            limits,
+            out,
+        )
+    } else if has_top(order, Which::Dual, vertex) {
+        won(
+            alloc,
+            order,
+            system,
+            source,
+            pairs,
+            Which::Hopeful,
+            vertex,
+            limits,
+            out,
+        )
+    } else {
+        put_neither(identifier(order, vertex), out)
+    }
+}

@@ -1,0 +1,481 @@
+//! The text of a walk.
+ghost use Rattle.std.specs.Prelude.{◌≡◌, ◌<◌, ◌++◌, ℕ, List, IfSome, OnErr, OnOk, decimal, length};
+ghost use Rattle.vpg_guards.specs.Formula.{IsBelow};
+ghost use Rattle.vpg_guards.specs.View.{formula_of};
+ghost use Rattle.vpg_model.specs.Forms.{HasLabels};
+ghost use Rattle.vpg_model.specs.Pairs.{HaveGuards, departures_at};
+ghost use Rattle.vpg_trace.specs.Taking.{departure_at};
+ghost use Rattle.vpg_trace.specs.Texts.{action_if, all_permitted, arrow_text, asked_text, cut_text, end_text, family_of, guard_part, indent, mark_text, missing_text, permitted_text, return_line, standing_line, standing_text, state_of, step_from, step_line, step_text, steps_in, trace_text, unmoved_text, visit_text, visits_text};
+
+use crate::taking::{Taken, pair_of, step_between};
+use crate::walking::{End, Trace, Visit, visit_at};
+use indexmap::IndexSet;
+use itoa::Buffer;
+use std::alloc::{AllocError, Global};
+use vpg_guards::{Guard, Names, Tri};
+use vpg_model::{Source, Transition};
+use vpg_parts::Part;
+use vpg_system::System;
+
+/// Appends a number in decimal.
+pub(crate) fn put_number(n: u64, out: &mut Vec<u8>) -> Result<(), AllocError>
+    ensures { OnOk result (out.new.items ≡ out.old.items ++ decimal n) }
+{
+    let mut buffer = Buffer::new();
+    out.extend_from_slice(buffer.format(n).as_bytes())
+}
+
+/// Appends two blanks for each side branch.
+fn put_indent(depth: u32, out: &mut Vec<u8>) -> Result<(), AllocError>
+    ensures { OnOk result (out.new.items ≡ out.old.items ++ indent depth) }
+{
+    for _ in 0..depth {
+        out.extend_from_slice(b"  ")?;
+    }
+    Ok(())
+}
+
+/// Appends a guard in brackets, unless it is always true.
+fn put_guard(
+    alloc: Global,
+    names: &Names,
+    guard: &Guard,
+    out: &mut Vec<u8>,
+) -> Result<(), AllocError>
+    requires { IsBelow (length names.now) (formula_of guard.now) }
+    ensures { OnOk result (out.new.items ≡ out.old.items ++ guard_part names.now (formula_of guard.now)) }
+{
+    match guard {
+        Guard::Always => Ok(()),
+        _ => {
+            out.extend_from_slice(b"[")?;
+            guard.write(alloc, names, out)?;
+            out.extend_from_slice(b"]")
+        }
+    }
+}
+
+/// Appends the action of a transition with its guard, and the state where it leads.
+fn put_arrow(
+    alloc: Global,
+    names: &Names,
+    system: &System,
+    transition: &Transition,
+    out: &mut Vec<u8>,
+) -> Result<(), AllocError>
+    requires guard { IsBelow (length names.now) transition.now.guard }
+    requires action { transition.now.action < length system.now.actions }
+    ensures { OnOk result (out.new.items ≡ out.old.items
+        ++ arrow_text names.now system.now.actions transition.now) }
+{
+    out.extend_from_slice(b" -")?;
+    out.extend_from_slice(system.action_name(transition.action as usize))?;
+    put_guard(alloc, names, &transition.guard, out)?;
+    out.extend_from_slice(b"-> ")?;
+    put_number(transition.target as u64, out)
+}
+
+/// Appends what marks a step that is not one of each product that is left, and ends the line.
+fn put_mark(depends: bool, out: &mut Vec<u8>) -> Result<(), AllocError>
+    ensures { OnOk result (out.new.items ≡ out.old.items ++ mark_text depends) }
+{
+    if depends {
+        out.extend_from_slice(b" depends\n")
+    } else {
+        out.extend_from_slice(b"\n")
+    }
+}
+
+/// The transition that is taken.
+fn transition_of(source: &Source, taken: Taken) -> &Transition
+    requires { taken.index < length (departures_at source.now.states.items taken.state) }
+    ensures { result.now ≡ departure_at source.now.states.items taken }
+{
+    &source.states[taken.state as usize].transitions[taken.index]
+}
+
+/// Appends the line of a step.
+fn put_step(
+    alloc: Global,
+    names: &Names,
+    system: &System,
+    source: &Source,
+    depth: u32,
+    taken: Taken,
+    out: &mut Vec<u8>,
+) -> Result<(), AllocError>
+    requires guards { HaveGuards (length names.now) source.now.states.items }
+    requires labels { HasLabels (length system.now.actions) source.now.states.items }
+    requires within { taken.index < length (departures_at source.now.states.items taken.state) }
+    ensures { OnOk result (out.new.items ≡ out.old.items
+        ++ step_line names.now system.now.actions source.now.states.items depth taken) }
+{
+    put_indent(depth, out)?;
+    put_number(taken.state as u64, out)?;
+    put_arrow(alloc, names, system, transition_of(source, taken), out)?;
+    put_mark(taken.depends, out)
+}
+
+/// Whether a set has all actions of a system.
+fn has_all(system: &System, source: &Source, set: u32) -> bool
+    ensures { result ≡ all_permitted source.now.sets.items set (length system.now.actions) }
+{
+    let mut has = true;
+    for action in 0..system.actions() {
+        has = has && source.is_permitted(set, action as u32);
+    }
+    has
+}
+
+/// Appends the name of an action, if a set has it.
+fn put_action_if(
+    system: &System,
+    action: usize,
+    is_permitted: bool,
+    out: &mut Vec<u8>,
+) -> Result<(), AllocError>
+    requires { action < length system.now.actions }
+    ensures { OnOk result (out.new.items ≡ out.old.items ++ action_if system.now.actions action is_permitted) }
+{
+    if is_permitted {
+        out.push(b' ')?;
+        out.extend_from_slice(system.action_name(action))?;
+    }
+    Ok(())
+}
+
+/// Appends the names of the actions that a set has.
+fn put_permitted(
+    system: &System,
+    source: &Source,
+    set: u32,
+    out: &mut Vec<u8>,
+) -> Result<(), AllocError>
+    ensures { OnOk result (out.new.items ≡ out.old.items
+        ++ permitted_text system.now.actions source.now.sets.items set (length system.now.actions)) }
+{
+    for action in 0..system.actions() {
+        let is_permitted = source.is_permitted(set, action as u32);
+        put_action_if(system, action, is_permitted, out)?;
+    }
+    Ok(())
+}
+
+/// Appends what was asked for: any step, or one of a set's actions.
+fn put_asked(
+    system: &System,
+    source: &Source,
+    set: u32,
+    out: &mut Vec<u8>,
+) -> Result<(), AllocError>
+    ensures { OnOk result (out.new.items ≡ out.old.items
+        ++ asked_text system.now.actions source.now.sets.items set) }
+{
+    if has_all(system, source, set) {
+        out.extend_from_slice(b" step")
+    } else {
+        put_permitted(system, source, set, out)
+    }
+}
+
+/// Appends that no step that was asked for is there.
+fn put_missing(
+    system: &System,
+    source: &Source,
+    state: u32,
+    set: u32,
+    out: &mut Vec<u8>,
+) -> Result<(), AllocError>
+    ensures { OnOk result (out.new.items ≡ out.old.items
+        ++ missing_text system.now.actions source.now.sets.items state set) }
+{
+    out.extend_from_slice(b"no")?;
+    put_asked(system, source, set, out)?;
+    out.extend_from_slice(b" from ")?;
+    put_number(state as u64, out)
+}
+
+/// Appends that there is no move within a requirement.
+fn put_unmoved(state: u32, out: &mut Vec<u8>) -> Result<(), AllocError>
+    ensures { OnOk result (out.new.items ≡ out.old.items ++ unmoved_text state) }
+{
+    out.extend_from_slice(b"no move from ")?;
+    put_number(state as u64, out)
+}
+
+/// Appends what stands where nobody moves.
+fn put_standing(
+    system: &System,
+    source: &Source,
+    state: u32,
+    part: Part,
+    out: &mut Vec<u8>,
+) -> Result<(), AllocError>
+    ensures { OnOk result (out.new.items ≡ out.old.items
+        ++ standing_text system.now.actions source.now.sets.items state part) }
+{
+    match part {
+        Part::True => out.extend_from_slice(b"true"),
+        Part::False => out.extend_from_slice(b"false"),
+        Part::SomeStep(set, _) | Part::EveryStep(set, _) => {
+            put_missing(system, source, state, set, out)
+        }
+        Part::And(_, _) | Part::Or(_, _) | Part::Fixpoint { .. } | Part::Variable { .. } => {
+            put_unmoved(state, out)
+        }
+    }
+}
+
+/// Appends what stands at a pair where nobody moves, as a line.
+fn put_standing_line(
+    system: &System,
+    source: &Source,
+    depth: u32,
+    pair: (u32, u32),
+    out: &mut Vec<u8>,
+) -> Result<(), AllocError>
+    ensures { OnOk result (out.new.items ≡ out.old.items
+        ++ standing_line system.now.actions source.now.sets.items source.now.parts.items depth pair) }
+{
+    put_indent(depth, out)?;
+    put_standing(system, source, pair.0, source.resolved_part(pair.1), out)?;
+    out.extend_from_slice(b"\n")
+}
+
+/// The state of a visit.
+fn state_of(pairs: &IndexSet<(u32, u32)>, visits: &[Visit], k: usize) -> u32
+    ensures { result ≡ state_of pairs.now.keys visits.now k }
+{
+    pair_of(pairs, visit_at(visits, k).vertex).0
+}
+
+/// Appends that a visit ends at the state of another one, as a line.
+fn put_return(depth: u32, word: &[u8], state: u32, out: &mut Vec<u8>) -> Result<(), AllocError>
+    ensures { OnOk result (out.new.items ≡ out.old.items ++ return_line depth word.now state) }
+{
+    put_indent(depth, out)?;
+    out.extend_from_slice(word)?;
+    put_number(state as u64, out)?;
+    out.extend_from_slice(b"\n")
+}
+
+/// Appends how a visit ends, unless it goes on.
+fn put_end(
+    system: &System,
+    source: &Source,
+    pairs: &IndexSet<(u32, u32)>,
+    visits: &[Visit],
+    visit: Visit,
+    out: &mut Vec<u8>,
+) -> Result<(), AllocError>
+    ensures { OnOk result (out.new.items ≡ out.old.items ++ end_text system.now.actions source.now.sets.items
+        source.now.parts.items pairs.now.keys visits.now visit.depth visit.vertex visit.end) }
+{
+    match visit.end {
+        End::GoesOn => Ok(()),
+        End::Loop(k) => put_return(visit.depth, b"loop to ", state_of(pairs, visits, k), out),
+        End::Seen(k) => put_return(visit.depth, b"seen ", state_of(pairs, visits, k), out),
+        End::Stands => put_standing_line(
+            system,
+            source,
+            visit.depth,
+            pair_of(pairs, visit.vertex),
+            out,
+        ),
+        End::Cut => {
+            put_indent(visit.depth, out)?;
+            out.extend_from_slice(b"cut\n")
+        }
+    }
+}
+
+/// The transition by which a visit is come to, if it is by one.
+fn step_to(
+    source: &Source,
+    pairs: &IndexSet<(u32, u32)>,
+    known: &[Tri],
+    visits: &[Visit],
+    visit: Visit,
+) -> Option<Taken>
+    requires { HaveGuards (length known.now) source.now.states.items }
+    ensures within { IfSome result (λ taken.
+        taken.index < length (departures_at source.now.states.items taken.state)) }
+    ensures step { result ≡ step_from known.now source.now.states.items source.now.sets.items source.now.parts.items
+        pairs.now.keys visits.now visit.before visit.vertex }
+{
+    match visit.before {
+        Some(p) => step_between(
+            source,
+            pairs,
+            known,
+            visit_at(visits, p).vertex,
+            visit.vertex,
+        ),
+        None => None,
+    }
+}
+
+/// Appends the line of a step, if there is one.
+fn put_step_if(
+    alloc: Global,
+    names: &Names,
+    system: &System,
+    source: &Source,
+    depth: u32,
+    step: Option<Taken>,
+    out: &mut Vec<u8>,
+) -> Result<(), AllocError>
+    requires guards { HaveGuards (length names.now) source.now.states.items }
+    requires labels { HasLabels (length system.now.actions) source.now.states.items }
+    requires within { IfSome step (λ taken.
+        taken.index < length (departures_at source.now.states.items taken.state)) }
+    ensures { OnOk result (out.new.items ≡ out.old.items
+        ++ step_text names.now system.now.actions source.now.states.items depth step) }
+{
+    match step {
+        Some(taken) => put_step(alloc, names, system, source, depth, taken, out),
+        None => Ok(()),
+    }
+}
+
+/// Appends the lines of a visit: of the step by which it is come to, and of its end.
+fn put_visit(
+    alloc: Global,
+    names: &Names,
+    system: &System,
+    source: &Source,
+    pairs: &IndexSet<(u32, u32)>,
+    known: &[Tri],
+    visits: &[Visit],
+    visit: Visit,
+    out: &mut Vec<u8>,
+) -> Result<(), AllocError>
+    requires guards { HaveGuards (length names.now) source.now.states.items }
+    requires labels { HasLabels (length system.now.actions) source.now.states.items }
+    requires known { length known.now ≡ length names.now }
+    ensures { OnOk result (out.new.items ≡ out.old.items ++ visit_text (family_of names.now system.now.actions known.now
+        source.now.states.items source.now.sets.items source.now.parts.items pairs.now.keys) visits.now visit) }
+{
+    let step = step_to(source, pairs, known, visits, visit);
+    put_step_if(alloc, names, system, source, visit.depth, step, out)?;
+    put_end(system, source, pairs, visits, visit, out)
+}
+
+/// Appends the lines of all visits.
+fn put_visits(
+    alloc: Global,
+    names: &Names,
+    system: &System,
+    source: &Source,
+    pairs: &IndexSet<(u32, u32)>,
+    known: &[Tri],
+    visits: &[Visit],
+    out: &mut Vec<u8>,
+) -> Result<(), AllocError>
+    requires guards { HaveGuards (length names.now) source.now.states.items }
+    requires labels { HasLabels (length system.now.actions) source.now.states.items }
+    requires known { length known.now ≡ length names.now }
+    ensures { OnOk result (out.new.items ≡ out.old.items
+        ++ visits_text (family_of names.now system.now.actions known.now source.now.states.items
+        source.now.sets.items source.now.parts.items pairs.now.keys) visits.now (length visits.now)) }
+{
+    for i in 0..visits.len() {
+        let visit = visit_at(visits, i);
+        put_visit(
+            alloc, names, system, source, pairs, known, visits, visit, out,
+        )?;
+    }
+    Ok(())
+}
+
+/// How many visits are come to by a step of the system.
+fn steps_in(source: &Source, pairs: &IndexSet<(u32, u32)>, known: &[Tri], visits: &[Visit]) -> usize
+    requires { HaveGuards (length known.now) source.now.states.items }
+    ensures { (features actions : List (List ℕ)) → result ≡ steps_in (family_of features actions known.now
+        source.now.states.items source.now.sets.items source.now.parts.items pairs.now.keys) visits.now
+        (length visits.now) }
+{
+    let mut count = 0;
+    for i in 0..visits.len() {
+        if step_to(source, pairs, known, visits, visit_at(visits, i)).is_some() {
+            count += 1;
+        }
+    }
+    count
+}
+
+/// Appends whether a walk was cut, and ends the line.
+fn put_cut(is_cut: bool, out: &mut Vec<u8>) -> Result<(), AllocError>
+    ensures { OnOk result (out.new.items ≡ out.old.items ++ cut_text is_cut) }
+{
+    if is_cut {
+        out.extend_from_slice(b" cut\n")
+    } else {
+        out.extend_from_slice(b"\n")
+    }
+}
+
+/// Appends the text of a walk: the lines of its visits, and how many steps of the system they are.
+fn put(
+    alloc: Global,
+    names: &Names,
+    system: &System,
+    source: &Source,
+    pairs: &IndexSet<(u32, u32)>,
+    known: &[Tri],
+    trace: &Trace,
+    out: &mut Vec<u8>,
+) -> Result<(), AllocError>
+    requires guards { HaveGuards (length names.now) source.now.states.items }
+    requires labels { HasLabels (length system.now.actions) source.now.states.items }
+    requires known { length known.now ≡ length names.now }
+    ensures { OnOk result (out.new.items ≡ out.old.items
+        ++ trace_text (family_of names.now system.now.actions known.now source.now.states.items
+        source.now.sets.items source.now.parts.items pairs.now.keys) trace.now.visits.items trace.now.is_cut) }
+{
+    put_visits(
+        alloc,
+        names,
+        system,
+        source,
+        pairs,
+        known,
+        &trace.visits,
+        out,
+    )?;
+    out.extend_from_slice(b"steps ")?;
+    put_number(steps_in(source, pairs, known, &trace.visits) as u64, out)?;
+    put_cut(trace.is_cut, out)
+}
+
+/// Writes a walk behind what is there, over the features of these names. A refusal writes nothing.
+///
+/// Each visit that is come to by a transition of the system has a line, as `0 -pay[paid]-> 1`: the state that it
+/// leaves, its action, its guard unless that is always true, the state where it leads, and ` depends` where the guard
+/// is open under what is known. Moves within the requirement have none. Where a visit doesn't go on there is a line
+/// with the end: `loop to 1` and `seen 1` name the state of the visit to which the walk is back or which was seen,
+/// `no tea from 1` what was asked for and is not there, `true` and `false` the part that is reached, `cut` that the
+/// walk doesn't go on. Side branches stand two blanks further to the right. The last line has the number of steps.
+pub fn put_trace(
+    alloc: Global,
+    names: &Names,
+    system: &System,
+    source: &Source,
+    pairs: &IndexSet<(u32, u32)>,
+    known: &[Tri],
+    trace: &Trace,
+    out: &mut Vec<u8>,
+) -> Result<(), AllocError>
+    requires guards { HaveGuards (length names.now) source.now.states.items }
+    requires labels { HasLabels (length system.now.actions) source.now.states.items }
+    requires known { length known.now ≡ length names.now }
+    ensures ok { OnOk result (out.new.items ≡ out.old.items
+        ++ trace_text (family_of names.now system.now.actions known.now source.now.states.items
+        source.now.sets.items source.now.parts.items pairs.now.keys) trace.now.visits.items trace.now.is_cut) }
+    ensures err { OnErr result (out.new.items ≡ out.old.items) }
+{
+    let mut text = Vec::new(alloc);
+    put(alloc, names, system, source, pairs, known, trace, &mut text)?;
+    out.extend_from_slice(&text)?;
+    Ok(())
+}
