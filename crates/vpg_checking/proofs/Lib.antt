@@ -5,3 +5,4 @@ pub mod Whole
 pub mod Refused
 pub mod Found
 pub mod Named
+pub mod Still

@@ -3,6 +3,7 @@ ghost use Rattle.std.specs.Prelude.{◌≡◌, ◌≤◌, List, bytes_eq, IfOk, 
 ghost use Rattle.vpg_diagram.specs.FeatureDiagram.{Line, feature_count};
 ghost use Rattle.vpg_game.specs.Game.{graph_of, vertex_ids, IsAtLimit};
 ghost use Rattle.vpg_model.specs.Pairs.{AreNumbered};
+ghost use Rattle.vpg_model.specs.Sharpening.{AreSharp};
 ghost use Rattle.vpg_formula.specs.EntryCode.{entries_of, earlier_of};
 ghost use Rattle.vpg_formula.specs.Requirements as spec;
 ghost use Rattle.vpg_formula.specs.Requirements.{SpellsRequirements, marked};
@@ -13,11 +14,12 @@ ghost use Rattle.vpg_checking.specs.Faults.{IsCheckingFault, IsRequirementsFault
 use crate::fault::CheckingFault;
 use indexmap::IndexSet;
 use std::alloc::Global;
+use std::mem;
 use vpg_diagram::Diagram;
 use vpg_formula::{Entry, Requirements};
 use vpg_game::GuardedGame;
 use vpg_meaning::laws::{requirements_are_positive, requirements_mean_what_is_written};
-use vpg_model::{Built, Source, build};
+use vpg_model::{Built, Source, build, sharpened};
 use vpg_normal::{Arena, parts_of};
 use vpg_system::System;
 use vpg_system::laws::spelled_are_systems;
@@ -52,34 +54,39 @@ fn is_named(entry: &Entry, name: &[u8]) -> bool
 
 impl Model {
     /// The game of a system and of the requirements that a text spells.
-    fn of(alloc: Global, system: &System, text: &[u8]) -> Result<Model, CheckingFault>
-        requires few_features { system.now.features ≤ 512 }
-        requires system { IsSystem system.now }
+    fn of(alloc: Global, system: System, text: &[u8]) -> Result<Model, CheckingFault>
+        requires few_features { system.features ≤ 512 }
+        requires system { IsSystem system }
         ensures spelled { IfOk result (λ _. (entries : List spec.Entry) × SpellsRequirements text.now entries) }
         ensures model { IfOk result (λ model. (lines : List Line) (entries : List spec.Entry) →
             SpellsRequirements text.now entries →
-            IsModelOfEntries lines system.now entries (graph_of model.game) model.roots.items) }
-        ensures features { IfOk result (λ model. model.game.features ≡ system.now.features) }
+            IsModelOfEntries lines system entries (graph_of model.game) model.roots.items) }
+        ensures features { IfOk result (λ model. model.game.features ≡ system.features) }
         ensures numbered { IfOk result (λ model. AreNumbered (vertex_ids model.game.vertices)) }
         ensures below { IfOk result (λ model. ¬ IsAtLimit model.game) }
+        ensures sharp { IfOk result (λ model. AreSharp model.game.features (graph_of model.game)) }
         ensures requirements { IfOk result (λ model. (entries : List spec.Entry) →
             SpellsRequirements text.now entries →
             entries_of model.requirements.entries.items ≡ marked entries) }
         ensures named { IfOk result (λ model. (entries : List spec.Entry) →
             SpellsRequirements text.now entries →
             AreNamed entries (earlier_of model.requirements.entries.items) model.roots.items) }
-        ensures refused { IfErr result (IsRequirementsFault system.now text.now) }
+        ensures refused { IfErr result (IsRequirementsFault system text.now) }
     {
         requirements_are_positive();
         requirements_mean_what_is_written();
         let requirements = Requirements::read(alloc, text)?;
-        let Translation { sets, forms } = translate(alloc, system, &requirements)?;
+        let Translation { sets, forms } = translate(alloc, &system, &requirements)?;
         let Arena {
             parts,
             roots: places,
         } = parts_of(alloc, &forms)?;
-        let source = Source::of(alloc, system, sets, parts)?;
-        let Built { pairs, roots, game } = build(alloc, &source, system.first(), &places)?;
+        let source = Source::of(alloc, &system, sets, parts)?;
+        let first = system.first();
+        // The source has all of the system that the game is made of.
+        mem::drop(system);
+        let Built { pairs, roots, game } = build(alloc, &source, first, &places)?;
+        let game = sharpened(alloc, game)?;
         Ok(Model {
             game,
             roots,
@@ -106,6 +113,8 @@ impl Model {
         ensures features { IfOk result (λ model. model.game.features ≡ feature_count diagram.now.lines) }
         ensures numbered { IfOk result (λ model. AreNumbered (vertex_ids model.game.vertices)) }
         ensures below { IfOk result (λ model. ¬ IsAtLimit model.game) }
+        // The three-valued value of each guard is known as early as it can be, unless the guard is too long for that.
+        ensures sharp { IfOk result (λ model. AreSharp model.game.features (graph_of model.game)) }
         ensures requirements { IfOk result (λ model. (entries : List spec.Entry) →
             SpellsRequirements requirements.now entries →
             entries_of model.requirements.entries.items ≡ marked entries) }
@@ -116,7 +125,7 @@ impl Model {
     {
         spelled_are_systems();
         let system = System::read(alloc, system, diagram.names())?;
-        Model::of(alloc, &system, requirements)
+        Model::of(alloc, system, requirements)
     }
 
     /// The vertex of the requirement of this name, if there is one.
