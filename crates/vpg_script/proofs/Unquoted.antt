@@ -1,6 +1,6 @@
 -- The words of a line without quotes: what stands between its blanks.
-use Rattle.std.proofs.Common.{◌≡◌, ℕ, suc, zero, ◌+◌, ◌≤◌, Bool, true, false, List, [], ◌∷◌, length, take, drop, refl, sym, ap, ap₂, ◌∙◌, subst, arith}
-use Rattle.std.specs.Prelude.{filter, ◌||◌, not, cond}
+use Rattle.std.proofs.Common.{◌≡◌, ℕ, suc, zero, ◌+◌, ◌≤◌, Bool, true, false, List, [], ◌∷◌, length, take, drop, refl, sym, ap, ◌∙◌, arith}
+use Rattle.std.specs.Prelude.{filter, ◌||◌}
 use Rattle.std.specs.List.{list_any, prefix_len, slice_split, onto_first}
 use Rattle.vpg_script.specs.Script.{is_blank, is_nonempty, is_quote, is_within_word, unblanked, quoted_len, word_len, word_and, words_with, WordsAreBetweenBlanks}
 

@@ -1,4 +1,3 @@
-use Rattle.std.proofs.Common.{◌∙◌}
 use Rattle.vpg_script.proofs.Commands.{asserted_as}
 use Rattle.vpg_script.proofs.command.assertion_of.Goals as goal
 

@@ -1,6 +1,6 @@
-use Rattle.std.proofs.Common.{length, sym, arith}
+use Rattle.std.proofs.Common.{arith}
 use Rattle.std.proofs.lemmas.Grind.{common_steps}
-use Rattle.vpg_script.proofs.OneByOne.{first_of, no_words}
+use Rattle.vpg_script.proofs.OneByOne.{first_of}
 use Rattle.vpg_script.proofs.words.first_word.Goals as goal
 
 pub returns-clause-some : goal.returns-clause-some
