@@ -748,19 +748,19 @@ def hold_game(game, roots, family):
 
 
 def verdicts_in(lines, names):
-    """The last verdicts that were shown, by the names of the entries, `names` being theirs by those in the script."""
+    """The verdicts that were shown last, of the entries of these names in their order."""
     rows = [line.split() for line in lines]
-    return {names[row[0]]: row[3:5] for row in rows if len(row) == 5 and row[0] in names}
+    shown = [row[3:5] for row in rows if len(row) == 5 and row[0].isdigit()]
+    return dict(zip(names, shown[-len(names):]))
 
 
 def hold_verdicts(program, words, family, shown, rng):
     """Holds verdicts and examples of a run to the products that are left: at first, and of one product alone."""
     asked = [f"show {' '.join(shown.values())}"] + [f"example {it}" for it in shown.values()]
-    names = {it: name for name, it in shown.items()}
     lines = program.answers(words, "\n".join(["settle"] + asked) + "\n")
     examples = [line.split() for line in lines if line == "none" or line.startswith("product ")]
     expect(len(examples) == len(shown), "an example for each entry", *lines)
-    for (name, verdict), example in zip(verdicts_in(lines, names).items(), examples):
+    for (name, verdict), example in zip(verdicts_in(lines, shown).items(), examples):
         holding = [p for p, held in family.products.items() if name in held]
         expect(verdict[0] == "possible" or not holding, name, "is not hopeless")
         expect(verdict[1] == "unsure" or len(holding) == len(family.products), name, "is not sure")
@@ -770,7 +770,7 @@ def hold_verdicts(program, words, family, shown, rng):
     script = [f"{'select' if name in product else 'exclude'} {name}" for name in family.d.names]
     lines = program.answers(words, "\n".join(script + ["settle", "assert full", asked[0]]) + "\n")
     expect("holds" in lines, "the page is full", *lines)
-    for name, verdict in verdicts_in(lines, names).items():
+    for name, verdict in verdicts_in(lines, shown).items():
         wanted = ["possible", "sure"] if name in family.products[product] else ["hopeless", "unsure"]
         expect(verdict == wanted, name, "in", *sorted(product), "is shown as", *verdict)
 

@@ -1,4 +1,7 @@
 //! The example families in the folder that the program runs in.
+ghost use Rattle.std.specs.Arc.{arc_value};
+ghost use Rattle.std.specs.Prelude.{◌≡◌};
+ghost use Rattle.vpg_diagram.specs.FeatureDiagram.{feature_count};
 
 use crate::family::{Family, run_on};
 use anyhow::{Context, Result, bail};
@@ -6,7 +9,16 @@ use std::alloc::{AllocError, Global};
 use std::fs::{self, File};
 use std::sync::Wait;
 use std::thread::Threads;
+use vpg_family::{GamePaths, Known, ModelPaths, Paths, read_known};
+use vpg_report::run_script;
 use vpg_script::Device;
+use vpg_serving::Manner;
+
+/// Each line is answered, and a fault ends the script.
+const PLAIN: Manner = Manner {
+    is_strict: false,
+    goes_on: false,
+};
 
 /// The folders of the families.
 const FAMILIES: [&str; 5] = [
@@ -19,6 +31,8 @@ const FAMILIES: [&str; 5] = [
 
 /// Those with a script about each vertex and each product, or each 32nd of body comfort (`bench/each.py`).
 const EACH: [&str; 4] = ["mine_pump", "vending_machine", "elevator", "body_comfort"];
+/// The folder of a family that is a system with requirements.
+const SYSTEM: &str = "vending_system";
 
 /// Where a file of a family is.
 fn path_of(alloc: Global, family: &str, file: &str) -> Result<String, AllocError> {
@@ -73,6 +87,60 @@ fn carry_out<T: Threads + Wait + Sync>(
     answer(rt, threads, alloc, &family, script)
 }
 
+/// Carries a script out on a family, whose vertices are called so.
+fn answer_called<T: Threads + Wait + Sync>(
+    rt: &HostRuntime,
+    threads: &T,
+    alloc: Global,
+    known: &Known,
+    script: File,
+) -> Result<()>
+    requires { (arc_value known.now.family.game).features ≡ feature_count (arc_value known.now.family.diagram).lines }
+{
+    let family = known.family.again()?;
+    let mut reader = Device::reader(script);
+    let mut writer = Device::writer(rt.stdout().lock());
+    match run_script(
+        threads,
+        alloc,
+        family,
+        &known.callings,
+        &mut reader,
+        &mut writer,
+        1,
+        PLAIN,
+    ) {
+        Ok(_) => Ok(()),
+        Err(fault) => Err(fault.into()),
+    }
+}
+
+/// Carries out the script of a system, which calls requirements by their names.
+fn carry_out_system<T: Threads + Wait + Sync>(
+    rt: &HostRuntime,
+    threads: &T,
+    alloc: Global,
+    name: &str,
+) -> Result<()> {
+    println!(rt; "{name}")?;
+    let system = path_of(alloc, name, "system.aut")?;
+    let requirements = path_of(alloc, name, "requirements.mcf")?;
+    let diagram = path_of(alloc, name, "diagram")?;
+    let files = ModelPaths {
+        system: system.as_str(),
+        requirements: requirements.as_str(),
+    };
+    let paths = Paths {
+        game: GamePaths::Model(files),
+        diagram: diagram.as_str(),
+    };
+    let script = script_of(rt, alloc, name)?;
+    match read_known(rt, alloc, paths) {
+        Ok(known) => answer_called(rt, threads, alloc, &known, script),
+        Err(fault) => Err(fault.into()),
+    }
+}
+
 /// Carries out the script of each family.
 pub(crate) fn carry_out_all<T: Threads + Wait + Sync>(
     rt: &HostRuntime,
@@ -96,5 +164,5 @@ pub(crate) fn carry_out_each<T: Threads + Wait + Sync>(
         println!(rt; "{name}, each product")?;
         carry_out(rt, threads, alloc, name, "each").context(name)?;
     }
-    Ok(())
+    carry_out_system(rt, threads, alloc, SYSTEM).context(SYSTEM)
 }

@@ -4,6 +4,7 @@ mod devices;
 mod ends;
 mod faults;
 mod manners;
+mod names;
 mod order;
 mod rows;
 mod runs;
@@ -24,11 +25,12 @@ enum Table {
     Worked(Worked),
     Manners,
     Ends,
+    Names,
     Faulty(LineFault),
 }
 
 /// The tables with their names.
-static TABLES: [(&str, Table); 20] = [
+static TABLES: [(&str, Table); 21] = [
     ("worked scripts, settling", Table::Worked(Worked::Settling)),
     ("worked scripts, changes", Table::Worked(Worked::Changes)),
     ("worked scripts, harvests", Table::Worked(Worked::Harvests)),
@@ -62,6 +64,7 @@ static TABLES: [(&str, Table); 20] = [
     ("worked scripts, moves", Table::Worked(Worked::Moves)),
     ("scripts in each manner", Table::Manners),
     ("scripts on families, and how they end", Table::Ends),
+    ("scripts that call vertices by their names", Table::Names),
     (
         "lines with other words than their command takes",
         Table::Faulty(LineFault::Args),
@@ -131,6 +134,7 @@ fn first_other<R: Threads + Wait + Sync>(
         Table::Worked(worked) => rows::first_other(rt, alloc, worked),
         Table::Manners => manners::first_other(rt, alloc, family),
         Table::Ends => ends::first_other(rt, alloc),
+        Table::Names => names::first_other(rt, alloc),
         Table::Faulty(fault) => served::first_other(rt, alloc, fault),
     }
 }

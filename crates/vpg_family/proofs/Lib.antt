@@ -1,3 +1,4 @@
+pub mod Called
 pub mod Choices
 pub mod Contradictions
 pub mod Counting

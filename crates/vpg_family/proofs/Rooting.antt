@@ -17,12 +17,12 @@ name_at : (es : List code.Entry) (n : ℕ) → slice_get (earlier_of es) n ≡ o
 name_at es n = ap (λ (l : List (List ℕ)). slice_get l n) (read_names es) ∙ slice_get-map name_of es n
 
 -- an entry that is lent is the one there
-entry_shown : (es : List code.Entry) (n : ℕ) (r : Option (Bor code.Entry)) → IsItemAt es n r → option_map (λ (b : Bor code.Entry). b.now.name) r ≡ slice_get (earlier_of es) n
+pub entry_shown : (es : List code.Entry) (n : ℕ) (r : Option (Bor code.Entry)) → IsItemAt es n r → option_map (λ (b : Bor code.Entry). b.now.name) r ≡ slice_get (earlier_of es) n
 entry_shown es n None h = ap (λ (o : Option code.Entry). option_map name_of o) (sym (slice_get_past es n h.3)) ∙ sym (name_at es n)
 entry_shown es n (Some b) h = ap (λ (o : Option code.Entry). option_map name_of o) (sym (slice_get_read es (length es) n b.now refl h.3.0 h.1)) ∙ sym (name_at es n)
 
 -- a vertex that is lent is the one there
-vertex_shown : (vs : List ℕ) (n : ℕ) (r : Option (Bor ℕ)) → IsItemAt vs n r → option_map (λ (b : Bor ℕ). b.now) r ≡ slice_get vs n
+pub vertex_shown : (vs : List ℕ) (n : ℕ) (r : Option (Bor ℕ)) → IsItemAt vs n r → option_map (λ (b : Bor ℕ). b.now) r ≡ slice_get vs n
 vertex_shown vs n None h = sym (slice_get_past vs n h.3)
 vertex_shown vs n (Some b) h = sym (slice_get_read vs (length vs) n b.now refl h.3.0 h.1)
 

@@ -7,12 +7,13 @@
 //! moves or that the game never reaches, a start that is no vertex. `redrawn` gives the picture of a page that a script
 //! left, from what the script wrote, and `Pictured` is a sink that passes answers on with the names of vertices in
 //! pictures. `system_drawn` and `system_redrawn` draw a system in place of its game. Each fault of the program is a
-//! `Fault`, `line_of` is the line that tells of it, and `explained` are lines that say where and why. The crate knows
-//! no desk: scripts are carried out above it.
+//! `Fault`, `line_of` is the line that tells of it, and `explained` are lines that say where and why. `Known` is a
+//! family with the names by which lines of scripts call its vertices, and `read_known` that of some files. The crate
+//! knows no desk: scripts are carried out above it.
 //!
 //! `specs/Families` says which texts spell a family, when its game is made, and which words name a product;
-//! `specs/Counts`, `specs/Checked`, `specs/Pictures`, `specs/Systems`, `specs/Pages` and `specs/Faults` what is
-//! written, `specs/Warned` where warnings stand. All are this project's own.
+//! `specs/Called` which names its vertices have; `specs/Counts`, `specs/Checked`, `specs/Pictures`, `specs/Systems`,
+//! `specs/Pages` and `specs/Faults` what is written, `specs/Warned` where warnings stand. All are this project's own.
 #![tactic(auto)]
 
 mod checking;
@@ -23,6 +24,7 @@ mod family;
 mod fault;
 mod features;
 mod files;
+mod known;
 mod linting;
 mod modelling;
 mod moves;
@@ -43,6 +45,7 @@ pub use fault::Fault;
 pub use files::{
     GamePaths, ModelPaths, Paths, Texts, open_script, read_family, read_script, read_texts,
 };
+pub use known::{Known, read_known};
 pub use linting::linted;
 pub use pages::redrawn;
 pub use pictured::Pictured;

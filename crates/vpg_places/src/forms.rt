@@ -31,11 +31,12 @@ impl Part {
         match self {
             Part::Root | Part::Parent | Part::Child | Part::First | Part::Second | Part::Feature =>
                 is_feature_name(word),
-            Part::Low | Part::High | Part::Serial | Part::Vertex | Part::Number => are_digits(word),
+            Part::Low | Part::High | Part::Serial | Part::Number => are_digits(word),
+            Part::Vertex => is_vertex(word),
             Part::Colon => word == b":".as_slice(),
             Part::Table => is_one_of(word, &["hopeful", "dual"]),
-            Part::Asked => are_digits(word) || is_feature_name(without_sign(word)),
-            Part::Asserted => are_digits(word) || is_one_of(word, &["full", "settled"]),
+            Part::Asked => is_vertex(word) || is_feature_name(without_sign(word)),
+            Part::Asserted => is_vertex(word),
             Part::Verdict => is_one_of(word, &["hopeless", "possible", "sure", "unsure"]),
         }
     }
@@ -60,7 +61,7 @@ impl Part {
             Part::Colon => b"`:` and the children",
             Part::Serial => b"the number of a change",
             Part::Table => b"`hopeful` or `dual`",
-            Part::Vertex => b"the identifier of a vertex",
+            Part::Vertex => b"the identifier or the name of a vertex",
             Part::Number => b"a number",
             Part::Asked => b"a vertex or a feature, with `+` or `-` where it is decided",
             Part::Asserted => b"a vertex and its verdicts, or `full` or `settled` alone",
@@ -71,6 +72,20 @@ impl Part {
 
 fn are_digits(word: &[u8]) -> bool {
     word.iter().all(|b| b.is_ascii_digit())
+}
+
+/// The bytes between two quotes.
+fn quoted(word: &[u8]) -> Option<&[u8]> {
+    match word {
+        [b'"', name @ .., b'"'] => Some(name),
+        _ => None,
+    }
+}
+
+/// Whether a word names a vertex: by its identifier, or by its name.
+fn is_vertex(word: &[u8]) -> bool {
+    let is_quoted = quoted(word).is_some_and(|name| !name.iter().any(|b| *b == b'"'));
+    is_quoted || are_digits(word) || is_feature_name(word)
 }
 
 fn is_one_of(word: &[u8], others: &[&'static str]) -> bool {
@@ -141,18 +156,18 @@ fn departure_behind(words: &[Word<'_>], parts: usize, rest: Option<Part>) -> Opt
     None
 }
 
-/// The same of the words of an assertion, of which the first is as it should be. At least one verdict follows a vertex,
-/// and nothing another word.
+/// The same of the words of an assertion, of which the first is as it should be. At least one verdict follows a vertex;
+/// `full` and `settled` stand alone.
 fn departure_of_asserted(words: &[Word<'_>]) -> Option<Departure> {
-    let is_vertex = words.first().is_some_and(|word| are_digits(word.bytes));
-    let rest = if is_vertex { Some(Part::Verdict) } else { None };
-    if is_vertex && words.len() == 1 {
-        return Some(Departure {
+    let rest = Some(Part::Verdict);
+    match words {
+        [word] if is_one_of(word.bytes, &["full", "settled"]) => None,
+        [_] => Some(Departure {
             place: 1,
             expected: rest,
-        });
+        }),
+        _ => departure_behind(words, 1, rest),
     }
-    departure_behind(words, 1, rest)
 }
 
 /// The lines of diagrams.

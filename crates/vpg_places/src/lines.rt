@@ -156,7 +156,20 @@ fn push_word<'t>(
     }
 }
 
-/// The words of a line. Where `marks` says so, a `:` is a word of its own.
+/// The place behind a quote that stands here and the next one, or here where there is no other.
+fn behind_quotes(line: &[u8], at: usize) -> usize {
+    let next = at.saturating_add(1);
+    match line.get(next..) {
+        Some(rest) => match rest.iter().position(|b| *b == b'"') {
+            Some(n) => next.saturating_add(n).saturating_add(1),
+            None => at,
+        },
+        None => at,
+    }
+}
+
+/// The words of a line. Where `marks` says so, a `:` is a word of its own; else a word that begins with a quote goes on
+/// behind the next quote.
 pub fn words_of<'t>(
     alloc: Global,
     line: &'t [u8],
@@ -164,9 +177,13 @@ pub fn words_of<'t>(
 ) -> Result<Vec<Word<'t>>, AllocError> {
     let mut words = Vec::new(alloc);
     let mut begin = 0usize;
+    let mut behind = 0usize;
     for (i, b) in line.iter().enumerate() {
         let is_mark = marks && *b == b':';
-        if is_mark || is_blank(*b) {
+        if !marks && *b == b'"' && i == begin {
+            behind = behind_quotes(line, i);
+        }
+        if i >= behind && (is_mark || is_blank(*b)) {
             push_word(line, begin, i, &mut words)?;
             begin = i.saturating_add(1);
         }

@@ -31,15 +31,14 @@ use std::sync::Wait;
 use std::thread::Threads;
 use std::{env, io};
 use vpg_family::{
-    Family, Fault, Paths, Pictured, Texts, checked, drawn, explained, line_of, linted, open_script,
-    read_family, read_script, read_texts, system_drawn,
+    Family, Fault, Known, Paths, Pictured, Texts, checked, drawn, explained, line_of, linted,
+    open_script, read_family, read_known, read_script, read_texts, system_drawn,
 };
-use vpg_names::VertexNames;
 use vpg_report::{
     DIAGRAM, End, GAME, drawn_after, end_of, ended, refused_line, run_script, status,
     system_drawn_after,
 };
-use vpg_script::{Device, Sink, Source};
+use vpg_script::{Callings, Device, Sink, Source};
 use vpg_serving::{Ending, Manner};
 use vpg_terminal::{
     Asked, Ear, Heard, Named, Picture, Setting, Task, Typed, command_list, not_text, read,
@@ -89,11 +88,12 @@ fn put_made(rt: &HostRuntime, made: Result<Vec<u8>, Fault>) -> Result<End, Fault
     }
 }
 
-/// Carries a script out on a family.
+/// Carries a script out on a family, whose vertices are called so.
 fn run<T: Threads + Wait + Sync, R: Source + Drop, W: Sink + Drop>(
     threads: &T,
     alloc: Global,
     family: Family,
+    callings: &Callings,
     mut reader: R,
     mut writer: W,
     lifters: u32,
@@ -107,6 +107,7 @@ fn run<T: Threads + Wait + Sync, R: Source + Drop, W: Sink + Drop>(
         threads,
         alloc,
         family,
+        callings,
         &mut reader,
         &mut writer,
         lifters,
@@ -137,45 +138,9 @@ fn run_built_in<T: Threads + Wait + Sync>(
             tell_waiting(rt);
             let reader = Device::reader(rt.stdin().lock());
             let writer = Device::writer(rt.stdout().lock());
-            run(threads, alloc, family, reader, writer, 1, PLAIN)
+            let callings = Callings::none(alloc);
+            run(threads, alloc, family, &callings, reader, writer, 1, PLAIN)
         }
-        Err(fault) => Err(fault),
-    }
-}
-
-/// A family of some files, and the names of its vertices.
-struct Known {
-    family: Family,
-    names: VertexNames,
-}
-
-// Not derived, so that letting one go is one call.
-impl Drop for Known {
-    fn drop(self) {
-        let Known {
-            family: _,
-            names: _,
-        } = self;
-    }
-}
-
-/// A family of two texts, and the names of its vertices.
-fn known_of(alloc: Global, texts: &Texts) -> Result<Known, Fault>
-    ensures features { IfOk result (λ known.
-        (arc_value known.family.game).features ≡ feature_count (arc_value known.family.diagram).lines) }
-{
-    let family = Family::read(alloc, &texts.diagram, &texts.game)?;
-    let names = VertexNames::read(alloc, &texts.game)?;
-    Ok(Known { family, names })
-}
-
-/// The same of some files.
-fn read_known(rt: &HostRuntime, alloc: Global, paths: Paths<'_>) -> Result<Known, Fault>
-    ensures features { IfOk result (λ known.
-        (arc_value known.family.game).features ≡ feature_count (arc_value known.family.diagram).lines) }
-{
-    match read_texts(rt, alloc, paths) {
-        Ok(texts) => known_of(alloc, &texts),
         Err(fault) => Err(fault),
     }
 }
@@ -189,12 +154,13 @@ fn named<'n, W: Sink>(alloc: Global, known: &'n Known, writer: W) -> Named<'n, P
     Named::new(alloc, game, &known.names, writer)
 }
 
-/// Carries a script of a file out on a family.
+/// Carries a script of a file out on a family, whose vertices are called so.
 fn run_file<T: Threads + Wait + Sync, W: Sink + Drop>(
     rt: &HostRuntime,
     threads: &T,
     alloc: Global,
     family: Family,
+    callings: &Callings,
     script: &str,
     writer: W,
     lifters: u32,
@@ -208,6 +174,7 @@ fn run_file<T: Threads + Wait + Sync, W: Sink + Drop>(
             threads,
             alloc,
             family,
+            callings,
             Device::reader(file),
             writer,
             lifters,
@@ -234,7 +201,10 @@ fn run_named<T: Threads + Wait + Sync>(
     match known.family.again() {
         Ok(family) => {
             let writer = named(alloc, known, Device::writer(rt.stdout().lock()));
-            run_file(rt, threads, alloc, family, script, writer, lifters, manner)
+            let callings = &known.callings;
+            run_file(
+                rt, threads, alloc, family, callings, script, writer, lifters, manner,
+            )
         }
         Err(_) => Err(Fault::Memory),
     }
@@ -258,6 +228,32 @@ fn run_named_files<T: Threads + Wait + Sync>(
     }
 }
 
+/// Carries a script of a file out on a family, without names beside its answers.
+fn run_known<T: Threads + Wait + Sync>(
+    rt: &HostRuntime,
+    threads: &T,
+    alloc: Global,
+    known: &Known,
+    script: &str,
+    lifters: u32,
+    manner: Manner,
+) -> Result<End, Fault>
+    requires lifters { (1 ≤ lifters) × (lifters ≤ 64) }
+    requires features { (arc_value known.now.family.game).features
+        ≡ feature_count (arc_value known.now.family.diagram).lines }
+{
+    match known.family.again() {
+        Ok(family) => {
+            let writer = Device::writer(rt.stdout().lock());
+            let callings = &known.callings;
+            run_file(
+                rt, threads, alloc, family, callings, script, writer, lifters, manner,
+            )
+        }
+        Err(_) => Err(Fault::Memory),
+    }
+}
+
 /// Carries a script of a file out on a family of some files.
 fn run_files<T: Threads + Wait + Sync>(
     rt: &HostRuntime,
@@ -270,11 +266,8 @@ fn run_files<T: Threads + Wait + Sync>(
 ) -> Result<End, Fault>
     requires { (1 ≤ lifters) × (lifters ≤ 64) }
 {
-    match read_family(rt, alloc, paths) {
-        Ok(family) => {
-            let writer = Device::writer(rt.stdout().lock());
-            run_file(rt, threads, alloc, family, script, writer, lifters, manner)
-        }
+    match read_known(rt, alloc, paths) {
+        Ok(known) => run_known(rt, threads, alloc, &known, script, lifters, manner),
         Err(fault) => Err(fault),
     }
 }
@@ -328,7 +321,10 @@ fn converse<T: Threads + Wait + Sync, R: Source + Drop, S: Sink + Drop, W: Sink 
             };
             let reader = Typed::new(alloc, setting, reader, talk);
             let writer = Ear::new(writer, &heard);
-            run(threads, alloc, family, reader, writer, lifters, FORGIVING)
+            let callings = &known.callings;
+            run(
+                threads, alloc, family, callings, reader, writer, lifters, FORGIVING,
+            )
         }
         Err(_) => Err(Fault::Memory),
     }
@@ -464,14 +460,18 @@ fn drawn_after_script<T: Threads + Wait + Sync>(
     alloc: Global,
     picture: Picture,
     texts: &Texts,
-    family: &Family,
+    known: &Known,
     script: &[u8],
 ) -> Result<(Ending, Vec<u8>), Fault>
-    requires { (arc_value family.now.game).features ≡ feature_count (arc_value family.now.diagram).lines }
+    requires { (arc_value known.now.family.game).features ≡ feature_count (arc_value known.now.family.diagram).lines }
 {
+    let family = &known.family;
+    let callings = &known.callings;
     match picture {
-        Picture::Family(subject) => drawn_after(threads, alloc, subject, texts, family, script),
-        Picture::System => system_drawn_after(threads, alloc, texts, family, script),
+        Picture::Family(subject) => {
+            drawn_after(threads, alloc, subject, texts, family, callings, script)
+        }
+        Picture::System => system_drawn_after(threads, alloc, texts, family, callings, script),
     }
 }
 
@@ -482,13 +482,13 @@ fn drawn_after_file<T: Threads + Wait + Sync>(
     alloc: Global,
     picture: Picture,
     texts: &Texts,
-    family: &Family,
+    known: &Known,
     script: &str,
 ) -> Result<(Ending, Vec<u8>), Fault>
-    requires { (arc_value family.now.game).features ≡ feature_count (arc_value family.now.diagram).lines }
+    requires { (arc_value known.now.family.game).features ≡ feature_count (arc_value known.now.family.diagram).lines }
 {
     match read_script(rt, script) {
-        Ok(script) => drawn_after_script(threads, alloc, picture, texts, family, &script),
+        Ok(script) => drawn_after_script(threads, alloc, picture, texts, known, &script),
         Err(fault) => Err(fault),
     }
 }
@@ -502,8 +502,8 @@ fn drawn_after_texts<T: Threads + Wait + Sync>(
     texts: &Texts,
     script: &str,
 ) -> Result<(Ending, Vec<u8>), Fault> {
-    match Family::read(alloc, &texts.diagram, &texts.game) {
-        Ok(family) => drawn_after_file(rt, threads, alloc, picture, texts, &family, script),
+    match Known::read(alloc, texts) {
+        Ok(known) => drawn_after_file(rt, threads, alloc, picture, texts, &known, script),
         Err(fault) => Err(fault),
     }
 }

@@ -238,24 +238,24 @@ module _ (limit : ℕ) (limit_is : limit ≡ room) (label : ℕ) where
           made = by;
         }
 
-    module _ (table : Which) (identifier v : ℕ) (vertex : vertex_of (scene_at old) identifier ≡ Some v) (lifted : IsLifted (setting_of old.client.desk) table v decisions hopeful dual made) where
-      lift_first : first_call (scene_at old) old.held (script.Lift table identifier) ≡ Ok Order
+    module _ (table : Which) (named : script.Vertex) (v : ℕ) (vertex : vertex_of (scene_at old) named ≡ Some v) (lifted : IsLifted (setting_of old.client.desk) table v decisions hopeful dual made) where
+      lift_first : first_call (scene_at old) old.held (script.Lift table named) ≡ Ok Order
       lift_first = ap (λ (x : Option ℕ). call_or NoVertex (λ v. Order) x) vertex
 
       -- it is lifted once, and the log is full
-      pub lift_full : first.calls ≡ limit → new.client ≡ first → new.held ≡ old.held → after ≡ before ++ full_line → AnswersTo old (record { label = label; command = script.Lift table identifier }) before after new
+      pub lift_full : first.calls ≡ limit → new.client ≡ first → new.held ≡ old.held → after ≡ before ++ full_line → AnswersTo old (record { label = label; command = script.Lift table named }) before after new
       lift_full is client held appended =
-          answers old new label (script.Lift table identifier) (event label Order (Ordered decisions hopeful dual) ∷ []) full_line before after
-          (subst (λ found. Begins (scene_at old) old.held old.client.calls label (Continues (scene_at old) old.held (old.client.calls + 1) label (script.Lift table identifier)) found (event label Order (Ordered decisions hopeful dual) ∷ []) full_line new.held) (sym lift_first)
+          answers old new label (script.Lift table named) (event label Order (Ordered decisions hopeful dual) ∷ []) full_line before after
+          (subst (λ found. Begins (scene_at old) old.held old.client.calls label (Continues (scene_at old) old.held (old.client.calls + 1) label (script.Lift table named)) found (event label Order (Ordered decisions hopeful dual) ∷ []) full_line new.held) (sym lift_first)
           (inl (order_room, (refl, refl, (v, made, vertex, lifted, inr (omega (arith, is, limit_is, order.counted), (refl, refl, held)))))))
           (then limit old.client first new.client label Order (Ordered decisions hopeful dual) [] order (none first new.client client)) appended
 
       -- it is lifted once and committed
       pub lifts : (n : ℕ) → IsLogged limit first label (Commit made) (Added n) new.client → new.held ≡ old.held → after ≡ before ++ numbered (codes "added") n →
-          AnswersTo old (record { label = label; command = script.Lift table identifier }) before after new
+          AnswersTo old (record { label = label; command = script.Lift table named }) before after new
       lifts n commit held appended =
-          answers old new label (script.Lift table identifier) (event label Order (Ordered decisions hopeful dual) ∷ event label (Commit made) (Added n) ∷ []) (numbered (codes "added") n) before after
-          (subst (λ found. Begins (scene_at old) old.held old.client.calls label (Continues (scene_at old) old.held (old.client.calls + 1) label (script.Lift table identifier)) found (event label Order (Ordered decisions hopeful dual) ∷ event label (Commit made) (Added n) ∷ []) (numbered (codes "added") n) new.held) (sym lift_first)
+          answers old new label (script.Lift table named) (event label Order (Ordered decisions hopeful dual) ∷ event label (Commit made) (Added n) ∷ []) (numbered (codes "added") n) before after
+          (subst (λ found. Begins (scene_at old) old.held old.client.calls label (Continues (scene_at old) old.held (old.client.calls + 1) label (script.Lift table named)) found (event label Order (Ordered decisions hopeful dual) ∷ event label (Commit made) (Added n) ∷ []) (numbered (codes "added") n) new.held) (sym lift_first)
           (inl (order_room, (refl, refl, (v, made, vertex, lifted, inl (had_room (old.client.calls + 1) first.calls (sym order.counted) commit.had_room, (refl, refl, (refl, refl, held))))))))
           (then limit old.client first new.client label Order (Ordered decisions hopeful dual) (event label (Commit made) (Added n) ∷ []) order
           (one limit first new.client label (Commit made) (Added n) commit)) appended

@@ -17,7 +17,7 @@ use Rattle.vpg_texts.specs.Sights.{has_vertices}
 use Rattle.vpg_report.specs.Answers.{Own, NoFeature, NoToken, NoHarvest, NoVertex, vertex_of, call_or, page_if, full_line, Rest, Ends, Follows, Makes, Asks, TellsSettled, AsksSettled, TellsAdded, Sweeps, Keeps, Lifts, TellsChanged, TellsUndone, TellsRedone, TellsSpent, Sees, TellsNamed, TellsPage, verdicts_on, TellsVerdicts}
 use Rattle.vpg_report.specs.Requests.{query_of, order_or, first_call, TellsAnswer, Continues, Begins, Serves}
 use Rattle.vpg_answers.specs.declared.query.Query.{Query}
-use Rattle.vpg_report.specs.Run.{Between, begun, calling, answering, Asked, asking, AnswersAreHistories}
+use Rattle.vpg_report.specs.Run.{Between, begun, calling, answering, as_meant, Asked, asking, AnswersAreHistories}
 use Rattle.vpg_report.specs.Setting.{setting_in}
 
 -- ---- lists of events
@@ -141,10 +141,10 @@ module _ (scene : Scene) (held : Held) where
         ends L _ (with_harvest held so.0) (all_more (λ h. IfSome h L) held.harvests (Some so.0 ∷ []) all (so.1.of_order.lawful, tt)) calls text new so.2
     keeps _ calls text new so = absurd so
 
-    lifts : (made label : ℕ) (table : Which) (identifier : ℕ) (reply : Reply) → IsFine L (Lifts scene held made label table identifier reply)
-    lifts made label table identifier (Ordered d h u) calls text new so =
+    lifts : (made label : ℕ) (table : Which) (named : script.Vertex) (reply : Reply) → IsFine L (Lifts scene held made label table named reply)
+    lifts made label table named (Ordered d h u) calls text new so =
         asks L scene held all made label (Commit so.1) (TellsAdded held) (λ _. so.3.of_order.lawful) (tells_added L held all) calls text new so.4
-    lifts made label table identifier _ calls text new so = absurd so
+    lifts made label table named _ calls text new so = absurd so
 
     continues : (made label : ℕ) (command : script.Command) (reply : Reply) → IsFine L (Continues scene held made label command reply)
     continues made label (script.Select name) reply calls text new so = tells_changed L held all reply calls text new so
@@ -154,7 +154,7 @@ module _ (scene : Scene) (held : Held) where
     continues made label (script.Redo s) reply calls text new so = tells_redone L held all reply calls text new so
     continues made label (script.Keep s) reply calls text new so = tells_spent L (after_keep held s) all _ reply calls text new so
     continues made label (script.Forget s) reply calls text new so = tells_spent L (after_forget held s) all _ reply calls text new so
-    continues made label (script.Lift table identifier) reply calls text new so = lifts made label table identifier reply calls text new so
+    continues made label (script.Lift table named) reply calls text new so = lifts made label table named reply calls text new so
     continues made label script.Harvest reply calls text new so = keeps reply calls text new so
     continues made label (script.Commit k) reply calls text new so = tells_added L (without_harvest held k) (gone_lawful L held.harvests (k - 1) all) reply calls text new so
     continues made label (script.Settle n) reply calls text new so = sweeps made label _ reply calls text new so
@@ -187,7 +187,7 @@ module _ (scene : Scene) (held : Held) where
     serves made label (script.Redo s) = begins_or made label (script.Redo s) NoToken Redo (redo_meant held.redos s) (λ _ _. tt)
     serves made label (script.Keep s) = begins_or made label (script.Keep s) NoToken Keep (undo_meant held.undos (Some s)) (λ _ _. tt)
     serves made label (script.Forget s) = begins_or made label (script.Forget s) NoToken Forget (redo_meant held.redos (Some s)) (λ _ _. tt)
-    serves made label (script.Lift table identifier) = begins_or made label (script.Lift table identifier) NoVertex (λ v. Order) (vertex_of scene identifier) (λ _ _. tt)
+    serves made label (script.Lift table named) = begins_or made label (script.Lift table named) NoVertex (λ v. Order) (vertex_of scene named) (λ _ _. tt)
     serves made label script.Harvest = begins made label script.Harvest Order tt
     serves made label (script.Commit k) = begins_or made label (script.Commit k) NoHarvest Commit (harvest_kept held.harvests k) (λ made is _. kept_lawful L held.harvests k made all is)
     serves made label (script.Settle n) = begins made label (script.Settle n) Order tt
@@ -198,7 +198,7 @@ module _ (scene : Scene) (held : Held) where
 
 -- ---- lines
 
-module _ (scene : Scene) where
+module _ (meaning : Request → Request) (scene : Scene) where
   abbrev family : Family
   family = family_of (setting_in scene)
 
@@ -215,8 +215,8 @@ module _ (scene : Scene) where
   none_more : (old new : Between) (before : List Event) → old.calls ≡ length before → new ≡ old → new.calls ≡ length (before ++ [])
   none_more old new before counted same = omega (arith, ap (λ (b : Between). b.calls) same, counted, length-append before [])
 
-  pub line_of : (old : Between) (before : List Event) (s : Said) (text : List ℕ) (new : Between) → old.calls ≡ length before → AreLawful (IsLawful family) old.held.harvests → Speaks (calling scene) old s text new →
-      Calls (λ a b. Speaks (asking scene) a s text b) old before new
+  pub line_of : (old : Between) (before : List Event) (s : Said) (text : List ℕ) (new : Between) → old.calls ≡ length before → AreLawful (IsLawful family) old.held.harvests → Speaks (as_meant meaning (calling scene)) old s text new →
+      Calls (λ a b. Speaks (as_meant meaning (asking scene)) a s text b) old before new
   line_of old before (Ok None) text new counted all speaks = record {
     calls = [];
     legal = tt;
@@ -227,20 +227,20 @@ module _ (scene : Scene) where
     counted = none_more old new before counted speaks.1;
   }
   line_of old before (Ok (Some request)) text new counted all speaks =
-      let fine = serves scene old.held all old.calls request.label request.command speaks.0 text new.held speaks.1.0 in
+      let fine = serves scene old.held all old.calls (meaning request).label (meaning request).command speaks.0 text new.held speaks.1.0 in
       record {
         calls = speaks.0;
         legal = speaks.1.1;
         lawful = fine.0;
         kept = fine.1;
-        asked = (speaks.0, (subst (λ (n : ℕ). Serves scene old.held n request speaks.0 text new.held) counted speaks.1.0, refl));
+        asked = (speaks.0, (subst (λ (n : ℕ). Serves scene old.held n (meaning request) speaks.0 text new.held) counted speaks.1.0, refl));
         left = speaks.1.2;
         counted = omega (arith, speaks.1.3, counted, length-append before speaks.0);
       }
   line_of old before (Err fault) text new counted all speaks = absurd speaks
 
-  lines_of : (old : Between) (before : List Event) (lines : List (List ℕ)) (text : List ℕ) (new : Between) → old.calls ≡ length before → AreLawful (IsLawful family) old.held.harvests → Answered (calling scene) old lines text new →
-      Calls (λ a b. Answered (asking scene) a lines text b) old before new
+  lines_of : (old : Between) (before : List Event) (lines : List (List ℕ)) (text : List ℕ) (new : Between) → old.calls ≡ length before → AreLawful (IsLawful family) old.held.harvests → Answered (as_meant meaning (calling scene)) old lines text new →
+      Calls (λ a b. Answered (as_meant meaning (asking scene)) a lines text b) old before new
   lines_of old before [] text new counted all answered = record {
     calls = [];
     legal = tt;
@@ -252,8 +252,8 @@ module _ (scene : Scene) where
   }
   lines_of old before (line ∷ lines) text new counted all answered =
       let mid = answered.0 in
-      let first : Calls (λ a b. Speaks (asking scene) a (said line) answered.1 b) old before mid = line_of old before (said line) answered.1 mid counted all answered.3 in
-      let rest : Calls (λ a b. Answered (asking scene) a lines answered.2 b) mid (before ++ first.calls) new = lines_of mid (before ++ first.calls) lines answered.2 new first.counted first.kept answered.5 in
+      let first : Calls (λ a b. Speaks (as_meant meaning (asking scene)) a (said line) answered.1 b) old before mid = line_of old before (said line) answered.1 mid counted all answered.3 in
+      let rest : Calls (λ a b. Answered (as_meant meaning (asking scene)) a lines answered.2 b) mid (before ++ first.calls) new = lines_of mid (before ++ first.calls) lines answered.2 new first.counted first.kept answered.5 in
       record {
         calls = first.calls ++ rest.calls;
         legal = legal_more family old.book first.calls rest.calls first.legal (subst (λ (b : Book). IsLegalFrom family b rest.calls) first.left rest.legal);
@@ -265,7 +265,7 @@ module _ (scene : Scene) where
           answered.2,
           first.asked,
           answered.4,
-          subst (λ (h : List Event). Answered (asking scene) (record { calls = before ++ first.calls; held = mid.held }) lines answered.2 (record { calls = h; held = new.held }))
+          subst (λ (h : List Event). Answered (as_meant meaning (asking scene)) (record { calls = before ++ first.calls; held = mid.held }) lines answered.2 (record { calls = h; held = new.held }))
               (append_assoc before first.calls rest.calls) rest.asked,
         );
         left = rest.left ∙ ap (λ (b : Book). book_after family b rest.calls) first.left ∙ sym (after_more family old.book first.calls rest.calls);
@@ -273,18 +273,18 @@ module _ (scene : Scene) where
       }
 
 -- what sweeps made is no part of a history
-module _ (scene : Scene) (lifters : ℕ) where
-  pub speaks_calls : (old : Between) (s : Said) (text : List ℕ) (new : Between) → Speaks (answering scene lifters) old s text new → Speaks (calling scene) old s text new
+module _ (meaning : Request → Request) (scene : Scene) (lifters : ℕ) where
+  pub speaks_calls : (old : Between) (s : Said) (text : List ℕ) (new : Between) → Speaks (as_meant meaning (answering scene lifters)) old s text new → Speaks (as_meant meaning (calling scene)) old s text new
   speaks_calls old (Ok None) text new so = so
   speaks_calls old (Ok (Some request)) text new so = so.0
   speaks_calls old (Err fault) text new so = so
 
-  answered_calls : (old : Between) (lines : List (List ℕ)) (text : List ℕ) (new : Between) → Answered (answering scene lifters) old lines text new → Answered (calling scene) old lines text new
+  answered_calls : (old : Between) (lines : List (List ℕ)) (text : List ℕ) (new : Between) → Answered (as_meant meaning (answering scene lifters)) old lines text new → Answered (as_meant meaning (calling scene)) old lines text new
   answered_calls old [] text new so = so
   answered_calls old (line ∷ lines) text new so =
       (so.0, so.1, so.2, speaks_calls old (said line) so.1 so.0 so.3, so.4, answered_calls so.0 lines so.2 new so.5)
 
 pub answers_are_histories : AnswersAreHistories
-answers_are_histories scene lifters lines text new answered =
-    let all = lines_of scene begun [] lines text new refl tt (answered_calls scene lifters begun lines text new answered) in
+answers_are_histories meaning scene lifters lines text new answered =
+    let all = lines_of meaning scene begun [] lines text new refl tt (answered_calls meaning scene lifters begun lines text new answered) in
     (all.calls, (record { legal = all.legal; lawful = all.lawful; leaves = sym all.left }, all.asked))

@@ -24,10 +24,6 @@ use Rattle.vpg_report.proofs.Enduring.{unless_stray_any}
 use Rattle.vpg_report.specs.Requests.{Continues, answer_limits, first_call, order_or, query_of}
 use Rattle.vpg_report.specs.Server.{AnswersTo}
 
-pub vertex_within : (vertices : List NamedVertex) (id : ℕ) (found : Option ℕ) → IfSome found (λ v. slice_get (vertex_ids vertices) v ≡ Some id) → IfSome found (λ v. v < length vertices)
-vertex_within vertices id None h = tt
-vertex_within vertices id (Some v) h = subst (λ (n : ℕ). v < n) (length-map vertices (λ (x : NamedVertex). x.id)) (slice_get_within (vertex_ids vertices) v id h)
-
 pub name_within : (names : List (List ℕ)) (name : List ℕ) (found : Option ℕ) → IfSome found (λ f. slice_get names f ≡ Some name) → IfSome found (λ f. f < length names)
 name_within names name None h = tt
 name_within names name (Some f) h = slice_get_within names f name h

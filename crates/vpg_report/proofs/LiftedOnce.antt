@@ -89,17 +89,17 @@ module _ (order : OrderView) (harvest : HarvestView) (is_order : IsOrder order) 
   lifted desk game diagram =
       coe 0 1 (i. IsLifted (setting_between (game i) (diagram i)) table v order.decisions order.hopeful order.dual (handed_in true harvest)) lifted_in
 
-  module _ (limit : ℕ) (limit_is : limit ≡ room) (session : ℕ) (old new : EngineState) (first : ClientState) (identifier : ℕ) (before after : List ℕ) (vertex : vertex_of (scene_at old) identifier ≡ Some v)
+  module _ (limit : ℕ) (limit_is : limit ≡ room) (session : ℕ) (old new : EngineState) (first : ClientState) (named : script.Vertex) (before after : List ℕ) (vertex : vertex_of (scene_at old) named ≡ Some v)
       (ordered : IsLogged limit old.client session Order (Ordered order.decisions order.hopeful order.dual) first) (ours : IsOrderOf old.client.desk order) (held : new.held ≡ old.held) where
     -- an order of the desk is lifted once, and its harvest is committed
     pub lift_answers : (added : ℕ) → IsLogged limit first session (Commit (handed_in true harvest)) (Added added) new.client → after ≡ before ++ numbered (codes "added") added →
-        AnswersTo old (record { label = session; command = script.Lift table identifier }) before after new
+        AnswersTo old (record { label = session; command = script.Lift table named }) before after new
     lift_answers added commit appended =
-        lifts limit limit_is session old new first 0 order.decisions order.hopeful order.dual (handed_in true harvest) before after ordered table identifier v vertex (lifted old.client.desk ours.0 ours.1) added commit held appended
+        lifts limit limit_is session old new first 0 order.decisions order.hopeful order.dual (handed_in true harvest) before after ordered table named v vertex (lifted old.client.desk ours.0 ours.1) added commit held appended
 
     -- the log is full before it is committed
     pub lifted_full : (fault : ClientFault CommitFault) → fault ≡ LogFull → Tells limit commit_refusal first session (Commit (handed_in true harvest)) new.client fault → after ≡ before ++ full_line →
-        AnswersTo old (record { label = session; command = script.Lift table identifier }) before after new
+        AnswersTo old (record { label = session; command = script.Lift table named }) before after new
     lifted_full fault is tells appended =
         let full = subst (λ (f : ClientFault CommitFault). Tells limit commit_refusal first session (Commit (handed_in true harvest)) new.client f) is tells in
-        lift_full limit limit_is session old new first 0 order.decisions order.hopeful order.dual (handed_in true harvest) before after ordered table identifier v vertex (lifted old.client.desk ours.0 ours.1) full.0 full.1 held appended
+        lift_full limit limit_is session old new first 0 order.decisions order.hopeful order.dual (handed_in true harvest) before after ordered table named v vertex (lifted old.client.desk ours.0 ours.1) full.0 full.1 held appended

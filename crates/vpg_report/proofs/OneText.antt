@@ -24,7 +24,7 @@ use Rattle.vpg_report.specs.Requests.{query_of, answer_limits, order_or, first_c
 use Rattle.vpg_answers.specs.Answers.{IsAnswer, HasDoubt}
 use Rattle.vpg_answers.specs.declared.query.Query.{Query}
 use Rattle.vpg_answers.proofs.One.{answers_are_one}
-use Rattle.vpg_report.specs.Run.{Between, begun}
+use Rattle.vpg_report.specs.Run.{Between, as_meant, begun}
 use Rattle.vpg_report.specs.Settling.{settling, TellsSettle, AreChecked, SettledAnswersAreOne}
 use Rattle.vpg_texts.proofs.Planned.{known_is_one}
 use Rattle.vpg_texts.proofs.Seen.{seen_one}
@@ -269,8 +269,8 @@ module _ (scene : Scene) (held : Held) (Told : List ℕ → Type 0) where
         let same : a.0 ≡ b.0 = checked_are_one all decisions hopeful dual a.0 b.0 a.1.of_order b.1.of_order (checks_last a.0 new a.2.2 fit.checked) (checks_last b.0 newer b.2.2 fits.checked) in
         (a.2.0 ∙ sym b.2.0, a.2.1 ∙ sym b.2.1, a.2.2 ∙ ap (with_harvest held) same ∙ sym b.2.2)
 
-    lifted : (made label : ℕ) (table : Which) (identifier : ℕ) → IsOne book (Lifts scene held made label table identifier (Ordered decisions hopeful dual))
-    lifted made label table identifier calls more text other new newer a b fit fits =
+    lifted : (made label : ℕ) (table : Which) (named : script.Vertex) → IsOne book (Lifts scene held made label table named (Ordered decisions hopeful dual))
+    lifted made label table named calls more text other new newer a b fit fits =
         let here : b.0 ≡ a.0 = cc (a.2, b.2) in
         let same : b.1 ≡ a.1 = lifted_one scene decisions hopeful dual table a.0 b.1 a.1 (subst (λ (v : ℕ). IsLifted (setting_in scene) table v decisions hopeful dual b.1) here b.3) a.3 in
         asks book made label (Commit a.1) (TellsAdded held) (λ reply told. tells_added (next all book label (Commit a.1) reply) held reply) calls more text other new newer a.4
@@ -293,9 +293,9 @@ module _ (scene : Scene) (held : Held) (Told : List ℕ → Type 0) where
     keeps (Ordered d h u) told = kept book d h u (ordered book d h u told)
     keeps _ told = λ calls more text other new newer a. absurd a
 
-    lifts : (table : Which) (identifier : ℕ) (reply : Reply) → IsReply all book Order reply → IsOne (next all book label Order reply) (Lifts scene held (made + 1) label table identifier reply)
-    lifts table identifier (Ordered d h u) told = lifted book d h u (ordered book d h u told) (made + 1) label table identifier
-    lifts table identifier _ told = λ calls more text other new newer a. absurd a
+    lifts : (table : Which) (named : script.Vertex) (reply : Reply) → IsReply all book Order reply → IsOne (next all book label Order reply) (Lifts scene held (made + 1) label table named reply)
+    lifts table named (Ordered d h u) told = lifted book d h u (ordered book d h u told) (made + 1) label table named
+    lifts table named _ told = λ calls more text other new newer a. absurd a
 
     tells_answer : (inquiry : script.Inquiry) → ((text : List ℕ) → Told text → ¬ (HasDoubt text)) → (reply : Reply) → IsReply all book Order reply →
         IsOne (next all book label Order reply) (TellsAnswer scene held inquiry reply)
@@ -334,7 +334,7 @@ module _ (scene : Scene) (held : Held) (Told : List ℕ → Type 0) where
     serves (script.Redo s) is = begins_or (script.Redo s) NoToken Redo (redo_meant held.redos s) (λ n reply told. tells_redone _ reply)
     serves (script.Keep s) is = begins_or (script.Keep s) NoToken Keep (undo_meant held.undos (Some s)) (λ n reply told. tells_spent _ _ (after_keep held s) reply)
     serves (script.Forget s) is = begins_or (script.Forget s) NoToken Forget (redo_meant held.redos (Some s)) (λ n reply told. tells_spent _ _ (after_forget held s) reply)
-    serves (script.Lift table identifier) is = begins_or (script.Lift table identifier) NoVertex (λ v. Order) (vertex_of scene identifier) (λ v. lifts table identifier)
+    serves (script.Lift table named) is = begins_or (script.Lift table named) NoVertex (λ v. Order) (vertex_of scene named) (λ v. lifts table named)
     serves script.Harvest is = begins script.Harvest Order keeps
     serves (script.Commit k) is = begins_or (script.Commit k) NoHarvest Commit (harvest_kept held.harvests k) (λ made reply told. tells_added _ (without_harvest held k) reply)
     serves (script.Settle n) is = begins (script.Settle n) Order (sweeps _ is)
@@ -355,31 +355,31 @@ settle_is_told scene held book made label (script.Undo s) = tt
 settle_is_told scene held book made label (script.Redo s) = tt
 settle_is_told scene held book made label (script.Keep s) = tt
 settle_is_told scene held book made label (script.Forget s) = tt
-settle_is_told scene held book made label (script.Lift table identifier) = tt
+settle_is_told scene held book made label (script.Lift table named) = tt
 settle_is_told scene held book made label script.Harvest = tt
 settle_is_told scene held book made label (script.Commit k) = tt
 settle_is_told scene held book made label (script.Look lookup) = tt
 settle_is_told scene held book made label script.Changed = tt
 settle_is_told scene held book made label (script.Known name) = tt
 
-module _ (scene : Scene) where
-  line_one : (old : Between) (s : Said) (text other : List ℕ) (new newer : Between) → Speaks (settling scene) old s text new → Speaks (settling scene) old s other newer → (text ≡ other) × (new ≡ newer)
+module _ (meaning : Request → Request) (scene : Scene) where
+  line_one : (old : Between) (s : Said) (text other : List ℕ) (new newer : Between) → Speaks (as_meant meaning (settling scene)) old s text new → Speaks (as_meant meaning (settling scene)) old s other newer → (text ≡ other) × (new ≡ newer)
   line_one old (Ok None) text other new newer a b = (a.0 ∙ sym b.0, a.1 ∙ sym b.1)
   line_one old (Ok (Some request)) text other new newer a b =
       let one : (a.0.0 ≡ b.0.0) × (text ≡ other) × (new.held ≡ newer.held) =
-      serves scene old.held (TellsSettle request.command) old.book old.calls request.label request.command (settle_is_told scene old.held old.book old.calls request.label request.command) a.0.0 b.0.0 text other new.held newer.held a.0.1.0 b.0.1.0
+      serves scene old.held (TellsSettle (meaning request).command) old.book old.calls (meaning request).label (meaning request).command (settle_is_told scene old.held old.book old.calls (meaning request).label (meaning request).command) a.0.0 b.0.0 text other new.held newer.held a.0.1.0 b.0.1.0
       (record { legal = a.0.1.1; told = a.1; checked = a.2 }) (record { legal = b.0.1.1; told = b.1; checked = b.2 }) in
       let book : new.book ≡ newer.book = a.0.1.2 ∙ ap (λ (es : List Event). book_after (family_of (setting_in scene)) old.book es) one.0 ∙ sym b.0.1.2 in
       let calls : new.calls ≡ newer.calls = a.0.1.3 ∙ ap (λ (es : List Event). old.calls + length es) one.0 ∙ sym b.0.1.3 in
       (one.1, λ i. record { book = book i; calls = calls i; held = one.2 i })
   line_one old (Err fault) text other new newer a b = absurd a
 
-  pub lines_one : (old : Between) (lines : List (List ℕ)) (text other : List ℕ) (new newer : Between) → Answered (settling scene) old lines text new → Answered (settling scene) old lines other newer → (text ≡ other) × (new ≡ newer)
+  pub lines_one : (old : Between) (lines : List (List ℕ)) (text other : List ℕ) (new newer : Between) → Answered (as_meant meaning (settling scene)) old lines text new → Answered (as_meant meaning (settling scene)) old lines other newer → (text ≡ other) × (new ≡ newer)
   lines_one old [] text other new newer a b = (a.0 ∙ sym b.0, a.1 ∙ sym b.1)
   lines_one old (line ∷ lines) text other new newer a b =
       let first : (a.1 ≡ b.1) × (a.0 ≡ b.0) = line_one old (said line) a.1 b.1 a.0 b.0 a.3 b.3 in
-      let rest : (a.2 ≡ b.2) × (new ≡ newer) = lines_one a.0 lines a.2 b.2 new newer a.5 (subst (λ (m : Between). Answered (settling scene) m lines b.2 newer) (sym first.1) b.5) in
+      let rest : (a.2 ≡ b.2) × (new ≡ newer) = lines_one a.0 lines a.2 b.2 new newer a.5 (subst (λ (m : Between). Answered (as_meant meaning (settling scene)) m lines b.2 newer) (sym first.1) b.5) in
       (a.4 ∙ ap₂ (λ (x y : List ℕ). x ++ y) first.0 rest.0 ∙ sym b.4, rest.1)
 
 pub settled_answers_are_one : SettledAnswersAreOne
-settled_answers_are_one scene lines text other new newer a b = lines_one scene begun lines text other new newer a b
+settled_answers_are_one meaning scene lines text other new newer a b = lines_one meaning scene begun lines text other new newer a b

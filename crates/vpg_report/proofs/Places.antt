@@ -114,25 +114,3 @@ stands s i serials is =
       shorter = without_shorter s serials (place_has s i serials is);
       put_back = subst (λ (ns : List ℕ). insert ns i s ≡ serials) gone (put_back_at s i serials at.0 (here 0));
     }
-
--- ---- a vertex by its identifier
-
-found_at : (id i : ℕ) (ids : List ℕ) → i < length ids → (slice_index_or ids i 0 == id) ≡ true → slice_get ids i ≡ Some id
-found_at id i [] l is = absurd (omega (arith, l))
-found_at id zero (n ∷ ids) l is = ap Some (eqb-true n id is)
-found_at id (suc i) (n ∷ ids) l is = found_at id i ids (omega (arith, l)) is
-
--- what is found is the place of the identifier
-pub vertex_found : (ids : List ℕ) (id : ℕ) (result : Option ℕ) → IfSome result (λ v. slice_get ids v ≡ Some id) → ((v : ℕ) → slice_get ids v ≡ Some id → result ≡ Some v) →
-    position (λ n. n == id) ids ≡ result
-vertex_found ids id result found held = go (position (λ n. n == id) ids) refl
-  where
-    none : (result : Option ℕ) → IfSome result (λ v. slice_get ids v ≡ Some id) → position (λ n. n == id) ids ≡ None → None ≡ result
-    none None found is = refl
-    none (Some v) found is = absurd (has_place id ids (found_has id v ids found) is)
-
-    go : (place : Option ℕ) → position (λ n. n == id) ids ≡ place → position (λ n. n == id) ids ≡ result
-    go None is = is ∙ none result found is
-    go (Some i) is =
-        let at = position-Some (λ (n : ℕ). n == id) ids i 0 is in
-        is ∙ sym (held i (found_at id i ids at.0 at.1))

@@ -1,5 +1,6 @@
 -- What a run's result says, by that of its script.
-use Rattle.std.proofs.Common.{◌≡◌, ℕ, false, List, Option, Result, Ok, Err, ap}
+use Rattle.std.proofs.Common.{◌≡◌, ℕ, false, List, [], Option, Result, Ok, Err, ap, subst}
+use Rattle.std.proofs.Math.Path.{fun_ext}
 use Rattle.std.specs.Prelude.{IsErrOf}
 use Rattle.vpg_faults.specs.declared.fault.OpenFault.{OpenFault}
 use Rattle.vpg_serving.specs.Output.{Machine}
@@ -11,6 +12,14 @@ use Rattle.vpg_serving.specs.declared.fault.RunFault.TheVariants as stops
 use Rattle.vpg_serving.proofs.MannerLemmas.{plain_outcome}
 use Rattle.vpg_report.specs.Output.{Outcome, OutcomeAs}
 use Rattle.vpg_report.specs.Results.{Opens}
+use Rattle.vpg_diagram.specs.DiagramText.{NamedDiagram}
+use Rattle.vpg_game.specs.Game.{NamedGame}
+use Rattle.vpg_script.specs.Calling.{Calling}
+use Rattle.vpg_script.specs.Script.{Request}
+use Rattle.vpg_script.proofs.Nameless.{none_meant}
+use Rattle.vpg_texts.specs.Scene.{scene_of}
+use Rattle.vpg_report.specs.Run.{answering, answering_called, as_meant, begun, called_in}
+use Rattle.vpg_report.specs.Server.{IsOpenRefusal}
 
 pub opens : {A : Type 0} (result : Result A RunFault) (P : Type 0) → P → Opens result P
 opens (Ok done) P p = p
@@ -54,3 +63,13 @@ stopped_alike A B fault stop is =
 -- a run with a value has no fault
 pub not_stopped : (A : Type 0) (value : A) (stop : RunFault) → IsErrOf (Ok value) stop → ⊥
 not_stopped A value stop is = absurd (cc is)
+
+-- ---- without names of vertices
+
+pub uncalled : (manner : Manner) (game : NamedGame) (diagram : NamedDiagram) (callings : List Calling) (lifters : ℕ) (input left before after : Option (List ℕ)) (result : Result Ending RunFault) → callings ≡ [] →
+    OutcomeAs manner (answering_called (called_in game diagram callings) lifters) (IsOpenRefusal game diagram) begun input left before after result →
+    OutcomeAs manner (answering (scene_of game diagram) lifters) (IsOpenRefusal game diagram) begun input left before after result
+uncalled manner game diagram callings lifters input left before after result none outcome =
+    subst (λ (meaning : Request → Request). OutcomeAs manner (as_meant meaning (answering (scene_of game diagram) lifters)) (IsOpenRefusal game diagram) begun input left before after result)
+    (fun_ext (λ request. none_meant diagram.names request))
+    (subst (λ (cs : List Calling). OutcomeAs manner (answering_called (called_in game diagram cs) lifters) (IsOpenRefusal game diagram) begun input left before after result) none outcome)

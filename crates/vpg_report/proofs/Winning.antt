@@ -22,7 +22,7 @@ use Rattle.vpg_desk.specs.Setting.{IsSetting}
 use Rattle.vpg_desk.proofs.Whole.{reply_means}
 use Rattle.vpg_script.specs.declared.command.Claim.{Claim}
 use Rattle.vpg_script.specs.Script as script
-use Rattle.vpg_script.specs.Script.{Said, said}
+use Rattle.vpg_script.specs.Script.{Request, Said, said}
 use Rattle.vpg_serving.specs.Output.{Speaks, Answered}
 use Rattle.vpg_texts.specs.Changed.{verdict_of, verdicts_below, unseen, seen_at, changed_text}
 use Rattle.vpg_texts.specs.Scene.{Scene, scene_of}
@@ -31,7 +31,7 @@ use Rattle.vpg_texts.specs.Text.{answer_line, blank_number, decisions_line, hope
 use Rattle.vpg_report.specs.Answers.{vertex_of, page_if, own_text, NoVertex, refusal_text, Follows, Asks, Sees, verdicts_on}
 use Rattle.vpg_report.specs.Held.{Held}
 use Rattle.vpg_report.specs.Requests.{Continues, Begins, Serves}
-use Rattle.vpg_report.specs.Run.{Between, begun, answering, asking}
+use Rattle.vpg_report.specs.Run.{Between, begun, answering, as_meant, asking}
 use Rattle.vpg_report.specs.Setting.{setting_in}
 use Rattle.vpg_report.specs.Winners.{AreTrue, verdict_line, verdict_lines, SaysVerdicts, IsRefusal, NamesWinners, naming, AnswersNameWinners}
 use Rattle.vpg_report.proofs.Histories.{AreLawful, Calls, legal_more, after_more, all_more, line_of, speaks_calls}
@@ -124,53 +124,57 @@ module _ (scene : Scene) (page : List Entry) where
             (ap (vertex_lines (top_for Hopeful scene.game) (top_for Dual scene.game) scene.identifiers hopeful dual) sized ∙ sym (range_lines (length scene.game) (omega arith))),
       )
 
-  abbrev lines_named : List ℕ → List ℕ
-  lines_named identifiers = named_lines (top_for Hopeful scene.game) (top_for Dual scene.game) scene.identifiers hopeful dual identifiers
+  abbrev lines_named : List script.Vertex → List ℕ
+  lines_named vertices = named_lines (top_for Hopeful scene.game) (top_for Dual scene.game) scene.identifiers hopeful dual vertices
 
   abbrev line_found : Option ℕ → List ℕ
   line_found found = line_at (top_for Hopeful scene.game) (top_for Dual scene.game) scene.identifiers hopeful dual found
 
-  -- the vertices of these identifiers
-  record Named (identifiers : List ℕ) : Type 0 where
+  -- the places of the vertices that are named
+  record Named (named : List script.Vertex) : Type 0 where
     vertices : List ℕ
-    are : map (vertex_of scene) identifiers ≡ map Some vertices
-    lines : lines_named identifiers ≡ said_lines vertices
+    are : map (vertex_of scene) named ≡ map Some vertices
+    lines : lines_named named ≡ said_lines vertices
+
+  vertex_inside : (named : script.Vertex) (v : ℕ) → vertex_of scene named ≡ Some v → v < length scene.identifiers
+  vertex_inside (script.Numbered identifier) v is = (position-Some (λ (n : ℕ). n == identifier) scene.identifiers v 0 is).0
+  vertex_inside (script.Named name) v is = absurd (cc is)
 
   module _ (sized : length scene.identifiers ≡ length scene.game) where
-    one_more : (identifier : ℕ) (identifiers : List ℕ) → (found : Option ℕ) → vertex_of scene identifier ≡ found → is_some found ≡ true → Named identifiers → Named (identifier ∷ identifiers)
-    one_more identifier identifiers None is some more = absurd (cc some)
-    one_more identifier identifiers (Some v) is some more =
-        let at = position-Some (λ (n : ℕ). n == identifier) scene.identifiers v 0 is in
+    one_more : (vertex : script.Vertex) (named : List script.Vertex) → (found : Option ℕ) → vertex_of scene vertex ≡ found → is_some found ≡ true → Named named → Named (vertex ∷ named)
+    one_more vertex named None is some more = absurd (cc some)
+    one_more vertex named (Some v) is some more =
+        let within = vertex_inside vertex v is in
         record {
           vertices = v ∷ more.vertices;
           are = λ k. is k ∷ more.are k;
-          lines = flat_map-cons (λ (i : ℕ). line_found (vertex_of scene i)) identifier identifiers
+          lines = flat_map-cons (λ (x : script.Vertex). line_found (vertex_of scene x)) vertex named
               ∙ (λ k. line_found (is k) ++ more.lines k)
-              ∙ ap (λ (l : List ℕ). l ++ said_lines more.vertices) (sym (line_is v (omega (arith, at.0, sized))))
+              ∙ ap (λ (l : List ℕ). l ++ said_lines more.vertices) (sym (line_is v (omega (arith, within, sized))))
               ∙ sym (flat_map-cons said_line v more.vertices);
         }
 
-    named : (identifiers : List ℕ) → has_vertices scene.identifiers (script.Vertices identifiers) ≡ true → Named identifiers
-    named [] has = record { vertices = []; are = refl; lines = refl }
-    named (identifier ∷ identifiers) has =
-        let b = both_true (is_some (vertex_of scene identifier)) (has_vertices scene.identifiers (script.Vertices identifiers)) has in
-        one_more identifier identifiers (vertex_of scene identifier) refl b.0 (named identifiers b.1)
+    places_of : (named : List script.Vertex) → has_vertices scene.identifiers (script.Vertices named) ≡ true → Named named
+    places_of [] has = record { vertices = []; are = refl; lines = refl }
+    places_of (vertex ∷ named) has =
+        let b = both_true (is_some (vertex_of scene vertex)) (has_vertices scene.identifiers (script.Vertices named)) has in
+        one_more vertex named (vertex_of scene vertex) refl b.0 (places_of named b.1)
 
     -- what `show V ..` writes
-    named_says : (identifiers text : List ℕ) → has_vertices scene.identifiers (script.Vertices identifiers) ≡ true → Sees scene (script.Vertices identifiers) page text →
-        SaysVerdicts scene (script.Look (script.Vertices identifiers)) (verdicts_on scene page) text
-    named_says identifiers text has sees =
-        let n = named identifiers has in
+    named_says : (named : List script.Vertex) (text : List ℕ) → has_vertices scene.identifiers (script.Vertices named) ≡ true → Sees scene (script.Vertices named) page text →
+        SaysVerdicts scene (script.Look (script.Vertices named)) (verdicts_on scene page) text
+    named_says named text has sees =
+        let n = places_of named has in
         (n.vertices, hopeful, dual, n.are, sees ∙ n.lines)
 
     -- what `assert V ..` writes
-    assert_says : (identifier : ℕ) (claims : List Claim) (text : List ℕ) → (found : Option ℕ) → vertex_of scene identifier ≡ found → is_some found ≡ true → Sees scene (script.Assert (script.Verdicts identifier claims)) page text →
-        SaysVerdicts scene (script.Look (script.Assert (script.Verdicts identifier claims))) (verdicts_on scene page) text
-    assert_says identifier claims text None is some sees = absurd (cc some)
-    assert_says identifier claims text (Some v) is some sees =
+    assert_says : (vertex : script.Vertex) (claims : List Claim) (text : List ℕ) → (found : Option ℕ) → vertex_of scene vertex ≡ found → is_some found ≡ true → Sees scene (script.Assert (script.Verdicts vertex claims)) page text →
+        SaysVerdicts scene (script.Look (script.Assert (script.Verdicts vertex claims))) (verdicts_on scene page) text
+    assert_says vertex claims text None is some sees = absurd (cc some)
+    assert_says vertex claims text (Some v) is some sees =
         let told = sees.1.1 in
-        let at = position-Some (λ (n : ℕ). n == identifier) scene.identifiers v 0 is in
-        let inside : v < length scene.game = omega (arith, at.0, sized) in (
+        let within = vertex_inside vertex v is in
+        let inside : v < length scene.game = omega (arith, within, sized) in (
           v,
           told.settled,
           is,
@@ -284,10 +288,10 @@ module _ (scene : Scene) where
 
     names : (command : script.Command) (calls : List Event) (text : List ℕ) (new : Held) → IsLegalFrom F book calls → Serves scene held made (record { label = label; command = command }) calls text new → Names command text
     names (script.Look script.Show) calls text new legal so = seen script.Show text (λ has sees. show_says scene book.present sized text sees) calls new legal so
-    names (script.Look (script.Vertices identifiers)) calls text new legal so =
-        seen (script.Vertices identifiers) text (λ has sees. named_says scene book.present sized identifiers text has sees) calls new legal so
-    names (script.Look (script.Assert (script.Verdicts identifier claims))) calls text new legal so =
-        seen (script.Assert (script.Verdicts identifier claims)) text (λ has sees. assert_says scene book.present sized identifier claims text (vertex_of scene identifier) refl has sees) calls new legal so
+    names (script.Look (script.Vertices named)) calls text new legal so =
+        seen (script.Vertices named) text (λ has sees. named_says scene book.present sized named text has sees) calls new legal so
+    names (script.Look (script.Assert (script.Verdicts vertex claims))) calls text new legal so =
+        seen (script.Assert (script.Verdicts vertex claims)) text (λ has sees. assert_says scene book.present sized vertex claims text (vertex_of scene vertex) refl has sees) calls new legal so
     names script.Changed calls text new legal so = by_page script.Changed text (changed book held made (made + 1) label calls text new legal so)
     names (script.Look (script.Assert script.Full)) calls text new legal so = by_page (script.Look (script.Assert script.Full)) text (inr tt)
     names (script.Look (script.Assert script.Settled)) calls text new legal so = by_page (script.Look (script.Assert script.Settled)) text (inr tt)
@@ -303,7 +307,7 @@ module _ (scene : Scene) where
     names (script.Redo s) calls text new legal so = by_page (script.Redo s) text (inr tt)
     names (script.Keep s) calls text new legal so = by_page (script.Keep s) text (inr tt)
     names (script.Forget s) calls text new legal so = by_page (script.Forget s) text (inr tt)
-    names (script.Lift table identifier) calls text new legal so = by_page (script.Lift table identifier) text (inr tt)
+    names (script.Lift table vertex) calls text new legal so = by_page (script.Lift table vertex) text (inr tt)
     names script.Harvest calls text new legal so = by_page script.Harvest text (inr tt)
     names (script.Commit k) calls text new legal so = by_page (script.Commit k) text (inr tt)
     names (script.Settle n) calls text new legal so = by_page (script.Settle n) text (inr tt)
@@ -318,20 +322,20 @@ module _ (scene : Scene) where
     counted : old.calls ≡ length before
     kept : AreLawful (IsLawful F) old.held.harvests
 
-  module _ (sized : length scene.identifiers ≡ length scene.game) (is_setting : IsSetting (setting_in scene)) (lifters : ℕ) where
+  module _ (sized : length scene.identifiers ≡ length scene.game) (is_setting : IsSetting (setting_in scene)) (lifters : ℕ) (meaning : Request → Request) where
     true_here : (old : Between) (before : List Event) → IsSoFar old before → TrueOn old.book.present
     true_here old before here = subst (λ (b : Book). TrueOn b.present) (sym here.leaves) (verdicts_after before is_setting here.legal here.lawful)
 
-    names_line : (old : Between) (before : List Event) (s : Said) (text : List ℕ) (new : Between) → IsSoFar old before → Speaks (answering scene lifters) old s text new → Speaks (naming scene lifters) old s text new
+    names_line : (old : Between) (before : List Event) (s : Said) (text : List ℕ) (new : Between) → IsSoFar old before → Speaks (as_meant meaning (answering scene lifters)) old s text new → Speaks (as_meant meaning (naming scene lifters)) old s text new
     names_line old before (Ok None) text new here so = so
     names_line old before (Ok (Some request)) text new here so =
-        (so, names sized old.book (true_here old before here) old.held old.calls request.label request.command so.0.0 text new.held so.0.1.1 so.0.1.0)
+        (so, names sized old.book (true_here old before here) old.held old.calls (meaning request).label (meaning request).command so.0.0 text new.held so.0.1.1 so.0.1.0)
     names_line old before (Err fault) text new here so = absurd so
 
-    names_lines : (old : Between) (before : List Event) (lines : List (List ℕ)) (text : List ℕ) (new : Between) → IsSoFar old before → Answered (answering scene lifters) old lines text new → Answered (naming scene lifters) old lines text new
+    names_lines : (old : Between) (before : List Event) (lines : List (List ℕ)) (text : List ℕ) (new : Between) → IsSoFar old before → Answered (as_meant meaning (answering scene lifters)) old lines text new → Answered (as_meant meaning (naming scene lifters)) old lines text new
     names_lines old before [] text new here so = so
     names_lines old before (line ∷ lines) text new here so =
-        let first : Calls scene (λ a b. Speaks (asking scene) a (said line) so.1 b) old before so.0 = line_of scene old before (said line) so.1 so.0 here.counted here.kept (speaks_calls scene lifters old (said line) so.1 so.0 so.3) in (
+        let first : Calls meaning scene (λ a b. Speaks (as_meant meaning (asking scene)) a (said line) so.1 b) old before so.0 = line_of meaning scene old before (said line) so.1 so.0 here.counted here.kept (speaks_calls meaning scene lifters old (said line) so.1 so.0 so.3) in (
           so.0,
           so.1,
           so.2,
@@ -347,6 +351,6 @@ module _ (scene : Scene) where
         )
 
 pub answers_name_winners : AnswersNameWinners
-answers_name_winners game diagram lifters lines text new opens answered =
-    names_lines (scene_of game diagram) (length-map game.vertices _ ∙ sym (length-map game.vertices unnamed)) opens.is_setting lifters begun [] lines text new
+answers_name_winners meaning game diagram lifters lines text new opens answered =
+    names_lines (scene_of game diagram) (length-map game.vertices _ ∙ sym (length-map game.vertices unnamed)) opens.is_setting lifters meaning begun [] lines text new
     (record { leaves = refl; legal = tt; lawful = tt; counted = refl; kept = tt }) answered

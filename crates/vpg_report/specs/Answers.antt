@@ -1,5 +1,5 @@
 -- What commands ask of a desk, and how its replies are written. Questions about the page stand in `specs/Requests`.
-use Rattle.std.specs.Prelude.{◌≡◌, ◌⊎◌, ℕ, ◌+◌, ◌<◌, ◌≤◌, ◌==◌, Bool, true, false, if◌then◌else◌, List, [], ◌∷◌, ◌++◌, length, map, sum, position, Option, Some, None, Result, Ok, Err, slice_index, codes, ⊤}
+use Rattle.std.specs.Prelude.{◌≡◌, ◌⊎◌, ℕ, ◌+◌, ◌<◌, ◌≤◌, Bool, true, false, if◌then◌else◌, List, [], ◌∷◌, ◌++◌, length, map, sum, Option, Some, None, Result, Ok, Err, slice_index, codes, ⊤}
 use Rattle.vpg_guards.specs.declared.tri.Tri.{Tri}
 use Rattle.vpg_features.specs.Names.{index_of}
 use Rattle.vpg_guards.specs.Known.{kleene}
@@ -19,6 +19,7 @@ use Rattle.vpg_script.specs.Script as script
 use Rattle.vpg_texts.specs.Text.{blank_number, blank_name}
 use Rattle.vpg_texts.specs.Scene.{Scene, table_in, TellsFeature}
 use Rattle.vpg_texts.specs.Changed.{changed_text, verdicts_by}
+use Rattle.vpg_texts.specs.Sights as sights
 use Rattle.vpg_texts.specs.Sights.{IsSeen, has_vertices}
 use Rattle.vpg_report.specs.Setting.{setting_in}
 
@@ -57,8 +58,8 @@ settled_text settled n = numbered (if settled then codes "settled" else codes "u
 
 -- ---- what commands ask
 
--- What is refused without a call: a name that the diagram lacks, a token or a harvest that isn't held, an identifier
--- without an entry.
+-- What is refused without a call: a name that the diagram lacks, a token or a harvest that isn't held, a vertex that
+-- the game lacks.
 pub data Own : Type 0 where
   NoFeature : Own
   NoToken : Own
@@ -72,9 +73,9 @@ own_text NoToken = codes "NoToken"
 own_text NoHarvest = codes "NoHarvest"
 own_text NoVertex = codes "NoVertex"
 
--- the vertex of an identifier
-abbrev pub vertex_of : Scene → ℕ → Option ℕ
-vertex_of scene identifier = position (λ n. n == identifier) scene.identifiers
+-- the vertex that a line names
+abbrev pub vertex_of : Scene → script.Vertex → Option ℕ
+vertex_of scene vertex = sights.vertex_of scene.identifiers vertex
 
 abbrev pub call_or : {X : Type 0} → Own → (X → Call) → Option X → Result Call Own
 call_or own call None = Err own
@@ -99,7 +100,7 @@ first_call scene held (script.Undo s) = call_or NoToken Undo (undo_meant held.un
 first_call scene held (script.Redo s) = call_or NoToken Redo (redo_meant held.redos s)
 first_call scene held (script.Keep s) = call_or NoToken Keep (undo_meant held.undos (Some s))
 first_call scene held (script.Forget s) = call_or NoToken Forget (redo_meant held.redos (Some s))
-first_call scene held (script.Lift table identifier) = call_or NoVertex (λ v. Order) (vertex_of scene identifier)
+first_call scene held (script.Lift table vertex) = call_or NoVertex (λ v. Order) (vertex_of scene vertex)
 first_call scene held script.Harvest = Ok Order
 first_call scene held (script.Commit k) = call_or NoHarvest Commit (harvest_kept held.harvests k)
 first_call scene held (script.Settle n) = Ok Order
@@ -215,12 +216,12 @@ Keeps scene held (Ordered decisions hopeful dual) calls text new =
 Keeps scene held _ calls text new = ⊥
 
 -- a vertex of an order is lifted, and what was made is committed
-abbrev pub Lifts : Scene → Held → (made : ℕ) → ℕ → Which → ℕ → Reply → Rest
-Lifts scene held made label table identifier (Ordered decisions hopeful dual) calls text new =
-    (v : ℕ) × (harvest : Harvest) × (vertex_of scene identifier ≡ Some v) ×
+abbrev pub Lifts : Scene → Held → (made : ℕ) → ℕ → Which → script.Vertex → Reply → Rest
+Lifts scene held made label table vertex (Ordered decisions hopeful dual) calls text new =
+    (v : ℕ) × (harvest : Harvest) × (vertex_of scene vertex ≡ Some v) ×
     IsLifted (setting_in scene) table v decisions hopeful dual harvest
     × Asks scene held made label (Commit harvest) (TellsAdded held) calls text new
-Lifts scene held made label table identifier _ calls text new = ⊥
+Lifts scene held made label table vertex _ calls text new = ⊥
 
 abbrev pub TellsChanged : Held → Reply → Rest
 TellsChanged held (Changed s) calls text new = Ends (numbered (codes "done") s) (after_change held s) calls text new
@@ -280,8 +281,8 @@ Continues scene held made label (script.Keep s) reply calls text new =
     TellsSpent (numbered (codes "kept") s) (after_keep held s) reply calls text new
 Continues scene held made label (script.Forget s) reply calls text new =
     TellsSpent (numbered (codes "forgotten") s) (after_forget held s) reply calls text new
-Continues scene held made label (script.Lift table identifier) reply calls text new =
-    Lifts scene held made label table identifier reply calls text new
+Continues scene held made label (script.Lift table vertex) reply calls text new =
+    Lifts scene held made label table vertex reply calls text new
 Continues scene held made label script.Harvest reply calls text new = Keeps scene held reply calls text new
 Continues scene held made label (script.Commit k) reply calls text new =
     TellsAdded (without_harvest held k) reply calls text new

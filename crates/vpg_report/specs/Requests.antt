@@ -19,8 +19,8 @@ query_or own query (Some place) = Ok (query place)
 
 -- what is asked of the page, by places in the game and the diagram; or what is named there that they lack
 abbrev pub query_of : Scene → script.Inquiry → Result Query Own
-query_of scene (script.OfVertex question identifier) =
-    query_or NoVertex (queries.OfVertex question) (vertex_of scene identifier)
+query_of scene (script.OfVertex question vertex) =
+    query_or NoVertex (queries.OfVertex question) (vertex_of scene vertex)
 query_of scene (script.OfFeature name) = query_or NoFeature queries.OfFeature (index_of scene.names name)
 query_of scene (script.OfChoice value name) =
     query_or NoFeature (λ f. queries.OfChoice f value) (index_of scene.names name)

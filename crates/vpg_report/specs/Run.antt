@@ -8,7 +8,11 @@ use Rattle.vpg_report.specs.Made.{AreMadeBy}
 pub use Rattle.vpg_report.specs.Line.{Between, begun}
 use Rattle.vpg_report.specs.Setting.{setting_in}
 use Rattle.vpg_serving.specs.Output.{Machine, Answered}
-use Rattle.vpg_texts.specs.Scene.{Scene}
+use Rattle.vpg_diagram.specs.DiagramText.{NamedDiagram}
+use Rattle.vpg_game.specs.Game.{NamedGame}
+use Rattle.vpg_script.specs.Calling.{Calling, meant}
+use Rattle.vpg_script.specs.Script.{Request}
+use Rattle.vpg_texts.specs.Scene.{Scene, scene_of}
 use Rattle.vpg_report.specs.Requests.{Serves}
 
 -- A request makes calls, each with the reply that the book gives at that point, is answered with this text, and leaves
@@ -25,6 +29,28 @@ abbrev pub answering : Scene → ℕ → Machine Between
 answering scene lifters old request text new =
     (so : calling scene old request text new) × AreMadeBy (setting_in scene) lifters request.command so.0 new.held
 
+-- ---- lines that call vertices by their names
+
+-- Each request is answered as the one that it is taken to mean.
+abbrev pub as_meant : {S : Type 0} → (Request → Request) → Machine S → Machine S
+as_meant meaning serves old request text new = serves old (meaning request) text new
+
+-- a scene, and the names by which lines call its vertices
+pub record Called : Type 0 where
+  pub scene : Scene
+  pub callings : List Calling
+
+-- the scene of a game and a diagram, and these names
+abbrev pub called_in : NamedGame → NamedDiagram → List Calling → Called
+called_in game diagram callings = record { scene = scene_of game diagram; callings = callings }
+
+-- A line is answered as the one in which the identifier of each vertex stands in place of its name.
+abbrev pub answering_called : Called → ℕ → Machine Between
+answering_called called lifters =
+    as_meant (meant called.callings called.scene.names) (answering called.scene lifters)
+
+-- ---- histories
+
 -- the calls so far, and what the engine holds
 pub record Asked : Type 0 where
   pub calls : List Event
@@ -40,11 +66,13 @@ asking scene old request text new =
     (Serves scene old.held (length old.calls) request calls text new.held × (new.calls ≡ old.calls ++ calls))
 
 -- What is written for lines without a fault are the answers to the calls of a legal history, into which lawful harvests
--- alone were handed. These are exactly the calls of these lines in their order, and they leave the book.
+-- alone were handed. These are exactly the calls of these lines in their order, whatever they are taken to mean, and
+-- they leave the book.
 abbrev pub AnswersAreHistories : Type 0
 AnswersAreHistories =
-    (scene : Scene) (lifters : ℕ) (lines : List (List ℕ)) (text : List ℕ) (new : Between) →
-    Answered (answering scene lifters) begun lines text new →
+    (meaning : Request → Request) (scene : Scene) (lifters : ℕ) (lines : List (List ℕ)) (text : List ℕ)
+    (new : Between) →
+    Answered (as_meant meaning (answering scene lifters)) begun lines text new →
     (history : List Event) ×
     (IsHistoryOf (setting_in scene) new.book history ×
-    Answered (asking scene) unasked lines text (record { calls = history; held = new.held }))
+    Answered (as_meant meaning (asking scene)) unasked lines text (record { calls = history; held = new.held }))

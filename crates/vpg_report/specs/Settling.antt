@@ -9,8 +9,9 @@ use Rattle.vpg_report.specs.Held.{Held}
 use Rattle.vpg_serving.specs.Output.{Machine, Answered}
 use Rattle.vpg_report.specs.Output.{Outcome}
 use Rattle.vpg_report.specs.Results.{IsThrough}
-use Rattle.vpg_report.specs.Run.{Between, begun, calling}
+use Rattle.vpg_report.specs.Run.{Between, begun, calling, as_meant}
 use Rattle.vpg_script.specs.Script as script
+use Rattle.vpg_script.specs.Script.{Request}
 use Rattle.vpg_texts.specs.Scene.{Scene}
 use Rattle.vpg_serving.specs.declared.fault.RunFault.{RunFault}
 use Rattle.vpg_report.specs.Setting.{setting_in}
@@ -31,19 +32,23 @@ abbrev pub settling : Scene → Machine Between
 settling scene old request text new =
     calling scene old request text new × TellsSettle request.command text × AreChecked scene new.held
 
--- Then the text, the book, the number of calls and what is held are one function of the scene and the lines, whichever
--- lawful harvests the lines made.
+-- Then the text, the book, the number of calls and what is held are one function of the scene, of the lines and of what
+-- these are taken to mean, whichever lawful harvests the lines made.
 abbrev pub SettledAnswersAreOne : Type 0
-SettledAnswersAreOne = (scene : Scene) (lines : List (List ℕ)) (text other : List ℕ) (new newer : Between) →
-    Answered (settling scene) begun lines text new → Answered (settling scene) begun lines other newer →
+SettledAnswersAreOne =
+    (meaning : Request → Request) (scene : Scene) (lines : List (List ℕ)) (text other : List ℕ) (new newer : Between) →
+    Answered (as_meant meaning (settling scene)) begun lines text new →
+    Answered (as_meant meaning (settling scene)) begun lines other newer →
     (text ≡ other) × (new ≡ newer)
 
 -- So are what a run writes and its result, where it goes through a known script (it was opened then, so no cause of a
 -- refusal matters).
 abbrev pub SettledRunsAreOne : Type 0
 SettledRunsAreOne =
-    (scene : Scene) (script before after later : List ℕ) (left rest : Option (List ℕ))
+    (meaning : Request → Request) (scene : Scene) (script before after later : List ℕ) (left rest : Option (List ℕ))
     (result other : Result (Unit {0}) RunFault) →
-    IsThrough result → Outcome (settling scene) (λ _. ⊤) begun (Some script) left (Some before) (Some after) result →
-    IsThrough other → Outcome (settling scene) (λ _. ⊤) begun (Some script) rest (Some before) (Some later) other →
+    IsThrough result →
+    Outcome (as_meant meaning (settling scene)) (λ _. ⊤) begun (Some script) left (Some before) (Some after) result →
+    IsThrough other →
+    Outcome (as_meant meaning (settling scene)) (λ _. ⊤) begun (Some script) rest (Some before) (Some later) other →
     (after ≡ later) × (result ≡ other)

@@ -8,13 +8,14 @@ use Rattle.vpg_trail.specs.Page.{Entry}
 use Rattle.vpg_desk.specs.Headline.{VerdictMeans}
 use Rattle.vpg_desk.specs.State.{IsOpened}
 use Rattle.vpg_script.specs.Script as script
+use Rattle.vpg_script.specs.Script.{Request}
 use Rattle.vpg_serving.specs.Output.{Machine, Answered}
 use Rattle.vpg_texts.specs.Changed.{changed_text, seen_at}
 use Rattle.vpg_texts.specs.Scene.{Scene, scene_of}
 use Rattle.vpg_texts.specs.Sights.{verdicts_text}
 use Rattle.vpg_texts.specs.Text.{blank_number, hopeless_text, sure_text}
 use Rattle.vpg_report.specs.Answers.{refused_line, vertex_of}
-use Rattle.vpg_report.specs.Run.{Between, begun, answering}
+use Rattle.vpg_report.specs.Run.{Between, begun, answering, as_meant}
 use Rattle.vpg_report.specs.Setting.{setting_in}
 
 -- The verdicts of all vertices are true of the page: from a hopeless one Odd wins in every product that is left, from a
@@ -43,13 +44,13 @@ SaysVerdicts scene (script.Look script.Show) verdicts text =
     (head : List ℕ) × (hopeful : List ℕ) × (dual : List ℕ) ×
     (text ≡ head ++ verdict_lines scene hopeful dual verdicts (range_with_len 0 (length scene.game)))
 -- it has a line for each of the vertices that are named
-SaysVerdicts scene (script.Look (script.Vertices identifiers)) verdicts text =
+SaysVerdicts scene (script.Look (script.Vertices named)) verdicts text =
     (vertices : List ℕ) × (hopeful : List ℕ) × (dual : List ℕ) ×
-    (map (vertex_of scene) identifiers ≡ map Some vertices) ×
+    (map (vertex_of scene) named ≡ map Some vertices) ×
     (text ≡ verdict_lines scene hopeful dual verdicts vertices)
 -- it compares the vertex's verdict with what is asserted
-SaysVerdicts scene (script.Look (script.Assert (script.Verdicts identifier claims))) verdicts text =
-    (v : ℕ) × (settled : Bool) × (vertex_of scene identifier ≡ Some v) ×
+SaysVerdicts scene (script.Look (script.Assert (script.Verdicts named claims))) verdicts text =
+    (v : ℕ) × (settled : Bool) × (vertex_of scene named ≡ Some v) ×
     (text ≡ verdicts_text settled (seen_at verdicts v).hopeless (seen_at verdicts v).sure claims)
 -- it tells those that are other than some that were told before
 SaysVerdicts scene script.Changed verdicts text =
@@ -72,10 +73,11 @@ naming scene lifters old request text new =
     answering scene lifters old request text new × NamesWinners scene old.book.present request.command text
 
 -- What a run of an office writes in answer to `show`, `assert` and `changed` names the winners: the verdicts that it
--- says are true of the page at that point.
+-- says are true of the page at that point, whatever the lines are taken to mean.
 abbrev pub AnswersNameWinners : Type 0
 AnswersNameWinners =
-    (game : NamedGame) (diagram : NamedDiagram) (lifters : ℕ) (lines : List (List ℕ)) (text : List ℕ) (new : Between) →
+    (meaning : Request → Request) (game : NamedGame) (diagram : NamedDiagram) (lifters : ℕ)
+    (lines : List (List ℕ)) (text : List ℕ) (new : Between) →
     IsOpened game diagram →
-    Answered (answering (scene_of game diagram) lifters) begun lines text new →
-    Answered (naming (scene_of game diagram) lifters) begun lines text new
+    Answered (as_meant meaning (answering (scene_of game diagram) lifters)) begun lines text new →
+    Answered (as_meant meaning (naming (scene_of game diagram) lifters)) begun lines text new

@@ -1,5 +1,5 @@
 //! A server of scripts: an engine, and what is asked of the page beside it.
-ghost use Rattle.std.specs.Prelude.{◌≡◌, OnOk};
+ghost use Rattle.std.specs.Prelude.{◌≡◌, ◌≤◌, ◌++◌, ℕ, List, OnOk};
 ghost use Rattle.vpg_report.specs.Server.{AnswersTo};
 ghost use Rattle.vpg_report.specs.Run.{answering};
 ghost use Rattle.vpg_report.specs.Engine.{between_of, scene_at};
@@ -14,7 +14,7 @@ use std::sync::Wait;
 use std::thread::Threads;
 use vpg_answers::Limits;
 use vpg_office::Terms;
-use vpg_script::{Command, Inquiry, Request};
+use vpg_script::{Callings, Command, Inquiry, Request, meant};
 use vpg_serving::{ServeFault, Server};
 
 /// How far a question about the page is followed: 2^27 edges and vertices looked at for the bounds of a trial's table,
@@ -50,22 +50,45 @@ fn ask<L: Terms, R: Wait>(
     Ok(())
 }
 
-/// An engine that is asked about the page too. It can't be let go, as the engine.
-pub(crate) struct Answering<L: Terms> {
-    pub(crate) engine: Engine<L>,
+/// Answers a request: the engine's, or a question of the present page.
+fn answer<L: Terms, T: Threads + Wait + Sync>(
+    engine: &mut Engine<L>,
+    rt: &T,
+    alloc: Global,
+    lifters: u32,
+    request: &Request<'_>,
+    out: &mut Vec<u8>,
+) -> Result<(), ServeFault>
+    requires lifters { (1 ≤ lifters) × (lifters ≤ 64) }
+    ensures answer { OnOk result
+        ((text : List ℕ) ×
+        (answering (scene_at engine.old) lifters (between_of engine.old) (request_shown request.now) text
+        (between_of engine.new) × (out.new.items ≡ out.old.items ++ text))) }
+    ensures scene { OnOk result (scene_at engine.new ≡ scene_at engine.old) }
+{
+    match &request.command {
+        Command::Ask(inquiry) => ask(engine, rt, alloc, request.label, *inquiry, out),
+        _ => engine.carry_out(rt, alloc, lifters, request, out),
+    }
 }
 
-impl<L: Terms> Server for Answering<L> {
-    ghost use Rattle.vpg_report.specs.Run.{Between};
-    ghost use Rattle.vpg_texts.specs.Scene.{Scene as OfScene};
+/// An engine that is asked about the page too, and the names by which lines call vertices. It can't be let go, as the
+/// engine.
+pub(crate) struct Answering<'c, L: Terms> {
+    pub(crate) engine: Engine<L>,
+    pub(crate) callings: &'c Callings,
+}
 
-    ghost Scene = { OfScene };
+impl<L: Terms> Server for Answering<'_, L> {
+    ghost use Rattle.vpg_report.specs.Run.{Between, Called, answering_called};
+
+    ghost Scene = { Called };
 
     ghost State = { Between };
 
-    ghost answering = { answering };
+    ghost answering = { answering_called };
 
-    ghost scene = { λ a. scene_at a.engine };
+    ghost scene = { λ a. record { scene = scene_at a.engine; callings = a.callings.now } };
 
     ghost state = { λ a. between_of a.engine };
 
@@ -77,11 +100,8 @@ impl<L: Terms> Server for Answering<L> {
         request: &Request<'_>,
         out: &mut Vec<u8>,
     ) -> Result<(), ServeFault> {
-        match &request.command {
-            Command::Ask(inquiry) => {
-                ask(&mut self.engine, rt, alloc, request.label, *inquiry, out)
-            }
-            _ => self.engine.carry_out(rt, alloc, lifters, request, out),
-        }
+        let features = self.engine.diagram().names();
+        let said = meant(alloc, self.callings, features, request)?;
+        answer(&mut self.engine, rt, alloc, lifters, &said, out)
     }
 }

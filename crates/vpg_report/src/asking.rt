@@ -1,7 +1,6 @@
 //! What lines ask of the page, by places in the game and the diagram.
-ghost use Rattle.std.specs.Prelude.{◌≡◌, ◌<◌, ◌==◌, length, position, IfOk, IfSome};
+ghost use Rattle.std.specs.Prelude.{◌≡◌, ◌<◌, length, IfOk, IfSome};
 ghost use Rattle.vpg_answers.specs.Answers.{IsWithin};
-ghost use Rattle.vpg_game.specs.Game.{vertex_ids};
 ghost use Rattle.vpg_features.specs.Names.{index_of};
 ghost use Rattle.vpg_report.specs.Requests.{query_of};
 ghost use Rattle.vpg_report.specs.Server.{IsQuery};
@@ -14,13 +13,7 @@ use vpg_diagram::Diagram;
 use vpg_game::GuardedGame;
 use vpg_guards::Names;
 use vpg_script::Inquiry;
-
-fn vertex_at(game: &GuardedGame, identifier: u32) -> Option<u32>
-    ensures vertex { result ≡ position (λ n. n == identifier) (vertex_ids game.now.vertices) }
-    ensures within { IfSome result (λ v. v < length game.now.vertices) }
-{
-    game.find(identifier)
-}
+use vpg_texts::vertex_at;
 
 fn feature_at(names: &Names, name: &[u8]) -> Option<u16>
     ensures feature { result ≡ index_of names.now name.now }
@@ -39,7 +32,7 @@ pub(crate) fn query_of(
     ensures within { IfOk result (IsWithin (length game.now.vertices) (length diagram.now.names)) }
 {
     match inquiry {
-        Inquiry::OfVertex(question, identifier) => match vertex_at(game, identifier) {
+        Inquiry::OfVertex(question, named) => match vertex_at(game, named) {
             Some(vertex) => Ok(Query::OfVertex { question, vertex }),
             None => Err(Missing::Vertex),
         },

@@ -13,7 +13,7 @@ ghost use Rattle.vpg_report.specs.Faults.{Tells};
 ghost use Rattle.vpg_report.specs.Answers.{IsOwn};
 ghost use Rattle.vpg_report.specs.Engine.{AnswersTo, SweepsTo, IsOpenFault, deciding, engine_of};
 ghost use Rattle.vpg_script.specs.Script.{Retract, Undo as Undoes, Redo as Redoes, Keep, Forget, Lift, Harvest as Harvests, Commit, Settle, Look, Changed, Known};
-ghost use Rattle.vpg_script.specs.View.{lookup_shown, request_shown};
+ghost use Rattle.vpg_script.specs.View.{lookup_shown, request_shown, vertex_shown};
 
 use crate::client::Client;
 use crate::fault::{ClientFault, Returned};
@@ -34,10 +34,10 @@ use vpg_guards::Names;
 use vpg_guess::Groundwork;
 use vpg_measure::{Harvest, Order};
 use vpg_office::{Never, NotOpened, Redo, Site, Terms, Undo};
-use vpg_script::{Command, Lookup, Request};
+use vpg_script::{Command, Lookup, Request, Vertex};
 use vpg_serving::ServeFault;
 use vpg_settle::swept;
-use vpg_texts::{has_vertices, look_over, put_changed, put_known_over, verdicts_over};
+use vpg_texts::{has_vertices, look_over, put_changed, put_known_over, verdicts_over, vertex_at};
 use vpg_verdict::{Verdict, Which};
 
 /// How many calls the log of a run's office takes.
@@ -248,20 +248,21 @@ impl<L: Terms> Engine<L> {
         }
     }
 
-    /// Lifts a vertex of the present page once, by its identifier, and commits what was raised.
+    /// Lifts a vertex of the present page once, and commits what was raised.
     fn lift<R: Wait>(
         &mut self,
         rt: &R,
         alloc: Global,
         session: u32,
         table: Which,
-        identifier: u32,
+        vertex: Vertex<'_>,
         out: &mut Vec<u8>,
     ) -> Result<(), ServeFault>
         ensures { OnOk result (AnswersTo self.old
-            (record { label = session; command = Lift table identifier }) out.old.items out.new.items self.new) }
+            (record { label = session; command = Lift table (vertex_shown vertex.entry) })
+            out.old.items out.new.items self.new) }
     {
-        let Some(v) = self.game.find(identifier) else {
+        let Some(v) = vertex_at(&self.game, vertex) else {
             return lines::refused(b"NoVertex", out);
         };
         let order = match self.client.order(rt, alloc, session) {
@@ -369,7 +370,7 @@ impl<L: Terms> Engine<L> {
         rt: &R,
         alloc: Global,
         session: u32,
-        lookup: &Lookup,
+        lookup: &Lookup<'_>,
         out: &mut Vec<u8>,
     ) -> Result<(), ServeFault>
         ensures { OnOk result (AnswersTo self.old
@@ -541,14 +542,7 @@ impl<L: Terms> Engine<L> {
             Command::Redo(serial) => self.redo(rt, alloc, session, *serial, out),
             Command::Keep(serial) => self.keep(rt, session, *serial, out),
             Command::Forget(serial) => self.forget(rt, session, *serial, out),
-            Command::Lift(table, identifier) => self.lift(
-                rt,
-                alloc,
-                session,
-                *table,
-                *identifier,
-                out,
-            ),
+            Command::Lift(table, vertex) => { self.lift(rt, alloc, session, *table, *vertex, out) }
             Command::Harvest => self.harvest(rt, alloc, session, lifters, out),
             Command::Commit(number) => self.commit(rt, alloc, session, *number, out),
             Command::Settle(sweeps) => self.settle(rt, alloc, session, *sweeps, lifters, out),

@@ -4,8 +4,9 @@
 //! fault as the program does; `drawn_after` draws the page that a script leaves, and `system_drawn_after` the system on
 //! it. `End` is how the program ends where nothing fails, `end_of` what a run makes of it, `status` its exit status,
 //! and `refused_line` tells where a strict script was refused. `DIAGRAM` and `GAME` are the family that is built in.
-//! Below it, `run_as` opens a desk and carries a script out on it; `run` does so without a manner. At the end of a run,
-//! also after a fault, all tokens are spent and the desk is closed.
+//! Below it, `run_as` opens a desk and carries a script out on it; `run` does so without a manner, and `run_called`
+//! where lines call vertices by their names. At the end of a run, also after a fault, all tokens are spent and the desk
+//! is closed.
 //!
 //! The texts of a page are `show` (its decisions, tables and verdicts), `trail` (its entries), `products` (what is
 //! known of each feature), `put_known` (the same of one), `plan` (what Even does where everything is known and settled)
@@ -58,6 +59,6 @@ pub use engine::Engine;
 pub use fault::{ClientFault, Returned, Token};
 pub use lines::{Missing, put_missing, put_unanswered};
 pub use running::run_script;
-pub use runs::{run, run_as};
+pub use runs::{run, run_as, run_called};
 pub use vpg_serving::RunFault;
 pub use vpg_texts::{PlanFault, count, plan, products, put_known, show, trail};

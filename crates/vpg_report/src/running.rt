@@ -4,14 +4,14 @@ ghost use Rattle.std.specs.Prelude.{◌≡◌, ◌≤◌, ◌⊎◌, ℕ, true, 
 ghost use Rattle.vpg_diagram.specs.FeatureDiagram.{feature_count};
 ghost use Rattle.vpg_report.specs.Runs.{TellsOpening, IsRun, UnlessScriptFails, UnlessOutputFails};
 
-use crate::runs::run_as;
+use crate::runs::run_called;
 use std::alloc::Global;
 use std::sync::Wait;
 use std::thread::Threads;
 use vpg_desk::OpenFault;
 use vpg_diagram::Diagram;
 use vpg_family::{Family, Fault, conflict};
-use vpg_script::{Sink, Source};
+use vpg_script::{Callings, Sink, Source};
 use vpg_serving::{Ending, Manner, RunFault};
 
 /// What is told of a refused opening. A conflict names the root.
@@ -26,11 +26,12 @@ fn not_opened(alloc: Global, diagram: &Diagram, fault: OpenFault) -> Fault
     }
 }
 
-/// Carries a script out at an office of the family, in a manner.
+/// Carries a script out at an office of the family, in a manner. Its lines call vertices by these names too.
 pub fn run_script<T: Threads + Wait + Sync, R: Source, W: Sink>(
     rt: &T,
     alloc: Global,
     family: Family,
+    callings: &Callings,
     reader: &mut R,
     writer: &mut W,
     lifters: u32,
@@ -40,8 +41,10 @@ pub fn run_script<T: Threads + Wait + Sync, R: Source, W: Sink>(
     requires lifters { (1 ≤ lifters) × (lifters ≤ 64) }
     requires features { (arc_value family.game).features ≡ feature_count (arc_value family.diagram).lines }
 
-    // What is written are the answers to the script's lines by an office on the family, and the result tells how they end.
-    ensures output { IsRun manner (arc_value family.diagram) (arc_value family.game) lifters (R.remaining reader.old) (R.remaining reader.new) (W.contents writer.old) (W.contents writer.new) result }
+    // What is written are the answers to the script's lines by an office on the family, by what the names of vertices in
+    // them stand for, and the result tells how they end.
+    ensures output { IsRun manner (arc_value family.diagram) (arc_value family.game) callings.now lifters
+        (R.remaining reader.old) (R.remaining reader.new) (W.contents writer.old) (W.contents writer.new) result }
 
     // Read and Write come only where the device failed, or the script was read 16,777,216 times.
     ensures read { IsErrOf result Fault.Read → (R.has_failed reader.new ≡ true) ⊎ (R.calls reader.new ≡ 16777216) }
@@ -52,11 +55,12 @@ pub fn run_script<T: Threads + Wait + Sync, R: Source, W: Sink>(
     ensures writable { UnlessOutputFails result (W.has_failed writer.new ≡ W.has_failed writer.old) }
 {
     let diagram = family.diagram.clone()?;
-    match run_as(
+    match run_called(
         rt,
         alloc,
         family.game,
         family.diagram,
+        callings,
         reader,
         writer,
         lifters,

@@ -6,7 +6,7 @@ ghost use Rattle.vpg_desk.specs.State.{IsOpened};
 ghost use Rattle.vpg_report.specs.Server.{IsOpenRefusal};
 ghost use Rattle.vpg_report.specs.Output.{Outcome, OutcomeAs};
 ghost use Rattle.vpg_report.specs.Results.{Opens};
-ghost use Rattle.vpg_report.specs.Run.{answering, begun};
+ghost use Rattle.vpg_report.specs.Run.{answering, answering_called, begun, called_in};
 ghost use Rattle.vpg_serving.specs.Results.{UnlessReaderFails, UnlessWriterFails};
 ghost use Rattle.vpg_texts.specs.Scene.{scene_of};
 
@@ -20,7 +20,7 @@ use vpg_desk::OpenFault;
 use vpg_diagram::Diagram;
 use vpg_game::GuardedGame;
 use vpg_office::{Site, Terms};
-use vpg_script::{Sink, Source};
+use vpg_script::{Callings, Sink, Source};
 use vpg_serving::{Ending, Manner, RunFault, answer_script_as};
 
 /// Opens an office on the game and the diagram, reads a script, and answers its lines in order, each before the next is
@@ -106,11 +106,52 @@ pub fn run_as<T: Threads + Wait + Sync, R: Source, W: Sink>(
     ensures readable { UnlessReaderFails result (R.has_failed reader.new ≡ R.has_failed reader.old) }
     ensures writable { UnlessWriterFails result (W.has_failed writer.new ≡ W.has_failed writer.old) }
 {
+    let callings = Callings::none(alloc);
+    run_called(
+        rt, alloc, game, diagram, &callings, reader, writer, lifters, manner,
+    )
+}
+
+/// The same where lines call vertices by names. A line is answered as the one in which the identifier of each vertex
+/// stands in place of its name; a vertex whose name stands for none is refused `NoVertex`.
+pub fn run_called<T: Threads + Wait + Sync, R: Source, W: Sink>(
+    rt: &T,
+    alloc: Global,
+    game: Arc<GuardedGame>,
+    diagram: Arc<Diagram>,
+    callings: &Callings,
+    reader: &mut R,
+    writer: &mut W,
+    lifters: u32,
+    manner: Manner,
+) -> Result<Ending, RunFault>
+    requires unread { R.calls reader.old ≡ 0 }
+    requires lifters { (1 ≤ lifters) × (lifters ≤ 64) }
+    requires features { (arc_value game).features ≡ feature_count (arc_value diagram).lines }
+
+    // What is written are the answers to the lines read, by what their names stand for, and the result tells how they
+    // end.
+    ensures output { OutcomeAs manner
+        (answering_called (called_in (arc_value game) (arc_value diagram) callings.now) lifters)
+        (IsOpenRefusal (arc_value game) (arc_value diagram)) begun (R.remaining reader.old) (R.remaining reader.new)
+        (W.contents writer.old) (W.contents writer.new) result }
+
+    // Unless it ends in Open, or in Memory, an office was opened.
+    ensures opened { Opens result (IsOpened (arc_value game) (arc_value diagram)) }
+
+    // Read and Write come only where the device failed, or the reads were used up.
+    ensures read { IsErrOf result RunFault.Read → (R.has_failed reader.new ≡ true) ⊎ (R.calls reader.new ≡ 16777216) }
+    ensures write { IsErrOf result RunFault.Write → W.has_failed writer.new ≡ true }
+
+    // A device that failed is told.
+    ensures readable { UnlessReaderFails result (R.has_failed reader.new ≡ R.has_failed reader.old) }
+    ensures writable { UnlessWriterFails result (W.has_failed writer.new ≡ W.has_failed writer.old) }
+{
     let Ok(site) = Site::new(alloc) else {
         return Err(RunFault::Memory);
     };
     run_there::<Brand, T, R, W>(
-        rt, alloc, site, game, diagram, reader, writer, lifters, manner,
+        rt, alloc, site, game, diagram, callings, reader, writer, lifters, manner,
     )
 }
 
@@ -121,6 +162,7 @@ fn run_there<L: Terms, T: Threads + Wait + Sync, R: Source, W: Sink>(
     site: Site,
     game: Arc<GuardedGame>,
     diagram: Arc<Diagram>,
+    callings: &Callings,
     reader: &mut R,
     writer: &mut W,
     lifters: u32,
@@ -132,7 +174,8 @@ fn run_there<L: Terms, T: Threads + Wait + Sync, R: Source, W: Sink>(
     requires site { (site.row ≡ L.shelves) × (site.name ≡ L.name) × (site.parts ≡ L.parts) }
     requires of { (arc_value game ≡ L.game) × (arc_value diagram ≡ L.diagram) }
     requires room { L.limit ≡ 1048576 }
-    ensures output { OutcomeAs manner (answering (scene_of (arc_value game) (arc_value diagram)) lifters)
+    ensures output { OutcomeAs manner
+        (answering_called (called_in (arc_value game) (arc_value diagram) callings.now) lifters)
         (IsOpenRefusal (arc_value game) (arc_value diagram)) begun (R.remaining reader.old) (R.remaining reader.new)
         (W.contents writer.old) (W.contents writer.new) result }
     ensures opened { Opens result (IsOpened (arc_value game) (arc_value diagram)) }
@@ -146,9 +189,12 @@ fn run_there<L: Terms, T: Threads + Wait + Sync, R: Source, W: Sink>(
         Err(OpenFault::Memory) => return Err(RunFault::Memory),
         Err(fault) => return Err(RunFault::Open { fault }),
     };
-    let mut server = Answering { engine };
+    let mut server = Answering { engine, callings };
     let result = answer_script_as(rt, alloc, lifters, manner, &mut server, reader, writer);
-    let Answering { engine } = server;
+    let Answering {
+        engine,
+        callings: _,
+    } = server;
     let _further = engine.end(rt);
     result
 }

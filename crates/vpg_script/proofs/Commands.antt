@@ -1,8 +1,12 @@
-use Rattle.std.proofs.Common.{◌≡◌, ℕ, suc, zero, ◌+◌, ◌*◌, ◌≤◌, ◌<◌, List, [], ◌∷◌, length, get_or, min, map, Option, Some, None, option_map, refl, ap, ◌∙◌, arith}
+use Rattle.std.proofs.Common.{◌≡◌, ℕ, suc, zero, ◌+◌, ◌*◌, ◌≤◌, ◌<◌, List, [], ◌∷◌, length, get_or, min, map, Option, Some, None, option_map, Result, Ok, Err, refl, sym, ap, ◌∙◌, arith}
 use Rattle.std.specs.Borrow.{Bor}
 use Rattle.vpg_script.specs.declared.command.Verb.{Verb}
-use Rattle.vpg_script.specs.Script.{command_with_few, all_there}
-use Rattle.vpg_script.specs.View.{texts}
+use Rattle.vpg_script.specs.Script.{assertion_of, claims_of, command_with_few, all_there, verdicts_of, vertex_named}
+use Rattle.vpg_script.specs.Script as script
+use Rattle.vpg_script.specs.declared.command.Vertex.{Vertex}
+use Rattle.std.specs.Prelude.{IfOk}
+use Rattle.vpg_script.specs.declared.command.Assertion.{Assertion}
+use Rattle.vpg_script.specs.View.{assertion_shown, texts, vertex_shown}
 
 -- no command that takes no list has three arguments
 pub too_long : (verb : Verb) (first : List ℕ) (more : List (Bor (List ℕ))) → 2 ≤ length more → None ≡ command_with_few verb first (texts more)
@@ -32,3 +36,17 @@ module _ {X : Type 0} (named : List ℕ → Option X) where
       go : (x : Option X) → all_there (map named (texts words)) ≡ None → all_there (x ∷ map named (texts words)) ≡ None
       go None rest = refl
       go (Some x) rest = ap (option_map (λ ys. x ∷ ys)) rest
+
+-- what is none is shown as none
+pub shown_none : (found : Option Vertex) (named : Option script.Vertex) → found ≡ None → option_map vertex_shown found ≡ named → named ≡ None
+shown_none found named none is = sym is ∙ ap (option_map vertex_shown) none
+
+-- what is asserted of a vertex has words behind it
+pub asserted : (first : List ℕ) (more : List (Bor (List ℕ))) → 1 ≤ length more → verdicts_of (vertex_named first) (claims_of (texts more)) ≡ assertion_of first (texts more)
+asserted first [] some = absurd (omega arith)
+asserted first (w ∷ more) some = refl
+
+pub asserted_as : {E : Type 0} (first : List ℕ) (more : List (Bor (List ℕ))) (r : Result (Option Assertion) E) → 1 ≤ length more →
+    IfOk r (λ found. option_map assertion_shown found ≡ verdicts_of (vertex_named first) (claims_of (texts more))) → IfOk r (λ found. option_map assertion_shown found ≡ assertion_of first (texts more))
+asserted_as first more (Ok found) some is = is ∙ asserted first more some
+asserted_as first more (Err e) some is = tt

@@ -1,3 +1,4 @@
+pub mod Calling
 pub mod Devices
 pub mod Lines
 pub mod Script

@@ -1,6 +1,6 @@
 -- The lines of a script, and the commands that they spell.
-use Rattle.std.specs.Prelude.{ℕ, ◌-◌, Bool, true, false, ◌&&◌, ◌||◌, ◌==◌, nat_le, nat_lt, if◌then◌else◌, List, [], ◌∷◌, length, map, take, filter, Option, Some, None, is_none, option_map, Result, Ok, Err, slice_index, codes, bytes_eq}
-use Rattle.std.specs.List.{list_all, slice_split}
+use Rattle.std.specs.Prelude.{◌≡◌, ℕ, zero, suc, ◌+◌, ◌-◌, Bool, true, false, not, ◌&&◌, ◌||◌, ◌==◌, nat_le, nat_lt, if◌then◌else◌, List, [], ◌∷◌, length, map, filter, take, drop, position, Option, Some, None, is_none, option_map, Result, Ok, Err, slice_index, codes, bytes_eq}
+use Rattle.std.specs.List.{list_all, list_any, prefix_len, slice_split}
 use Rattle.std.specs.Char.{is_ascii_digit}
 use Rattle.std.specs.Str.Parse.{digits_value}
 use Rattle.vpg_features.specs.Names.{starts_as_name, is_name_byte, constant_of}
@@ -25,9 +25,54 @@ abbrev pub is_nonempty : {X : Type 0} → List X → Bool
 is_nonempty [] = false
 is_nonempty (x ∷ xs) = true
 
--- the words of a line: what stands between its blanks
+-- ---- the words of a line
+
+-- a double quote
+abbrev pub is_quote : ℕ → Bool
+is_quote b = b == 34
+
+abbrev pub is_within_word : ℕ → Bool
+is_within_word b = not (is_blank b)
+
+-- a text from its first word on
+abbrev pub unblanked : List ℕ → List ℕ
+unblanked text = drop (prefix_len is_blank text) text
+
+-- how many bytes there are up to a quote, with it, which stands at this place; none where there is no quote
+abbrev pub behind_quote : Option ℕ → ℕ
+behind_quote None = 0
+behind_quote (Some n) = suc n
+
+-- How many bytes behind the first of a word stand in quotes: where it is a quote those up to the next one, blanks among
+-- them.
+abbrev pub quoted_len : ℕ → List ℕ → ℕ
+quoted_len b text = if is_quote b then behind_quote (position is_quote text) else 0
+
+-- the length of the word at the front of a text, which begins with no blank: up to the first blank behind its quotes
+abbrev pub word_len : List ℕ → ℕ
+word_len [] = 0
+word_len (b ∷ text) = suc (quoted_len b text + prefix_len is_within_word (drop (quoted_len b text) text))
+
+-- the first word, and then the others
+abbrev pub word_and : (List ℕ → List (List ℕ)) → List ℕ → List (List ℕ)
+word_and later [] = []
+word_and later (b ∷ text) = take (word_len (b ∷ text)) (b ∷ text) ∷ later (drop (word_len (b ∷ text)) (b ∷ text))
+
+-- the words of a text, so many of them at most
+abbrev pub words_with : ℕ → List ℕ → List (List ℕ)
+words_with zero text = []
+words_with (suc n) text = word_and (words_with n) (unblanked text)
+
+-- The words of a line: what stands between its blanks. One that begins with a quote goes on behind the next quote.
 abbrev pub words : List ℕ → List (List ℕ)
-words line = filter is_nonempty (slice_split is_blank line)
+words line = words_with (length line) line
+
+-- Where a line has no quote, its words are what stands between its blanks.
+abbrev pub WordsAreBetweenBlanks : Type 0
+WordsAreBetweenBlanks =
+    (line : List ℕ) → list_any is_quote line ≡ false → words line ≡ filter is_nonempty (slice_split is_blank line)
+
+-- ---- the forms of words
 
 -- whether a word is a feature's name
 abbrev pub is_feature_name : List ℕ → Bool
@@ -52,23 +97,28 @@ most_sweeps = 1000000000
 abbrev pub longest_line : ℕ
 longest_line = 4096
 
+-- a vertex, as a line names it: by its identifier, or by its name
+pub data Vertex : Type 0 where
+  Numbered : (identifier : ℕ) → Vertex
+  Named : (name : List ℕ) → Vertex
+
 -- what is asked of the page
 pub data Inquiry : Type 0 where
-  OfVertex : (question : VertexQuestion) → (identifier : ℕ) → Inquiry
+  OfVertex : (question : VertexQuestion) → (vertex : Vertex) → Inquiry
   OfFeature : (name : List ℕ) → Inquiry
   OfChoice : (value : Bool) → (name : List ℕ) → Inquiry
   OfPage : (question : PageQuestion) → Inquiry
 
 -- what a line asserts of the page: of a vertex its verdicts, or of the page as a whole
 pub data Assertion : Type 0 where
-  Verdicts : (identifier : ℕ) → (claims : List Claim) → Assertion
+  Verdicts : (vertex : Vertex) → (claims : List Claim) → Assertion
   Full : Assertion
   Settled : Assertion
 
 -- what is looked at of the page, which stays as it is
 pub data Lookup : Type 0 where
   Show : Lookup
-  Vertices : (identifiers : List ℕ) → Lookup
+  Vertices : (vertices : List Vertex) → Lookup
   Trail : Lookup
   Products : Lookup
   Plan : Lookup
@@ -84,7 +134,7 @@ pub data Command : Type 0 where
   Redo : (serial : Option ℕ) → Command
   Keep : (serial : ℕ) → Command
   Forget : (serial : ℕ) → Command
-  Lift : (table : Which) → (identifier : ℕ) → Command
+  Lift : (table : Which) → (vertex : Vertex) → Command
   Harvest : Command
   Commit : (number : ℕ) → Command
   Settle : (sweeps : Option ℕ) → Command
@@ -165,9 +215,33 @@ abbrev pub signed : ℕ → List ℕ → Option (List ℕ)
 signed sign [] = None
 signed sign (b ∷ name) = if (b == sign) && is_feature_name name then Some name else None
 
--- of a vertex, by its identifier
+-- what stands before the last quote, where there is no other
+abbrev pub closed : List ℕ → Option (List ℕ)
+closed w =
+    if is_quote (slice_index w (length w - 1)) && not (list_any is_quote (take (length w - 1) w))
+    then Some (take (length w - 1) w)
+    else None
+
+-- the bytes between two quotes
+abbrev pub quoted : List ℕ → Option (List ℕ)
+quoted [] = None
+quoted (b ∷ w) = if is_quote b then closed w else None
+
+-- the name of a vertex that a word is: of the form of a feature's name, or any text in quotes
+abbrev pub vertex_name : List ℕ → Option (List ℕ)
+vertex_name w = if is_feature_name w then Some w else quoted w
+
+abbrev pub vertex_or : Option ℕ → Option (List ℕ) → Option Vertex
+vertex_or (Some identifier) name = Some (Numbered identifier)
+vertex_or None name = option_map Named name
+
+-- the vertex that a word names: by its identifier, or else by its name
+abbrev pub vertex_named : List ℕ → Option Vertex
+vertex_named w = vertex_or (number_of largest_identifier w) (vertex_name w)
+
+-- of a vertex
 abbrev pub of_vertex : VertexQuestion → List ℕ → Option Inquiry
-of_vertex question w = option_map (OfVertex question) (number_of largest_identifier w)
+of_vertex question w = option_map (OfVertex question) (vertex_named w)
 
 -- of a decision in, of one out, or else
 abbrev pub why_else : Option (List ℕ) → Option (List ℕ) → Option Inquiry → Option Inquiry
@@ -175,7 +249,7 @@ why_else (Some name) out other = Some (OfChoice true name)
 why_else None (Some name) other = Some (OfChoice false name)
 why_else None None other = other
 
--- of a feature's name; of a decision, `+` (43) or `-` (45) and a name; or of a vertex's identifier
+-- of a feature's name; of a decision, `+` (43) or `-` (45) and a name; or of a vertex
 abbrev pub why_of : List ℕ → Option Inquiry
 why_of w = if is_feature_name w then Some (OfFeature w)
     else why_else (signed 43 w) (signed 45 w) (of_vertex questions.Why w)
@@ -216,13 +290,13 @@ table_named w =
     else if bytes_eq w (codes "dual") then Some Dual
     else None
 
-abbrev pub lift_of : Option Which → Option ℕ → Option Command
-lift_of (Some table) (Some identifier) = Some (Lift table identifier)
+abbrev pub lift_of : Option Which → Option Vertex → Option Command
+lift_of (Some table) (Some vertex) = Some (Lift table vertex)
 lift_of _ _ = None
 
 -- with two
 abbrev pub command_with_two : Verb → List ℕ → List ℕ → Option Command
-command_with_two verbs.Lift a b = lift_of (table_named a) (number_of largest_identifier b)
+command_with_two verbs.Lift a b = lift_of (table_named a) (vertex_named b)
 command_with_two _ a b = None
 
 -- with a first and at most one more
@@ -237,9 +311,9 @@ all_there [] = Some []
 all_there (None ∷ found) = None
 all_there (Some x ∷ found) = option_map (λ xs. x ∷ xs) (all_there found)
 
--- the identifiers that words are
-abbrev pub identifiers_of : List (List ℕ) → Option (List ℕ)
-identifiers_of ws = all_there (map (λ w. number_of largest_identifier w) ws)
+-- the vertices that words name
+abbrev pub vertices_of : List (List ℕ) → Option (List Vertex)
+vertices_of ws = all_there (map vertex_named ws)
 
 -- the verdict that a word names
 abbrev pub claim_named : List ℕ → Option Claim
@@ -260,19 +334,19 @@ state_named w =
     else if bytes_eq w (codes "settled") then Some Settled
     else None
 
-abbrev pub verdicts_of : Option ℕ → Option (List Claim) → Option Assertion
-verdicts_of (Some identifier) (Some claims) = Some (Verdicts identifier claims)
+abbrev pub verdicts_of : Option Vertex → Option (List Claim) → Option Assertion
+verdicts_of (Some vertex) (Some claims) = Some (Verdicts vertex claims)
 verdicts_of _ _ = None
 
--- one word, or the identifier of a vertex and its verdicts
+-- one word, or a vertex and its verdicts
 abbrev pub assertion_of : List ℕ → List (List ℕ) → Option Assertion
 assertion_of w [] = state_named w
-assertion_of w (claim ∷ more) = verdicts_of (number_of largest_identifier w) (claims_of (claim ∷ more))
+assertion_of w (claim ∷ more) = verdicts_of (vertex_named w) (claims_of (claim ∷ more))
 
 -- the command of a verb and its arguments: of a list of them, or of two at most
 abbrev pub command_of : Verb → List (List ℕ) → Option Command
 command_of verb [] = bare_command verb
-command_of verbs.Show (a ∷ args) = option_map (λ ids. Look (Vertices ids)) (identifiers_of (a ∷ args))
+command_of verbs.Show (a ∷ args) = option_map (λ vertices. Look (Vertices vertices)) (vertices_of (a ∷ args))
 command_of verbs.Assert (a ∷ args) = option_map (λ said. Look (Assert said)) (assertion_of a args)
 command_of verb (a ∷ args) = command_with_few verb a args
 

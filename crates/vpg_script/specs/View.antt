@@ -2,6 +2,8 @@
 use Rattle.std.specs.Prelude.{◌≡◌, ℕ, List, map, Option, option_map, Result, Ok, Err}
 use Rattle.std.specs.Borrow.{Bor}
 use Rattle.vpg_script.specs.Script as script
+use Rattle.vpg_script.specs.declared.command.Vertex.{Vertex}
+use Rattle.vpg_script.specs.declared.command.Vertex.TheVariants as vertices
 use Rattle.vpg_script.specs.declared.command.Assertion.{Assertion}
 use Rattle.vpg_script.specs.declared.command.Assertion.TheVariants as assertions
 use Rattle.vpg_script.specs.declared.command.Lookup.{Lookup}
@@ -14,22 +16,27 @@ use Rattle.vpg_script.specs.declared.command.Request.{Request}
 use Rattle.vpg_script.specs.declared.command.ReadFault.{ReadFault}
 use Rattle.vpg_script.specs.declared.command.ReadFault.TheVariants as faults
 
+-- a vertex, as definitions see it
+abbrev pub vertex_shown : Vertex → script.Vertex
+vertex_shown (vertices.Number identifier) = script.Numbered identifier
+vertex_shown (vertices.Name name) = script.Named name.now
+
 abbrev pub inquiry_shown : Inquiry → script.Inquiry
-inquiry_shown (inquiries.OfVertex question v) = script.OfVertex question v
+inquiry_shown (inquiries.OfVertex question v) = script.OfVertex question (vertex_shown v)
 inquiry_shown (inquiries.OfFeature f) = script.OfFeature f.now
 inquiry_shown (inquiries.OfChoice value f) = script.OfChoice value f.now
 inquiry_shown (inquiries.OfPage question) = script.OfPage question
 
 -- what is asserted, as definitions see it
 abbrev pub assertion_shown : Assertion → script.Assertion
-assertion_shown (assertions.Verdicts v claims) = script.Verdicts v claims.items
+assertion_shown (assertions.Verdicts v claims) = script.Verdicts (vertex_shown v) claims.items
 assertion_shown assertions.Full = script.Full
 assertion_shown assertions.Settled = script.Settled
 
 -- what is looked at, as definitions see it
 abbrev pub lookup_shown : Lookup → script.Lookup
 lookup_shown lookups.Show = script.Show
-lookup_shown (lookups.Vertices vs) = script.Vertices vs.items
+lookup_shown (lookups.Vertices vs) = script.Vertices (map vertex_shown vs.items)
 lookup_shown lookups.Trail = script.Trail
 lookup_shown lookups.Products = script.Products
 lookup_shown lookups.Plan = script.Plan
@@ -45,7 +52,7 @@ command_shown (commands.Undo s) = script.Undo s
 command_shown (commands.Redo s) = script.Redo s
 command_shown (commands.Keep s) = script.Keep s
 command_shown (commands.Forget s) = script.Forget s
-command_shown (commands.Lift table v) = script.Lift table v
+command_shown (commands.Lift table v) = script.Lift table (vertex_shown v)
 command_shown commands.Harvest = script.Harvest
 command_shown (commands.Commit k) = script.Commit k
 command_shown (commands.Settle n) = script.Settle n

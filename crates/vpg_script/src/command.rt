@@ -1,13 +1,14 @@
 //! The command that a line of a script spells.
 ghost use Rattle.std.specs.Prelude.{◌≡◌, ◌≤◌, ◌^◌, ◌<◌, true, map, min, option_map, IfOk, MatchResult};
-ghost use Rattle.std.specs.List.{list_all};
+ghost use Rattle.std.specs.List.{list_all, list_any};
 ghost use Rattle.std.specs.Char.{is_ascii_digit, digit_value};
 ghost use Rattle.std.specs.Str.Parse.{digits_value};
 ghost use Rattle.std.specs.Prelude.{bytes_eq};
-ghost use Rattle.vpg_script.specs.Script.{is_blank, is_nonempty, words, is_feature_name, number_of, verb_of, verb_of_page, verb_of_question, bare_command, signed, why_of, of_vertex, asked, command_with, table_named, command_with_two, label_of, is_comment};
-ghost use Rattle.vpg_script.specs.Script.{command_with_few, identifiers_of, claim_named, claims_of, state_named, assertion_of, command_of};
-ghost use Rattle.vpg_script.specs.View.{assertion_shown, command_shown, inquiry_shown, texts};
+ghost use Rattle.vpg_script.specs.Script.{is_quote, closed, quoted, vertex_name, vertex_named, is_feature_name, number_of, verb_of, verb_of_page, verb_of_question, bare_command, signed, why_of, of_vertex, asked, command_with, table_named, command_with_two, label_of, is_comment};
+ghost use Rattle.vpg_script.specs.Script.{command_with_few, vertices_of, claim_named, claims_of, state_named, verdicts_of, assertion_of, command_of};
+ghost use Rattle.vpg_script.specs.View.{assertion_shown, command_shown, inquiry_shown, texts, vertex_shown};
 
+use crate::words::{is_nonempty, words_of};
 use std::alloc::{AllocError, Global};
 use thiserror::Error;
 use vpg_features::is_feature_name;
@@ -90,6 +91,15 @@ pub enum PageQuestion {
     Empty,
 }
 
+/// A vertex, as a line names it. A name stands in the line that was read.
+#[derive(Clone, Copy)]
+pub enum Vertex<'t> {
+    /// By its identifier.
+    Number(u32),
+    /// By its name.
+    Name(&'t [u8]),
+}
+
 /// A verdict that a line asserts of a vertex.
 #[derive(Clone, Copy, Debug, PartialEq, Eq)]
 pub enum Claim {
@@ -101,9 +111,9 @@ pub enum Claim {
 
 /// What a line asserts of the page.
 #[derive(Drop)]
-pub enum Assertion {
-    /// That a vertex, by its identifier, has these verdicts.
-    Verdicts(u32, Vec<Claim>),
+pub enum Assertion<'t> {
+    /// That a vertex has these verdicts.
+    Verdicts(Vertex<'t>, Vec<Claim>),
     /// That each feature is known.
     Full,
     /// That both tables are progress tables.
@@ -112,25 +122,25 @@ pub enum Assertion {
 
 /// What is looked at of the page, which stays as it is.
 #[derive(Drop)]
-pub enum Lookup {
+pub enum Lookup<'t> {
     Show,
-    /// Some vertices, by their identifiers.
-    Vertices(Vec<u32>),
+    /// Some vertices.
+    Vertices(Vec<Vertex<'t>>),
     Trail,
     Products,
     Plan,
     Count,
     /// The picture of its game.
     Draw,
-    Assert(Assertion),
+    Assert(Assertion<'t>),
 }
 
 /// What is asked of the page. Names stand in the line that was read.
 #[derive(Clone, Copy)]
 pub enum Inquiry<'t> {
-    /// Something of a vertex, by its identifier.
-    OfVertex(VertexQuestion, u32),
-    /// Why a feature is known.
+    /// Something of a vertex.
+    OfVertex(VertexQuestion, Vertex<'t>),
+    /// Why a feature is known, or a vertex of this name has its verdicts.
     OfFeature(&'t [u8]),
     /// Why one more decision contradicts the page: whether the feature is to be in, and its name.
     OfChoice(bool, &'t [u8]),
@@ -148,12 +158,12 @@ pub enum Command<'t> {
     Redo(Option<u64>),
     Keep(u64),
     Forget(u64),
-    /// A table, and the identifier of a vertex.
-    Lift(Which, u32),
+    /// A table and a vertex.
+    Lift(Which, Vertex<'t>),
     Harvest,
     Commit(u64),
     Settle(Option<u64>),
-    Look(Lookup),
+    Look(Lookup<'t>),
     /// Which verdicts are other than they were at the last of these.
     Changed,
     Known(&'t [u8]),
@@ -179,30 +189,6 @@ pub enum LineFault {
 pub struct Request<'t> {
     pub label: u32,
     pub command: Command<'t>,
-}
-
-fn is_blank(byte: u8) -> bool
-    ensures { result ≡ is_blank byte }
-{
-    byte == b' ' || byte == b'\t'
-}
-
-fn is_nonempty(part: &[u8]) -> bool
-    ensures { result ≡ is_nonempty part.now }
-{
-    match part {
-        [] => false,
-        [_, ..] => true,
-    }
-}
-
-/// The words of a line: what stands between its blanks.
-fn words_of(alloc: Global, line: &[u8]) -> Result<Vec<&[u8]>, AllocError>
-    ensures { IfOk result (λ v. map (λ w. w.now) v.items ≡ words line.now) }
-{
-    line.split(|b| is_blank(*b))
-        .filter(|w| is_nonempty(w))
-        .collect(alloc)
 }
 
 fn same(a: &[u8], b: &[u8]) -> bool
@@ -398,12 +384,62 @@ fn signed(sign: u8, word: &[u8]) -> Option<&[u8]>
     }
 }
 
-/// A question of the vertex whose identifier a word is.
-fn of_vertex<'t>(question: VertexQuestion, word: &[u8]) -> Option<Inquiry<'t>>
+fn has_quote(bytes: &[u8]) -> bool
+    ensures { result ≡ list_any is_quote bytes.now }
+{
+    bytes.iter().any(|b| *b == b'"')
+}
+
+/// What stands before the last quote, where there is no other.
+fn closed(word: &[u8]) -> Option<&[u8]>
+    ensures { option_map (λ name. name.now) result ≡ closed word.now }
+{
+    match word {
+        [name @ .., b'"'] if !has_quote(name) => Some(name),
+        _ => None,
+    }
+}
+
+/// The bytes between two quotes.
+fn quoted(word: &[u8]) -> Option<&[u8]>
+    ensures { option_map (λ name. name.now) result ≡ quoted word.now }
+{
+    match word {
+        [b'"', rest @ ..] => closed(rest),
+        _ => None,
+    }
+}
+
+/// The name of a vertex that a word is.
+fn vertex_name(word: &[u8]) -> Option<&[u8]>
+    ensures { option_map (λ name. name.now) result ≡ vertex_name word.now }
+{
+    if is_name(word) {
+        Some(word)
+    } else {
+        quoted(word)
+    }
+}
+
+/// The vertex that a word names: by its identifier, or else by its name.
+fn vertex_named(word: &[u8]) -> Option<Vertex>
+    ensures { option_map vertex_shown result ≡ vertex_named word.now }
+{
+    match number(word, LARGEST_IDENTIFIER) {
+        Some(identifier) => Some(Vertex::Number(identifier as u32)),
+        None => match vertex_name(word) {
+            Some(name) => Some(Vertex::Name(name)),
+            None => None,
+        },
+    }
+}
+
+/// A question of the vertex that a word names.
+fn of_vertex(question: VertexQuestion, word: &[u8]) -> Option<Inquiry>
     ensures { option_map inquiry_shown result ≡ of_vertex question word.now }
 {
-    let identifier = number(word, LARGEST_IDENTIFIER)?;
-    Some(Inquiry::OfVertex(question, identifier as u32))
+    let vertex = vertex_named(word)?;
+    Some(Inquiry::OfVertex(question, vertex))
 }
 
 /// What is asked why: a vertex, a feature, or a decision.
@@ -474,14 +510,14 @@ fn table_named(word: &[u8]) -> Option<Which>
 }
 
 /// A command with two arguments.
-fn command_with_two<'t>(verb: Verb, first: &[u8], second: &[u8]) -> Option<Command<'t>>
+fn command_with_two<'t>(verb: Verb, first: &[u8], second: &'t [u8]) -> Option<Command<'t>>
     ensures { option_map command_shown result ≡ command_with_two verb first.now second.now }
 {
     match verb {
         Verb::Lift => {
             let table = table_named(first)?;
-            let identifier = number(second, LARGEST_IDENTIFIER)?;
-            Some(Command::Lift(table, identifier as u32))
+            let vertex = vertex_named(second)?;
+            Some(Command::Lift(table, vertex))
         }
         _ => None,
     }
@@ -498,18 +534,19 @@ fn command_with_few<'t>(verb: Verb, first: &'t [u8], more: &[&'t [u8]]) -> Optio
     }
 }
 
-/// The identifiers of vertices that words are.
-fn identifiers_of(alloc: Global, words: &[&[u8]]) -> Result<Option<Vec<u32>>, AllocError>
-    ensures { IfOk result (λ found. option_map (λ ids. ids.items) found ≡ identifiers_of (texts words.now)) }
+/// The vertices that words name.
+fn vertices_of<'t>(alloc: Global, words: &[&'t [u8]]) -> Result<Option<Vec<Vertex<'t>>>, AllocError>
+    ensures { IfOk result (λ found.
+        option_map (λ vs. map vertex_shown vs.items) found ≡ vertices_of (texts words.now)) }
 {
-    let mut identifiers = Vec::new(alloc);
+    let mut vertices = Vec::new(alloc);
     for word in words {
-        let Some(identifier) = number(word, LARGEST_IDENTIFIER) else {
+        let Some(vertex) = vertex_named(word) else {
             return Ok(None);
         };
-        identifiers.push(identifier as u32)?;
+        vertices.push(vertex)?;
     }
-    Ok(Some(identifiers))
+    Ok(Some(vertices))
 }
 
 fn claim_named(word: &[u8]) -> Option<Claim>
@@ -555,24 +592,36 @@ fn state_named(word: &[u8]) -> Option<Assertion>
     }
 }
 
-/// What is asserted: of the page as a whole, or of a vertex.
-fn assertion_of(
+/// What is asserted of the vertex that a word names.
+fn verdicts_of<'t>(
     alloc: Global,
-    first: &[u8],
+    first: &'t [u8],
     more: &[&[u8]],
-) -> Result<Option<Assertion>, AllocError>
-    ensures { IfOk result (λ found.
-        option_map assertion_shown found ≡ assertion_of first.now (texts more.now)) }
+) -> Result<Option<Assertion<'t>>, AllocError>
+    ensures { IfOk result (λ found. option_map assertion_shown found
+        ≡ verdicts_of (vertex_named first.now) (claims_of (texts more.now))) }
 {
-    if more.is_empty() {
-        return Ok(state_named(first));
-    }
-    let Some(identifier) = number(first, LARGEST_IDENTIFIER) else {
+    let Some(vertex) = vertex_named(first) else {
         return Ok(None);
     };
     match claims_of(alloc, more)? {
-        Some(claims) => Ok(Some(Assertion::Verdicts(identifier as u32, claims))),
+        Some(claims) => Ok(Some(Assertion::Verdicts(vertex, claims))),
         None => Ok(None),
+    }
+}
+
+/// What is asserted: of the page as a whole, or of a vertex.
+fn assertion_of<'t>(
+    alloc: Global,
+    first: &'t [u8],
+    more: &[&[u8]],
+) -> Result<Option<Assertion<'t>>, AllocError>
+    ensures { IfOk result (λ found.
+        option_map assertion_shown found ≡ assertion_of first.now (texts more.now)) }
+{
+    match more {
+        [] => Ok(state_named(first)),
+        [_, ..] => verdicts_of(alloc, first, more),
     }
 }
 
@@ -588,8 +637,8 @@ fn command_of<'t>(
         return Ok(bare_command(verb));
     };
     match verb {
-        Verb::Show => match identifiers_of(alloc, args)? {
-            Some(identifiers) => Ok(Some(Command::Look(Lookup::Vertices(identifiers)))),
+        Verb::Show => match vertices_of(alloc, args)? {
+            Some(vertices) => Ok(Some(Command::Look(Lookup::Vertices(vertices)))),
             None => Ok(None),
         },
         Verb::Assert => match assertion_of(alloc, first, more)? {

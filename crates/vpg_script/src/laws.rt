@@ -1,7 +1,19 @@
 //! Laws of reading.
+ghost use Rattle.vpg_script.specs.Calling.{MeansItself};
 ghost use Rattle.vpg_script.specs.Lines.{ReadIsWhole};
+ghost use Rattle.vpg_script.specs.Script.{WordsAreBetweenBlanks};
 
 /// Lines that are read one by one are the lines of the whole text.
 pub fn read_lines_are_the_lines()
     ensures { ReadIsWhole }
+{}
+
+/// Where no vertex has a name, each request means itself.
+pub fn a_request_means_itself()
+    ensures { MeansItself }
+{}
+
+/// Where a line has no quote, its words are what stands between its blanks.
+pub fn words_stand_between_blanks()
+    ensures { WordsAreBetweenBlanks }
 {}

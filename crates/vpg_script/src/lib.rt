@@ -9,21 +9,29 @@
 //! fault of its line. A further question of a vertex is a `VertexQuestion` more, one of the page as a whole a
 //! `PageQuestion`: the crate of answers has to know it, and the crate of runs does not.
 //!
+//! A vertex is named by its identifier, or by a name: `Callings` are the names by which vertices are called, and
+//! `meant` is the request in which the identifier of each vertex stands in place of its name.
+//!
 //! This crate carries nothing out: the crate of serving above answers lines, to a `Sink`. `Device` makes a `Source` of
 //! each reader, and a `Sink` of each writer.
 //!
-//! What a line says is defined in `specs/Script`, what comes next in a text in `specs/Lines`, what a failed write
-//! leaves in `specs/Devices`. All are this project's own.
+//! What a line says is defined in `specs/Script`, what its names mean in `specs/Calling`, what comes next in a text in
+//! `specs/Lines`, what a failed write leaves in `specs/Devices`. All are this project's own.
 #![tactic(auto)]
 
+mod calling;
 mod command;
 mod device;
 pub mod laws;
 mod lines;
+mod meaning;
+mod words;
 
+pub use calling::Callings;
 pub use command::{
     Assertion, Claim, Command, Inquiry, LONGEST_LINE, LineFault, Lookup, PageQuestion, ReadFault,
-    Request, VertexQuestion, read_line,
+    Request, Vertex, VertexQuestion, read_line,
 };
 pub use device::{Device, Failed, Sink, Source};
 pub use lines::{MOST_READS, Next, NextFault, next_line, pass_line};
+pub use meaning::meant;

@@ -22,8 +22,9 @@ Without a command a script is read from standard input and carried out on a
 small family that is built in: the features r (the root), f and g, and the
 vertices 0 and 1.
 
-Scripts, one command a line (F a feature, S a change's number, V a vertex, K a
-harvest's number, N a number):
+Scripts, one command a line (F a feature, S a change's number, V a vertex: its
+identifier, the name of its requirement, or its name in quotes, K a harvest's
+number, N a number):
   select F, exclude F    decide that F is in or out
   retract F              take that decision back
   undo [S], redo [S]     the latest change, or the change S

@@ -82,11 +82,11 @@ seen_as scene entries decisions hopeful dual r before after one lookup same told
     subst (λ (l : script.Lookup). OnOk r ((text : List ℕ) × (IsSeen scene l entries decisions hopeful dual text × (after ≡ before ++ text)))) same told
 
 pub named_seen : {E : Type 0} (game : NamedGame) (diagram : NamedDiagram) (entries : List Entry) (decisions : List Decision) (hopeful dual : List ℕ) (games : GamesView) → ArePageGames game diagram (map literal_of decisions) games →
-    (r : Result (Unit {0}) E) (before after bytes vs : List ℕ) → bytes ≡ vs →
-    OnOk r (after ≡ before ++ named_lines (top_of games.hopeful_levels) (top_of games.dual_levels) (vertex_ids game.vertices) hopeful dual bytes) →
+    (r : Result (Unit {0}) E) (before after : List ℕ) (seen vs : List script.Vertex) → seen ≡ vs →
+    OnOk r (after ≡ before ++ named_lines (top_of games.hopeful_levels) (top_of games.dual_levels) (vertex_ids game.vertices) hopeful dual seen) →
     OnOk r ((text : List ℕ) × (IsSeen (scene_of game diagram) (script.Vertices vs) entries decisions hopeful dual text × (after ≡ before ++ text)))
-named_seen game diagram entries decisions hopeful dual games are r before after bytes vs same told =
-    let lines = named_lines (top_of games.hopeful_levels) (top_of games.dual_levels) (vertex_ids game.vertices) hopeful dual bytes in
-    let tops = ap₂ (λ (first second : ℕ). named_lines first second (vertex_ids game.vertices) hopeful dual bytes) (ap top_of (are.levels Hopeful)) (ap top_of (are.levels Dual)) in
-    let all = ap (λ (vs : List ℕ). named_lines (top_for Hopeful (graph_of game)) (top_for Dual (graph_of game)) (vertex_ids game.vertices) hopeful dual vs) same in
+named_seen game diagram entries decisions hopeful dual games are r before after seen vs same told =
+    let lines = named_lines (top_of games.hopeful_levels) (top_of games.dual_levels) (vertex_ids game.vertices) hopeful dual seen in
+    let tops = ap₂ (λ (first second : ℕ). named_lines first second (vertex_ids game.vertices) hopeful dual seen) (ap top_of (are.levels Hopeful)) (ap top_of (are.levels Dual)) in
+    let all = ap (λ (vs : List script.Vertex). named_lines (top_for Hopeful (graph_of game)) (top_for Dual (graph_of game)) (vertex_ids game.vertices) hopeful dual vs) same in
     on_ok r _ _ (λ appended. (lines, (tops ∙ all, appended))) told

@@ -12,24 +12,25 @@ use Rattle.vpg_texts.specs.Plan.{IsPlanned, IsPlanFault}
 use Rattle.vpg_texts.specs.Scene.{Scene, UnderKnown, TellsUnder, IsShown, IsCounted, TellsKnown}
 use Rattle.vpg_texts.specs.Text.{trail_text, vertex_line}
 
--- ---- vertices by their identifiers
+-- ---- vertices that lines name
 
--- the place of the vertex with an identifier
-abbrev pub vertex_of : List ℕ → ℕ → Option ℕ
-vertex_of identifiers identifier = position (λ n. n == identifier) identifiers
+-- the place of a vertex: that of its identifier; a name is none of the game's
+abbrev pub vertex_of : List ℕ → script.Vertex → Option ℕ
+vertex_of identifiers (script.Numbered identifier) = position (λ n. n == identifier) identifiers
+vertex_of identifiers (script.Named name) = None
 
-abbrev pub is_vertex : List ℕ → ℕ → Bool
-is_vertex identifiers identifier = is_some (vertex_of identifiers identifier)
+abbrev pub is_vertex : List ℕ → script.Vertex → Bool
+is_vertex identifiers vertex = is_some (vertex_of identifiers vertex)
 
 -- whether the game has the vertex that an assertion names
 abbrev pub has_asserted : List ℕ → script.Assertion → Bool
-has_asserted identifiers (script.Verdicts v claims) = is_vertex identifiers v
+has_asserted identifiers (script.Verdicts vertex claims) = is_vertex identifiers vertex
 has_asserted identifiers script.Full = true
 has_asserted identifiers script.Settled = true
 
 -- whether the game has each vertex that a lookup names
 abbrev pub has_vertices : List ℕ → script.Lookup → Bool
-has_vertices identifiers (script.Vertices vs) = list_all (is_vertex identifiers) vs
+has_vertices identifiers (script.Vertices vertices) = list_all (is_vertex identifiers) vertices
 has_vertices identifiers (script.Assert assertion) = has_asserted identifiers assertion
 has_vertices identifiers script.Show = true
 has_vertices identifiers script.Trail = true
@@ -44,10 +45,10 @@ line_at hopeful_top dual_top identifiers hopeful dual None = []
 line_at hopeful_top dual_top identifiers hopeful dual (Some v) =
     vertex_line hopeful_top dual_top (slice_index identifiers v) (slice_index hopeful v) (slice_index dual v)
 
--- the lines of the vertices with these identifiers
-abbrev pub named_lines : ℕ → ℕ → List ℕ → (hopeful dual : List ℕ) → List ℕ → List ℕ
-named_lines hopeful_top dual_top identifiers hopeful dual vs =
-    flat_map (λ v. line_at hopeful_top dual_top identifiers hopeful dual (vertex_of identifiers v)) vs
+-- the lines of these vertices
+abbrev pub named_lines : ℕ → ℕ → List ℕ → (hopeful dual : List ℕ) → List script.Vertex → List ℕ
+named_lines hopeful_top dual_top identifiers hopeful dual vertices =
+    flat_map (λ vertex. line_at hopeful_top dual_top identifiers hopeful dual (vertex_of identifiers vertex)) vertices
 
 -- ---- assertions
 
@@ -101,8 +102,8 @@ settled_text settled = if settled then codes "holds\n" else codes "fails settled
 
 abbrev pub assertion_text : ℕ → ℕ → List ℕ → (hopeful dual : List ℕ) → script.Assertion → (full settled : Bool) →
     List ℕ
-assertion_text hopeful_top dual_top identifiers hopeful dual (script.Verdicts v asserted) full settled =
-    verdicts_at hopeful_top dual_top hopeful dual settled asserted (vertex_of identifiers v)
+assertion_text hopeful_top dual_top identifiers hopeful dual (script.Verdicts vertex asserted) full settled =
+    verdicts_at hopeful_top dual_top hopeful dual settled asserted (vertex_of identifiers vertex)
 assertion_text hopeful_top dual_top identifiers hopeful dual script.Full full settled = full_text full
 assertion_text hopeful_top dual_top identifiers hopeful dual script.Settled full settled = settled_text settled
 
@@ -130,8 +131,8 @@ IsPlanAnswer scene decisions hopeful dual text =
 -- The text is what a lookup shows of a page with these entries, decisions and tables.
 abbrev pub IsSeen : Scene → script.Lookup → List Entry → List Decision → (hopeful dual text : List ℕ) → Type 0
 IsSeen scene script.Show entries decisions hopeful dual text = IsShown scene decisions hopeful dual text
-IsSeen scene (script.Vertices vs) entries decisions hopeful dual text =
-    text ≡ named_lines (top_for Hopeful scene.game) (top_for Dual scene.game) scene.identifiers hopeful dual vs
+IsSeen scene (script.Vertices vertices) entries decisions hopeful dual text =
+    text ≡ named_lines (top_for Hopeful scene.game) (top_for Dual scene.game) scene.identifiers hopeful dual vertices
 IsSeen scene script.Trail entries decisions hopeful dual text = text ≡ trail_text scene.names scene.identifiers entries
 IsSeen scene script.Products entries decisions hopeful dual text = TellsKnown scene decisions text
 IsSeen scene script.Plan entries decisions hopeful dual text = IsPlanAnswer scene decisions hopeful dual text

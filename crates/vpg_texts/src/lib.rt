@@ -26,5 +26,5 @@ pub use showing::{
     PlanFault, count, count_over, draw_over, look_over, plan, plan_over, products, products_over,
     put_changed, put_known, put_known_over, show, show_over, trail, verdicts_by, verdicts_over,
 };
-pub use sights::has_vertices;
+pub use sights::{has_vertices, vertex_at};
 pub use text::{blank_name, blank_number};

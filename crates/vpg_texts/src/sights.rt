@@ -1,52 +1,65 @@
 //! The texts of some vertices of a page, and of what is asserted of it.
-ghost use Rattle.std.specs.Prelude.{◌≡◌, ◌++◌, ◌<◌, IfSome, Some, flat_map, length, not, true, OnOk};
+ghost use Rattle.std.specs.Prelude.{◌≡◌, ◌==◌, ◌++◌, ◌<◌, IfSome, Some, flat_map, length, map, not, position, true, OnOk};
 ghost use Rattle.std.specs.List.{list_all};
 ghost use Rattle.vpg_game.specs.Game.{vertex_ids};
 ghost use Rattle.vpg_game.specs.Levels.{top_of};
-ghost use Rattle.vpg_script.specs.View.{assertion_shown, lookup_shown};
+ghost use Rattle.vpg_script.specs.View.{assertion_shown, lookup_shown, vertex_shown};
 ghost use Rattle.vpg_texts.specs.Sights.{assertion_text, claim_text, failing_text, full_text, has_asserted, has_vertices, holds, is_open, is_vertex, named_lines, open_text, settled_text, verdicts_text, vertex_of};
 
-use crate::text::vertex;
+use crate::text;
 use std::alloc::AllocError;
 use vpg_game::GuardedGame;
 use vpg_measure::{PageGames, Table};
-use vpg_script::{Assertion, Claim, Lookup};
+use vpg_script::{Assertion, Claim, Lookup, Vertex};
 use vpg_verdict::Which;
 
-fn vertex_at(game: &GuardedGame, identifier: u32) -> Option<u32>
-    ensures vertex { result ≡ vertex_of (vertex_ids game.now.vertices) identifier }
+/// The place of the vertex of an identifier.
+fn found(game: &GuardedGame, identifier: u32) -> Option<u32>
+    ensures vertex { result ≡ position (λ n. n == identifier) (vertex_ids game.now.vertices) }
     ensures within { IfSome result (λ v. v < length game.now.vertices) }
 {
     game.find(identifier)
 }
 
-fn is_vertex(game: &GuardedGame, identifier: u32) -> bool
-    ensures { result ≡ is_vertex (vertex_ids game.now.vertices) identifier }
+/// The place of a vertex that a line names: that of its identifier. `None` for each name: a game has no names of
+/// vertices.
+pub fn vertex_at(game: &GuardedGame, vertex: Vertex<'_>) -> Option<u32>
+    ensures vertex { result ≡ vertex_of (vertex_ids game.now.vertices) (vertex_shown vertex.entry) }
+    ensures within { IfSome result (λ v. v < length game.now.vertices) }
 {
-    vertex_at(game, identifier).is_some()
+    match vertex {
+        Vertex::Number(identifier) => found(game, identifier),
+        Vertex::Name(_) => None,
+    }
 }
 
-fn are_vertices(game: &GuardedGame, identifiers: &[u32]) -> bool
-    ensures { result ≡ list_all (is_vertex (vertex_ids game.now.vertices)) identifiers.now }
+fn is_vertex(game: &GuardedGame, vertex: Vertex<'_>) -> bool
+    ensures { result ≡ is_vertex (vertex_ids game.now.vertices) (vertex_shown vertex.entry) }
 {
-    identifiers.iter().all(|v| is_vertex(game, *v))
+    vertex_at(game, vertex).is_some()
 }
 
-fn has_asserted(game: &GuardedGame, assertion: &Assertion) -> bool
+fn are_vertices(game: &GuardedGame, vertices: &[Vertex<'_>]) -> bool
+    ensures { result ≡ list_all (λ v. is_vertex (vertex_ids game.now.vertices) (vertex_shown v)) vertices.now }
+{
+    vertices.iter().all(|v| is_vertex(game, *v))
+}
+
+fn has_asserted(game: &GuardedGame, assertion: &Assertion<'_>) -> bool
     ensures { result ≡ has_asserted (vertex_ids game.now.vertices) (assertion_shown assertion.now) }
 {
     match assertion {
-        Assertion::Verdicts(v, _) => is_vertex(game, *v),
+        Assertion::Verdicts(vertex, _) => is_vertex(game, *vertex),
         Assertion::Full | Assertion::Settled => true,
     }
 }
 
 /// Whether the game has each vertex that a lookup names.
-pub fn has_vertices(game: &GuardedGame, lookup: &Lookup) -> bool
+pub fn has_vertices(game: &GuardedGame, lookup: &Lookup<'_>) -> bool
     ensures { result ≡ has_vertices (vertex_ids game.now.vertices) (lookup_shown lookup.now) }
 {
     match lookup {
-        Lookup::Vertices(vs) => are_vertices(game, vs),
+        Lookup::Vertices(vertices) => are_vertices(game, vertices),
         Lookup::Assert(assertion) => has_asserted(game, assertion),
         Lookup::Show
         | Lookup::Trail
@@ -57,36 +70,36 @@ pub fn has_vertices(game: &GuardedGame, lookup: &Lookup) -> bool
     }
 }
 
-/// The place of the vertex with an identifier.
-fn place(game: &GuardedGame, identifier: u32) -> u32
-    requires { is_vertex (vertex_ids game.now.vertices) identifier ≡ true }
-    ensures place { vertex_of (vertex_ids game.now.vertices) identifier ≡ Some result }
+/// The place of a vertex that the game has.
+fn place(game: &GuardedGame, vertex: Vertex<'_>) -> u32
+    requires { is_vertex (vertex_ids game.now.vertices) (vertex_shown vertex) ≡ true }
+    ensures place { vertex_of (vertex_ids game.now.vertices) (vertex_shown vertex.entry) ≡ Some result }
     ensures within { result < length game.now.vertices }
 {
-    match vertex_at(game, identifier) {
+    match vertex_at(game, vertex) {
         Some(v) => v,
         None => unreachable!(),
     }
 }
 
-/// The lines of the vertices with these identifiers.
+/// The lines of these vertices.
 pub(crate) fn named(
     games: &PageGames,
     game: &GuardedGame,
     hopeful: &Table,
     dual: &Table,
-    identifiers: &[u32],
+    vertices: &[Vertex<'_>],
     out: &mut Vec<u8>,
 ) -> Result<(), AllocError>
-    requires vertices { list_all (is_vertex (vertex_ids game.now.vertices)) identifiers.now ≡ true }
+    requires vertices { list_all (is_vertex (vertex_ids game.now.vertices)) (map vertex_shown vertices.now) ≡ true }
     requires hopeful { length hopeful.now ≡ length game.now.vertices }
     requires dual { length dual.now ≡ length game.now.vertices }
     ensures { OnOk result (out.new.items ≡ out.old.items
         ++ named_lines (top_of games.now.hopeful_levels) (top_of games.now.dual_levels)
-        (vertex_ids game.now.vertices) hopeful.now dual.now identifiers.now) }
+        (vertex_ids game.now.vertices) hopeful.now dual.now (map vertex_shown vertices.now)) }
 {
-    for identifier in identifiers {
-        vertex(games, game, hopeful, dual, place(game, *identifier), out)?;
+    for named in vertices {
+        text::vertex(games, game, hopeful, dual, place(game, *named), out)?;
     }
     Ok(())
 }
@@ -210,7 +223,7 @@ pub(crate) fn assertion(
     game: &GuardedGame,
     hopeful: &Table,
     dual: &Table,
-    asserted: &Assertion,
+    asserted: &Assertion<'_>,
     full: bool,
     settled: bool,
     out: &mut Vec<u8>,
@@ -223,8 +236,8 @@ pub(crate) fn assertion(
         (vertex_ids game.now.vertices) hopeful.now dual.now (assertion_shown asserted.now) full settled) }
 {
     match asserted {
-        Assertion::Verdicts(identifier, claims) => {
-            let v = place(game, *identifier);
+        Assertion::Verdicts(vertex, claims) => {
+            let v = place(game, *vertex);
             let hopeless = hopeful.get(v) == games.shape(Which::Hopeful).top();
             let sure = dual.get(v) == games.shape(Which::Dual).top();
             verdicts(settled, hopeless, sure, claims, out)

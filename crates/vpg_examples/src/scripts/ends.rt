@@ -6,7 +6,7 @@ use crate::devices::{Gives, Takes, all, then_fails, whole};
 use std::alloc::{AllocError, Global};
 use std::sync::Wait;
 use std::thread::Threads;
-use vpg_family::{Family, Fault, line_of};
+use vpg_family::{Fault, Known, Texts, line_of};
 use vpg_report::{DIAGRAM, End, GAME, end_of, refused_line, run_script};
 use vpg_script::Device;
 use vpg_serving::{Ending, Manner};
@@ -47,8 +47,18 @@ static ROWS: [Row; 4] = [
     },
 ];
 
+/// The texts of a family.
+fn texts_of(alloc: Global, diagram: &str, game: &str) -> Result<Texts, AllocError> {
+    Ok(Texts {
+        diagram: Vec::from_slice(alloc, diagram.as_bytes())?,
+        game: Vec::from_slice(alloc, game.as_bytes())?,
+        entries: Vec::new(alloc),
+        vertices: Vec::new(alloc),
+    })
+}
+
 /// How a script ends on a family of these texts.
-fn ending<T: Threads + Wait + Sync>(
+pub(super) fn ending<T: Threads + Wait + Sync>(
     rt: &T,
     alloc: Global,
     texts: (&str, &str),
@@ -58,8 +68,25 @@ fn ending<T: Threads + Wait + Sync>(
 ) -> Result<Ending, Fault> {
     let mut reader = Device::reader(gives);
     let mut writer = Device::writer(takes);
-    match Family::read(alloc, texts.0.as_bytes(), texts.1.as_bytes()) {
-        Ok(family) => run_script(rt, alloc, family, &mut reader, &mut writer, 1, manner),
+    let Ok(texts) = texts_of(alloc, texts.0, texts.1) else {
+        return Err(Fault::Memory);
+    };
+    match Known::read(alloc, &texts) {
+        Ok(known) => {
+            let Ok(family) = known.family.again() else {
+                return Err(Fault::Memory);
+            };
+            run_script(
+                rt,
+                alloc,
+                family,
+                &known.callings,
+                &mut reader,
+                &mut writer,
+                1,
+                manner,
+            )
+        }
         Err(fault) => Err(fault),
     }
 }

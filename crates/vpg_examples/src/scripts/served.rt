@@ -85,12 +85,14 @@ pub(super) fn answers_lines<T: Threads + Wait + Sync>(rt: &T, alloc: Global) -> 
 }
 
 /// Lines whose words are not those that their command takes.
-static ARGS: [&str; 35] = [
+static ARGS: [&str; 37] = [
     "settle 1000000001",
     "lift hopeful 4294967296",
     "keep 18446744073709551616",
     "undo -1",
-    "show f",
+    "show -f",
+    "show \"f",
+    "show \"f\"g",
     "show 1 4294967296",
     "assert",
     "assert 1",
@@ -99,7 +101,7 @@ static ARGS: [&str; 35] = [
     "assert full settled",
     "assert sure 1",
     "count 1",
-    "draw f",
+    "draw +f",
     "draw 0 1",
     "changed 1",
     "forced f",
@@ -111,13 +113,13 @@ static ARGS: [&str; 35] = [
     "why +",
     "why -1",
     "example",
-    "counterexample f",
+    "counterexample \"a\"b\"",
     "offer 0 1",
     "needs",
-    "repair f",
+    "repair true",
     "spoil",
-    "spoil f",
-    "plan f",
+    "spoil f g",
+    "plan f.",
     "plan 0 1",
     "select",
     "select 9",

@@ -8,7 +8,7 @@ ghost use Rattle.vpg_measure.specs.Games.{ArePageGames};
 ghost use Rattle.vpg_measure.specs.TwoGames.{top_for};
 ghost use Rattle.vpg_partial.specs.Known.{literal_of};
 ghost use Rattle.vpg_partial.specs.TableLaws.{AreChoicesOf};
-ghost use Rattle.vpg_script.specs.View.{assertion_shown, lookup_shown};
+ghost use Rattle.vpg_script.specs.View.{assertion_shown, lookup_shown, vertex_shown};
 ghost use Rattle.vpg_texts.specs.Scene.{EntryIsWithin, scene_of};
 ghost use Rattle.vpg_texts.specs.Sights.{IsAsserted, IsPlanAnswer, IsSeen, has_asserted, has_vertices, is_vertex, named_lines};
 
@@ -23,7 +23,7 @@ use std::alloc::{AllocError, Global};
 use vpg_diagram::Diagram;
 use vpg_game::GuardedGame;
 use vpg_measure::PageGames;
-use vpg_script::{Assertion, Lookup};
+use vpg_script::{Assertion, Lookup, Vertex};
 use vpg_trail::Page;
 use vpg_verdict::Which;
 
@@ -33,26 +33,19 @@ fn vertices_over(
     games: &PageGames,
     page: &Page,
     game: &GuardedGame,
-    identifiers: &[u32],
+    vertices: &[Vertex<'_>],
     out: &mut Vec<u8>,
 ) -> Result<(), AllocError>
-    requires vertices { list_all (is_vertex (vertex_ids game.now.vertices)) identifiers.now ≡ true }
+    requires vertices { list_all (is_vertex (vertex_ids game.now.vertices)) (map vertex_shown vertices.now) ≡ true }
     requires hopeful { length page.now.hopeful ≡ length game.now.vertices }
     requires dual { length page.now.dual ≡ length game.now.vertices }
     ensures named { OnOk result (out.new.items ≡ out.old.items
         ++ named_lines (top_of games.now.hopeful_levels) (top_of games.now.dual_levels)
-        (vertex_ids game.now.vertices) page.now.hopeful page.now.dual identifiers.now) }
+        (vertex_ids game.now.vertices) page.now.hopeful page.now.dual (map vertex_shown vertices.now)) }
     ensures unchanged { OnErr result (out.new.items ≡ out.old.items) }
 {
     let mut text = Vec::new(alloc);
-    sights::named(
-        games,
-        game,
-        &page.hopeful,
-        &page.dual,
-        identifiers,
-        &mut text,
-    )?;
+    sights::named(games, game, &page.hopeful, &page.dual, vertices, &mut text)?;
     out.extend_from_slice(&text)
 }
 
@@ -93,7 +86,7 @@ fn assertion_over(
     page: &Page,
     game: &GuardedGame,
     diagram: &Diagram,
-    assertion: &Assertion,
+    assertion: &Assertion<'_>,
     out: &mut Vec<u8>,
 ) -> Result<(), AllocError>
     requires vertices { has_asserted (vertex_ids game.now.vertices) (assertion_shown assertion.now) ≡ true }
@@ -132,7 +125,7 @@ pub fn look_over(
     page: &Page,
     game: &GuardedGame,
     diagram: &Diagram,
-    lookup: &Lookup,
+    lookup: &Lookup<'_>,
     out: &mut Vec<u8>,
 ) -> Result<(), AllocError>
     requires vertices { has_vertices (vertex_ids game.now.vertices) (lookup_shown lookup.now) ≡ true }
@@ -153,7 +146,7 @@ pub fn look_over(
 {
     match lookup {
         Lookup::Show => show_over(alloc, games, page, game, diagram, out),
-        Lookup::Vertices(vs) => vertices_over(alloc, games, page, game, vs, out),
+        Lookup::Vertices(vertices) => vertices_over(alloc, games, page, game, vertices, out),
         Lookup::Trail => trail(alloc, page, game, diagram, out),
         Lookup::Products => products_over(alloc, games, diagram, out),
         Lookup::Plan => plan_answer(alloc, games, page, game, diagram, out),

@@ -1,12 +1,11 @@
-use Rattle.std.proofs.Common.{[]}
+use Rattle.std.proofs.Common.{[], subst}
 use Rattle.std.specs.Arc.{arc_value}
-use Rattle.std.specs.Io.KnownBytes.{prepend_known}
-use Rattle.vpg_serving.proofs.MannerLemmas.{went_nothing}
-use Rattle.vpg_texts.specs.Scene.{scene_of}
-use Rattle.vpg_report.specs.Run.{answering, begun}
+use Rattle.vpg_script.specs.Calling.{Calling}
+use Rattle.vpg_report.specs.Server.{IsOpenRefusal}
+use Rattle.vpg_report.proofs.Results.{uncalled}
 use Rattle.vpg_report.proofs.runs.run_as.Goals as goal
 
-pub returns-in_default-clause-output : goal.returns-in_default-clause-output
-returns-in_default-clause-output g c =
-    let input = g.R.Source.remaining c.args.reader.now in
-    ([], [], begun, prepend_known [] input, went_nothing c.args.manner (answering (scene_of (arc_value c.args.game) (arc_value c.args.diagram)) c.args.lifters) begun input (g.W.Sink.contents c.args.writer.now))
+pub returns-clause-output : goal.returns-clause-output
+returns-clause-output g c =
+    uncalled c.args.manner (arc_value c.args.game) (arc_value c.args.diagram) c.none-callings.result c.args.lifters (g.R.Source.remaining c.args.reader.now) (g.R.Source.remaining c.run_called.new.reader)
+    (g.W.Sink.contents c.args.writer.now) (g.W.Sink.contents c.run_called.new.writer) c.run_called.result c.none-callings.ensures c.run_called.ensures.output

@@ -1,24 +1,11 @@
-use Rattle.std.proofs.Common.{sym, ap}
-use Rattle.vpg_script.specs.Script as script
-use Rattle.vpg_script.specs.Script.{Request}
-use Rattle.vpg_script.specs.View.{command_shown, inquiry_shown, request_shown}
-use Rattle.vpg_report.proofs.Served.{asked, asked_stays, carried_out, own_stays}
+use Rattle.vpg_report.proofs.Served.{called_told, called_stays}
+use Rattle.vpg_script.specs.View.{request_shown}
 use Rattle.vpg_report.proofs.answering.AnsweringServer.serve.Goals as goal
 
-pub returns-in-Ask-clause-answer : goal.returns-in-Ask-clause-answer
-returns-in-Ask-clause-answer g c =
-    let asks : script.Command → Request = λ command. record { label = c.args.request.now.label; command = command } in
-    asked c.ask.result c.args.self.now.engine c.ask.new.engine c.args.lifters c.args.request.now.label (inquiry_shown c.in-Ask.inquiry) (request_shown c.args.request.now) c.args.out.now.items c.ask.new.out.items
-    (ap (λ command. asks (command_shown command)) (sym c.in-Ask.is)) c.ask.ensures
+pub returns-clause-answer : goal.returns-clause-answer
+returns-clause-answer g c =
+    called_told c.answer.result c.args.self.now.engine c.answer.new.engine c.args.self.now.callings.now c.diagram.result.now c.names-features.result.now c.args.lifters
+    (request_shown c.args.request.now) (request_shown c.in_ok-said.said) c.args.out.now.items c.answer.new.out.items c.diagram.ensures c.names-features.ensures.names c.in_ok-said.ensures c.answer.ensures.answer
 
-pub returns-in_default-clause-answer : goal.returns-in_default-clause-answer
-returns-in_default-clause-answer g c =
-    carried_out c.carry_out.result c.args.self.now.engine c.carry_out.new.self c.args.lifters (request_shown c.args.request.now) c.args.out.now.items c.carry_out.new.out.items c.carry_out.ensures
-
-pub returns-in-Ask-clause-scene : goal.returns-in-Ask-clause-scene
-returns-in-Ask-clause-scene g c =
-    asked_stays c.ask.result c.args.self.now.engine c.ask.new.engine (record { label = c.args.request.now.label; command = script.Ask (inquiry_shown c.in-Ask.inquiry) }) c.args.out.now.items c.ask.new.out.items c.ask.ensures
-
-pub returns-in_default-clause-scene : goal.returns-in_default-clause-scene
-returns-in_default-clause-scene g c =
-    own_stays c.carry_out.result c.args.self.now.engine c.carry_out.new.self c.args.lifters (request_shown c.args.request.now) c.args.out.now.items c.carry_out.new.out.items c.carry_out.ensures
+pub returns-clause-scene : goal.returns-clause-scene
+returns-clause-scene g c = called_stays c.answer.result c.args.self.now.engine c.answer.new.engine c.args.self.now.callings.now c.answer.ensures.scene

@@ -1,7 +1,7 @@
 use Rattle.std.proofs.Common.{sym, ap}
 use Rattle.vpg_script.specs.Script as script
 use Rattle.vpg_script.specs.Script.{Request}
-use Rattle.vpg_script.specs.View.{command_shown, lookup_shown, request_shown}
+use Rattle.vpg_script.specs.View.{command_shown, lookup_shown, request_shown, vertex_shown}
 use Rattle.vpg_report.proofs.Asked.{served, served_by}
 use Rattle.vpg_report.proofs.engine.Engine.carry_out.Goals as goal
 
@@ -50,7 +50,7 @@ returns-in-Forget g c =
 pub returns-in-Lift : goal.returns-in-Lift
 returns-in-Lift g c =
     let asks : script.Command → Request = λ command. record { label = c.args.request.now.label; command = command } in
-    served c.lift.result c.args.self.now c.lift.new.self c.args.lifters (asks (script.Lift c.in-Lift.table c.in-Lift.identifier)) (request_shown c.args.request.now) c.args.out.now.items c.lift.new.out.items
+    served c.lift.result c.args.self.now c.lift.new.self c.args.lifters (asks (script.Lift c.in-Lift.table (vertex_shown c.in-Lift.vertex))) (request_shown c.args.request.now) c.args.out.now.items c.lift.new.out.items
     (ap (λ command. asks (command_shown command)) (sym c.in-Lift.is)) tt (λ calls held. tt) c.lift.ensures
 
 pub returns-in-Commit : goal.returns-in-Commit

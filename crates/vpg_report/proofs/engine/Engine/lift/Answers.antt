@@ -1,43 +1,38 @@
-use Rattle.std.proofs.Common.{◌≡◌, ◌∙◌, ℕ, ◌<◌, List, length, true, Option, Some, None, refl, sym, ap, subst}
-use Rattle.std.proofs.lemmas.List.{length-map}
-use Rattle.std.proofs.lemmas.Option.{slice_get_within}
-use Rattle.std.specs.Prelude.{slice_get, position, ◌==◌}
-use Rattle.vpg_game.specs.Game.{NamedGame, NamedVertex, vertex_ids}
+use Rattle.std.proofs.Common.{◌≡◌, ◌∙◌, ℕ, ◌<◌, length, true, Option, Some, None, refl, sym, ap, subst}
+use Rattle.vpg_game.specs.Game.{NamedGame, vertex_ids}
 use Rattle.vpg_desk.specs.Book.{Order, Commit}
 use Rattle.vpg_desk.specs.Commit.{commit_refusal, handed_in}
 use Rattle.vpg_office.specs.Faults.{never_refused}
 use Rattle.vpg_script.specs.Script as script
+use Rattle.vpg_script.specs.View.{vertex_shown}
+use Rattle.vpg_texts.specs.Sights.{vertex_of}
 use Rattle.vpg_report.specs.Answers.{NoVertex, call_or}
 use Rattle.vpg_report.specs.EngineFields.{engine_in}
 use Rattle.vpg_report.proofs.Asked.{on_view, on_same_view, both_on, log_full, unasked}
 use Rattle.vpg_report.proofs.Enduring.{endures, stays, unless_stray_any}
 use Rattle.vpg_report.proofs.LiftedOnce.{lift_answers, lifted_full}
-use Rattle.vpg_report.proofs.Places.{vertex_found}
 use Rattle.vpg_report.proofs.engine.Engine.lift.Goals as goal
 
--- the place of an identifier in the desk's game
-abbrev place_in : ℕ → NamedGame → Option ℕ
-place_in identifier game = position (λ n. n == identifier) (vertex_ids game.vertices)
+-- the place of a vertex in the desk's game
+abbrev place_in : script.Vertex → NamedGame → Option ℕ
+place_in named game = vertex_of (vertex_ids game.vertices) named
 
 pub returns-in_default : goal.returns-in_default
 returns-in_default g c =
     let e = c.self.inside in
     let old = engine_in e.client e.undos.items e.redos.items e.harvests.items e.seen.items in
-    let ids = vertex_ids c.deref.result.now.vertices in
-    let none = subst (λ (g : NamedGame). place_in c.args.identifier g ≡ None) (c.deref.ensures ∙ c.self.invariant.game) (vertex_found ids c.args.identifier None tt c.in_default.ensures.held) in
+    let named = vertex_shown c.args.vertex in
+    let none = subst (λ (g : NamedGame). place_in named g ≡ None) (c.deref.ensures ∙ c.self.invariant.game) (sym c.in_default.ensures.vertex) in
     on_same_view c.refused.result _ old _ _ _ _ c.self.view_is
-    (λ told. unasked old c.args.session (script.Lift c.args.table c.args.identifier) NoVertex c.args.out.now.items _ (ap (λ (x : Option ℕ). call_or NoVertex (λ v. Order) x) none) told) c.refused.ensures
+    (λ told. unasked old c.args.session (script.Lift c.args.table (vertex_shown c.args.vertex)) NoVertex c.args.out.now.items _ (ap (λ (x : Option ℕ). call_or NoVertex (λ v. Order) x) none) told) c.refused.ensures
 
 -- a vertex that is found is one of the order's game
-within_order : (ids : List ℕ) (v : ℕ) (id : ℕ) (found game : NamedGame) → ids ≡ vertex_ids found.vertices → found ≡ game → slice_get ids v ≡ Some id → v < length game.vertices
-within_order ids v id found game ids_are same is =
-    subst (λ (g : NamedGame). v < length g.vertices) same
-    (subst (λ (n : ℕ). v < n) (length-map found.vertices (λ (x : NamedVertex). x.id)) (subst (λ (xs : List ℕ). v < length xs) ids_are (slice_get_within ids v id is)))
+within_order : (v : ℕ) (found game : NamedGame) → found ≡ game → v < length found.vertices → v < length game.vertices
+within_order v found game same less = subst (λ (g : NamedGame). v < length g.vertices) same less
 
 pub one-harvest-requires : goal.one-harvest-requires
 one-harvest-requires g c =
-    within_order (vertex_ids c.deref.result.now.vertices) c.in-Some.v c.args.identifier c.deref.result.now c.in-Ok.order.game refl
-    (c.deref.ensures ∙ c.self.invariant.game ∙ sym c.in-Ok.ensures.ours.0) c.in-Some.ensures.found
+    within_order c.in-Some.v c.deref.result.now c.in-Ok.order.game (c.deref.ensures ∙ c.self.invariant.game ∙ sym c.in-Ok.ensures.ours.0) c.in-Some.ensures.within
 
 pub commit_own-requires : goal.commit_own-requires
 commit_own-requires g c =
@@ -69,11 +64,10 @@ pub returns-in-Err : goal.returns-in-Err
 returns-in-Err g c =
     let e = c.self.inside in
     let old = engine_in e.client e.undos.items e.redos.items e.harvests.items e.seen.items in
-    let ids = vertex_ids c.deref.result.now.vertices in
-    let here = subst (λ (g : NamedGame). place_in c.args.identifier g ≡ Some c.in-Some.v) (c.deref.ensures ∙ c.self.invariant.game)
-    (vertex_found ids c.args.identifier (Some c.in-Some.v) c.in-Some.ensures.found c.in-Some.ensures.held) in
+    let named = vertex_shown c.args.vertex in
+    let here = subst (λ (g : NamedGame). place_in named g ≡ Some c.in-Some.v) (c.deref.ensures ∙ c.self.invariant.game) (sym c.in-Some.ensures.vertex) in
     on_view c.put_unanswered.result _ old _ _ _ _ _ c.self.view_is
-    (λ told. log_full g.L.Terms.limit c.self.invariant.room_is c.args.session never_refused old _ (script.Lift c.args.table c.args.identifier) Order c.in-Err.fault c.args.out.now.items _ (ap (λ (x : Option ℕ). call_or NoVertex (λ v. Order) x) here)
+    (λ told. log_full g.L.Terms.limit c.self.invariant.room_is c.args.session never_refused old _ (script.Lift c.args.table (vertex_shown c.args.vertex)) Order c.in-Err.fault c.args.out.now.items _ (ap (λ (x : Option ℕ). call_or NoVertex (λ v. Order) x) here)
     c.in-Err.ensures.fault (unless_stray_any c.in-Err.fault _ refl) told.0 told.1) (both_on c.put_unanswered.result _ _ c.put_unanswered.ensures.full c.put_unanswered.ensures.told)
 
 pub returns-in-Err-commit_own : goal.returns-in-Err-commit_own
@@ -81,13 +75,12 @@ returns-in-Err-commit_own g c =
     let e = c.self.inside in
     let old = engine_in e.client e.undos.items e.redos.items e.harvests.items e.seen.items in
     let order = c.in-Ok.order in
-    let ids = vertex_ids c.deref.result.now.vertices in
-    let here = subst (λ (g : NamedGame). place_in c.args.identifier g ≡ Some c.in-Some.v) (c.deref.ensures ∙ c.self.invariant.game)
-    (vertex_found ids c.args.identifier (Some c.in-Some.v) c.in-Some.ensures.found c.in-Some.ensures.held) in
-    let less = within_order ids c.in-Some.v c.args.identifier c.deref.result.now order.game refl (c.deref.ensures ∙ c.self.invariant.game ∙ sym c.in-Ok.ensures.ours.0) c.in-Some.ensures.found in
+    let named = vertex_shown c.args.vertex in
+    let here = subst (λ (g : NamedGame). place_in named g ≡ Some c.in-Some.v) (c.deref.ensures ∙ c.self.invariant.game) (sym c.in-Some.ensures.vertex) in
+    let less = within_order c.in-Some.v c.deref.result.now order.game (c.deref.ensures ∙ c.self.invariant.game ∙ sym c.in-Ok.ensures.ours.0) c.in-Some.ensures.within in
     on_view c.put_unanswered-in-Err-commit_own.result _ old _ _ _ _ _ c.self.view_is
     (λ told. lifted_full order c.one-harvest.result c.in-Ok.ensures.order c.one-harvest.ensures.order c.args.table c.in-Some.v less c.one-harvest.ensures.raised c.one-harvest.ensures.other
-    g.L.Terms.limit c.self.invariant.room_is c.args.session old _ c.order.new.self c.args.identifier c.args.out.now.items _ here c.in-Ok.ensures.accepted c.in-Ok.ensures.ours refl
+    g.L.Terms.limit c.self.invariant.room_is c.args.session old _ c.order.new.self named c.args.out.now.items _ here c.in-Ok.ensures.accepted c.in-Ok.ensures.ours refl
     c.in-Err-commit_own.field-0.fault told.0 c.in-Err-commit_own.ensures.fault told.1)
     (both_on c.put_unanswered-in-Err-commit_own.result _ _ c.put_unanswered-in-Err-commit_own.ensures.full c.put_unanswered-in-Err-commit_own.ensures.told)
 
@@ -96,11 +89,10 @@ returns g c =
     let e = c.self.inside in
     let old = engine_in e.client e.undos.items e.redos.items e.harvests.items e.seen.items in
     let order = c.in-Ok.order in
-    let ids = vertex_ids c.deref.result.now.vertices in
-    let here = subst (λ (g : NamedGame). place_in c.args.identifier g ≡ Some c.in-Some.v) (c.deref.ensures ∙ c.self.invariant.game)
-    (vertex_found ids c.args.identifier (Some c.in-Some.v) c.in-Some.ensures.found c.in-Some.ensures.held) in
-    let less = within_order ids c.in-Some.v c.args.identifier c.deref.result.now order.game refl (c.deref.ensures ∙ c.self.invariant.game ∙ sym c.in-Ok.ensures.ours.0) c.in-Some.ensures.found in
+    let named = vertex_shown c.args.vertex in
+    let here = subst (λ (g : NamedGame). place_in named g ≡ Some c.in-Some.v) (c.deref.ensures ∙ c.self.invariant.game) (sym c.in-Some.ensures.vertex) in
+    let less = within_order c.in-Some.v c.deref.result.now order.game (c.deref.ensures ∙ c.self.invariant.game ∙ sym c.in-Ok.ensures.ours.0) c.in-Some.ensures.within in
     on_view c.numbered.result _ old _ _ _ _ _ c.self.view_is
     (λ told. lift_answers order c.one-harvest.result c.in-Ok.ensures.order c.one-harvest.ensures.order c.args.table c.in-Some.v less c.one-harvest.ensures.raised c.one-harvest.ensures.other
-    g.L.Terms.limit c.self.invariant.room_is c.args.session old _ c.order.new.self c.args.identifier c.args.out.now.items _ here c.in-Ok.ensures.accepted c.in-Ok.ensures.ours refl
+    g.L.Terms.limit c.self.invariant.room_is c.args.session old _ c.order.new.self named c.args.out.now.items _ here c.in-Ok.ensures.accepted c.in-Ok.ensures.ours refl
     c.in-Ok-commit_own.added c.in-Ok-commit_own.ensures.accepted told) c.numbered.ensures

@@ -1,11 +1,9 @@
-use Rattle.std.proofs.Common.{◌≡◌, ◌∙◌, ◌≤◌, ℕ, true, refl, sym, ap, subst}
+use Rattle.std.proofs.Common.{◌≡◌, ◌∙◌, ◌≤◌, ℕ, true, refl, sym, subst}
 use Rattle.vpg_verdict.specs.declared.which.Which.{Which}
 use Rattle.vpg_measure.specs.Orders.{order_table, harvest_table}
-use Rattle.vpg_desk.specs.Book.{Order, Commit, Settled}
+use Rattle.vpg_desk.specs.Book.{Commit, Settled}
 use Rattle.vpg_desk.specs.Commit.{commit_refusal, handed_in}
 use Rattle.vpg_office.specs.Faults.{never_refused}
-use Rattle.vpg_report.specs.Client.{ClientState}
-use Rattle.vpg_report.specs.Faults.{Tells}
 use Rattle.vpg_report.specs.EngineFields.{engine_in}
 use Rattle.vpg_settle.specs.Sweeping.{IsSweptOrder}
 use Rattle.vpg_report.proofs.Asked.{on_view_by, both_on, first_full}

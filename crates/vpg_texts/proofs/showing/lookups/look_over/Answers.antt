@@ -1,6 +1,6 @@
-use Rattle.std.proofs.Common.{sym, ap}
+use Rattle.std.proofs.Common.{map, sym, ap}
 use Rattle.vpg_script.specs.Script as script
-use Rattle.vpg_script.specs.View.{assertion_shown, lookup_shown}
+use Rattle.vpg_script.specs.View.{assertion_shown, lookup_shown, vertex_shown}
 use Rattle.vpg_texts.specs.Scene.{scene_of}
 use Rattle.vpg_texts.proofs.Seen.{seen_as, named_seen}
 use Rattle.vpg_texts.proofs.showing.lookups.look_over.Goals as goal
@@ -32,9 +32,10 @@ returns-in-Assert-clause-seen c =
 pub returns-in-Vertices-clause-seen : goal.returns-in-Vertices-clause-seen
 returns-in-Vertices-clause-seen c =
     let page = c.args.page.now in
-    seen_as (scene_of c.args.game.now c.args.diagram.now) page.entries page.decisions page.hopeful page.dual c.vertices_over.result c.args.out.now.items c.vertices_over.new.out.items (script.Vertices c.in-Vertices.vs.items) (lookup_shown c.args.lookup.now)
+    seen_as (scene_of c.args.game.now c.args.diagram.now) page.entries page.decisions page.hopeful page.dual c.vertices_over.result c.args.out.now.items c.vertices_over.new.out.items (script.Vertices (map vertex_shown c.in-Vertices.vertices.items)) (lookup_shown c.args.lookup.now)
     (ap lookup_shown (sym c.in-Vertices.is))
-    (named_seen c.args.game.now c.args.diagram.now page.entries page.decisions page.hopeful page.dual c.args.games.now c.requires.games c.vertices_over.result c.args.out.now.items c.vertices_over.new.out.items c.deref.result.now c.in-Vertices.vs.items c.deref.ensures.value c.vertices_over.ensures.named)
+    (named_seen c.args.game.now c.args.diagram.now page.entries page.decisions page.hopeful page.dual c.args.games.now c.requires.games c.vertices_over.result c.args.out.now.items c.vertices_over.new.out.items (map vertex_shown c.deref.result.now) (map vertex_shown c.in-Vertices.vertices.items) (ap (map vertex_shown) c.deref.ensures.value)
+    c.vertices_over.ensures.named)
 
 pub returns-in-Draw-clause-seen : goal.returns-in-Draw-clause-seen
 returns-in-Draw-clause-seen c =

@@ -1,5 +1,5 @@
 use Rattle.std.specs.Arc.{arc_value}
-use Rattle.vpg_report.proofs.runs.run_as.Given as goal
+use Rattle.vpg_report.proofs.runs.run_called.Given as goal
 
 -- the row and the ledger that were just made
 abbrev pub ghosts-run_there-L-Terms : goal.ghosts-run_there-L-Terms

@@ -1,0 +1,85 @@
+//! Scripts that call vertices by their names, each with its whole output. Lines are separated by ` / `.
+
+use super::ends::ending;
+use super::manners::PLAIN;
+use super::runs::put_lines;
+use crate::devices::{all, whole};
+use std::alloc::Global;
+use std::sync::Wait;
+use std::thread::Threads;
+use vpg_report::DIAGRAM;
+
+/// A game over the diagram that is built in, a script, and what it answers.
+struct Row {
+    game: &'static str,
+    script: &'static str,
+    answers: &'static str,
+}
+
+static ROWS: [Row; 6] = [
+    Row {
+        game: "0 1 0 1[f],0 \"door, open\"; 1 2 1 0[g],1 \"door\";",
+        script: "exclude f / settle / why \"door, open\" / assert \"door, open\" hopeless \
+            / spoil \"door, open\" / show \"door, open\" 1 door",
+        answers: "done 1 / settled 2 / hopeless 0 -f / unsure 0 / holds / spoils 0 \
+            / 0 2 0 hopeless unsure / 1 0 1 possible unsure / 1 0 1 possible unsure",
+    },
+    // A name of two vertices stands for none, and so does one that no vertex has.
+    Row {
+        game: "0 1 0 1[f],0 \"door\"; 1 2 1 0[g],1 \"door\";",
+        script: "why door / show 0 door / why \"door\" / assert door possible / lift hopeful door \
+            / show wall / draw \"wall\" / why \"wall\" / why wall",
+        answers: "refused NoVertex / refused NoVertex / refused NoVertex / refused NoVertex \
+            / refused NoVertex / refused NoVertex / refused NoVertex / refused NoVertex \
+            / refused UnknownFeature",
+    },
+    // A feature and a vertex of the same name.
+    Row {
+        game: "0 1 0 1[f],0 \"f\"; 1 2 1 0[g],1;",
+        script: "exclude f / settle / why f / why \"f\" / repair f / why +f",
+        answers: "done 1 / settled 2 / out f -f / hopeless 0 -f / unsure 0 / repair -f / repairs 1 \
+            / conflict +f -f",
+    },
+    // Digits are an identifier, but in quotes.
+    Row {
+        game: "0 1 0 1[f],0 \"1\"; 1 2 1 0[g],1;",
+        script: "show 1 \"1\" / lift hopeful \"1\" / lift dual 1 / show \"1\" 1",
+        answers: "1 0 0 possible unsure / 0 0 0 possible unsure / added 1 / added 1 \
+            / 0 1 0 possible unsure / 1 0 1 possible unsure",
+    },
+    // A vertex without a name has none.
+    Row {
+        game: "0 1 0 1[f],0 \"true\"; 1 2 1 0[g],1;",
+        script: "show \"true\" / show \"\"",
+        answers: "0 0 0 possible unsure / refused NoVertex",
+    },
+    // Words that are no vertex: the run ends there.
+    Row {
+        game: "0 1 0 1[f],0 \"a\"; 1 2 1 0[g],1;",
+        script: "show a / show \"a\"b",
+        answers: "",
+    },
+];
+
+/// Whether a row is answered so; or ends in a fault, where it has no answers.
+fn is_answered<T: Threads + Wait + Sync>(rt: &T, alloc: Global, row: &Row) -> bool {
+    let (mut script, mut wanted) = (Vec::new(alloc), Vec::new(alloc));
+    let mut got = Vec::new(alloc);
+    let done = put_lines(alloc, row.script, &mut script)
+        & put_lines(alloc, row.answers, &mut wanted);
+    let texts = (DIAGRAM, row.game);
+    match ending(rt, alloc, texts, PLAIN, whole(&script), all(&mut got)) {
+        Ok(_) => done && got.as_slice() == wanted.as_slice(),
+        Err(_) => done && row.answers.is_empty(),
+    }
+}
+
+/// The place of the first row that is answered otherwise.
+pub(super) fn first_other<T: Threads + Wait + Sync>(rt: &T, alloc: Global) -> Option<usize> {
+    for k in 0..ROWS.len() {
+        if !is_answered(rt, alloc, &ROWS[k]) {
+            return Some(k);
+        }
+    }
+    None
+}

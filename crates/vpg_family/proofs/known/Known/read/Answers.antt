@@ -1,0 +1,14 @@
+use Rattle.std.proofs.Common.{◌∙◌, ap}
+use Rattle.vpg_formula.specs.EntryCode.{earlier_of}
+use Rattle.vpg_game.specs.Game.{vertex_ids}
+use Rattle.vpg_names.specs.Spelled.{Told}
+use Rattle.vpg_family.specs.Called.{callings_of}
+use Rattle.vpg_family.proofs.known.Known.read.Goals as goal
+
+pub returns-in-Ok-callings_of-clause-called : goal.returns-in-Ok-callings_of-clause-called
+returns-in-Ok-callings_of-clause-called c = record {
+  told = c.in-Ok-read.names.names;
+  gives = λ features file is text. ap (λ (t : Told). t.names) (c.in-Ok-read.ensures.told features file is (c.deref-3.ensures.value ∙ text));
+  callings_are = c.in-Ok-callings_of.ensures
+      ∙ (λ i. callings_of c.in-Ok-read.names.names (vertex_ids (c.deref-4.ensures i).vertices) (earlier_of (c.deref-5.ensures.value i)) (c.deref-6.ensures.value i));
+}

@@ -1,0 +1,206 @@
+//! A family with the names by which lines call its vertices.
+ghost use Rattle.std.specs.Arc.{arc_value};
+ghost use Rattle.std.specs.Prelude.{◌≡◌, ◌++◌, length, option_map, slice_get, IfErr, IfOk, OnOk};
+ghost use Rattle.vpg_diagram.specs.FeatureDiagram.{feature_count};
+ghost use Rattle.vpg_game.specs.Game.{vertex_ids};
+ghost use Rattle.vpg_formula.specs.EntryCode.{earlier_of};
+ghost use Rattle.vpg_script.specs.Script.{is_nonempty};
+ghost use Rattle.vpg_family.specs.Called.{AreCallings, IsCalledFamily, calling_of, callings_of, entry_calling, entry_callings, text_callings};
+ghost use Rattle.vpg_family.specs.Families.{IsFamilyFault, IsUnread, SpellsFamily};
+
+use crate::family::Family;
+use crate::fault::Fault;
+use crate::files::{Paths, Texts, read_texts};
+use std::alloc::{AllocError, Global};
+use std::rt::Files;
+use vpg_formula::Entry;
+use vpg_game::GuardedGame;
+use vpg_names::VertexNames;
+use vpg_script::Callings;
+
+/// The identifier of the vertex at a place, where there is one.
+fn identifier_at(game: &GuardedGame, vertex: usize) -> Option<u32>
+    ensures { result ≡ slice_get (vertex_ids game.now.vertices) vertex }
+{
+    if vertex < game.vertices() {
+        Some(game.id(vertex as u32))
+    } else {
+        None
+    }
+}
+
+fn is_nonempty(name: &[u8]) -> bool
+    ensures { result ≡ is_nonempty name.now }
+{
+    match name {
+        [] => false,
+        [_, ..] => true,
+    }
+}
+
+/// Adds a name of the vertex of an identifier, where there are both.
+fn add_name(
+    alloc: Global,
+    name: &[u8],
+    identifier: Option<u32>,
+    callings: &mut Callings,
+) -> Result<(), AllocError>
+    ensures { OnOk result (callings.new ≡ callings.old ++ calling_of name.now identifier) }
+{
+    if !is_nonempty(name) {
+        return Ok(());
+    }
+    match identifier {
+        Some(identifier) => callings.add(alloc, name, identifier),
+        None => Ok(()),
+    }
+}
+
+/// Adds the names that a game's text gives its vertices.
+fn add_names(
+    alloc: Global,
+    game: &GuardedGame,
+    names: &VertexNames,
+    callings: &mut Callings,
+) -> Result<(), AllocError>
+    ensures { OnOk result (callings.new ≡ callings.old
+        ++ text_callings names.now.names (vertex_ids game.now.vertices) (length (vertex_ids game.now.vertices))) }
+{
+    for v in 0..game.vertices() {
+        add_name(
+            alloc,
+            names.name(v as u32),
+            identifier_at(game, v),
+            callings,
+        )?;
+    }
+    Ok(())
+}
+
+/// Adds the name of an entry, for the vertex at a place, where there are both.
+fn add_entry(
+    alloc: Global,
+    game: &GuardedGame,
+    entry: Option<&Entry>,
+    vertex: Option<&usize>,
+    callings: &mut Callings,
+) -> Result<(), AllocError>
+    ensures { OnOk result (callings.new ≡ callings.old
+        ++ entry_calling (vertex_ids game.now.vertices) (option_map (λ e. e.now.name) entry.entry)
+        (option_map (λ v. v.now) vertex.entry)) }
+{
+    match (entry, vertex) {
+        (Some(entry), Some(vertex)) => {
+            let identifier = identifier_at(game, *vertex);
+            add_name(alloc, entry.name.as_bytes(), identifier, callings)
+        }
+        _ => Ok(()),
+    }
+}
+
+/// Adds the names of entries, each for its vertex.
+fn add_entries(
+    alloc: Global,
+    game: &GuardedGame,
+    entries: &[Entry],
+    vertices: &[usize],
+    callings: &mut Callings,
+) -> Result<(), AllocError>
+    ensures { OnOk result (callings.new ≡ callings.old
+        ++ entry_callings (vertex_ids game.now.vertices) (earlier_of entries.now) vertices.now
+        (length (earlier_of entries.now))) }
+{
+    for n in 0..entries.len() {
+        add_entry(alloc, game, entries.get(n), vertices.get(n), callings)?;
+    }
+    Ok(())
+}
+
+/// The names of the vertices of a game: those that its text gives them, and those of requirements.
+fn callings_of(
+    alloc: Global,
+    game: &GuardedGame,
+    names: &VertexNames,
+    entries: &[Entry],
+    vertices: &[usize],
+) -> Result<Callings, AllocError>
+    ensures { IfOk result (λ callings. callings
+        ≡ callings_of names.now.names (vertex_ids game.now.vertices) (earlier_of entries.now) vertices.now) }
+{
+    let mut callings = Callings::none(alloc);
+    add_names(alloc, game, names, &mut callings)?;
+    add_entries(alloc, game, entries, vertices, &mut callings)?;
+    Ok(callings)
+}
+
+/// A family, the names that its game's text gives vertices, and those by which lines call them.
+pub struct Known {
+    pub family: Family,
+    pub names: VertexNames,
+    pub callings: Callings,
+}
+
+// Not derived, so that letting one go is one call.
+impl Drop for Known {
+    fn drop(self) {
+        let Known {
+            family: _,
+            names: _,
+            callings: _,
+        } = self;
+    }
+}
+
+impl Known {
+    /// The family of some texts. Refused as `Family::read`.
+    pub fn read(alloc: Global, texts: &Texts) -> Result<Known, Fault>
+        ensures spelled { IfOk result (λ known. SpellsFamily texts.now.diagram.items texts.now.game.items
+            (arc_value known.family.diagram) (arc_value known.family.game)) }
+        // Lines call a vertex by the name that the game's text gives it, and that of a requirement by its name.
+        ensures called { IfOk result (λ known. AreCallings (arc_value known.family.game) texts.now.game.items
+            (earlier_of texts.now.entries.items) texts.now.vertices.items known.callings) }
+        ensures features { IfOk result (λ known.
+            (arc_value known.family.game).features ≡ feature_count (arc_value known.family.diagram).lines) }
+        ensures refused { IfErr result (IsFamilyFault texts.now.diagram.items texts.now.game.items) }
+    {
+        let family = match Family::read(alloc, &texts.diagram, &texts.game) {
+            Ok(family) => family,
+            Err(fault) => return Err(fault),
+        };
+        let Ok(names) = VertexNames::read(alloc, &texts.game) else {
+            return Err(Fault::Memory);
+        };
+        match callings_of(alloc, &family.game, &names, &texts.entries, &texts.vertices) {
+            Ok(callings) => Ok(Known {
+                family,
+                names,
+                callings,
+            }),
+            Err(_) => Err(Fault::Memory),
+        }
+    }
+}
+
+/// The family of some files, with the names of its vertices. The diagram is read, and refused, before the game, or what
+/// stands in its place.
+pub fn read_known<R: Files + AllocGlobal>(
+    rt: &R,
+    alloc: Global,
+    paths: Paths<'_>,
+) -> Result<Known, Fault>
+    // Each requirement's name stands for its vertex, where a system and requirements stand in place of the game.
+    ensures called { IfOk result (λ known. IsCalledFamily paths.entry.game (arc_value known.family.diagram)
+        (arc_value known.family.game) known.callings) }
+    ensures features { IfOk result (λ known.
+        (arc_value known.family.game).features ≡ feature_count (arc_value known.family.diagram).lines) }
+    ensures refused { IfErr result IsUnread }
+{
+    let texts = match read_texts(rt, alloc, paths) {
+        Ok(texts) => texts,
+        Err(unread) => return Err(unread),
+    };
+    match Known::read(alloc, &texts) {
+        Ok(known) => Ok(known),
+        Err(fault) => Err(fault),
+    }
+}
