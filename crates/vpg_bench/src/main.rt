@@ -4,7 +4,6 @@
 //!     vpg_bench two-sessions
 //!     vpg_bench calls SESSIONS CALLS
 //!     vpg_bench changes GAME DIAGRAM FEATURE ROUNDS HOW READERS
-//!     vpg_bench play GAME DIAGRAM SEED SESSIONS STEPS HOW
 //!     vpg_bench marked
 //!
 //! `settle`: both tables of a game over the features r, f and g are raised from zero, until they are settled or so many
@@ -28,12 +27,6 @@
 //! `watches` (READERS watches, each read without pause in a thread of its own) or `mutex` (READERS threads read without
 //! pause what the session puts behind a mutex after each change: the same sheet). It prints how many calls the log has,
 //! how many reads there were, and how many tokens `end` misses.
-//!
-//! `play`: on an office on the files' game 1 to 63 sessions, each in a thread of its own, take so many steps at random,
-//! by the dice of SEED: they decide, retract, undo, redo, keep and forget, take orders, lift them by one or several
-//! lifters, commit the harvests, look at the page, read by watches, and hand tokens, harvests and fronts on to one
-//! another. HOW is `free`, or `turns`: then they take turns, and each run is the same. Each call is printed with what
-//! it gave and its place in the log; `bench/replay.py` makes the calls again on a book of its own.
 //!
 //! A log takes 1,048,576 calls. A call that is refused, and a sheet that is left out where the watcher has to read it,
 //! end a task on an office: all threads come to their end, all tokens are handed in as the office is ended, and the

@@ -1,10 +1,8 @@
-//! Offices at work: two sessions beside a watcher, sessions that call at once, readers beside a session that changes
-//! the page, and sessions that play at random.
+//! Offices at work: two sessions beside a watcher, sessions that call at once, and readers beside a session that
+//! changes the page.
 
 pub(crate) mod calls;
 mod day;
-mod noting;
-pub(crate) mod playing;
 mod reading;
 mod watcher;
 mod working;
@@ -16,8 +14,6 @@ ghost use Rattle.vpg_diagram.specs.FeatureDiagram.{feature_count};
 use crate::family::{diagram_of, game_of};
 use crate::offices::calls::{Call, Held, joined, made};
 use crate::offices::day::work_in_two;
-use crate::offices::noting::Notes;
-use crate::offices::playing::{Play, play_out};
 use crate::offices::watcher::follow;
 use crate::offices::working::work_at_once;
 use crate::words::task_of;
@@ -65,7 +61,6 @@ pub(crate) enum Task {
         how: How,
         readers: u32,
     },
-    Play(Play),
 }
 
 /// What came of the work.
@@ -76,8 +71,6 @@ pub(crate) enum Done {
     /// Whether the calls of each session stand in order, and each place has one.
     Calls { in_order: bool },
     Changes { reads: u64 },
-    /// Whether all was noted.
-    Play { is_whole: bool },
 }
 
 /// Why some work was not done to its end.
@@ -127,15 +120,9 @@ fn carry_out<L: Terms + Send + Sync, R: Threads + Wait + Sync>(
     office: &Office<L>,
     task: Task,
     seen: &AtomicU64,
-    notes: &mut Notes,
 ) -> Left<L> {
     if matches!(task, Task::TwoSessions) {
         return work_in_two(rt, alloc, office, seen);
-    }
-    if let Task::Play(play) = task {
-        let held = play_out(rt, alloc, office, play, notes);
-        let is_whole = notes.is_whole;
-        return (Ok(Done::Play { is_whole }), held);
     }
     let done = work_at_once(rt, alloc, office, task);
     let (held, end) = decided(rt, alloc, office);
@@ -152,7 +139,6 @@ fn work<L: Terms + Send + Sync, R: Threads + Wait + Sync>(
     office: Office<L>,
     task: Task,
     seen: &AtomicU64,
-    notes: &mut Notes,
 ) -> Option<Told> {
     let Ok(mut undos) = Vec::with_capacity(alloc, 1) else {
         let _further = office.end(rt, Vec::new(alloc), Vec::new(alloc));
@@ -162,7 +148,7 @@ fn work<L: Terms + Send + Sync, R: Threads + Wait + Sync>(
         let _further = office.end(rt, undos, Vec::new(alloc));
         return None;
     };
-    let (done, held) = carry_out(rt, alloc, &office, task, seen, notes);
+    let (done, held) = carry_out(rt, alloc, &office, task, seen);
     match held {
         Held::Nothing => {}
         Held::Undo(token) => undos.push_reserved(token),
@@ -186,8 +172,7 @@ fn work_on<L: Terms + Send + Sync, R: Threads + Wait + Sync>(
     seen: &AtomicU64,
 ) -> Option<Told> {
     let office = lent.take()?;
-    let mut notes = Notes::new(alloc);
-    work(rt, alloc, office, Task::TwoSessions, seen, &mut notes)
+    work(rt, alloc, office, Task::TwoSessions, seen)
 }
 
 /// What came of a task that a watcher followed, where it printed all that it read.
@@ -233,7 +218,6 @@ fn open_and_work<L: Terms + Send + Sync, R: Threads + Wait + Sync + Print>(
     diagram: Arc<Diagram>,
     room: u32,
     task: Task,
-    notes: &mut Notes,
 ) -> Option<Told>
     requires features { (arc_value game).features ≡ feature_count (arc_value diagram).lines }
     requires site { (site.row ≡ L.shelves) × (site.name ≡ L.name) × (site.parts ≡ L.parts) }
@@ -243,7 +227,7 @@ fn open_and_work<L: Terms + Send + Sync, R: Threads + Wait + Sync + Print>(
     match Office::<L>::open(rt, alloc, site, game, diagram, room) {
         Ok(office) => match task {
             Task::TwoSessions => work_watched(rt, alloc, office),
-            _ => work(rt, alloc, office, task, &AtomicU64::new(0), notes),
+            _ => work(rt, alloc, office, task, &AtomicU64::new(0)),
         },
         Err(_refused) => None,
     }
@@ -256,23 +240,11 @@ fn told_on<R: Threads + Wait + Sync + Print>(
     game: Arc<GuardedGame>,
     diagram: Arc<Diagram>,
     task: Task,
-    notes: &mut Notes,
 ) -> Option<Told>
     requires { (arc_value game).features ≡ feature_count (arc_value diagram).lines }
 {
     let site = Site::new(alloc).ok()?;
-    open_and_work::<Brand, R>(rt, alloc, site, game, diagram, ROOM, task, notes)
-}
-
-/// The task over so many features.
-fn of_features(task: Task, features: usize) -> Task {
-    match task {
-        Task::Play(play) => Task::Play(Play {
-            features: features.min(512) as u32,
-            ..play
-        }),
-        _ => task,
-    }
+    open_and_work::<Brand, R>(rt, alloc, site, game, diagram, ROOM, task)
 }
 
 /// Does the task on an office on the game and diagram that these texts spell.
@@ -282,14 +254,10 @@ fn told_of<R: Threads + Wait + Sync + Print>(
     game: &[u8],
     diagram: &[u8],
     task: Task,
-    notes: &mut Notes,
 ) -> Result<Told> {
     let diagram = diagram_of(alloc, diagram)?;
     let game = game_of(alloc, game, &diagram)?;
-    let task = of_features(task, diagram.features());
-    told_on(rt, alloc, game, diagram, task, notes).context(
-        "no office, no watch or no room for tokens",
-    )
+    told_on(rt, alloc, game, diagram, task).context("no office, no watch or no room for tokens")
 }
 
 /// Why some work was not done to its end, in words.
@@ -317,10 +285,7 @@ fn tell(rt: &HostRuntime, told: Told) -> Result<()> {
         println!(rt; "added {added}\nundone {undone}\ncalls {calls}\nfurther {further}")?;
         return Ok(());
     }
-    let in_order = !matches!(
-        done,
-        Done::Calls { in_order: false } | Done::Play { is_whole: false }
-    );
+    let in_order = !matches!(done, Done::Calls { in_order: false });
     println!(rt; "calls {calls} in order {in_order} further {further}")?;
     Ok(())
 }
@@ -331,14 +296,12 @@ fn work_built_in<T: Threads + Wait + Sync + Print>(
     threads: &T,
     task: Task,
 ) -> Result<()> {
-    let mut notes = Notes::new(rt.alloc());
-    let told = told_of(threads, rt.alloc(), GAME, DIAGRAM, task, &mut notes)?;
-    print!(rt; "{}", notes.text())?;
+    let told = told_of(threads, rt.alloc(), GAME, DIAGRAM, task)?;
     tell(rt, told)
 }
 
 /// A little of each.
-const A_LITTLE: [Task; 7] = [
+const A_LITTLE: [Task; 6] = [
     Task::TwoSessions,
     Task::Calls {
         sessions: 8,
@@ -368,13 +331,6 @@ const A_LITTLE: [Task; 7] = [
         how: How::Mutex,
         readers: 2,
     },
-    Task::Play(Play {
-        seed: 1,
-        sessions: 5,
-        steps: 60,
-        in_turn: true,
-        features: 1,
-    }),
 ];
 
 /// Does a little of each task on what is built in.
@@ -395,11 +351,10 @@ fn told_on_files<T: Threads + Wait + Sync + Print>(
     game: &str,
     diagram: &str,
     task: Task,
-    notes: &mut Notes,
 ) -> Result<Told> {
     let game = fs::read(rt, game)?;
     let diagram = fs::read(rt, diagram)?;
-    told_of(threads, rt.alloc(), &game, &diagram, task, notes)
+    told_of(threads, rt.alloc(), &game, &diagram, task)
 }
 
 /// Tells how many reads there were, and what came of a task beside.
@@ -417,11 +372,8 @@ pub(crate) fn work_as<T: Threads + Wait + Sync + Print>(
     words: &[String],
 ) -> Result<()> {
     let task = task_of(words)?;
-    if words.len() > 3 && matches!(task, Task::Changes { .. } | Task::Play(_)) {
-        let mut notes = Notes::new(rt.alloc());
-        let (game, diagram) = (words[2].as_str(), words[3].as_str());
-        let told = told_on_files(rt, threads, game, diagram, task, &mut notes)?;
-        print!(rt; "{}", notes.text())?;
+    if words.len() > 3 && matches!(task, Task::Changes { .. }) {
+        let told = told_on_files(rt, threads, words[2].as_str(), words[3].as_str(), task)?;
         return tell_reads(rt, told);
     }
     work_built_in(rt, threads, task)

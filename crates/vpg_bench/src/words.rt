@@ -2,7 +2,6 @@
 
 ghost use Rattle.std.specs.Prelude.{◌≤◌, length, IfOk};
 
-use crate::offices::playing::Play;
 use crate::offices::{How, ROOM, Task};
 use crate::settling::{Asked, Way};
 use anyhow::{Result, bail};
@@ -102,27 +101,6 @@ fn changes_of(feature: &str, rounds: &str, how: &str, readers: &str) -> Result<T
     })
 }
 
-/// The task that the words after `play GAME DIAGRAM` name.
-fn play_of(seed: &str, sessions: &str, steps: &str, how: &str) -> Result<Task> {
-    let in_turn = match how {
-        "turns" => true,
-        "free" => false,
-        _ => bail!("{how} is no way to play"),
-    };
-    let sessions = small_of(sessions, 63)?;
-    let steps = small_of(steps, 20_000)?;
-    if sessions == 0 {
-        bail!("there are 1 to 63 sessions");
-    }
-    Ok(Task::Play(Play {
-        seed: number_of(seed, u64::MAX)?,
-        sessions,
-        steps,
-        in_turn,
-        features: 1,
-    }))
-}
-
 /// The task on an office that the words name, of which the first is the program's.
 pub(crate) fn task_of(words: &[String]) -> Result<Task> {
     if words.len() == 2 && words[1].as_str() == "two-sessions" {
@@ -131,17 +109,9 @@ pub(crate) fn task_of(words: &[String]) -> Result<Task> {
     if words.len() == 4 && words[1].as_str() == "calls" {
         return calls_of(words[2].as_str(), words[3].as_str());
     }
-    if words.len() == 8 && words[1].as_str() == "play" {
-        return play_of(
-            words[4].as_str(),
-            words[5].as_str(),
-            words[6].as_str(),
-            words[7].as_str(),
-        );
-    }
     if words.len() < 8 || words[1].as_str() != "changes" {
         bail!(
-            "there are `settle`, `two-sessions`, `calls`, `changes`, `play` and `marked`, each with its words"
+            "there is `settle` with three words or four, `two-sessions`, `calls` with two, `changes` with six, `marked`"
         );
     }
     changes_of(

@@ -4,7 +4,6 @@ pub mod Run
 pub mod Rule
 pub mod Taken
 pub mod Seats
-pub mod Joins
 pub mod BoardFields
 pub mod Steps
 pub mod Loading

@@ -10,7 +10,6 @@ ghost use Rattle.vpg_board.specs.Lifters.{splits, newcomer, both};
 ghost use Rattle.vpg_board.specs.Run.{claim, split};
 ghost use Rattle.vpg_board.specs.Taken.{IsOnBoard, Takes, TakesAll, load_of, lift_steps};
 ghost use Rattle.vpg_board.specs.Seats.{opening_seat, SeesMore, IsSafe, AreOnce, HasAllAtEnd};
-ghost use Rattle.vpg_board.specs.Joins.{IsEndOf};
 
 use crate::lifter::Lifter;
 use crate::seat::{Inner, Seat, TooManyLifters};
@@ -245,9 +244,6 @@ impl Board {
         ensures seen { IfOk result
             (λ harvest. (which : Which) →
             IsBelowTable (table_in self.order which seat.lifter.seen) (harvest_table which harvest)) }
-
-        // One run led to its tables, which are the words, and to the seat, with all the joins that it has behind it.
-        ensures words { IfOk result (IsEndOf self.order seat.lifter) }
 
         // On or above the order's tables, and below every progress table of its games.
         ensures harvest { IfOk result IsHarvest }

@@ -29,8 +29,6 @@ const FAMILIES: [&str; 5] = [
     "sessions",
 ];
 
-/// Those with a script about each vertex and each product, or each 32nd of body comfort (`bench/each.py`).
-const EACH: [&str; 4] = ["mine_pump", "vending_machine", "elevator", "body_comfort"];
 /// The folder of a family that is a system with requirements.
 const SYSTEM: &str = "vending_system";
 
@@ -45,8 +43,8 @@ fn text_of(rt: &HostRuntime, alloc: Global, family: &str, file: &str) -> Result<
     Ok(fs::read(rt, path.as_str())?)
 }
 
-fn script_of(rt: &HostRuntime, alloc: Global, family: &str, file: &str) -> Result<File> {
-    let path = path_of(alloc, family, file)?;
+fn script_of(rt: &HostRuntime, alloc: Global, family: &str) -> Result<File> {
+    let path = path_of(alloc, family, "script")?;
     Ok(File::open(rt, path.as_str())?)
 }
 
@@ -74,15 +72,15 @@ fn answer<T: Threads + Wait + Sync>(
     }
 }
 
-/// Carries out a script of a family. The runtime is handed in twice: for its files, and for threads.
+/// Carries out the script of a family. The runtime is handed in twice: for its files, and for threads.
 fn carry_out<T: Threads + Wait + Sync>(
     rt: &HostRuntime,
     threads: &T,
     alloc: Global,
     name: &str,
-    file: &str,
 ) -> Result<()> {
-    let script = script_of(rt, alloc, name, file)?;
+    println!(rt; "{name}")?;
+    let script = script_of(rt, alloc, name)?;
     let family = family_in(rt, alloc, name)?;
     answer(rt, threads, alloc, &family, script)
 }
@@ -148,21 +146,7 @@ pub(crate) fn carry_out_all<T: Threads + Wait + Sync>(
     alloc: Global,
 ) -> Result<()> {
     for name in FAMILIES {
-        println!(rt; "{name}")?;
-        carry_out(rt, threads, alloc, name, "script").context(name)?;
-    }
-    Ok(())
-}
-
-/// Carries out the scripts about each vertex and each product.
-pub(crate) fn carry_out_each<T: Threads + Wait + Sync>(
-    rt: &HostRuntime,
-    threads: &T,
-    alloc: Global,
-) -> Result<()> {
-    for name in EACH {
-        println!(rt; "{name}, each product")?;
-        carry_out(rt, threads, alloc, name, "each").context(name)?;
+        carry_out(rt, threads, alloc, name).context(name)?;
     }
     carry_out_system(rt, threads, alloc, SYSTEM).context(SYSTEM)
 }

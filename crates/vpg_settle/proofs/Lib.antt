@@ -1,4 +1,3 @@
 pub mod Sweeps
 pub mod Repeated
 pub mod Often
-pub mod Settled

@@ -3,8 +3,6 @@ mod asks;
 pub(crate) mod boards;
 pub(crate) mod given;
 mod harvests;
-mod hinted;
 mod orders;
-mod settling;
 mod sweeps;
 mod tables;

@@ -23,7 +23,7 @@ pub enum Step {
 }
 
 /// Spends a token. It can't be let go, so a call that is refused is made again: the log has to have room for it.
-pub fn spend<L: Terms, R: Wait>(
+fn spend<L: Terms, R: Wait>(
     rt: &R,
     alloc: Global,
     office: &Office<L>,
@@ -259,7 +259,7 @@ struct Plan {
 
 fn plan_of(task: Task) -> Plan {
     match task {
-        Task::TwoSessions | Task::Play(_) => Plan {
+        Task::TwoSessions => Plan {
             readers: 0,
             reader: Part::Idle,
             callers: 0,

@@ -23,9 +23,8 @@ pub(crate) enum Sitting {
 }
 
 /// The board of an order, and its opening seat.
-pub(crate) fn board_of<R: Abort + AllocGlobal>(rt: &R, order: Order) -> (Board, Seat)
-    ensures seat { result.1.board ≡ result.0 }
-    ensures order { result.0.order ≡ order }
+fn board_of<R: Abort + AllocGlobal>(rt: &R, order: Order) -> (Board, Seat)
+    ensures { result.1.board ≡ result.0 }
 {
     match Board::open(rt.alloc(), order) {
         Ok(opened) => opened,

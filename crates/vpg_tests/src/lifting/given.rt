@@ -126,37 +126,6 @@ pub(crate) fn row_of<R: Abort + AllocGlobal>(
     order_from(rt, options, text.as_bytes(), &[])
 }
 
-/// Writes entries of so many vertices of Even, of the priorities 1, 3, 5 and so on, that all lead to the first.
-fn put_climb(rt: &impl Abort, text: &mut String, count: u32) {
-    let mut priority = 1u32;
-    for v in 0..count {
-        given(rt, write!(text, "{v} {priority} 0 0;"));
-        priority = priority.saturating_add(2);
-    }
-}
-
-/// Writes entries of so many vertices of priority 0 behind those, each with an edge to the first and one to the vertex
-/// before it.
-fn put_queue(rt: &impl Abort, text: &mut String, from: u32, count: u32) {
-    for k in 0..count {
-        let v = from.saturating_add(k);
-        let before = v.saturating_sub(1);
-        given(rt, write!(text, "{v} 0 0 0,{before};"));
-    }
-}
-
-/// The vertices with odd priorities of their own: the top is 2^61.
-pub(crate) const CLIMBING: u32 = 61;
-
-/// The order without decisions of a game that no rounds of lifts settle: a loop of priority 1 behind 60 vertices of
-/// greater odd priorities, and so many more vertices with two edges each.
-pub(crate) fn climb_of<R: Abort + AllocGlobal>(rt: &R, more: u32) -> Order {
-    let mut text = String::new(rt.alloc());
-    put_climb(rt, &mut text, CLIMBING);
-    put_queue(rt, &mut text, CLIMBING, more);
-    order_from(rt, ROOT, text.as_bytes(), &[])
-}
-
 /// Whether this is a table of the arena's measures.
 pub(crate) fn is_table(shape: &Shape, arena: &Arena, table: &Table) -> bool
     ensures { IsTrue result → IsTableOf shape.now arena.now table.now }

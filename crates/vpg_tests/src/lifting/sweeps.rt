@@ -1,7 +1,6 @@
-//! Sweeps of the game of two vertices by 1 to 64 lifters, of a large one by four, and lifters that wait for each other.
+//! Sweeps of the game of two vertices by 1 to 64 lifters, and lifters that wait for one another.
 
-use crate::given::{require, require_at};
-use crate::lifting::given::{climb_of, let_go};
+use crate::given::require_at;
 use crate::lifting::harvests::How::{Sweep, Swept};
 use crate::lifting::harvests::{Turn, in_turn};
 use std::process::Abort;
@@ -10,9 +9,7 @@ use std::sync::atomic::{AtomicU64, Ordering};
 use std::test::*;
 use std::thread;
 use std::thread::Threads;
-use vpg_board::{Gate, OpenGate, sweep};
-use vpg_guess::Groundwork;
-use vpg_settle::swept;
+use vpg_board::{Gate, OpenGate};
 
 const MOST_TURNS: u64 = 1_000_000;
 
@@ -154,35 +151,6 @@ fn meet<R: Threads + Wait + Abort + AllocGlobal + Sync>(rt: &R, row: &Row, k: us
     require_at(rt, go_on, "lifters that go on", k);
 }
 
-/// Where so many lifters meet.
-fn meeting_of(lifters: u32) -> Meeting {
-    Meeting {
-        until: Until::All(lifters),
-        come: AtomicU64::new(0),
-        passed: AtomicU64::new(0),
-        lifted: AtomicU64::new(0),
-    }
-}
-
-/// Whether four lifters came, and none waited in vain.
-fn have_met(meeting: &Meeting) -> bool {
-    meeting.come.load(Ordering::SeqCst) == 15 && meeting.passed.load(Ordering::SeqCst) == 4
-}
-
-/// Whether four lifters sweep a game of 35,061 vertices where four are asked for: by a sweep, and by a line that asks
-/// for one.
-fn meet_at_large<R: Threads + Wait + Abort + AllocGlobal + Sync>(rt: &R) -> bool {
-    let one = meeting_of(4);
-    let harvest = sweep(rt, rt.alloc(), climb_of(rt, 35_000), 4, &one);
-    let again = harvest.again();
-    let other = meeting_of(4);
-    let mut kept = Groundwork::none();
-    let found = swept(rt, rt.alloc(), again, 1, 4, &other, &mut kept);
-    let is_one = found.sweeps == 1;
-    let_go(found.harvest.again());
-    is_one && have_met(&one) && have_met(&other)
-}
-
 fn all_meet<R: Threads + Wait + Abort + AllocGlobal + Sync>(rt: &R) {
     for k in 0..ROWS.len() {
         meet(rt, &ROWS[k], k);
@@ -196,5 +164,4 @@ fn a_sweep_has_as_many_lifters_as_were_asked_for(rt: HostRuntime) {
         let turn = (Sweep(lifters), SETTLED, true);
         in_turn(&rt, &OpenGate, &[], &[turn, turn]);
     }
-    require(&rt, meet_at_large(&rt), "lifters of a large game");
 }
