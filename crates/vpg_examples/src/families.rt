@@ -29,8 +29,13 @@ const FAMILIES: [&str; 5] = [
     "sessions",
 ];
 
-/// The folder of a family that is a system with requirements.
-const SYSTEM: &str = "vending_system";
+/// The folders of the families that are systems with requirements.
+const SYSTEMS: [&str; 4] = [
+    "vending_system",
+    "mine_pump_system",
+    "alternating_bit",
+    "elevator_system",
+];
 
 /// Where a file of a family is.
 fn path_of(alloc: Global, family: &str, file: &str) -> Result<String, AllocError> {
@@ -139,6 +144,18 @@ fn carry_out_system<T: Threads + Wait + Sync>(
     }
 }
 
+/// Carries out the script of each system.
+fn carry_out_systems<T: Threads + Wait + Sync>(
+    rt: &HostRuntime,
+    threads: &T,
+    alloc: Global,
+) -> Result<()> {
+    for name in SYSTEMS {
+        carry_out_system(rt, threads, alloc, name).context(name)?;
+    }
+    Ok(())
+}
+
 /// Carries out the script of each family.
 pub(crate) fn carry_out_all<T: Threads + Wait + Sync>(
     rt: &HostRuntime,
@@ -148,5 +165,5 @@ pub(crate) fn carry_out_all<T: Threads + Wait + Sync>(
     for name in FAMILIES {
         carry_out(rt, threads, alloc, name).context(name)?;
     }
-    carry_out_system(rt, threads, alloc, SYSTEM).context(SYSTEM)
+    carry_out_systems(rt, threads, alloc)
 }
