@@ -437,16 +437,19 @@ def are_alike(one, other):
 
 
 def differences(game, told, names):
-    """The lines of a game's text that are not those of the game."""
+    """The lines of a game's text that are not those of the game. Of a name, what stands before the part is looked at."""
     found = told.split("\n")[:-1]
-    if len(found) != len(game.pairs) + 1 or found[0] != f"parity {len(game.pairs) - 1};":
-        yield found[:1], f"parity {len(game.pairs) - 1};"
+    front = [f"parity {len(game.pairs) - 1};"] + ["start 0;"] * (len(game.names) == 1)
+    if len(found) != len(front) + len(game.pairs) or found[: len(front)] != front:
+        yield found[:2], front
         return
-    for text, (head, moves, name) in zip(found[1:], map(game.line, range(len(game.pairs)))):
-        rest = text.removeprefix(head).removesuffix(f' "{name}";').lstrip(" ")
+    for text, (head, moves, name) in zip(found[len(front) :], map(game.line, range(len(game.pairs)))):
+        body, _, label = text.removesuffix('";').rpartition(' "')
+        rest = body.removeprefix(head).lstrip(" ")
         parts = [it.removesuffix("]").partition("[") for it in rest.split(",") if it]
         read = [(it[0], requirements.GuardReader(it[2] or "true", names).whole()) for it in parts]
-        is_same = text == f'{head} {rest} "{name}";' if rest else text == f'{head} "{name}";'
+        before, mark, _ = name.rpartition(": ")
+        is_same = body == (f"{head} {rest}" if rest else head) and label.startswith(before + mark if mark else name)
         is_same = is_same and [it[0] for it in read] == [str(to) for to, _ in moves]
         if not is_same or not all(are_alike(one[1], other[1]) for one, other in zip(read, moves)):
             yield text, (head, moves, name)
