@@ -437,7 +437,7 @@ def are_alike(one, other):
 
 
 def differences(game, told, names):
-    """The lines of a game's text that are not those of the game. Of a name, what stands before the part is looked at."""
+    """The lines of a game's text that are not the game's. Of a name, what stands before the part is looked at."""
     found = told.split("\n")[:-1]
     front = [f"parity {len(game.pairs) - 1};"] + ["start 0;"] * (len(game.names) == 1)
     if len(found) != len(front) + len(game.pairs) or found[: len(front)] != front:
@@ -449,7 +449,8 @@ def differences(game, told, names):
         parts = [it.removesuffix("]").partition("[") for it in rest.split(",") if it]
         read = [(it[0], requirements.GuardReader(it[2] or "true", names).whole()) for it in parts]
         before, mark, _ = name.rpartition(": ")
-        is_same = body == (f"{head} {rest}" if rest else head) and label.startswith(before + mark if mark else name)
+        is_same = body == (f"{head} {rest}" if rest else head)
+        is_same = is_same and label.startswith(before + mark if mark else name)
         is_same = is_same and [it[0] for it in read] == [str(to) for to, _ in moves]
         if not is_same or not all(are_alike(one[1], other[1]) for one, other in zip(read, moves)):
             yield text, (head, moves, name)
