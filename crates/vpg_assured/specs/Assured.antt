@@ -11,10 +11,11 @@ use Rattle.vpg_system.specs.SystemText.{NamedSystem}
 use Rattle.vpg_formula.specs.Requirements as written
 use Rattle.vpg_checking.specs.Checking.{EntryHoldsIn, IsModelOfTexts}
 use Rattle.vpg_script.specs.Script as script
+use Rattle.vpg_script.specs.Script.{Request}
 use Rattle.vpg_serving.specs.Output.{Machine, Answered}
 use Rattle.vpg_texts.specs.Changed.{seen_at}
 use Rattle.vpg_texts.specs.Scene.{Scene, scene_of}
-use Rattle.vpg_report.specs.Run.{Between, begun, answering}
+use Rattle.vpg_report.specs.Run.{Between, begun, answering, as_meant}
 use Rattle.vpg_report.specs.Winners.{AreTrue, SaysVerdicts, IsRefusal}
 
 -- A verdict is so of a requirement on the page: hopeless, it fails in each product that is left; sure, it holds in
@@ -44,12 +45,14 @@ speaking scene lifters system entries roots old request text new =
     SpeaksOfEntries scene system entries roots old.book.present request.command text
 
 -- What a run of an office on the game of two texts writes in answer to `show`, `assert` and `changed` is so of the
--- requirements that the second text spells, in the system that the first one spells.
+-- requirements that the second text spells, in the system that the first one spells, whatever the lines are taken to
+-- mean.
 abbrev pub AnswersSpeakOfRequirements : Type 0
 AnswersSpeakOfRequirements =
-    (game : NamedGame) (diagram : NamedDiagram) (system_text requirements_text : List ℕ) (roots : List ℕ)
+    (meaning : Request → Request) (game : NamedGame) (diagram : NamedDiagram) (system_text requirements_text : List ℕ) (roots : List ℕ)
     (made : IsModelOfTexts diagram.names diagram.lines system_text requirements_text (graph_of game) roots)
     (lifters : ℕ) (lines : List (List ℕ)) (text : List ℕ) (new : Between) →
     IsOpened game diagram →
-    Answered (answering (scene_of game diagram) lifters) begun lines text new →
-    Answered (speaking (scene_of game diagram) lifters made.system made.entries roots) begun lines text new
+    Answered (as_meant meaning (answering (scene_of game diagram) lifters)) begun lines text new →
+    Answered (as_meant meaning (speaking (scene_of game diagram) lifters made.system made.entries roots)) begun lines
+    text new

@@ -54,6 +54,7 @@ fn texts_of(alloc: Global, diagram: &str, game: &str) -> Result<Texts, AllocErro
         game: Vec::from_slice(alloc, game.as_bytes())?,
         entries: Vec::new(alloc),
         vertices: Vec::new(alloc),
+        system: Vec::new(alloc),
     })
 }
 
