@@ -49,10 +49,11 @@ speaking scene lifters system entries roots old request text new =
 -- mean.
 abbrev pub AnswersSpeakOfRequirements : Type 0
 AnswersSpeakOfRequirements =
-    (meaning : Request → Request) (game : NamedGame) (diagram : NamedDiagram) (system_text requirements_text : List ℕ) (roots : List ℕ)
+    (meaning : Request → Request) (game : NamedGame) (diagram : NamedDiagram)
+    (system_text requirements_text : List ℕ) (roots : List ℕ)
     (made : IsModelOfTexts diagram.names diagram.lines system_text requirements_text (graph_of game) roots)
     (lifters : ℕ) (lines : List (List ℕ)) (text : List ℕ) (new : Between) →
     IsOpened game diagram →
     Answered (as_meant meaning (answering (scene_of game diagram) lifters)) begun lines text new →
-    Answered (as_meant meaning (speaking (scene_of game diagram) lifters made.system made.entries roots)) begun lines
-    text new
+    Answered
+    (as_meant meaning (speaking (scene_of game diagram) lifters made.system made.entries roots)) begun lines text new
