@@ -1,9 +1,9 @@
-//! What a run writes of verdicts says of requirements.
+//! The law that verdicts in a run's answers are true of the requirements.
 //!
-//! Where a run's game is that of two texts, as `vpg_checking` reads it, what the run writes of verdicts in answer to
-//! `show`, `assert` and `changed` is so of what each entry of the requirements says: hopeless at its vertex, it fails
-//! in the system of every product that is left on the page at that point; sure, it holds in each. It is the law in
-//! [`laws`]. `specs/Assured` has its words.
+//! If a run's game is that of a system and of requirements, as `vpg_checking` reads it, its answers to `show`, `assert`
+//! and `changed` speak of what each entry of the requirements says. Hopeless at the entry's vertex: it fails in the
+//! system of every product that is left on the page at that point. Sure: it holds in each. [`laws`] has the law, and
+//! `specs/Assured` its words.
 #![tactic(auto)]
 
 pub mod laws;

@@ -71,7 +71,7 @@ impl Model {
         Ok(())
     }
 
-    /// What a part is called.
+    /// Returns the name of a part.
     fn part_name(&self, alloc: Global, numbers: &[usize], place: u32) -> Result<Vec<u8>, AllocError>
         requires { numbers.now ≡ numbers_from 0 self.now.source.parts.items }
         ensures { IfOk result (λ text. text.items ≡ part_name self.now.source.parts.items self.now.sets.items

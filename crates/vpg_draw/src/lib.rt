@@ -8,8 +8,8 @@
 //!
 //! `draw_features` draws the features by what is known of them, and the lines of a diagram's text as edges and groups.
 //!
-//! Pictures of other crates take from here what stands between quotes (`escaped`), how decisions are told (`choices`)
-//! and how edges look by their guards (`style`).
+//! Other crates' pictures share `escaped` (text between quotes), `choices` (a line of decisions) and `style` (how an
+//! edge looks by its guard's value).
 //!
 //! `specs/Labels` says what stands between quotes, `specs/GameDrawing`, `specs/PartDrawing` and `specs/FeatureDrawing`
 //! what the pictures are. Graphviz's documentation has the language; the choice of shapes and colours is this project's

@@ -79,8 +79,8 @@ fn drawn_alone(alloc: Global, diagram: &Diagram, system: &System) -> Result<Vec<
     }
 }
 
-/// The picture of the system that two texts spell, under no decisions. A fault of the diagram is told before any of the
-/// system, and this before that the diagram contradicts itself.
+/// Returns the picture of the system that two texts spell, under no decisions. Errors, in this order: a fault of the
+/// diagram, one of the system, a diagram that contradicts itself.
 pub fn system_drawn(
     alloc: Global,
     diagram_text: &[u8],

@@ -38,7 +38,7 @@ enum Mode {
 }
 
 impl Mode {
-    /// Where the text stands behind a byte.
+    /// Returns where the text stands after this byte.
     fn behind(self, b: u8) -> Mode
         ensures { result ≡ mode_behind self b }
     {
@@ -96,7 +96,7 @@ struct Place {
 }
 
 impl Place {
-    /// Where the text stands behind a byte.
+    /// Returns where the text stands after this byte.
     fn behind(self, b: u8) -> Place
         requires { self.v < usize.MAX }
         ensures mode { result.mode ≡ mode_behind self.mode b }

@@ -1,10 +1,10 @@
-//! Texts of which the first bytes are kept.
+//! Texts that keep their first bytes and drop the others.
 ghost use Rattle.std.specs.Prelude.{◌≡◌, ◌≤◌, ◌++◌, length, take, OnOk};
 ghost use Rattle.vpg_part_texts.specs.PartTexts.{cut};
 
 use std::alloc::AllocError;
 
-/// How many bytes are kept: one more than the longest text has.
+/// The number of bytes that are kept: one more than the longest text has.
 pub(crate) const KEPT: usize = 61;
 
 /// Writes bytes behind a text, as far as they are kept.

@@ -25,7 +25,7 @@
 //! Definitions: `specs/Suffices` (what decisions alone make so), `specs/Explained` (explanations), `specs/Products` (what
 //! holds in the products that decisions leave), `specs/Found`, `specs/Offered`, `specs/Repaired` (what the answers say),
 //! `specs/Moves`, `specs/Played` and `specs/Reachable` (moves that win, and what they come to), `specs/Searched` for the
-//! search. What holds of them stands in `laws`.
+//! search of vertices, `specs/Reasons` (why a search finds nothing). What holds of them stands in `laws`.
 #![tactic(auto)]
 
 mod answering;

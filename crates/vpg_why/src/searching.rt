@@ -407,7 +407,8 @@ pub fn search_all(
 /// one in which Odd does, or just any. Or nothing, where there is none, however cautious the page's verdict is.
 ///
 /// It splits over one feature that is not known after another, and leaves out what the verdicts of the page and of each
-/// trial cut off. After so many trials it gives up.
+/// trial cut off. If the first half of a split is lost for a reason that does not name the feature, it leaves out the
+/// other half too. After so many trials it gives up.
 pub fn find(alloc: Global, order: &Order, aim: Aim, limits: Limits) -> Result<Found, AllocError>
     requires { IsAim order.now.game aim }
     ensures found { IfOk result (IsFound order.now.game order.now.diagram aim (choices order.now.decisions)) }
