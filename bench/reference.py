@@ -141,7 +141,7 @@ class File:
         item = Item("fn", head[3], self.doc, code, clauses_in(code), [])
         if not head[1] and head[2]:
             self.top[head[3]] = item
-        elif len(head[1]) == 4 and self.owner and (head[2] or (self.trait and item.clauses)):
+        elif len(head[1]) == 4 and self.owner and (head[2] or self.trait == "" or (self.trait and item.clauses)):
             self.of_type[self.owner].append((self.trait, item))
         self.doc = []
 
