@@ -6,7 +6,7 @@
 
 Crates come in the order of crates.txt. Of each crate: a table of contracts, with each call, the first sentence of its
 doc comment and the names of its clauses; then each item with its doc comment and its contract as the source has it. A
-clause's words are the comment over it; a law's are also the sentence of the definition that it states.
+clause's words are the comment over it; where there is none, the sentences of the crate's definitions that it names.
 """
 import collections
 import os
@@ -21,7 +21,12 @@ TARGET = f"{ROOT}/docs/API.md"
 HEAD = re.compile(r"( *)(pub )?(?:const |unsafe )*fn (\w+)")
 KIND = re.compile(r"pub (struct|enum|trait|type|const|static) (\w+)")
 BLOCK = re.compile(r"(?:unsafe )?impl(?:<.*?>)? (?:([\w:]+)(?:<.*>)? for )?(\w+)")
-ERRORS = re.compile(r"\b(?:[Rr]efus\w+|faults?|Memory|out of memory|Err|NoVertex)\b")
+FIELD = re.compile(r"    pub (\w+: .*?),?$")
+VARIANT = re.compile(r"    (\w+(?:\(.*\)| \{ .* \})?)(?:,| \{)?$")
+ERRORS = re.compile(
+    r"(?:It is |It's )?[Rr]efused|(?:The|An?|Any) (?:one |first |only )?(?:errors?|faults?|refusals?)|Errors?|"
+    r"`\w+` (?:comes|only)|Out of memory"
+)
 Clause = collections.namedtuple("Clause", "word name comment text")
 # kind: fn, ghost, struct, enum, trait, type, const or static; parts: public fields or variants, with their sentences
 Item = collections.namedtuple("Item", "kind name doc code clauses parts")
@@ -36,8 +41,9 @@ the sources; change a sentence there. [PROOFS](PROOFS.md) says in plain words wh
 Each crate has a table of contracts: its calls, what each returns or does, and the names of its clauses. Clauses that
 have no name are counted by their place: `1`, `2`. Below the table each item stands with its contract as it is proved:
 `requires` is what a caller has to show, `ensures` what holds after the call. In a clause `x.old` and `x.new` are a
-changed argument before and after, `x.now` is one that is only lent, and `result` is what the call returns. A law is a
-call that does nothing; its clauses are theorems over definitions alone.
+changed argument before and after, `x.now` is one that is only lent, and `result` is what the call returns. Where a
+clause names definitions of its own crate, their sentences follow. A law is a call that does nothing; its clauses are
+theorems over definitions alone.
 """
 
 
@@ -96,7 +102,7 @@ def parts_in(lines, kind):
         if line.startswith("    ///"):
             doc.append(bare[3:].strip())
             continue
-        head = re.match(r"    pub (\w+: .*?),?$" if kind == "struct" else r"    (\w+(?:\(.*\)| \{ .* \})?)(?:,| \{)?$", line)
+        head = (FIELD if kind == "struct" else VARIANT).match(line)
         if head:
             found.append((head[1], " ".join(doc)))
         if not bare.startswith("#["):
@@ -254,11 +260,17 @@ def wrapped(text, indent=""):
     return textwrap.fill(text, 120, subsequent_indent=indent, break_long_words=False, break_on_hyphens=False)
 
 
-def stated(clause, told):
-    """The definition that a law's clause states, with its sentence, or None."""
-    last = re.split(r"→|×", clause.text)[-1].strip(" ()")
-    first = re.match(definitions.WORD, last)
-    return (first[0], told[first[0]]) if first and told.get(first[0]) else None
+def clause_words(item, told):
+    """A line for each definition that a clause without a comment names: the clause, the name and its sentence."""
+    seen = set()
+    for it in item.clauses:
+        if it.word != "ensures" or it.comment:
+            continue
+        for word in re.findall(definitions.WORD, it.text):
+            if word[0].isupper() and told.get(word) and word not in seen:
+                seen.add(word)
+                name = f"`{it.name}`, " if it.name else ""
+                yield wrapped(f"- {name}`{word}`: {told[word]}", "  ")
 
 
 def clause_names(item):
@@ -275,18 +287,14 @@ def row(shown, item):
 def entry(shown, item, told, depth):
     """The lines of one call, under a heading of so many signs."""
     said = sentences(" ".join(item.doc))
-    errors = [it for it in said[1:] if ERRORS.search(it)] if item.kind == "fn" else []
+    errors = [it for it in said[1:] if ERRORS.match(it)] if item.kind == "fn" else []
     rest = " ".join(it for it in said[1:] if it not in errors)
     lines = [f"{depth} `{shown}`", ""]
     for words in (said[0] if said else "", rest, errors and "Errors: " + " ".join(errors)):
         lines.extend([wrapped(words), ""] if words else [])
     lines.extend(f"    {line}".rstrip() for line in item.code)
     lines.append("")
-    for it in item.clauses:
-        found = stated(it, told)
-        if found:
-            name = f"`{it.name}`, " if it.name else ""
-            lines.append(wrapped(f"- {name}`{found[0]}`: {found[1]}", "  "))
+    lines.extend(clause_words(item, told))
     lines.extend([""] if lines[-1] else [])
     return lines
 
@@ -307,7 +315,7 @@ def type_entry(crate, shown, item):
 
 
 def told_by(specs, crate):
-    """The sentences of the definitions that a crate's laws may state, by name."""
+    """The sentences of a crate's own definitions, by name."""
     found = {}
     for (owner, _), (_, inside, _) in specs.items():
         if owner == crate:
@@ -324,13 +332,13 @@ def crate_page(name, specs):
         item = crate.file(module).top[inner]
         if item.kind == "fn":
             rows.append(row(shown, item))
-            body.extend(entry(shown, item, told if "laws" in module else {}, "###"))
+            body.extend(entry(shown, item, told, "###"))
             continue
         body.extend(type_entry(crate, shown, item))
         for trait, call in crate.methods(inner):
             path = f"{shown}::{call.name}" if not trait else f"{shown} as {trait}::{call.name}"
             rows.extend([row(path, call)] if call.kind == "fn" else [])
-            body.extend(entry(path, call, {}, "####"))
+            body.extend(entry(path, call, told, "####"))
     opening = " ".join(crate.file(()).opening)
     lines = [f"## `{name}`", "", wrapped((sentences(opening) or [""])[0]), ""]
     lines.extend([wrapped(f"It passes on {', '.join(crate.passed)}."), ""] if crate.passed else [])
