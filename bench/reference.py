@@ -290,7 +290,8 @@ def entry(shown, item, told, depth):
     errors = [it for it in said[1:] if ERRORS.match(it)] if item.kind == "fn" else []
     rest = " ".join(it for it in said[1:] if it not in errors)
     lines = [f"{depth} `{shown}`", ""]
-    for words in (said[0] if said else "", rest, errors and "Errors: " + " ".join(errors)):
+    fails = re.sub(r"^Errors, in", "In", " ".join(errors))
+    for words in (said[0] if said else "", rest, fails and f"Errors: {fails}"):
         lines.extend([wrapped(words), ""] if words else [])
     lines.extend(f"    {line}".rstrip() for line in item.code)
     lines.append("")
