@@ -5,7 +5,7 @@
 
 A line of the table for each count, a column for each commit, the last for the files as they are. Documents are all .md
 files but docs/DEFINITIONS.md and docs/API.md, which scripts write. A sentence ends at `.`, `:`, `;`, `?` or `!` before
-a capital letter; tables, code and headings are left out. The words of the dialect, with what to say instead:
+a capital letter; tables, code and headings are left out. Words of the dialect (none in code), and what to say instead:
 
     told, tell, tells       report, say, return, know       first table, second table   the hopeful table, the dual one
     behind, of order        after, beside                   the same of                 name the thing again
@@ -112,15 +112,21 @@ def of_words(texts):
         yield f"words of {' and '.join(paths)}, at most {most:,}", words
 
 
+def without_code(text):
+    """The text without its lines of code and its code in backticks."""
+    lines = [it for it in text.split("\n") if not it.startswith("    ")]
+    return re.sub(r"`[^`]*`", "", "\n".join(lines))
+
+
 def of_speech(texts):
     """Sentences that are too long, and words of the dialect."""
     by_hand = [it for path, it in texts.items() if is_document(path)]
     said = [it for text in by_hand for it in sentences(text)]
     yield f"sentences of documents of over {MOST_WORDS} words", sum(len(it) > MOST_WORDS for it in said)
-    yield "words of the dialect in documents", sum(len(DIALECT.findall(it)) for it in by_hand)
+    yield "words of the dialect in documents", sum(len(DIALECT.findall(without_code(it))) for it in by_hand)
     for folder in ("src", "specs"):
         yield f"words of the dialect in comments in {folder}", sum(
-            len(DIALECT.findall(it)) for it in comments(texts, folder)
+            len(DIALECT.findall(without_code(it))) for it in comments(texts, folder)
         )
     firsts = list(first_lines(texts))
     for words in ("What", "The same"):
