@@ -2,11 +2,12 @@
 """Writes docs/API.md: each public call, type and trait of each library crate, with its contract.
 
     python3 bench/reference.py            writes the document
-    python3 bench/reference.py --check    says whether the document is stale, and exits with 1 then
+    python3 bench/reference.py --check    names each fault, one a line, and exits with 1 where there is one
 
 Crates come in the order of crates.txt. Of each crate: a table of contracts, with each call, the first sentence of its
 doc comment and the names of its clauses; then each item with its doc comment and its contract as the source has it. A
 clause's words are the comment over it; where there is none, the sentences of the crate's definitions that it names.
+Faults: the document is not what this script writes, or a claim of PROOFS names a call or a clause that is not there.
 """
 import collections
 import os
@@ -17,7 +18,7 @@ import textwrap
 import definitions
 
 ROOT = definitions.ROOT
-TARGET = f"{ROOT}/docs/API.md"
+TARGET, PROOFS = f"{ROOT}/docs/API.md", f"{ROOT}/docs/PROOFS.md"
 HEAD = re.compile(r"( *)(pub )?(?:const |unsafe )*fn (\w+)")
 KIND = re.compile(r"pub (struct|enum|trait|type|const|static) (\w+)")
 BLOCK = re.compile(r"(?:unsafe )?impl(?:<.*?>)? (?:([\w:]+)(?:<.*>)? for )?(\w+)")
@@ -358,13 +359,42 @@ def page():
     return re.sub(r"\n{3,}", "\n\n", "\n".join(lines)).rstrip("\n") + "\n"
 
 
+def calls_in(text):
+    """Each call of the document's tables, by its name and by that after its crate, with its clauses."""
+    found, crate = collections.defaultdict(set), ""
+    for line in text.split("\n"):
+        head = re.match(r"## `(\w+)`", line)
+        crate = head[1] if head else crate
+        shown = re.match(r"\| `([^`]+)` \| .* \| (.*) \|$", line)
+        if shown:
+            for name in (shown[1], f"{crate}::{shown[1]}", shown[1].rpartition("::")[0]):
+                found[name].update(re.findall(r"`([^`]+)`", shown[2]))
+    return found
+
+
+def of_claims(text):
+    """The calls and clauses that a claim of PROOFS names and that are not there."""
+    known = calls_in(text)
+    for claim in re.findall(r"(?m)^Contracts: ((?:.+\n)+)", definitions.text_of(PROOFS)):
+        for part in " ".join(claim.split()).split(";"):
+            calls, _, clauses = part.partition("`: ")
+            for code in re.findall(r"`([^`]+)(?:`|$)", calls):
+                path, _, listed = code.partition("{")
+                for name in [path + it.strip(" }") for it in listed.split(",")]:
+                    missing = set(re.findall(r"`([^`]+)`", clauses)) - known.get(name, set())
+                    if name not in known or missing:
+                        yield f"docs/PROOFS.md: no contract {name} {' '.join(sorted(missing))}".rstrip()
+
+
 def main(words):
     text = page()
     if words == ["--check"]:
-        if os.path.isfile(TARGET) and definitions.text_of(TARGET) == text:
-            return 0
-        print("docs/API.md is not what bench/reference.py writes: run it")
-        return 1
+        faults = [*of_claims(text)]
+        if not os.path.isfile(TARGET) or definitions.text_of(TARGET) != text:
+            faults.append("docs/API.md is not what bench/reference.py writes: run it")
+        for it in faults:
+            print(it)
+        return 1 if faults else 0
     with open(TARGET, "w", encoding="utf-8") as it:
         it.write(text)
     return 0
