@@ -372,18 +372,23 @@ def calls_in(text):
     return found
 
 
+def names_of(calls):
+    """The names of calls in backticks, `Desk::{undo, redo}` taken apart."""
+    for code in re.findall(r"`([^`]+)(?:`|$)", calls):
+        path, _, listed = code.partition("{")
+        yield from (path + it.strip(" }") for it in listed.split(","))
+
+
 def of_claims(text):
     """The calls and clauses that a claim of PROOFS names and that are not there."""
     known = calls_in(text)
-    for claim in re.findall(r"(?m)^Contracts: ((?:.+\n)+)", definitions.text_of(PROOFS)):
-        for part in " ".join(claim.split()).split(";"):
-            calls, _, clauses = part.partition("`: ")
-            for code in re.findall(r"`([^`]+)(?:`|$)", calls):
-                path, _, listed = code.partition("{")
-                for name in [path + it.strip(" }") for it in listed.split(",")]:
-                    missing = set(re.findall(r"`([^`]+)`", clauses)) - known.get(name, set())
-                    if name not in known or missing:
-                        yield f"docs/PROOFS.md: no contract {name} {' '.join(sorted(missing))}".rstrip()
+    claims = re.findall(r"(?m)^Contracts: ((?:.+\n)+)", definitions.text_of(PROOFS))
+    for part in [part for claim in claims for part in " ".join(claim.split()).split(";")]:
+        calls, _, clauses = part.partition("`: ")
+        for name in names_of(calls):
+            missing = set(re.findall(r"`([^`]+)`", clauses)) - known.get(name, set())
+            if name not in known or missing:
+                yield f"docs/PROOFS.md: no contract {name} {' '.join(sorted(missing))}".rstrip()
 
 
 def main(words):
