@@ -170,6 +170,11 @@ class Parts:
         """The number of the requirement that a part is of."""
         return max(k for k, root in enumerate(self.roots) if root <= place)
 
+    def variable(self, place):
+        """How the variable of a fixpoint is written: the fixpoints of a requirement have X, Y, Z, X3, X4 and so on."""
+        before = sum(self.roots[self.entry(place)] <= it < place for it in self.priorities)
+        return "XYZ"[before] if before < 3 else f"X{before}"
+
 
 # ---- guards
 
@@ -280,7 +285,7 @@ class Game:
         state, place = self.pairs[at]
         kind = self.parts.rows[place][0]
         owner = 1 if kind in ("true", "and", "every") else 0
-        word = WORDS.get(kind, kind)
+        word = WORDS.get(kind) or f"{kind} {self.parts.variable(place)}"
         name = word if place < 2 else f"{state} {self.names[self.parts.entry(place)]}: {word}"
         moves = [(to, self.finished_guard(either(guards))) for to, guards in self.moves[at].items()]
         return f"{at} {self.parts.priorities.get(place, 0)} {owner}", moves, name
@@ -437,7 +442,7 @@ def are_alike(one, other):
 
 
 def differences(game, told, names):
-    """The lines of a game's text that are not the game's. Of a name, what stands before the part is looked at."""
+    """The lines of a game's text that differ from it. Names are compared up to the part, those of fixpoints whole."""
     found = told.split("\n")[:-1]
     front = [f"parity {len(game.pairs) - 1};"] + ["start 0;"] * (len(game.names) == 1)
     if len(found) != len(front) + len(game.pairs) or found[: len(front)] != front:
@@ -450,7 +455,8 @@ def differences(game, told, names):
         read = [(it[0], requirements.GuardReader(it[2] or "true", names).whole()) for it in parts]
         before, mark, _ = name.rpartition(": ")
         is_same = body == (f"{head} {rest}" if rest else head)
-        is_same = is_same and label.startswith(before + mark if mark else name)
+        is_whole = not mark or name.split(": ")[-1][:2] in ("mu", "nu")
+        is_same = is_same and (label == name if is_whole else label.startswith(before + mark))
         is_same = is_same and [it[0] for it in read] == [str(to) for to, _ in moves]
         if not is_same or not all(are_alike(one[1], other[1]) for one, other in zip(read, moves)):
             yield text, (head, moves, name)

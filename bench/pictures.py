@@ -1,5 +1,5 @@
 #!/usr/bin/env python3
-"""Pictures of transition systems, independently of the program: plain Python, written from docs/FORMATS.md.
+"""Pictures of transition systems, independently of the program: plain Python, written from docs/PICTURES.md.
 
     python3 pictures.py SYSTEM DIAGRAM [SCRIPT]        # the picture on the page that a script of decisions leaves
     python3 pictures.py --compare VPGDESK CASES SEED   # random systems and decisions, against the program
