@@ -14,3 +14,8 @@ pub mod Naming
 pub mod Places
 pub mod NamingCode
 pub mod Faults
+pub mod Needs
+pub mod Ways
+pub mod RegularWays
+pub mod FormulaWays
+pub mod Stopping

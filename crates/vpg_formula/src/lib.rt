@@ -23,6 +23,7 @@ mod joint;
 mod level;
 mod mark;
 mod mentions;
+mod needs;
 mod parse;
 mod regular;
 mod requirement;
