@@ -9,7 +9,7 @@ use Rattle.vpg_formula.specs.Reading.{after_word, starts_operand, phrase_at}
 use Rattle.vpg_formula.specs.Needs.{Need, Step, on, over, no_word, no_room, step, Way, done, halted, too_deep, way_by, all_may_end, way, formula_needs, formula_way}
 use Rattle.vpg_formula.specs.Stops.{CanGoOn, IsStuckAt, IsTooDeepIn, ends_formula}
 use Rattle.vpg_formula.proofs.Phrases.{EndsFormula, phrase_found, formula_again}
-use Rattle.vpg_formula.proofs.Needs.{fit, fill, filled, sum, deeper_all, IsHalt, local, taken, RaisedStep, raised_step, step_fits, StopsAt, Reach, reach}
+use Rattle.vpg_formula.proofs.Needed.{fit, fill, filled, sum, deeper_all, IsHalt, local, taken, RaisedStep, raised_step, step_fits, StopsAt, Reach, reach}
 use Rattle.vpg_formula.proofs.Ways.{is_halted, Sim, Agrees}
 use Rattle.vpg_formula.proofs.FormulaWays.{plainly, Whole, phrases_agree}
 

@@ -470,7 +470,7 @@ fn put_more(more: More, out: &mut Vec<Need>) -> Result<(), AllocError>
 }
 
 /// Goes past a word.
-fn step(flag: bool, needs: &mut Vec<Need>, word: &[u8], starts: bool) -> Result<Step, AllocError>
+fn go_past(flag: bool, needs: &mut Vec<Need>, word: &[u8], starts: bool) -> Result<Step, AllocError>
     ensures { IfOk result (λ s. step_of s (needs_of needs.new.items) ≡
         spec.step flag (needs_of needs.old.items) word.now starts) }
 {
@@ -520,7 +520,7 @@ pub(crate) fn formula_way(alloc: Global, words: &[&[u8]]) -> Result<Way, AllocEr
     let mut left = words.len();
     let mut next = split_first(words);
     while let Some((word, behind)) = next {
-        match step(flag, &mut needs, word, starts_operand(behind))? {
+        match go_past(flag, &mut needs, word, starts_operand(behind))? {
             Step::On(is_acting) => flag = is_acting,
             Step::Over => return Ok(Way::Done { left }),
             Step::NoWord => return Ok(Way::Halted { left }),

@@ -1,7 +1,7 @@
 use Rattle.std.proofs.Common.{◌≡◌, length}
 use Rattle.vpg_formula.specs.Needs.{step}
 use Rattle.vpg_formula.specs.NeedsCode.{needs_of}
-use Rattle.vpg_formula.proofs.needs.step.Given as goal
+use Rattle.vpg_formula.proofs.needs.go_past.Given as goal
 
 abbrev pub invariant-loop-need : goal.invariant-loop-need
 invariant-loop-need l = step l.flag (needs_of l.needs.items) l.word l.starts ≡ step l.fn.flag (needs_of l.fn.needs.items) l.word l.starts
