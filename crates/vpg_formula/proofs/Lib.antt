@@ -14,3 +14,9 @@ pub mod Naming
 pub mod Places
 pub mod NamingCode
 pub mod Faults
+pub mod Needed
+pub mod Ways
+pub mod RegularWays
+pub mod FormulaWays
+pub mod Stopping
+pub mod StopCode

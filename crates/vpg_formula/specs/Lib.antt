@@ -20,3 +20,6 @@ pub mod Places
 pub mod Faults
 pub mod FaultCode
 pub mod NamingCode
+pub mod Needs
+pub mod NeedsCode
+pub mod Stops

@@ -10,10 +10,10 @@
 //!
 //! Definitions stand in `specs/`: `Words` (which words a text has), `Places` (where they begin), `Regular` and
 //! `RegularGrammar` (action and regular formulas), `Written` and `FormulaGrammar` (formulas), `Standings` (how the
-//! names of a formula stand), `Naming` (which words are names), `Requirements` (whole texts), `Faults` (where a text is
-//! faulty), `Marks` (a formula as a list). `Reading` and `EntryReading` are the reader as functions on lists,
-//! `ReadCode`, `EntryCode`, `NamingCode`, `FaultCode` and `ActionCode` what its code keeps; only private contracts name
-//! them.
+//! names of a formula stand), `Naming` (which words are names), `Requirements` (whole texts), `Stops` (where a formula
+//! stops), `Faults` (where a text is faulty), `Marks` (a formula as a list). `Reading` and `EntryReading` are the reader
+//! as functions on lists, `Needs` is how a fault is searched for; `ReadCode`, `EntryCode`, `NamingCode`, `NeedsCode`,
+//! `FaultCode` and `ActionCode` are what the code keeps; only private contracts name them.
 #![tactic(auto)]
 
 mod fault;
@@ -23,6 +23,7 @@ mod joint;
 mod level;
 mod mark;
 mod mentions;
+mod needs;
 mod parse;
 mod regular;
 mod requirement;

@@ -54,7 +54,7 @@ fn is_label(word: &[u8]) -> bool
 }
 
 /// Whether a word is an action formula.
-fn is_word(word: &[u8]) -> bool
+pub(crate) fn is_word(word: &[u8]) -> bool
     ensures { result ≡ is_some (word_formula word.now) }
 {
     is_same(word, b"true") || is_same(word, b"false") || is_label(word)
@@ -107,7 +107,7 @@ fn put_word(alloc: Global, word: &[u8], out: &mut Vec<Mark>) -> Result<bool, All
 }
 
 /// Whether an operand can begin with these words.
-fn starts_operand(words: &[&[u8]]) -> bool
+pub(crate) fn starts_operand(words: &[&[u8]]) -> bool
     ensures { result ≡ starts_operand (texts words.now) }
 {
     match words {
