@@ -14,3 +14,4 @@ pub mod Naming
 pub mod Places
 pub mod NamingCode
 pub mod Faults
+pub mod ActionWords
