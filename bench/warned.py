@@ -175,8 +175,8 @@ def system_warnings(file, texts):
         for name in system.actions():
             if not any(names(leaf, name) for leaf in asked):
                 actions.append((at(using[name]), f"`{shown(name)}` is named by no requirement"))
-    return [sort_lines(file, "NoPath", states), sort_lines(file, "Unmet", guards), sort_lines(file, "Unasked", actions)], \
-        len(states) + len(guards) + len(actions)
+    sorts = (("NoPath", states), ("Unmet", guards), ("Unasked", actions))
+    return [sort_lines(file, sort, told) for sort, told in sorts], len(states) + len(guards) + len(actions)
 
 
 def requirements_warnings(file, texts):

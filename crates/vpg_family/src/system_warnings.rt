@@ -26,7 +26,10 @@ fn lines_in<'t>(alloc: Global, text: &'t [u8]) -> Result<Vec<Line<'t>>, AllocErr
 fn line_at(lines: &[Line<'_>], number: usize) -> usize {
     match lines.get(number) {
         Some(line) => {
-            let blanks = line.bytes.len().saturating_sub(line.bytes.trim_ascii_start().len());
+            let blanks = line
+                .bytes
+                .len()
+                .saturating_sub(line.bytes.trim_ascii_start().len());
             line.from.saturating_add(blanks)
         }
         None => 0,

@@ -247,7 +247,10 @@ fn put_said(
     warning: Warning,
     out: &mut Vec<u8>,
 ) -> Result<(), AllocError> {
-    if matches!(warning.sort, Sort::NoProduct | Sort::NoneFound | Sort::Dead | Sort::Unnamed) {
+    if matches!(
+        warning.sort,
+        Sort::NoProduct | Sort::NoneFound | Sort::Dead | Sort::Unnamed
+    ) {
         return put_of_feature(about.features, warning, out);
     }
     match about.guarded {
@@ -391,12 +394,22 @@ fn put_of_model(
     requires { system.now.features ≡ feature_count diagram.now.lines }
 {
     let alloc = about.alloc;
-    let in_system =
-        warnings_of_system(alloc, of_system.text, diagram, system, of_requirements.text)?;
+    let in_system = warnings_of_system(
+        alloc,
+        of_system.text,
+        diagram,
+        system,
+        of_requirements.text,
+    )?;
     put_warnings(of_system, about, &in_system, out)?;
     let in_requirements = warnings_of_requirements(alloc, of_requirements.text, system)?;
     put_warnings(of_requirements, about, &in_requirements, out)?;
-    Ok(in_system.list.len().saturating_add(in_requirements.list.len()))
+    Ok(
+        in_system
+            .list
+            .len()
+            .saturating_add(in_requirements.list.len()),
+    )
 }
 
 /// The same of a diagram, a system over its features, and the requirements that it has to meet. Of the game that is

@@ -184,8 +184,8 @@ pub fn reachable_by_any(alloc: Global, system: &System) -> Result<Vec<bool>, All
     // `transitions` tells what every system has.
     let _transitions = system.transitions();
     let rows = all_rows_of(alloc, system)?;
-    let mut marks = vec![in alloc; false; rows.len()]?;
+    let mut reached = vec![in alloc; false; rows.len()]?;
     let mut waiting = Vec::new(alloc);
-    search(&rows, system.first(), &mut marks, &mut waiting)?;
-    Ok(marks)
+    search(&rows, system.first(), &mut reached, &mut waiting)?;
+    Ok(reached)
 }

@@ -74,6 +74,11 @@ pub record AreUnmet (lines : List Line) (transitions : List Transition) (found :
 
 -- ---- words for private functions
 
+-- whether a value is `No`
+abbrev pub IsNo : Tri → Bool → Type 0
+IsNo value true = value ≡ No
+IsNo value false = value ≢ No
+
 -- a feature is noted among others, while they are few
 pub record IsNoted (features : List ℕ) (f : ℕ) (later : List ℕ) : Type 0 where
   pub kept : (g : ℕ) → Contains features g → Contains later g

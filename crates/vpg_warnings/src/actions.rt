@@ -119,11 +119,7 @@ fn names(alloc: Global, word: &[u8], name: &[u8]) -> Result<bool, AllocError>
 }
 
 /// Whether words of action formulas name the action of this name, or stand for all.
-fn is_mentioned(
-    alloc: Global,
-    words: &[PlacedWord<'_>],
-    name: &[u8],
-) -> Result<bool, AllocError>
+fn is_mentioned(alloc: Global, words: &[PlacedWord<'_>], name: &[u8]) -> Result<bool, AllocError>
     ensures { IfOk result (λ b. b ≡ is_mentioned (placed_words words.now) name.now) }
 {
     for word in words {

@@ -1,12 +1,12 @@
 //! Guards that no product meets.
-ghost use Rattle.std.specs.Prelude.{◌≡◌, ◌<◌, ◌++◌, ◌∷◌, [], All, length, map, Contains, if◌then◌else◌, slice_index_or, IfOk, OnOk};
+ghost use Rattle.std.specs.Prelude.{◌≡◌, ◌<◌, ◌++◌, ◌∷◌, [], All, length, map, true, Contains, slice_index_or, IfOk, OnOk};
 ghost use Rattle.vpg_guards.specs.Formula.{IsBelow, named};
 ghost use Rattle.vpg_guards.specs.View.{formula_of};
 ghost use Rattle.vpg_diagram.specs.FeatureDiagram.{feature_count};
 ghost use Rattle.vpg_partial.specs.Known.{literal_of};
 ghost use Rattle.vpg_partial.specs.TableLaws.{AreChoicesOf};
 ghost use Rattle.vpg_system_draw.specs.Arrows.{no_transition};
-ghost use Rattle.vpg_warnings.specs.Guards.{IsFound, IsJudged, IsNoted, AreTriedOf, AreJudged, AreUnmet, decided};
+ghost use Rattle.vpg_warnings.specs.Guards.{IsFound, IsNo, IsJudged, IsNoted, AreTriedOf, AreJudged, AreUnmet, decided};
 
 use crate::numbers::numbers_of;
 use std::alloc::{AllocError, Global};
@@ -39,6 +39,16 @@ fn with(
     Ok(more)
 }
 
+/// Whether a value is `No`.
+fn is_no(value: Tri) -> bool
+    ensures { IsNo value result }
+{
+    match value {
+        Tri::No => true,
+        Tri::Unknown | Tri::Yes => false,
+    }
+}
+
 /// Whether decisions contradict each other, or make a guard known false.
 fn is_closed(
     alloc: Global,
@@ -51,7 +61,7 @@ fn is_closed(
     ensures { IfOk result (IsFound diagram.now.lines (formula_of guard.now) [] (map literal_of decisions.now)) }
 {
     match Partial::close(alloc, diagram, decisions) {
-        Ok(known) => Ok(guard.kleene(known.values()) == Tri::No),
+        Ok(known) => Ok(is_no(guard.kleene(known.values()))),
         Err(PartialFault::Conflict { .. }) => Ok(true),
         Err(PartialFault::Memory) => Err(AllocError),
     }
@@ -71,36 +81,44 @@ fn is_refuted(
     ensures { IfOk result
         (IsFound diagram.now.lines (formula_of guard.now) features.now (map literal_of decisions.now)) }
 {
-    if is_closed(alloc, diagram, guard, decisions)? {
+    let is_closed = is_closed(alloc, diagram, guard, decisions)?;
+    let Some((first, rest)) = features.split_first() else {
+        return Ok(is_closed);
+    };
+    if is_closed {
         return Ok(true);
     }
-    match features {
-        [] => Ok(false),
-        [first, rest @ ..] => {
-            let within = with(alloc, decisions, *first, true)?;
-            if !is_refuted(alloc, diagram, guard, rest, &within)? {
-                return Ok(false);
-            }
-            let without = with(alloc, decisions, *first, false)?;
-            is_refuted(alloc, diagram, guard, rest, &without)
-        }
+    let within = with(alloc, decisions, *first, true)?;
+    if !is_refuted(alloc, diagram, guard, rest, &within)? {
+        return Ok(false);
     }
+    let without = with(alloc, decisions, *first, false)?;
+    is_refuted(alloc, diagram, guard, rest, &without)
 }
 
 /// Whether a feature is one of these.
 fn has(features: &[u16], feature: u16) -> bool
-    ensures { if result then Contains features.now feature else (Contains features.now feature → ⊥) }
+    ensures { result ≡ true → Contains features.now feature }
 {
-    features.contains(&feature)
+    for one in features {
+        if *one == feature {
+            return true;
+        }
+    }
+    false
 }
 
 /// Notes a feature that is not there yet, while there are few.
 fn note(features: &mut Vec<u16>, feature: u16) -> Result<(), AllocError>
     ensures { OnOk result (IsNoted features.old.items feature features.new.items) }
 {
-    if features.len() < MOST_TRIED && !has(features, feature) {
-        features.push(feature)?;
+    if features.len() >= MOST_TRIED {
+        return Ok(());
     }
+    if has(features, feature) {
+        return Ok(());
+    }
+    features.push(feature)?;
     Ok(())
 }
 

@@ -20,7 +20,7 @@ loop-next-preserved c =
     let fewer : length (words_in c.split_first-next-in-Some.result) ≡ length behind = ap length after in
     let counted : c.loop-next.index + length (words_in c.loop-next.next) ≡ length (words_of c.args.text.now) = c.loop-next.invariant.counted in
     let deep : depth_of c.behind-region.result ≤ depth_of c.loop-next.region + 1 =
-        one_deeper c.loop-next.region c.behind-region.result word c.behind-region.ensures.region in
+    one_deeper c.loop-next.region c.behind-region.result word c.behind-region.ensures.region in
     let less : c.loop-next.index < length c.in_ok-words.words.places.items = omega (arith, counted, count, c.in_ok-words.ensures.places.count) in
     record {
       counted = omega (arith, counted, count, fewer);

@@ -1,4 +1,4 @@
-use Rattle.std.proofs.Common.{ℕ, length, take, ap, sym, subst, arith}
+use Rattle.std.proofs.Common.{length, take, ap, arith}
 use Rattle.vpg_system.specs.SystemView.{transition_of}
 use Rattle.vpg_system_draw.proofs.AllRows.{all_rows_count, next_of_all, whole_of_all}
 use Rattle.vpg_system_draw.proofs.reached.all_rows_of.Goals as goal
