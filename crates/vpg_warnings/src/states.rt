@@ -21,5 +21,6 @@ pub fn unreached_states(alloc: Global, system: &System) -> Result<Vec<usize>, Al
 {
     let reached = reachable_by_any(alloc, system)?;
     let others = unmarked(alloc, &reached)?;
-    numbers_of(alloc, &others)
+    let states = numbers_of(alloc, &others)?;
+    Ok(states)
 }
