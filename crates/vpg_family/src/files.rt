@@ -72,6 +72,8 @@ pub struct Texts {
     pub vertices: Vec<usize>,
     /// The text of the system. It is empty where the game has a file.
     pub system: Vec<u8>,
+    /// The text of the requirements. It is empty where the game has a file.
+    pub requirements: Vec<u8>,
 }
 
 /// The text of a diagram, and that of a game's file.
@@ -91,6 +93,7 @@ fn game_texts<R: Files + AllocGlobal>(
             entries: Vec::new(alloc),
             vertices: Vec::new(alloc),
             system: Vec::new(alloc),
+            requirements: Vec::new(alloc),
         }),
         Err(fault) => Err(fault),
     }
@@ -113,6 +116,7 @@ fn system_texts<R: Files + AllocGlobal>(
             entries: Vec::new(alloc),
             vertices: Vec::new(alloc),
             system,
+            requirements: Vec::new(alloc),
         }),
         Err(fault) => Err(fault),
     }
@@ -124,14 +128,14 @@ fn made_texts(
     text: Vec<u8>,
     diagram: &Diagram,
     system: Vec<u8>,
-    requirements: &[u8],
+    requirements: Vec<u8>,
 ) -> Result<Texts, Fault>
     requires { IsTextOf text.items diagram.now }
     ensures model { IfOk result (λ texts.
         IsModelledBy texts.diagram.items texts.game.items (earlier_of texts.entries.items) texts.vertices.items) }
     ensures refused { IfErr result IsUnread }
 {
-    match model_of(alloc, diagram, &system, requirements) {
+    match model_of(alloc, diagram, &system, &requirements) {
         Ok(
             Modelled {
                 game,
@@ -144,6 +148,7 @@ fn made_texts(
             entries,
             vertices,
             system,
+            requirements,
         }),
         Err(fault) => Err(fault),
     }
@@ -170,7 +175,7 @@ fn model_texts<R: Files + AllocGlobal>(
         Ok(requirements) => requirements,
         Err(fault) => return Err(fault),
     };
-    made_texts(alloc, text, diagram, system, &requirements)
+    made_texts(alloc, text, diagram, system, requirements)
 }
 
 /// The texts of a family's files. That of the diagram is read, and refused, before any other is. Where a system and its

@@ -32,6 +32,7 @@ mod pages;
 mod parts;
 mod pictured;
 mod products;
+mod system_warnings;
 mod systems;
 mod telling;
 mod warnings;

@@ -20,3 +20,4 @@ pub mod RegularWays
 pub mod FormulaWays
 pub mod Stopping
 pub mod StopCode
+pub mod ActionWords

@@ -60,8 +60,9 @@ pub(crate) fn is_word(word: &[u8]) -> bool
     is_same(word, b"true") || is_same(word, b"false") || is_label(word)
 }
 
-/// The action that a word names.
-fn label(alloc: Global, word: &[u8]) -> Result<Option<Label>, AllocError>
+/// Returns the action that a word of an action formula names, if it is one: any bytes in quotes, or a word that begins
+/// with a letter or `_`. That `true` and `false` are none is not asked.
+pub fn label(alloc: Global, word: &[u8]) -> Result<Option<Label>, AllocError>
     ensures { IfOk result (λ label. label ≡ label_of word.now) }
 {
     let [first, bytes @ ..] = word else {

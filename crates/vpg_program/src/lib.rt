@@ -449,7 +449,7 @@ fn picture_of_files(
 /// What looks wrong in a family.
 fn warned(rt: &HostRuntime, alloc: Global, paths: Paths<'_>) -> Result<Vec<u8>, Fault> {
     match read_texts(rt, alloc, paths) {
-        Ok(texts) => linted(alloc, paths, &texts.diagram, &texts.game),
+        Ok(texts) => linted(alloc, paths, &texts),
         Err(fault) => Err(fault),
     }
 }

@@ -55,6 +55,7 @@ fn texts_of(alloc: Global, diagram: &str, game: &str) -> Result<Texts, AllocErro
         entries: Vec::new(alloc),
         vertices: Vec::new(alloc),
         system: Vec::new(alloc),
+        requirements: Vec::new(alloc),
     })
 }
 
