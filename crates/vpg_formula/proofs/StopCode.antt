@@ -137,11 +137,11 @@ no_semicolon (w ∷ ws) e = go (bytes_eq w (codes ";")) e
     go false e = refl
 
 -- behind a formula alone
-pub alone_behind : (earlier ws : Words) (rest : List (Bor (List ℕ))) (negated : Option ℕ) (marks : List Mark) (is_empty : Bool) → IsBody earlier negated marks ws (texts rest) → is_empty ≡ (length rest == 0) → not is_empty ≡ true
+pub alone_behind : (earlier ws : Words) (rest : List (Bor (List ℕ))) (negated : Option ℕ) (marks : List Mark) (is_empty : Bool) → IsBody earlier negated marks ws (texts rest) → is_empty ≡ (length rest == 0) → is_empty ≡ false
     → IsLeft ws (length rest) (IsStopped earlier ws (IsStuckAt false ws))
-alone_behind earlier ws rest negated marks is_empty b e n = body_stops false earlier ws (texts rest) negated marks (length rest) b (some_left rest (ap not (sym e) ∙ n)) (sym (texts_length rest))
+alone_behind earlier ws rest negated marks is_empty b e n = body_stops false earlier ws (texts rest) negated marks (length rest) b (some_left rest (sym e ∙ n)) (sym (texts_length rest))
   where
-    some_left : (rest : List (Bor (List ℕ))) → not (length rest == 0) ≡ true → ends_formula false (texts rest) ≡ false
+    some_left : (rest : List (Bor (List ℕ))) → (length rest == 0) ≡ false → ends_formula false (texts rest) ≡ false
     some_left [] n = absurd cc
     some_left (w ∷ ws) n = refl
 
