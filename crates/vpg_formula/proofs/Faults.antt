@@ -116,7 +116,7 @@ positive_more earlier (x ∷ es) e =
     assoc false b c = refl
 
 -- where a new entry's formula begins
-abbrev pub begins_behind : (negated : Option ℕ) (made : List Marked) (name : List ℕ) (all ws mid : Words) (r : AreReadTo negated made all (name ∷ ws)) → length made < 64 → IsHead (names_of made) name ws mid → FormulaAt all r.entries (length r.front + 2) mid
+abbrev begins_behind : (negated : Option ℕ) (made : List Marked) (name : List ℕ) (all ws mid : Words) (r : AreReadTo negated made all (name ∷ ws)) → length made < 64 → IsHead (names_of made) name ws mid → FormulaAt all r.entries (length r.front + 2) mid
 begins_behind negated made name all ws mid r few head =
     let names = names_to negated made all (name ∷ ws) r in
     let count = count_to negated made all (name ∷ ws) r in

@@ -25,7 +25,6 @@ module _ (item : Read Phrase) (shorter : Shorter item) (P : Phrase → Words →
     (is : IsSign n sign (λ f s. goes true (needs ++ n ∷ [])))
     (stays : (x : Phrase) (rest : Words) → P x rest → x.is_endless ≡ true → after_word sign rest ≡ None)
     (joins : (x y : Phrase) → x.is_endless ≡ false → (z : Phrase) × (join x y ≡ Some z) × ((rest : Words) → P y rest → P z rest)) where
-
   abbrev Ended : Phrase → Words → Type 0
   Ended x rest = P x rest × (after_word sign rest ≡ None)
 
@@ -174,7 +173,6 @@ heads_zero other ns w ws = refl
 
 module _ (d : ℕ) (path act : Read Regular) (inner formula : Read Phrase)
     (paths : Agrees is_action Unplussed path (regular_needs d)) (acts : Agrees is_action IsActing act (acting d ∷ [])) (inners : Agrees plainly EndsOperand inner (part d ∷ [])) (formulas : Agrees plainly Whole formula (formula_needs d)) where
-
   put_sim : (prefix : Prefix) (f : Bool) (ns : List Need) (ws : Words) → Sim plainly EndsOperand (way f (part d ∷ ns) ws) (put_behind prefix inner ws) (λ g rest. way g ns rest)
   put_sim prefix f ns ws = go (way f (part d ∷ ns) ws) (inner ws) (inners f ns ws)
     where

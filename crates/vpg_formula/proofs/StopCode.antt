@@ -1,6 +1,9 @@
 -- Where the words of a formula stop, as the code finds it.
 use Rattle.std.proofs.Common.{◌≡◌, ℕ, zero, suc, ◌+◌, ◌<◌, ◌≤◌, ◌⊎◌, inl, inr, Bool, true, false, cond, List, [], ◌∷◌, ◌++◌, map, length, Option, Some, None, refl, sym, ap, subst, ◌∙◌, arith}
-use Rattle.std.specs.Prelude.{codes, bytes_eq, nat_le, not, ◌||◌}
+use Rattle.std.specs.Prelude.{codes, bytes_eq, nat_le, not, ◌||◌, ◌==◌}
+use Rattle.std.specs.Borrow.{Bor}
+use Rattle.vpg_formula.specs.ReadCode.{texts}
+use Rattle.vpg_formula.proofs.RegularCode.{texts_length}
 use Rattle.std.specs.List.{list_any}
 use Rattle.std.proofs.lemmas.Bool.{cases_Bool, leb-true}
 use Rattle.std.proofs.lemmas.List.{length-append}
@@ -133,6 +136,15 @@ no_semicolon (w ∷ ws) e = go (bytes_eq w (codes ";")) e
     go true e = absurd cc
     go false e = refl
 
-pub more_words : (rest : Words) → 0 < length rest → ends_formula false rest ≡ false
-more_words [] l = absurd (omega (arith, l))
-more_words (w ∷ ws) l = refl
+-- behind a formula alone
+pub alone_behind : (earlier ws : Words) (rest : List (Bor (List ℕ))) (negated : Option ℕ) (marks : List Mark) (is_empty : Bool) → IsBody earlier negated marks ws (texts rest) → is_empty ≡ (length rest == 0) → is_empty ≡ false
+    → IsLeft ws (length rest) (IsStopped earlier ws (IsStuckAt false ws))
+alone_behind earlier ws rest negated marks is_empty b e n = body_stops false earlier ws (texts rest) negated marks (length rest) b (some_left rest (sym e ∙ n)) (sym (texts_length rest))
+  where
+    some_left : (rest : List (Bor (List ℕ))) → (length rest == 0) ≡ false → ends_formula false (texts rest) ≡ false
+    some_left [] n = absurd cc
+    some_left (w ∷ ws) n = refl
+
+-- what is done is a formula
+pub none_done : (ws : Words) (left : ℕ) (w : Way) → phrase_at a_formula 64 ws ≡ None → way_of w ≡ formula_way 64 ws → w ≡ ways.Done left → ⊥
+none_done ws left w none e f = never_done ws left none (sym e ∙ ap way_of f)

@@ -155,7 +155,6 @@ module _ (item : Read Regular) (shorter : Shorter item) (needs : List Need) (agr
     (is : IsSign n sign (λ f s. if_acting f (needs ++ n ∷ [])))
     (joins : (x y : Regular) → is_action x ≡ true → is_action y ≡ true → (z : Regular) × (join x y ≡ Some z) × (is_action z ≡ true))
     (unjoined : (x y : Regular) → is_action x ≡ false → join x y ≡ None) (unlike : (x y : Regular) → is_action y ≡ false → join x y ≡ None) where
-
   -- what is joined is an action formula just where the first is
   abbrev pub Like : Regular → Regular → Words → Type 0
   Like x y rest = is_action y ≡ is_action x
@@ -285,7 +284,6 @@ starred_agrees item needs agrees f ns ws = rw (append_assoc needs (stars ∷ [])
 module _ (item : Read Regular) (shorter : Shorter item) (needs : List Need) (agrees : Agrees is_action Unplussed item needs) (sign : List ℕ) (join : Regular → Regular → Option Regular) (n : Need) (takes : Bool → Bool → Turn)
     (is : IsSign n sign takes) (taken : (f : Bool) (ws rest : Words) → NoPlus ws → after_word sign ws ≡ Some rest → takes f (starts_operand rest) ≡ goes f (needs ++ unacting ∷ n ∷ []))
     (joins : (x y : Regular) → (z : Regular) × (join x y ≡ Some z) × (is_action z ≡ false)) where
-
   pub joined_free : (k : ℕ) (x : Regular) (ns : List Need) (here : Way) (o : Option (Regular × Words))
       → ((y : Regular × Words) → o ≡ Some y → NoPlus y.1 → (z : Regular) → Sim is_action Unplussed (way (is_action z) (n ∷ ns) y.1) (more item sign join k z y.1) (λ g rest. way g ns rest))
       → Sim is_action Unplussed here o (λ g r. way g (unacting ∷ n ∷ ns) r)

@@ -169,8 +169,8 @@ may_end (dots d) = true
 may_end (pluses d) = true
 may_end unacting = true
 
--- What becomes of all needs at a word: these are to come behind it, or none had to come, or the word is none that could,
--- or it opens one part too many.
+-- What becomes of all needs at a word: these are to come behind it, or none had to come, or the word is none that
+-- could, or it opens one part too many.
 pub data Step : Type 0 where
   on : Bool → List Need → Step
   over : Step

@@ -12,7 +12,7 @@ returns-in-Some-clause-at c in_entry =
     unknown_before (earlier_of c.args.entries.now) (texts c.args.words.now) c.args.left c.in-Some.left
     (sym (c.first_unknown.ensures ∙ ap first_unknown (ap pairs c.deref.ensures.value ∙ c.in-Ok.ensures)) ∙ c.in-Some.is)
 
-pub returns-in-None-clause-at : goal.returns-in-None-clause-at
-returns-in-None-clause-at c in_entry =
+pub returns-clause-at : goal.returns-clause-at
+returns-clause-at c in_entry =
     way_stops (earlier_of c.args.entries.now) (texts c.args.words.now) c.args.left c.args.halt c.requires.at
     (sym (c.first_unknown.ensures ∙ ap first_unknown (ap pairs c.deref.ensures.value ∙ c.in-Ok.ensures)) ∙ c.in-None.is) in_entry

@@ -23,12 +23,12 @@ returns-in-Ok-clause-body c =
     body_read (earlier_of c.args.entries.now) (texts c.args.words.now) (texts c.in-Ok.rest.now) gives.item c.formula.new.out.items c.in_ok-negated-in-Ok.negated gives.is put k.0 k.1
 
 pub returns-in_err-negated-in-Ok-clause-at : goal.returns-in_err-negated-in-Ok-clause-at
-returns-in_err-negated-in-Ok-clause-at c in_entry =
+returns-in_err-negated-in-Ok-clause-at c =
     let p = err_from_is_err_and c.from_residual.result c.from_residual.ensures.1 in
     let gives = c.in-Ok.ensures.gives in
     let put : c.formula.new.out.items ≡ phrase_marks gives.item = gives.put ∙ ap (λ (ms : List Mark). ms ++ phrase_marks gives.item) c.new-marks.ensures.items in
     let at = rw c.deref.ensures.value at c.in_err-negated-in-Ok.ensures.at in
-    rw (p.1, p.2) (body_unknown_at (earlier_of c.args.entries.now) (texts c.args.words.now) c.in-Ok.rest.now gives.item c.formula.new.out.items gives.is put c.in_err-negated-in-Ok.field-0.0 at in_entry)
+    rw (p.1, p.2) (body_unknown_at (earlier_of c.args.entries.now) (texts c.args.words.now) c.in-Ok.rest.now gives.item c.formula.new.out.items gives.is put c.in_err-negated-in-Ok.field-0.0 at)
 
 pub returns-in-Ok-clause-negated : goal.returns-in-Ok-clause-negated
 returns-in-Ok-clause-negated c =
