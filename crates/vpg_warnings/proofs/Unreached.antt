@@ -1,10 +1,10 @@
 -- The states that are not reached are those that no path leads to.
-use Rattle.std.proofs.Common.{◌≡◌, ◌↔◌, ℕ, ◌+◌, ◌<◌, ◌⊎◌, inl, inr, Bool, true, false, List, length, get_or, map, Contains, refl, sym, ap, ◌∙◌, subst, arith}
+use Rattle.std.proofs.Common.{◌≡◌, ℕ, ◌+◌, ◌<◌, ◌⊎◌, inl, inr, Bool, true, false, List, length, get_or, map, Contains, refl, sym, ap, ◌∙◌, subst, arith}
 use Rattle.std.specs.Prelude.{not}
 use Rattle.std.proofs.lemmas.List.{length-map, get_or-map}
 use Rattle.vpg_system.specs.SystemText.{NamedSystem}
-use Rattle.vpg_system_draw.specs.Reached.{Leads, Step, AreReachedByAny}
-use Rattle.vpg_warnings.specs.Numbers.{numbers_from, AreInOrder}
+use Rattle.vpg_system_draw.specs.Reached.{AreReachedByAny}
+use Rattle.vpg_warnings.specs.Numbers.{numbers_from}
 use Rattle.vpg_warnings.specs.States.{IsUnreached, AreUnreached}
 use Rattle.vpg_warnings.proofs.Numbered.{in_order, IsMarkAt, mark_of_number, number_of_mark}
 

@@ -1,6 +1,6 @@
 -- Which actions of requirements no transition has, and which actions of transitions no requirement names. This
 -- project's own.
-use Rattle.std.specs.Prelude.{ℕ, Bool, true, false, not, ◌||◌, ◌&&◌, if◌then◌else◌, List, [], ◌∷◌, map, filter, codes, bytes_eq, Option, Some, None}
+use Rattle.std.specs.Prelude.{ℕ, Bool, false, not, ◌||◌, if◌then◌else◌, List, map, filter, codes, bytes_eq, Option, Some, None}
 use Rattle.std.specs.List.{list_any}
 use Rattle.vpg_formula.specs.Regular.{Label, label_of}
 use Rattle.vpg_formula.specs.ActionWords.{PlacedWord, action_words}
