@@ -10,8 +10,8 @@ use vpg_model::Source;
 use vpg_part_texts::Text;
 use vpg_system::System;
 
-/// What a game was made of: the names of the system's actions, its transitions, the sets of actions and the parts of the
-/// requirements, and the state and the part of each vertex.
+/// What a game was made of: the names of the system's actions, its transitions, the sets of actions and the parts of
+/// the requirements, and the state and the part of each vertex.
 pub struct Behaviour {
     actions: Vec<Text>,
     source: Source,

@@ -42,6 +42,7 @@ fn texts(alloc: Global, row: &Row<'_>) -> Result<Texts, AllocError> {
         entries: Vec::new(alloc),
         vertices: Vec::new(alloc),
         system,
+        behaviour: None,
     })
 }
 
