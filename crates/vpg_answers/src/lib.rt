@@ -4,7 +4,8 @@
 //! page, or a `VertexQuestion`. Those are: why the vertex has its verdicts, which product is left and won or lost at
 //! it, what each further decision would make of it, what every product has that is left and won at it, what to retract
 //! so that it is possible, why it is lost (or won) in every product that is left, by which moves Odd (or Even) wins
-//! from it in all of them, and a picture of what can be reached from it, by such moves where there are some. Or it is a
+//! from it in all of them, a picture of what can be reached from it, by such moves where there are some, and a trace of
+//! how its verdict comes about, as steps of the system that the game was made of. Or it is a
 //! `PageQuestion`: what every product has that is left, and which decisions leave none. The crate of scripts has these
 //! questions, since its lines spell them. This one asks the crates of reasons and of moves below, and appends the
 //! lines. The layer above answers lines of scripts by it; it changes nothing.
@@ -29,6 +30,7 @@ mod offers;
 mod query;
 mod reasons;
 mod repairs;
+mod traces;
 mod winning;
 
 pub use answering::answer;

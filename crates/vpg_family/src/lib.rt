@@ -46,7 +46,7 @@ pub use fault::Fault;
 pub use files::{
     GamePaths, ModelPaths, Paths, Texts, open_script, read_family, read_script, read_texts,
 };
-pub use known::{Known, read_known};
+pub use known::{Context, Known, read_known};
 pub use linting::linted;
 pub use pages::redrawn;
 pub use pictured::Pictured;

@@ -59,12 +59,13 @@ settled_text settled n = numbered (if settled then codes "settled" else codes "u
 -- ---- what commands ask
 
 -- What is refused without a call: a name that the diagram lacks, a token or a harvest that isn't held, a vertex that
--- the game lacks.
+-- the game lacks, a trace where there is no system.
 pub data Own : Type 0 where
   NoFeature : Own
   NoToken : Own
   NoHarvest : Own
   NoVertex : Own
+  NoSystem : Own
 
 -- the word of what is refused without a call
 abbrev pub own_text : Own → List ℕ
@@ -72,6 +73,7 @@ own_text NoFeature = codes "UnknownFeature"
 own_text NoToken = codes "NoToken"
 own_text NoHarvest = codes "NoHarvest"
 own_text NoVertex = codes "NoVertex"
+own_text NoSystem = codes "NoSystem"
 
 -- the vertex that a line names
 abbrev pub vertex_of : Scene → script.Vertex → Option ℕ

@@ -10,8 +10,8 @@ use std::sync::Wait;
 use std::thread::Threads;
 use vpg_desk::OpenFault;
 use vpg_diagram::Diagram;
-use vpg_family::{Family, Fault, conflict};
-use vpg_script::{Callings, Sink, Source};
+use vpg_family::{Context, Family, Fault, conflict};
+use vpg_script::{Sink, Source};
 use vpg_serving::{Ending, Manner, RunFault};
 
 /// What is told of a refused opening. A conflict names the root.
@@ -26,12 +26,13 @@ fn not_opened(alloc: Global, diagram: &Diagram, fault: OpenFault) -> Fault
     }
 }
 
-/// Carries a script out at an office of the family, in a manner. Its lines call vertices by these names too.
+/// Carries a script out at an office of the family, in a manner. Its lines speak of what the context has too: they call
+/// vertices by its names, and ask for traces of what the game was made of.
 pub fn run_script<T: Threads + Wait + Sync, R: Source, W: Sink>(
     rt: &T,
     alloc: Global,
     family: Family,
-    callings: &Callings,
+    context: &Context,
     reader: &mut R,
     writer: &mut W,
     lifters: u32,
@@ -43,7 +44,7 @@ pub fn run_script<T: Threads + Wait + Sync, R: Source, W: Sink>(
 
     // What is written are the answers to the script's lines by an office on the family, by what the names of vertices in
     // them stand for, and the result tells how they end.
-    ensures output { IsRun manner (arc_value family.diagram) (arc_value family.game) callings.now lifters
+    ensures output { IsRun manner (arc_value family.diagram) (arc_value family.game) context.now lifters
         (R.remaining reader.old) (R.remaining reader.new) (W.contents writer.old) (W.contents writer.new) result }
 
     // Read and Write come only where the device failed, or the script was read 16,777,216 times.
@@ -60,7 +61,7 @@ pub fn run_script<T: Threads + Wait + Sync, R: Source, W: Sink>(
         alloc,
         family.game,
         family.diagram,
-        callings,
+        context,
         reader,
         writer,
         lifters,

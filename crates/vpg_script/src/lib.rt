@@ -5,8 +5,8 @@
 //! are `select`, `exclude`, `retract`, `undo`, `redo`, `keep`, `forget`, `lift`, `harvest`, `commit`, `settle`,
 //! `changed` and `known`; what is looked at of the page, a `Lookup`: `show`, `trail`, `products`, `plan`, `count`,
 //! `draw` and `assert`; and what is asked of it, an `Inquiry`: `why`, `example`, `counterexample`, `offer`, `needs`,
-//! `repair`, `lost`, `won`, `spoil`, `plan` and `draw` of a vertex, `forced` and `empty`. Each other first word is a
-//! fault of its line. A further question of a vertex is a `VertexQuestion` more, one of the page as a whole a
+//! `repair`, `lost`, `won`, `spoil`, `trace`, `plan` and `draw` of a vertex, `forced` and `empty`. Each other first
+//! word is a fault of its line. A further question of a vertex is a `VertexQuestion` more, one of the page as a whole a
 //! `PageQuestion`: the crate of answers has to know it, and the crate of runs does not.
 //!
 //! A vertex is named by its identifier, or by a name: `Callings` are the names by which vertices are called, and

@@ -56,6 +56,7 @@ fn texts_of(alloc: Global, diagram: &str, game: &str) -> Result<Texts, AllocErro
         vertices: Vec::new(alloc),
         system: Vec::new(alloc),
         requirements: Vec::new(alloc),
+        behaviour: None,
     })
 }
 
@@ -82,7 +83,7 @@ pub(super) fn ending<T: Threads + Wait + Sync>(
                 rt,
                 alloc,
                 family,
-                &known.callings,
+                &known.context,
                 &mut reader,
                 &mut writer,
                 1,

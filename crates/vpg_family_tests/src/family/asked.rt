@@ -43,6 +43,7 @@ fn texts(alloc: Global, row: &Row<'_>) -> Result<Texts, AllocError> {
         vertices: Vec::new(alloc),
         system,
         requirements: Vec::new(alloc),
+        behaviour: None,
     })
 }
 
