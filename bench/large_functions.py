@@ -1,11 +1,12 @@
 #!/usr/bin/env python3
 """The functions with the most code in libraries that are built: in seconds, without a check.
 
-    large_functions.py [N] [FOLDER]  the N largest, 30 where not given, of the libraries in the checkout FOLDER (this one where not given)
+    large_functions.py [N] [FOLDER]  the N largest (30), of the libraries in the checkout FOLDER (this one)
 
-First the libraries, then the functions, by what the prover makes of them, in million bytes of modules: half of one for a function, and a quarter
-for each thousand bytes of its code (fitted to 303 functions of `vpg_regions` and `vpg_values`, of which it explains two thirds). A million takes
-about 0.8 seconds of a processor. What a library takes beyond that are its searches, its lemmas, and what it loads.
+First the libraries, then the functions, by an estimate of what the prover makes of them, in million bytes of modules:
+half of one for a function, and a quarter for each thousand bytes of its code. That was fitted to 303 functions of
+`vpg_regions` and `vpg_values`, of which it explains two thirds. A million takes about 0.8 seconds of a processor. What
+a library takes beyond that are its searches, its lemmas, and what it loads.
 """
 import collections
 import glob
