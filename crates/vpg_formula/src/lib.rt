@@ -11,9 +11,9 @@
 //! Definitions stand in `specs/`: `Words` (which words a text has), `Places` (where they begin), `Regular` and
 //! `RegularGrammar` (action and regular formulas), `Written` and `FormulaGrammar` (formulas), `Standings` (how the
 //! names of a formula stand), `Naming` (which words are names), `Requirements` (whole texts), `Stops` (where a formula
-//! stops), `Faults` (where a text is faulty), `Marks` (a formula as a list). `Reading` and `EntryReading` are the reader
-//! as functions on lists, `Needs` is how a fault is searched for; `ReadCode`, `EntryCode`, `NamingCode`, `NeedsCode`,
-//! `FaultCode` and `ActionCode` are what the code keeps; only private contracts name them.
+//! stops), `Faults` (where a text is faulty), `Marks` (a formula as a list). `Reading` and `EntryReading` are the
+//! reader as functions on lists, `Needs` is how a fault is searched for; `ReadCode`, `EntryCode`, `NamingCode`,
+//! `NeedsCode`, `FaultCode` and `ActionCode` are what the code keeps; only private contracts name them.
 #![tactic(auto)]
 
 mod fault;
