@@ -20,7 +20,7 @@ pub const MOST_NAMED: usize = 6;
 /// each evaluation.
 pub const MOST_IMPLICANTS: usize = 64;
 
-/// The `or` of the guard's prime implicants, unless the guard names too many features or has too many of them.
+/// Returns the `or` of the guard's prime implicants, unless the guard names too many features or has too many of them.
 fn short_form(alloc: Global, guard: &Guard, features: usize) -> Result<Option<Guard>, AllocError>
     requires { IsBelow features (formula_of guard.now) }
     ensures { IfOk result (λ made. MatchOption made (IsShort features (formula_of guard.now) → ⊥)
@@ -40,7 +40,7 @@ fn short_form(alloc: Global, guard: &Guard, features: usize) -> Result<Option<Gu
     Ok(Some(disjunction(alloc, &cubes)?))
 }
 
-/// Returns Blake's form of a guard over so many features: the `or` of its prime implicants. A guard that names more
+/// Returns Blake's form of a guard over this many features: the `or` of its prime implicants. A guard that names more
 /// than `MOST_NAMED` features, or has more than `MOST_IMPLICANTS` prime implicants, is returned as it is.
 ///
 /// The implicants come in a fixed order: those that need the first of the features in, those that need it out, those

@@ -6,7 +6,7 @@ ghost use Rattle.vpg_blake.specs.Tables.{both_true, table_implicants};
 use crate::literal::Literal;
 use std::alloc::{AllocError, Global};
 
-/// The rows in which both tables are true.
+/// Returns the rows in which both tables are true.
 fn both_hold(alloc: Global, with: &[bool], without: &[bool]) -> Result<Vec<bool>, AllocError>
     ensures { IfOk result (λ v. v.items ≡ both_true with.now without.now) }
 {
@@ -50,8 +50,8 @@ fn push_others(
     Ok(())
 }
 
-/// The prime implicants of a table's rows, by splitting on the first feature: those that need it in, those that need it
-/// out, and those that do without it, which are the prime implicants of the rows that are true either way.
+/// Returns the prime implicants of a table's rows, by splitting on the first feature: those that need it in, those that
+/// need it out, and those that do without it, which are the prime implicants of the rows that are true either way.
 pub(crate) fn implicants(
     alloc: Global,
     features: &[u16],

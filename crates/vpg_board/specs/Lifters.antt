@@ -19,7 +19,7 @@ opener order =
 abbrev pub sees : Lifter → ℕ → ℕ → Lifter
 sees v place n = record v { seen = slice_set v.seen place n }
 
--- this claim number came, on a board of so many places: a claim, or an empty one where all places are gone
+-- this claim number came, on a board of this many places: a claim, or an empty one where all places are gone
 abbrev pub claims : ℕ → Lifter → ℕ → Lifter
 claims size v n = record v {
   claims = if nat_lt n size then v.claims ++ n ∷ [] else v.claims;

@@ -1,5 +1,5 @@
--- The measures of a board: both tables of an order, one behind the other. A place is a vertex of the first table, or a
--- vertex of the second behind all of the first. This project's own.
+-- The measures of a board: both tables of an order, one after the other. A place is a vertex of the hopeful table, or a
+-- vertex of the second after all of the first. This project's own.
 use Rattle.std.specs.Prelude.{◌≡◌, ℕ, ◌+◌, ◌-◌, ◌≤◌, nat_lt, if◌then◌else◌, List, ◌++◌, length, take, drop, slice_index}
 use Rattle.vpg_guards.specs.Known.{kleene}
 use Rattle.vpg_game.specs.Game.{graph_of}

@@ -29,7 +29,7 @@ pub record Leads (order : OrderView) (m : Move) (s t : State (Unit {0}) Lifter) 
   pub behind : Shows t (after order board m)
 
 -- what each atomic step of the seat with this number, which knows v, leaves of the words and seats; the measure of a
--- place stands one word behind it
+-- place stands one word after it
 module _ (s : State (Unit {0}) Lifter) (id : ℕ) (v : Lifter) where
   -- the word becomes n, and the seat has seen it
   abbrev pub written : ℕ → ℕ → State (Unit {0}) Lifter
@@ -70,7 +70,7 @@ Raises s v found w =
     (w ≡ (sees v.0 (s.word - 1) (max found s.first), v.1)) × (slice_index v.0.seen (s.word - 1) ≤ found) × IsSafe w.0 ×
     Takes (λ i. raise i (s.word - 1)) v.0 w.0 × IsOnBoard w.0
 
--- a claim, which comes behind all that the seat had
+-- a claim, which comes after all that the seat had
 abbrev pub Claims : Step (Unit {0}) → Me (Unit {0}) Lifter → ℕ → Me (Unit {0}) Lifter → Type 0
 Claims s v found w =
     (w ≡ (claims (places v.0.order) v.0 found, v.1)) × All (λ m. m < found) v.0.claims × AreSeatClaims w.0 ×

@@ -45,7 +45,7 @@ impl Model for Board {
     ghost invariant = { AreBoardFields };
 }
 
-// The claim word, and behind it the values of both tables.
+// The claim word, and after it the values of both tables.
 fn words_of(alloc: Global, order: &Order) -> Result<Vec<u64>, AllocError>
     ensures { IfOk result (λ words. words.items ≡ 0 ∷ values order.now) }
 {
@@ -58,7 +58,7 @@ fn words_of(alloc: Global, order: &Order) -> Result<Vec<u64>, AllocError>
     Ok(words)
 }
 
-// So many of the words, from one on.
+// This many of the words, from one on.
 fn copy_words(
     alloc: Global,
     closed: &Closed<(), Global>,
@@ -94,7 +94,7 @@ fn copy_tables(
 }
 
 impl Board {
-    /// A board of the order, and its opening seat, which has seen the order's tables. Out of memory the order
+    /// Returns a board of the order, and its opening seat, which has seen the order's tables. Out of memory the order
     /// comes back.
     pub fn open(alloc: Global, order: Order) -> Result<(Board, Seat), Order>
         ensures order { IfOk result (λ opened. opened.0.order ≡ order) }
@@ -131,8 +131,8 @@ impl Board {
         ))
     }
 
-    /// A new seat, which has seen what this one has and has no claims. The opening seat alone splits, or one that took
-    /// it in, and it splits 63 times: any other call is refused and changes nothing.
+    /// Returns a new seat, which has seen what this one has and has no claims. The opening seat alone splits, or one
+    /// that took it in, and it splits 63 times: any other call is refused and changes nothing.
     pub fn split(&self, seat: &mut Seat) -> Result<Seat, TooManyLifters>
         requires { seat.old.board ≡ self.now }
         ensures board { seat.new.board ≡ seat.old.board }
@@ -158,8 +158,8 @@ impl Board {
         })
     }
 
-    /// The next vertex that no seat has claimed: those of the hopeful table, then those of the dual, in file order over
-    /// all seats. A seat that got `None`, or took in one that did, gets `None` without a step.
+    /// Returns the next vertex that no seat has claimed: those of the hopeful table, then those of the dual, in file
+    /// order over all seats. A seat that got `None`, or took in one that did, gets `None` without a step.
     pub fn claim(&self, seat: &mut Seat) -> Option<(Which, u32)>
         requires { seat.old.board ≡ self.now }
         ensures board { seat.new.board ≡ seat.old.board }
@@ -236,7 +236,7 @@ impl Board {
         seat.done = seat.done || done;
     }
 
-    /// Ends the board: the harvest of its order, on or above all that the seat and those joined into it saw. For want
+    /// Ends the board: the harvest of its order, on or above all that the seat and those joined into it saw. For lack
     /// of memory the order comes back.
     pub fn close(self, alloc: Global, seat: Seat) -> Result<Harvest, Order>
         requires { seat.board ≡ self }

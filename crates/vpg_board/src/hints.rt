@@ -61,7 +61,7 @@ pub(crate) struct Hints<J: Vertices> {
     other: Option<Other<J>>,
 }
 
-// Not derived, so that letting one go is one call: a derived way would be proved anew at each exit that owns one.
+// Not derived: a derived `drop` would be proved again at each exit that owns such a value.
 impl<J: Vertices> Drop for Hints<J> {
     fn drop(self) {
         let Hints {
@@ -98,8 +98,8 @@ fn from_last<J: Vertices>(crew: &[Hints<J>]) -> Option<Other<J>> {
     }
 }
 
-/// Hints for so many lifters, fewer where there is no memory: each takes from the one before it, and the first from the
-/// last.
+/// Hints for this many lifters, fewer where there is no memory: each takes from the one before it, and the first from
+/// the last.
 pub(crate) fn hints_of<J: Vertices>(alloc: Global, lifters: u32) -> Vec<Hints<J>> {
     let mut crew = Vec::new(alloc);
     for _ in 0..lifters {
@@ -117,7 +117,7 @@ pub(crate) fn hints_of<J: Vertices>(alloc: Global, lifters: u32) -> Vec<Hints<J>
     crew
 }
 
-/// The next lifter's hints, or none where none are left.
+/// Returns the next lifter's hints, or none where none are left.
 pub(crate) fn next_hints<J: Vertices>(crew: &mut Vec<Hints<J>>) -> Hints<J> {
     match crew.pop() {
         Some(hints) => hints,
@@ -126,7 +126,7 @@ pub(crate) fn next_hints<J: Vertices>(crew: &mut Vec<Hints<J>>) -> Hints<J> {
 }
 
 impl<J: Vertices> Hints<J> {
-    /// No hints, and no room for any.
+    /// Returns no hints, and no room for any.
     pub(crate) fn none() -> Hints<J> {
         Hints {
             own: None,
@@ -168,7 +168,7 @@ impl<J: Vertices> Hints<J> {
         }
     }
 
-    /// A vertex was raised: all that keep an edge to it are worth a lift.
+    /// Returns a vertex was raised: all that keep an edge to it are worth a lift.
     pub(crate) fn give_all(&mut self, which: Which, edges: &Chains, v: u32)
         requires { LeadFrom J.vertices edges.now.edges.items }
     {
@@ -197,7 +197,7 @@ impl<J: Vertices> Hints<J> {
         hint
     }
 
-    /// The newest hint of its own, or else the oldest of the other's.
+    /// Returns the newest hint of its own, or else the oldest of the other's.
     pub(crate) fn take(&mut self) -> Option<(Which, u32)>
         ensures { IfSome result (IsHint J.vertices) }
     {

@@ -3,11 +3,11 @@
 use std::collections::LinkedList;
 use vpg_measure::Order;
 
-/// What stands behind a seat in proofs: no value of it is ever made. `specs/Lifters` says what each step changes.
+/// What stands after a seat in proofs: no value of it is ever made. `specs/Lifters` says what each step changes.
 pub struct Lifter {
     /// The order that its board is of.
     pub order: Order,
-    /// The values of both tables that it has seen, one table behind the other.
+    /// The values of both tables that it has seen, one table after the other.
     pub seen: LinkedList<u64>,
     /// The places that it claimed, in the order of claiming.
     pub claims: LinkedList<u64>,

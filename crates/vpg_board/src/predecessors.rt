@@ -23,7 +23,7 @@ pub(crate) struct Chains {
     ghost linked: { AreLinked last.items edges.items },
 }
 
-// Not derived, so that letting one go is one call: a derived way would be proved anew at each exit that owns one.
+// Not derived: a derived `drop` would be proved again at each exit that owns such a value.
 impl Drop for Chains {
     fn drop(self) {
         let Chains { last: _, edges: _ } = self;
@@ -84,7 +84,7 @@ impl Chains {
         }
     }
 
-    /// How many edges there are.
+    /// Returns how many edges there are.
     pub(crate) fn len(&self) -> usize {
         self.edges.len()
     }
@@ -99,8 +99,8 @@ impl Chains {
         }
     }
 
-    /// The edge before this place: where it comes from, and one more than the place of the edge before it that leads to
-    /// the same vertex, or 0.
+    /// Returns the edge before this place: where it comes from, and one more than the place of the edge before it that
+    /// leads to the same vertex, or 0.
     pub(crate) fn edge_before(&self, place: u32) -> Option<(u32, u32)>
         ensures inside { (n : ℕ) → LeadFrom n self.now.edges.items → IfSome result (λ e. e.0 < n) }
         // It is the head of the chain from this place, and its own place leads to the rest.

@@ -40,7 +40,7 @@ impl Gate for OpenGate {
     fn after_lift(&self, _lifter: u32) {}
 }
 
-/// The most hinted lifts behind a claim: a setting that no clause counts.
+/// The most hinted lifts after a claim: a setting that no clause counts.
 pub(crate) const HINTED_LIFTS: usize = 16;
 
 // Lifts a vertex, and where it was raised hints at those that keep an edge to it.
@@ -197,7 +197,7 @@ fn work_with_hints<J: Vertices + Send + Sync, G: Gate + Sync, R: Threads + Wait 
     work_together(rt, board, gate, lifters, seat, predecessors, crew)
 }
 
-// The same on a board, by as many lifters as are asked for. For want of memory the order comes back.
+// The same on a board, by as many lifters as are asked for. For lack of memory the order comes back.
 fn sweep_on_board<G: Gate + Sync, R: Threads + Wait + Sync>(
     rt: &R,
     alloc: Global,
@@ -227,7 +227,7 @@ fn sweep_on_board<G: Gate + Sync, R: Threads + Wait + Sync>(
 /// Lifts each vertex of both tables of the order at least once, by 1 to 64 lifters at once: the calling thread is
 /// lifter 1, the others get threads of their own. Where the machine has no thread for one, the calling thread does its
 /// work. After a raise the lifter hints at the vertices that keep an edge to the raised one, for itself and for one
-/// other, and behind each claim it lifts at most 16 hinted vertices.
+/// other, and after each claim it lifts at most 16 hinted vertices.
 ///
 /// It always brings a harvest. One lifter shares its tables with nobody: it raises them in the order's room, without a
 /// board. Several need memory for their board, at its opening and at its close. Where there is none the calling thread
@@ -262,7 +262,7 @@ pub fn sweep<G: Gate + Sync, R: Threads + Wait + Sync>(
     sweep_along(rt, alloc, order, lifters, gate, &predecessors)
 }
 
-/// The same, with hints along these predecessors: for many sweeps of one order and those that follow it.
+/// Returns the same, with hints along these predecessors: for many sweeps of one order and those that follow it.
 pub fn sweep_along<G: Gate + Sync, R: Threads + Wait + Sync>(
     rt: &R,
     alloc: Global,

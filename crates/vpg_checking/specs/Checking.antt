@@ -19,7 +19,7 @@ use Rattle.vpg_written.specs.Translations.{formula_at}
 abbrev pub entry_at : List Entry → ℕ → Entry
 entry_at entries n = slice_index_or entries n (record { name = []; formula = constant false })
 
--- What this entry says, behind those before it, holds at the first state of the product that has these features.
+-- What this entry says, after those before it, holds at the first state of the product that has these features.
 abbrev pub EntryHoldsIn : NamedSystem → List Entry → ℕ → List Bool → Type 0
 EntryHoldsIn system entries n set =
     Holds system.actions (product_system (truth set) (system_of system)) (take n entries) (entry_at entries n).formula

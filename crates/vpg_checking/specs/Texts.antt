@@ -10,7 +10,7 @@ use Rattle.vpg_model.specs.Pairs.{IsPairGame}
 use Rattle.vpg_labels.specs.Labels.{SpellsNamed, labels_from, start_told}
 use Rattle.vpg_part_texts.specs.PartTexts.{numbers_from, fixpoint_name, title, cut}
 
--- What is written behind what was there spells the game.
+-- What is written after what was there spells the game.
 abbrev pub WritesGame : List (List ℕ) → NamedGame → List ℕ → List ℕ → Type 0
 WritesGame names game old new = (text : List ℕ) × (new ≡ old ++ text) × SpellsGame names text game
 
@@ -50,7 +50,7 @@ vertex_name entries places parts sets pair =
     name_front entries places pair.0 pair.1
     ++ part_name parts sets (slice_index_or places (entry_of places pair.1) 0) pair.1
 
--- The text behind what was there spells the game, and gives its vertices these names, without quotes and ends of lines.
+-- The text after what was there spells the game, and gives its vertices these names, without quotes and ends of lines.
 -- It starts at the vertex 0 if there is one entry, and else nowhere.
 pub record WritesNames (features : List (List ℕ)) (game : NamedGame) (entries : ℕ) (names : List (List ℕ))
     (old new : List ℕ) : Type 0 where

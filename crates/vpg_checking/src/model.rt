@@ -59,7 +59,7 @@ fn is_named(entry: &Entry, name: &[u8]) -> bool
 }
 
 impl Model {
-    /// The game of a system and of the requirements that a text spells.
+    /// Returns the game of a system and of the requirements that a text spells.
     fn of(alloc: Global, system: System, text: &[u8]) -> Result<Model, CheckingFault>
         requires few_features { system.features ≤ 512 }
         requires system { IsSystem system }
@@ -148,7 +148,7 @@ impl Model {
         Model::of(alloc, system, requirements)
     }
 
-    /// The vertex of the requirement of this name, if there is one.
+    /// Returns the vertex of the requirement of this name, if there is one.
     pub fn vertex_of(&self, name: &[u8]) -> Option<usize>
         ensures { result ≡
             vertex_named (earlier_of self.now.requirements.entries.items) self.now.roots.items name.now }

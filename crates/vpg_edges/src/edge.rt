@@ -47,7 +47,7 @@ impl Edge {
         })
     }
 
-    /// The edge with another guard joined to its own.
+    /// Returns the edge with another guard joined to its own.
     pub fn joined(self, alloc: Global, guard: Guard) -> Result<Edge, AllocError>
         ensures { IfOk result (λ e. (e.to ≡ self.to) × (e.guard ≡ either self.guard (formula_of guard))) }
     {

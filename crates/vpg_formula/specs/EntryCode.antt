@@ -37,7 +37,7 @@ visit_of v = (reverse (map context_of v.parts.items), reverse v.standings.items)
 
 -- ---- entries
 
--- a word and those behind it
+-- a word and those after it
 abbrev pub words_in : Option (Bor (List ℕ) × Bor (List (Bor (List ℕ)))) → List (List ℕ)
 words_in None = []
 words_in (Some p) = p.0.now ∷ texts p.1.now
@@ -60,7 +60,7 @@ Halts (halts.Twice left) read = read ≡ None
 Halts (halts.TooMany left) read = read ≡ None
 Halts (halts.Negated left) read = ⊥
 
--- a formula whose names are known: whether a variable in it is negated, its marks, and the words behind it
+-- a formula whose names are known: whether a variable in it is negated, its marks, and the words after it
 pub record IsBody (earlier : List (List ℕ)) (negated : Option ℕ) (marks : List Mark) (ws rest : List (List ℕ)) :
     Type 0 where
   pub phrase : Phrase
@@ -74,7 +74,7 @@ pub record IsHead (earlier : List (List ℕ)) (name : List ℕ) (ws rest : List 
   pub new : is_among earlier name ≡ false
   pub sign : after_word (codes "=") ws ≡ Some rest
 
--- an entry, behind its `=`
+-- an entry, after its `=`
 pub record IsItem (earlier : List (List ℕ)) (name : List ℕ) (negated : Option ℕ) (made : Marked)
     (ws rest : List (List ℕ)) : Type 0 where
   pub formula : Written

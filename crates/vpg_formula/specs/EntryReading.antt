@@ -13,7 +13,7 @@ use Rattle.vpg_formula.specs.declared.uses.Standing.TheVariants.{Unknown}
 
 -- ---- names
 
--- Contexts of the parts of a formula that are still to come, and how the names behind them stand; the marks are visited
+-- Contexts of the parts of a formula that are still to come, and how the names after them stand; the marks are visited
 -- from the last to the first.
 abbrev pub Visit : Type 0
 Visit = List Context × List Standing
@@ -80,7 +80,7 @@ if_known earlier p = if has Unknown earlier p.0.written then None else Some p
 abbrev pub body_at : List (List ℕ) → Read Phrase
 body_at earlier ws = phrase_at a_formula 64 ws >>= if_known earlier
 
--- the entry of this name, behind its `=`
+-- the entry of this name, after its `=`
 abbrev pub item_behind : List (List ℕ) → List ℕ → Read Entry
 item_behind earlier name ws =
     body_at earlier ws >>= λ p. after_word (codes ";") p.1 >>=
@@ -96,7 +96,7 @@ abbrev pub entry_at : List (List ℕ) → Read Entry
 entry_at earlier [] = None
 entry_at earlier (name ∷ ws) = if is_variable name then new_entry earlier name ws else None
 
--- so many entries at most, behind entries of these names
+-- this many entries at most, after entries of these names
 unfoldable pub entries_at : ℕ → List (List ℕ) → List (List ℕ) → Option (List Entry)
 entries_at n earlier [] = Some []
 entries_at zero earlier (w ∷ ws) = None

@@ -12,12 +12,12 @@ use Rattle.vpg_formula.specs.declared.fault.RequirementFault.TheVariants as faul
 use Rattle.vpg_formula.specs.declared.stop.Halt.{Halt}
 use Rattle.vpg_formula.specs.declared.stop.Halt.TheVariants as halts
 
--- the places of a text's words, and its length behind them
+-- the places of a text's words, and its length after them
 pub record ArePlaces (text : List ℕ) (places : List ℕ) : Type 0 where
   pub count : length places ≡ suc (length (words_of text))
   pub each : (k : ℕ) → k < length places → slice_index_or places k 0 ≡ place_of text k
 
--- the place at which so many words are left; where there are not so many words, that of the first
+-- the place at which this many words are left; where there are not this many words, that of the first
 abbrev pub place_left : List ℕ → ℕ → ℕ
 place_left places left =
     if nat_lt left (length places) then slice_index_or places (length places - 1 - left) 0
@@ -33,7 +33,7 @@ fault_at places (halts.TooMany left) = faults.TooMany (place_left places left)
 fault_at places (halts.Negated left) = faults.NegatedVariable (place_left places left)
 fault_at places halts.Memory = faults.Memory
 
--- so many words are left where this holds behind the others
+-- this many words are left where this holds after the others
 pub record IsLeft (ws : List (List ℕ)) (left : ℕ) (Is : ℕ → Type 0) : Type 0 where
   pub words : ℕ
   pub sum : words + left ≡ length ws
@@ -76,14 +76,14 @@ pub record IsRepeated (earlier : List (List ℕ)) (name : List ℕ) (ws : List (
   pub again : is_among earlier name ≡ true
   pub all_left : left ≡ suc (length ws)
 
--- the name of an entry behind 64 of them
+-- the name of an entry after 64 of them
 pub record IsBeyond (earlier : List (List ℕ)) (n : ℕ) (name : List ℕ) (ws : List (List ℕ)) (left : ℕ) : Type 0 where
   pub many : 64 ≤ n
   pub variable : is_variable name ≡ true
   pub new : is_among earlier name ≡ false
   pub all_left : left ≡ suc (length ws)
 
--- Where words begin no entry behind so many of these names, for what stands in front of its formula.
+-- Where words begin no entry after this many of these names, for what stands in front of its formula.
 abbrev pub HeadAt : List (List ℕ) → ℕ → List ℕ → List (List ℕ) → Halt → Type 0
 HeadAt earlier n name ws (halts.Twice left) = IsRepeated earlier name ws left
 HeadAt earlier n name ws (halts.TooMany left) = IsBeyond earlier n name ws left
@@ -91,7 +91,7 @@ HeadAt earlier n name ws (halts.Unknown left) = ⊥
 HeadAt earlier n name ws (halts.Negated left) = ⊥
 HeadAt earlier n name ws h = Unit {0}
 
--- Entries that are read, with the first negated name, and the words behind them.
+-- Entries that are read, with the first negated name, and the words after them.
 pub record AreReadTo (negated : Option ℕ) (made : List Marked) (all rest : List (List ℕ)) : Type 0 where
   pub entries : List Entry
   pub put : made ≡ marked entries

@@ -41,7 +41,7 @@ region_behind_head (modality m) = in_path m
 region_behind_head (binder kind) = at_variable
 region_behind_head head = in_formula
 
--- behind a closing parenthesis, in which so many others are open
+-- after a closing parenthesis, in which this many others are open
 abbrev pub closed_in : ℕ → Region
 closed_in zero = in_formula
 closed_in (suc n) = in_action n
@@ -62,7 +62,7 @@ closed [] = []
 closed (a_parenthesis ∷ around) = around
 closed (a_fixpoint x ∷ around) = closed around
 
--- what is open behind a word
+-- what is open after a word
 abbrev pub around_behind : Region → List ℕ → List Open → List Open
 around_behind in_formula w around =
     if bytes_eq w (codes "(") then a_parenthesis ∷ around
@@ -101,13 +101,13 @@ abbrev pub mention : Option Bool → ℕ → List Mention → List Mention
 mention None k later = later
 mention (Some known) k later = (k, known) ∷ later
 
--- the names among the words from there on, behind so many words
+-- the names among the words from there on, after this many words
 abbrev pub mentions_from : List (List ℕ) → Spot → ℕ → List (List ℕ) → List Mention
 mentions_from earlier spot k [] = []
 mentions_from earlier spot k (w ∷ ws) =
     mention (known_at earlier spot w) k (mentions_from earlier (behind spot w) (suc k) ws)
 
--- the names of a formula that begins with these words, behind entries of these names
+-- the names of a formula that begins with these words, after entries of these names
 abbrev pub mentions : List (List ℕ) → List (List ℕ) → List Mention
 mentions earlier ws = mentions_from earlier at_first 0 ws
 

@@ -42,7 +42,7 @@ depth_of region = 0
 abbrev pub pairs : List code.Mention → List Mention
 pairs ms = map (λ m. (m.left, m.is_known)) ms
 
--- the names among the words, up to where so many are left
+-- the names among the words, up to where this many are left
 abbrev pub left_mentions : List (List ℕ) → spec.Spot → ℕ → List (List ℕ) → List Mention
 left_mentions earlier spot end [] = []
 left_mentions earlier spot end (w ∷ ws) =
@@ -57,7 +57,7 @@ left_or (Some m) = m.0
 abbrev pub left_in : List Mention → ℕ → ℕ
 left_in ms n = left_or (slice_get ms n)
 
--- the first name that stands so has so many words left
+-- the first name that stands so has this many words left
 pub record IsFound (wanted : Standing) (ss : List Standing) (ms : List Mention) (left : ℕ) : Type 0 where
   pub index : ℕ
   pub first : first_like wanted ss ≡ Some index

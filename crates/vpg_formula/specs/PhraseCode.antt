@@ -9,7 +9,7 @@ use Rattle.vpg_formula.specs.declared.mark.Mark.TheVariants as marks
 use Rattle.vpg_formula.specs.declared.joint.Joint.{Joint}
 use Rattle.vpg_formula.specs.declared.joint.Joint.TheVariants as joints
 
--- what stands behind the first word where no part may be open, and where so many may
+-- what stands after the first word where no part may be open, and where this many may
 abbrev pub leaf_behind : Head → Read Phrase
 leaf_behind head ws = part_behind nothing_read nothing_read no_phrase no_phrase head ws
 

@@ -16,7 +16,7 @@ Fails stops.Memory read = Unit {0}
 Fails (stops.Syntax left) read = read ≡ None
 Fails (stops.TooDeep left) read = read ≡ None
 
--- what is read: its marks are put behind those that were there, it has this property, and these words are left
+-- what is read: its marks are put after those that were there, it has this property, and these words are left
 pub record IsRead {A : Type 0} (marks : A → List Mark) (has : A → Bool) (old new : List Mark) (flag : Bool)
     (rest : List (List ℕ))
     (read : Option (A × List (List ℕ))) : Type 0 where

@@ -38,7 +38,7 @@ is_action (choice x y) = false
 is_action (repeated x) = false
 is_action (repeated_once x) = false
 
--- the action that a word in quotes names, by what stands behind the first: at least one byte, and the closing quote
+-- the action that a word in quotes names, by what stands after the first: at least one byte, and the closing quote
 abbrev pub quoted_label : List ℕ → Option Label
 quoted_label bytes =
     if nat_le 2 (length bytes) && is_closed bytes

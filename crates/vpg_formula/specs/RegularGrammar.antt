@@ -1,5 +1,5 @@
 -- Which words are a regular formula: mCRL2's grammar of action and regular formulas, without data. `!` binds closest,
--- then `&&`, `||`, `*` and `+` behind a formula, `.`, and `+` between two.
+-- then `&&`, `||`, `*` and `+` after a formula, `.`, and `+` between two.
 use Rattle.std.specs.Prelude.{◌≡◌, ℕ, zero, suc, List, [], ◌∷◌, ◌++◌, codes, Option, Some}
 use Rattle.vpg_formula.specs.Regular.{Regular, repeated, repeated_once, word_formula, complement_of, all_of, any_of, sequence_of, choice_of}
 use Rattle.vpg_formula.specs.Words.{words_of}
@@ -23,7 +23,7 @@ pub data Series {A : Type 0} (Item : List (List ℕ) → A → Type 0) (sign : L
   more : {us ws : List (List ℕ)} {x y z : A} → Series Item sign join us x → Item ws y → join x y ≡ Some z →
       Series Item sign join (us ++ sign ∷ ws) z
 
--- one item, and any number of `*` and `+` behind it
+-- one item, and any number of `*` and `+` after it
 pub data Starred (Item : List (List ℕ) → Regular → Type 0) : List (List ℕ) → Regular → Type 0 where
   plain : {ws : List (List ℕ)} {x : Regular} → Item ws x → Starred Item ws x
   star : {ws : List (List ℕ)} {x : Regular} → Starred Item ws x → Starred Item (ws ++ codes "*" ∷ []) (repeated x)
@@ -48,12 +48,12 @@ Choice Item ws x = Series (Sequence Item) (codes "+") choice_of ws x
 abbrev pub Nothing : Form
 Nothing ws x = ⊥
 
--- operands in which so many `(` and `!` may be open at one place
+-- operands in which this many `(` and `!` may be open at one place
 unfoldable pub IsOperand : ℕ → List (List ℕ) → Regular → Type 0
 IsOperand zero ws x = Operand Nothing Nothing ws x
 IsOperand (suc d) ws x = Operand (IsOperand d) (Choice (IsOperand d)) ws x
 
--- regular formulas in which so many may be open
+-- regular formulas in which this many may be open
 abbrev pub IsRegular : ℕ → List (List ℕ) → Regular → Type 0
 IsRegular d ws x = Choice (IsOperand d) ws x
 

@@ -15,7 +15,7 @@ pub record Entry : Type 0 where
   pub name : List ℕ
   pub formula : Written
 
--- Entries behind earlier ones of these names, so many at most. Each has a new name, and each name in its formula is
+-- Entries after earlier ones of these names, this many at most. Each has a new name, and each name in its formula is
 -- bound there or an earlier entry's.
 pub data AreEntries : ℕ → List (List ℕ) → List (List ℕ) → List Entry → Type 0 where
   no_entry : {n : ℕ} {earlier : List (List ℕ)} → AreEntries n earlier [] []

@@ -30,7 +30,7 @@ negated_in c = record { is_odd = not c.is_odd; scope = c.scope }
 abbrev pub inside : List ℕ → Context → Context
 inside x c = record { is_odd = c.is_odd; scope = c.scope ++ record { name = x; is_odd = c.is_odd } ∷ [] }
 
--- behind a word: `!` and `never` are negations
+-- after a word: `!` and `never` are negations
 abbrev pub behind_prefix : Prefix → Context → Context
 behind_prefix negated c = negated_in c
 behind_prefix (some_path x) c = c
@@ -58,7 +58,7 @@ standing_in is_odd [] without x = without
 standing_in is_odd (b ∷ bs) without x =
     standing_in is_odd bs (if bytes_eq b.name x then standing_under b.is_odd is_odd else without) x
 
--- how a name stands, behind entries of these names
+-- how a name stands, after entries of these names
 abbrev pub standing_of : List (List ℕ) → Context → List ℕ → Standing
 standing_of earlier c x = standing_in c.is_odd c.scope (if is_among earlier x then Known else Unknown) x
 

@@ -36,8 +36,8 @@ starts_name (b ∷ text) = is_name_byte b
 abbrev pub deeper : ℕ → Option ℕ
 deeper depth = if nat_lt depth 64 then Some (suc depth) else None
 
--- How many parentheses are open behind a byte of an action with its arguments, where so many are in front of it; none
--- where the action ends. Behind `|` comes another name, and arguments end with their line.
+-- How many parentheses are open after a byte of an action with its arguments, where this many are in front of it; none
+-- where the action ends. After `|` comes another name, and arguments end with their line.
 abbrev pub open_behind : ℕ → ℕ → List ℕ → Option ℕ
 open_behind zero b text =
     if is_name_byte b || (b == 124 && starts_name text) then Some 0 else (if b == 40 then Some 1 else None)
@@ -61,20 +61,20 @@ go_on zero (Some zero) later = one_more (later zero)
 go_on zero (Some (suc more)) later = opening (later (suc more))
 go_on (suc depth) (Some more) later = one_more (later more)
 
--- How many bytes at the front are an action with its arguments, where so many parentheses are open; none where those
+-- How many bytes at the front are an action with its arguments, where this many parentheses are open; none where those
 -- are not closed. It ends in front of arguments that are not closed.
 unfoldable pub action_len : ℕ → List ℕ → Option ℕ
 action_len depth [] = ended depth
 action_len depth (b ∷ text) = go_on depth (open_behind depth b text) (λ more. action_len more text)
 
--- How many bytes there are up to the closing quote, with it; none where the line ends before. A quote behind `\` closes
+-- How many bytes there are up to the closing quote, with it; none where the line ends before. A quote after `\` closes
 -- nothing; the flag says whether `\` stands in front.
 abbrev pub quoted_len : Bool → List ℕ → Option ℕ
 quoted_len escaped [] = None
 quoted_len escaped (b ∷ text) =
     if b == 10 then None else (if b == 34 && not escaped then Some 1 else one_more (quoted_len (b == 92) text))
 
--- whether a quote closes just at the end of the bytes behind the first
+-- whether a quote closes just at the end of the bytes after the first
 abbrev pub closes_at : Option ℕ → ℕ → Bool
 closes_at None n = false
 closes_at (Some k) n = k == n
@@ -86,7 +86,7 @@ is_closed text = closes_at (quoted_len false text) (length text)
 abbrev pub line_len : List ℕ → ℕ
 line_len text = prefix_len (λ b. not (b == 10)) text
 
--- a word in quotes, behind the first: up to the closing one, or the line's end
+-- a word in quotes, after the first: up to the closing one, or the line's end
 abbrev pub quote_len : List ℕ → ℕ
 quote_len text = unwrap_or (quoted_len false text) (line_len text)
 
@@ -109,7 +109,7 @@ word_len (b ∷ text) =
     if is_name_byte b then name_len (b ∷ text)
     else (if b == 34 then suc (quote_len text) else (if is_pair b text then 2 else 1))
 
--- what stands behind blanks and comments
+-- what stands after blanks and comments
 abbrev pub after_gap : List ℕ → List ℕ
 after_gap text = drop (gap_len false text) text
 
@@ -118,7 +118,7 @@ abbrev pub word_and : (List ℕ → List (List ℕ)) → List ℕ → List (List
 word_and later [] = []
 word_and later (b ∷ text) = take (word_len (b ∷ text)) (b ∷ text) ∷ later (drop (word_len (b ∷ text)) (b ∷ text))
 
--- the words of a text, of which so many bytes are looked at
+-- the words of a text, of which this many bytes are looked at
 unfoldable pub words_with : ℕ → List ℕ → List (List ℕ)
 words_with zero text = []
 words_with (suc n) text = word_and (words_with n) (after_gap text)

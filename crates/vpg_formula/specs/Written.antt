@@ -106,7 +106,7 @@ head_of w =
     else (if is_variable w then leaf (named w) else other)))))))))))))))))
 
 -- A formula, and whether it ends with a fixpoint's. Such a one goes on as long as it can, so nothing joins it from
--- behind.
+-- after.
 pub record Phrase : Type 0 where
   pub written : Written
   pub is_endless : Bool

@@ -16,7 +16,7 @@ pub enum FormulaFault {
     /// The first byte of the part that would be the 65th open one.
     #[error("TooDeep {at}")]
     TooDeep { at: usize },
-    /// A growth was refused.
+    /// Memory ran out.
     #[error("Memory")]
     Memory,
 }
@@ -42,7 +42,7 @@ pub enum RequirementFault {
     /// The first byte of a variable under an odd number of negations within its fixpoint.
     #[error("NegatedVariable {at}")]
     NegatedVariable { at: usize },
-    /// A growth was refused.
+    /// Memory ran out.
     #[error("Memory")]
     Memory,
 }

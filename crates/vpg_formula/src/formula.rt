@@ -41,7 +41,7 @@ fn after_leaf<'a, 't>(leaf: Leaf, words: &'a [&'t [u8]]) -> Option<&'a [&'t [u8]
     }
 }
 
-/// A leaf, of which the first word is read.
+/// Returns a leaf, of which the first word is read.
 fn read_leaf<'a, 't>(
     alloc: Global,
     leaf: Leaf,
@@ -62,7 +62,7 @@ fn read_leaf<'a, 't>(
     Ok((false, rest))
 }
 
-/// An action formula behind `can`, `will` or `after`.
+/// Returns an action formula after `can`, `will` or `after`.
 fn action<'a, 't>(
     alloc: Global,
     words: &'a [&'t [u8]],
@@ -80,7 +80,7 @@ fn action<'a, 't>(
     Ok((true, rest))
 }
 
-/// An action formula behind `can` or `will`.
+/// Returns an action formula after `can` or `will`.
 fn read_action<'a, 't>(
     alloc: Global,
     word: ActionWord,
@@ -99,7 +99,7 @@ fn read_action<'a, 't>(
     Ok((false, rest))
 }
 
-/// An operand. `depth` says how many more parts may be open.
+/// Returns an operand. `depth` says how many more parts may be open.
 #[cycle(phrase)]
 fn part<'a, 't>(
     alloc: Global,
@@ -126,7 +126,7 @@ fn part<'a, 't>(
     }
 }
 
-/// A part, of which the first word is read.
+/// Returns a part, of which the first word is read.
 #[cycle(phrase)]
 fn inner<'a, 't>(
     alloc: Global,
@@ -150,7 +150,7 @@ fn inner<'a, 't>(
     }
 }
 
-/// An operand, and the mark of what stands in front of it.
+/// Returns an operand, and the mark of what stands in front of it.
 #[cycle(phrase)]
 fn behind<'a, 't>(
     alloc: Global,
@@ -170,7 +170,7 @@ fn behind<'a, 't>(
     Ok((is_endless, rest))
 }
 
-/// A formula up to the closing parenthesis.
+/// Returns a formula up to the closing parenthesis.
 #[cycle(phrase)]
 fn enclosed<'a, 't>(
     alloc: Global,
@@ -189,7 +189,7 @@ fn enclosed<'a, 't>(
     }
 }
 
-/// A regular formula up to its closing bracket, and an operand.
+/// Returns a regular formula up to its closing bracket, and an operand.
 #[cycle(phrase)]
 fn modal<'a, 't>(
     alloc: Global,
@@ -209,7 +209,7 @@ fn modal<'a, 't>(
     behind(alloc, bracket.mark(), left, depth, out)
 }
 
-/// What stands behind the first `again`.
+/// What stands after the first `again`.
 #[cycle(phrase)]
 fn again<'a, 't>(
     alloc: Global,
@@ -230,7 +230,7 @@ fn again<'a, 't>(
     behind(alloc, Mark::AgainAndAgain, left, depth, out)
 }
 
-/// What stands behind `after`.
+/// What stands after `after`.
 #[cycle(phrase)]
 fn after<'a, 't>(
     alloc: Global,
@@ -246,7 +246,7 @@ fn after<'a, 't>(
     behind(alloc, Mark::After, rest, depth, out)
 }
 
-/// What stands behind `mu` or `nu`.
+/// What stands after `mu` or `nu`.
 #[cycle(phrase)]
 fn binding<'a, 't>(
     alloc: Global,
@@ -325,7 +325,7 @@ fn joined<'a, 't>(
     Ok((is_endless, rest))
 }
 
-/// A formula. `depth` says how many more parts may be open.
+/// Returns a formula. `depth` says how many more parts may be open.
 #[cycle(phrase)]
 pub(crate) fn formula<'a, 't>(
     alloc: Global,

@@ -18,7 +18,7 @@ pub(crate) enum Level {
 }
 
 impl Level {
-    /// The sign.
+    /// Returns the sign.
     pub(crate) fn sign(self) -> &'static [u8]
         ensures { result.now ≡ sign_of self }
     {
@@ -30,7 +30,7 @@ impl Level {
         }
     }
 
-    /// The mark of two formulas that it joins.
+    /// Returns the mark of two formulas that it joins.
     pub(crate) fn mark(self) -> Mark
         ensures { result ≡ mark_of self }
     {

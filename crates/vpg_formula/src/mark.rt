@@ -19,7 +19,7 @@ impl Model for Name {
 }
 
 impl Name {
-    /// The name of these bytes.
+    /// Returns the name of these bytes.
     pub(crate) fn new(alloc: Global, text: &[u8]) -> Result<Name, AllocError>
         ensures { IfOk result (λ name. name ≡ text.now) }
     {
@@ -28,7 +28,7 @@ impl Name {
         Ok(Name { bytes })
     }
 
-    /// The bytes.
+    /// Returns the bytes.
     pub fn as_bytes(&self) -> &[u8]
         ensures { result.now ≡ self.now }
     {

@@ -111,7 +111,7 @@ fn behind_action(word: &[u8]) -> Region
     Region::Formula
 }
 
-/// What follows a closing parenthesis of an action formula, inside so many others.
+/// What follows a closing parenthesis of an action formula, inside this many others.
 fn closed_in(depth: usize) -> Region
     ensures { region_of result ≡ spec.closed_in depth }
 {
@@ -122,7 +122,7 @@ fn closed_in(depth: usize) -> Region
     }
 }
 
-/// What follows a word inside so many more parentheses of an action formula.
+/// What follows a word inside this many more parentheses of an action formula.
 fn behind_inside(word: &[u8], depth: usize) -> Region
     requires { depth + 1 < 2 ^ 64 }
     ensures { region_of result ≡ region_behind (region_of (Region.Inside depth)) word.now }
@@ -256,7 +256,7 @@ fn note_name(known: Option<bool>, left: usize, out: &mut Vec<Mention>) -> Result
     Ok(())
 }
 
-/// The names in a formula that begins with these words, up to where so many words are left.
+/// Returns the names in a formula that begins with these words, up to where this many words are left.
 pub(crate) fn mentions(
     alloc: Global,
     entries: &[Entry],
@@ -285,7 +285,7 @@ pub(crate) fn mentions(
     Ok(out)
 }
 
-/// How many words are left at the name of this index.
+/// Returns how many words are left at the name of this index.
 pub(crate) fn left_at(mentions: &[Mention], index: usize) -> usize
     ensures { result ≡ left_in (pairs mentions.now) index }
 {
@@ -295,7 +295,7 @@ pub(crate) fn left_at(mentions: &[Mention], index: usize) -> usize
     }
 }
 
-/// How many words are left at the first name that is not known.
+/// Returns how many words are left at the first name that is not known.
 pub(crate) fn first_unknown(mentions: &[Mention]) -> Option<usize>
     ensures { result ≡ spec.first_unknown (pairs mentions.now) }
 {

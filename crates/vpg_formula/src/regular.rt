@@ -60,7 +60,7 @@ fn is_word(word: &[u8]) -> bool
     is_same(word, b"true") || is_same(word, b"false") || is_label(word)
 }
 
-/// The action that a word names.
+/// Returns the action that a word names.
 fn label(alloc: Global, word: &[u8]) -> Result<Option<Label>, AllocError>
     ensures { IfOk result (λ label. label ≡ label_of word.now) }
 {
@@ -116,7 +116,7 @@ fn starts_operand(words: &[&[u8]]) -> bool
     }
 }
 
-/// Whether `*` or a `+` that is none between two comes next, and which; and the words behind it.
+/// Whether `*` or a `+` that is none between two comes next, and which; and the words after it.
 fn star<'a, 't>(words: &'a [&'t [u8]]) -> Option<(bool, &'a [&'t [u8]])>
     ensures next { option_map (λ x. (x.0, texts x.1.now)) result ≡ star_next (texts words.now) }
     ensures shorter { IfSome result (λ x. length x.1.now < length words.now) }
@@ -145,7 +145,7 @@ fn star_mark(is_plus: bool) -> Mark
     }
 }
 
-/// A word that is an action formula.
+/// Returns a word that is an action formula.
 fn word<'a, 't>(
     alloc: Global,
     words: &'a [&'t [u8]],
@@ -166,7 +166,7 @@ fn word<'a, 't>(
     Ok((true, rest))
 }
 
-/// An operand. `depth` says how many more `(` and `!` may be open.
+/// Returns an operand. `depth` says how many more `(` and `!` may be open.
 #[cycle(read)]
 pub(crate) fn operand<'a, 't>(
     alloc: Global,
@@ -256,7 +256,7 @@ pub(crate) fn series<'a, 't>(
     Ok((is_action, rest))
 }
 
-/// Actions, and `*` and `+` behind them.
+/// Actions, and `*` and `+` after them.
 #[cycle(read)]
 fn starred<'a, 't>(
     alloc: Global,

@@ -56,7 +56,8 @@ struct Items {
     negated: Option<usize>,
 }
 
-/// The fault of a formula that ends with this one: that of a name in front of it that is not known, if there is one.
+/// Returns the fault of a formula that ends with this one: that of a name in front of it that is not known, if there is
+/// one.
 fn leftmost(alloc: Global, entries: &[Entry], words: &[&[u8]], left: usize, halt: Halt) -> Halt
     requires early { is_halt_negated halt ≡ false }
     requires at { BodyAt (earlier_of entries.now) (texts words.now) halt }
@@ -72,7 +73,7 @@ fn leftmost(alloc: Global, entries: &[Entry], words: &[&[u8]], left: usize, halt
     }
 }
 
-/// How many words are left at the first negated variable of a formula whose names are all known.
+/// Returns how many words are left at the first negated variable of a formula whose names are all known.
 fn check_names(
     alloc: Global,
     entries: &[Entry],
@@ -101,7 +102,7 @@ fn check_names(
     }
 }
 
-/// The formula at the front, whose names are bound in it or those of the entries.
+/// Returns the formula at the front, whose names are bound in it or those of the entries.
 fn read_body<'a, 't>(
     alloc: Global,
     entries: &[Entry],
@@ -138,7 +139,7 @@ fn read_body<'a, 't>(
     }
 }
 
-/// The first word, and those behind it.
+/// Returns the first word, and those after it.
 pub(crate) fn split_first<'a, 't>(words: &'a [&'t [u8]]) -> Option<(&'t [u8], &'a [&'t [u8]])>
     ensures words { words_in result ≡ texts words.now }
     ensures some { IfSome result (λ p. texts words.now ≡ p.0.now ∷ texts p.1.now) }
@@ -164,7 +165,7 @@ fn begins_entry(words: &[&[u8]]) -> bool
     is_variable(name) && is_same(sign, b"=")
 }
 
-/// The words behind the name of a new entry and `=`.
+/// Returns the words after the name of a new entry and `=`.
 fn head<'a, 't>(
     entries: &[Entry],
     name: &[u8],
@@ -194,7 +195,7 @@ fn head<'a, 't>(
     }
 }
 
-/// The entry of this name, of which these words stand behind the `=`.
+/// Returns the entry of this name, of which these words stand after the `=`.
 fn read_entry<'a, 't>(
     alloc: Global,
     entries: &[Entry],
@@ -222,7 +223,7 @@ fn read_entry<'a, 't>(
     Ok((Item { entry, negated }, rest))
 }
 
-/// The first of two places, of which the first is that of earlier words.
+/// Returns the first of two places, of which the first is that of earlier words.
 fn first_place(a: Option<usize>, b: Option<usize>) -> Option<usize>
     ensures some { is_some result ≡ is_some a || is_some b }
     ensures first { result ≡ first_of a b }
@@ -233,7 +234,7 @@ fn first_place(a: Option<usize>, b: Option<usize>) -> Option<usize>
     }
 }
 
-/// Reads one entry more, and returns the words behind it.
+/// Reads one entry more, and returns the words after it.
 fn add_entry<'a, 't>(
     alloc: Global,
     items: &mut Items,
@@ -305,7 +306,7 @@ fn alone(alloc: Global, words: &[&[u8]]) -> Result<Items, Halt>
     Ok(Items { entries, negated })
 }
 
-/// The entries that all the words are.
+/// Returns the entries that all the words are.
 fn read_all(alloc: Global, words: &[&[u8]]) -> Result<Items, Halt>
     ensures items { IfOk result (λ i. AreRead i.negated (entries_of i.entries.items)
         (requirements_at (texts words.now))) }
@@ -363,7 +364,7 @@ fn fault(words: &Words, halt: Halt) -> RequirementFault
 }
 
 impl Requirements {
-    /// The requirements that a text spells.
+    /// Returns the requirements that a text spells.
     ///
     /// A text has one formula, whose entry is then named `requirement`, or 1 to 64 entries `NAME = FORMULA;`. Formulas
     /// are those of `parse_formula`. Names of entries are made as those of variables, and no two entries have the same.
@@ -374,9 +375,9 @@ impl Requirements {
     /// The leftmost fault of `Syntax`, `UnknownVariable`, `TooDeep`, `Twice` and `TooMany` is returned; where there is
     /// none, the first `NegatedVariable`.
     pub fn read(alloc: Global, text: &[u8]) -> Result<Requirements, RequirementFault>
-        // What is read is spelled so.
+        // The text spells the result.
         ensures found { IfOk result (λ r. AreRequirements text.now (entries_of r.entries.items)) }
-        // What is spelled so is read, unless memory runs out.
+        // All that the text spells is read, unless memory runs out.
         ensures only { (entries : List spec.Entry) → SpellsRequirements text.now entries →
             MatchResult result (λ r. entries_of r.entries.items ≡ marked entries)
             (λ e. e ≡ RequirementFault.Memory) }

@@ -47,7 +47,7 @@ pub(crate) fn is_entry(entries: &[Entry], name: &[u8]) -> bool
     false
 }
 
-/// How a variable stands that is bound there.
+/// Returns how a variable stands that is bound there.
 fn standing_under(bound: &Bound, is_odd: bool) -> Standing
     ensures { result ≡ spec.standing_under bound.now.is_odd is_odd }
 {
@@ -57,7 +57,7 @@ fn standing_under(bound: &Bound, is_odd: bool) -> Standing
     }
 }
 
-/// How a name stands inside one more fixpoint, where it would stand so without it.
+/// Returns how a name stands inside one more fixpoint, where it would stand so without it.
 fn standing_inside(bound: &Bound, is_odd: bool, without: Standing, name: &[u8]) -> Standing
     ensures { result ≡ (if bytes_eq bound.now.name.now name.now then spec.standing_under bound.now.is_odd is_odd
         else without) }
@@ -69,7 +69,7 @@ fn standing_inside(bound: &Bound, is_odd: bool, without: Standing, name: &[u8]) 
     }
 }
 
-/// How a name stands that no fixpoint binds.
+/// Returns how a name stands that no fixpoint binds.
 fn standing_outside(entries: &[Entry], name: &[u8]) -> Standing
     ensures { result ≡ (if spec.is_among (earlier_of entries.now) name.now then Standing.Known else Standing.Unknown) }
 {
@@ -80,7 +80,7 @@ fn standing_outside(entries: &[Entry], name: &[u8]) -> Standing
     }
 }
 
-/// How a name stands there.
+/// Returns how a name stands there.
 fn standing_of(entries: &[Entry], context: &Context, name: &[u8]) -> Standing
     ensures { result ≡ spec.standing_of (earlier_of entries.now) (context_of context.now) name.now }
 {
@@ -158,7 +158,7 @@ fn add_standing(visit: &mut Visit, standing: Standing) -> Result<(), AllocError>
     Ok(())
 }
 
-/// The part that is next, if any.
+/// Returns the part that is next, if any.
 fn next_part<'m>(visit: &mut Visit<'m>) -> Option<Context<'m>>
     ensures none { IfNone result ((visit_of visit.old).0 ≡ [] × (visit_of visit.new ≡ visit_of visit.old)) }
     ensures some { IfSome result (λ c. visit_of visit.old ≡
@@ -243,7 +243,7 @@ fn step<'m>(
     }
 }
 
-/// How the names of a formula stand, the last first.
+/// Returns how the names of a formula stand, the last first.
 pub(crate) fn standings(
     alloc: Global,
     entries: &[Entry],

@@ -16,7 +16,7 @@ fn is_blank(b: u8) -> bool
     b == b' ' || b == b'\t' || b == b'\r' || b == b'\n'
 }
 
-/// How many bytes at the front are blanks and comments.
+/// Returns how many bytes at the front are blanks and comments.
 fn gap_len(text: &[u8]) -> usize
     ensures len { result ≡ gap_len false text.now }
     ensures within { result ≤ length text.now }
@@ -79,8 +79,8 @@ fn deeper(depth: usize) -> Option<usize>
     if depth < 64 { Some(depth + 1) } else { None }
 }
 
-/// How many parentheses are open behind a byte of an action, where so many are in front of it; `None` where the action
-/// ends.
+/// Returns how many parentheses are open after a byte of an action, where this many are in front of it; `None` where
+/// the action ends.
 fn open_behind(depth: usize, b: u8, text: &[u8]) -> Option<usize>
     requires { depth ≤ 64 }
     ensures open { result ≡ open_behind depth b text.now }
@@ -105,8 +105,8 @@ fn open_behind(depth: usize, b: u8, text: &[u8]) -> Option<usize>
     }
 }
 
-/// How many bytes at the front are an action with its arguments, and others behind `|`. Arguments that are not closed
-/// are none.
+/// Returns how many bytes at the front are an action with its arguments, and others after `|`. Arguments that are not
+/// closed are none.
 fn action_len(text: &[u8]) -> usize
     ensures len { Some result ≡ action_len 0 text.now }
     ensures within { result ≤ length text.now }
@@ -130,7 +130,7 @@ fn end_at(depth: usize, at: usize, opened: usize) -> usize
     if depth == 0 { at } else { opened }
 }
 
-/// How many bytes there are up to the closing quote, with it.
+/// Returns how many bytes there are up to the closing quote, with it.
 fn quoted_len(text: &[u8]) -> Option<usize>
     ensures len { result ≡ quoted_len false text.now }
     ensures within { IfSome result (λ len. len ≤ length text.now) }
@@ -148,7 +148,7 @@ fn quoted_len(text: &[u8]) -> Option<usize>
     None
 }
 
-/// Whether a quote closes just at the end of the bytes behind the first.
+/// Whether a quote closes just at the end of the bytes after the first.
 pub(crate) fn is_closed(text: &[u8]) -> bool
     ensures { result ≡ is_closed text.now }
 {
@@ -158,7 +158,7 @@ pub(crate) fn is_closed(text: &[u8]) -> bool
     }
 }
 
-/// How many bytes there are up to the end of the line.
+/// Returns how many bytes there are up to the end of the line.
 fn line_len(text: &[u8]) -> usize
     ensures len { result ≡ line_len text.now }
     ensures within { result ≤ length text.now }
@@ -166,7 +166,7 @@ fn line_len(text: &[u8]) -> usize
     text.iter().take_while(|b| **b != b'\n').count()
 }
 
-/// How many bytes of a word in quotes stand behind the first.
+/// Returns how many bytes of a word in quotes stand after the first.
 fn quote_len(text: &[u8]) -> usize
     ensures len { result ≡ quote_len text.now }
     ensures within { result ≤ length text.now }
@@ -177,7 +177,7 @@ fn quote_len(text: &[u8]) -> usize
     }
 }
 
-/// How many letters, digits and `_` stand at the front.
+/// Returns how many letters, digits and `_` stand at the front.
 fn run_len(text: &[u8]) -> usize
     ensures len { result ≡ prefix_len is_name_byte text.now }
     ensures within { result ≤ length text.now }
@@ -185,7 +185,7 @@ fn run_len(text: &[u8]) -> usize
     text.iter().take_while(|b| is_name_byte(**b)).count()
 }
 
-/// How long the word of letters, digits and `_` at the front is, with its arguments.
+/// Returns how long the word of letters, digits and `_` at the front is, with its arguments.
 #[tactic(auto, using(crate::proofs::Lengths::name_len_some))]
 fn name_len(text: &[u8]) -> usize
     requires { starts_name text.now ≡ true }
@@ -211,7 +211,7 @@ fn is_pair(b: u8, text: &[u8]) -> bool
     }
 }
 
-/// How long the word at the front is.
+/// Returns how long the word at the front is.
 fn word_len(text: &[u8]) -> usize
     requires { 0 < length text.now }
     ensures len { result ≡ word_len text.now }
@@ -232,7 +232,7 @@ fn word_len(text: &[u8]) -> usize
     }
 }
 
-/// The text from its first word on.
+/// Returns the text from its first word on.
 fn after_gap(text: &[u8]) -> &[u8]
     ensures rest { result.now ≡ after_gap text.now }
     ensures shorter { length result.now ≤ length text.now }
@@ -240,7 +240,7 @@ fn after_gap(text: &[u8]) -> &[u8]
     &text[gap_len(text)..]
 }
 
-/// The first word, and what stands behind it.
+/// Returns the first word, and what stands after it.
 fn first_word(text: &[u8]) -> Option<(&[u8], &[u8])>
     ensures some { IfSome result (λ p. words_of text.now ≡ p.0.now ∷ words_of p.1.now) }
     ensures shorter { IfSome result (λ p. length p.0.now + length p.1.now ≤ length text.now) }
@@ -257,14 +257,14 @@ fn first_word(text: &[u8]) -> Option<(&[u8], &[u8])>
     Some(text.split_at(word_len(text)))
 }
 
-/// The words of a text, and where each begins; behind the places of the words stands the length of the text.
+/// The words of a text, and where each begins; after the places of the words stands the length of the text.
 #[derive(Drop)]
 pub(crate) struct Words<'t> {
     pub(crate) words: Vec<&'t [u8]>,
     pub(crate) places: Vec<usize>,
 }
 
-/// The words of a text, in order.
+/// Returns the words of a text, in order.
 pub(crate) fn split_words(alloc: Global, text: &[u8]) -> Result<Words, AllocError>
     ensures words { IfOk result (λ w. texts w.words.items ≡ words_of text.now) }
     ensures places { IfOk result (λ w. ArePlaces text.now w.places.items) }

@@ -23,7 +23,7 @@ IsResolvingFault ids es _ = ⊥
 
 -- ---- the limits
 
--- the guard of each successor is one that is written, over so many features
+-- the guard of each successor is one that is written, over this many features
 abbrev pub AreReadable : ℕ → List SpelledSuccessor → Type 0
 AreReadable features [] = Unit {0}
 AreReadable features (s ∷ ss) = IsReadable features s.guard × AreReadable features ss

@@ -22,7 +22,7 @@ pub record NamedVertex : Type 0 where
 abbrev pub no_vertex : NamedVertex
 no_vertex = record { id = 0; owner = Even; priority = 0; edges = [] }
 
--- vertices in file order, over so many features
+-- vertices in file order, over this many features
 pub record NamedGame : Type 0 where
   pub vertices : List NamedVertex
   pub features : ℕ
@@ -86,7 +86,7 @@ place_of ids id = position_or_len (λ i. id == i) ids
 
 -- ---- the game that entries spell
 
--- the edges behind some that are there
+-- the edges after some that are there
 abbrev pub joined_edges : List ℕ → List (GuardedEdge Formula) → List SpelledSuccessor → List (GuardedEdge Formula)
 joined_edges ids edges [] = edges
 joined_edges ids edges (s ∷ ss) =
@@ -101,7 +101,7 @@ entry_ids entries = map (λ e. e.id) entries
 abbrev pub entry_priorities : List SpelledEntry → List ℕ
 entry_priorities entries = map (λ e. e.priority) entries
 
--- the game over so many features that entries spell: successors are looked up by identifier
+-- the game over this many features that entries spell: successors are looked up by identifier
 abbrev pub game_of : ℕ → List SpelledEntry → NamedGame
 game_of features entries = record { vertices = map (vertex_of (entry_ids entries)) entries; features = features }
 

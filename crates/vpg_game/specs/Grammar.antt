@@ -118,7 +118,7 @@ number_value n = digits_value 10 n.digits
 abbrev pub IsNumberBelow : ℕ → Number → Type 0
 IsNumberBelow limit n = IsNumber n × (number_value n < limit)
 
--- a number behind another word stands apart from it
+-- a number after another word stands apart from it
 abbrev pub IsApart : Number → Type 0
 IsApart n = 0 < length n.before
 

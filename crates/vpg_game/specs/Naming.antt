@@ -9,7 +9,7 @@ abbrev pub features_named : List (GuardedEdge Formula) → List ℕ
 features_named [] = []
 features_named (e ∷ es) = named e.guard ++ features_named es
 
--- for each of so many features exactly the vertices that name it
+-- for each of this many features exactly the vertices that name it
 pub record IsNaming (features : ℕ) (vertices : List NamedVertex) (naming : List (List ℕ)) : Type 0 where
   pub count : length naming ≡ features
   pub exact : (f v : ℕ) → Contains (slice_index_or naming f []) v ↔

@@ -18,7 +18,7 @@ target_id vs e = (slice_index_or vs e.to no_vertex).id
 abbrev pub edge_text : List (List ℕ) → List NamedVertex → GuardedEdge Formula → List ℕ
 edge_text names vs e = decimal (target_id vs e) ++ guard_part names e.guard
 
--- edges joined by `,`, behind a first byte; nothing where there are none
+-- edges joined by `,`, after a first byte; nothing where there are none
 abbrev pub edges_behind : List (List ℕ) → List NamedVertex → ℕ → List (GuardedEdge Formula) → List ℕ
 edges_behind names vs sign [] = []
 edges_behind names vs sign (e ∷ es) = sign ∷ (edge_text names vs e ++ edges_behind names vs 44 es)

@@ -30,7 +30,7 @@ pub struct GuardedGame {
     pub(crate) naming: Index,
 }
 
-// Not derived, so that letting one go is one call: a derived way would be proved anew at each exit that owns one.
+// Not derived: a derived `drop` would be proved again at each exit that owns such a value.
 impl Drop for GuardedGame {
     fn drop(self) {
         let GuardedGame {
@@ -61,7 +61,7 @@ impl Model for GuardedGame {
 }
 
 impl GuardedGame {
-    /// How many vertices it has, from 1 to 65,536.
+    /// Returns how many vertices it has, from 1 to 65,536.
     pub fn vertices(&self) -> usize
         ensures count { result ≡ length self.now.vertices }
         ensures graph { result ≡ length (graph_of self.now) }
@@ -77,7 +77,7 @@ impl GuardedGame {
         self.features
     }
 
-    /// The identifier of a vertex.
+    /// Returns the identifier of a vertex.
     pub fn id(&self, v: u32) -> u32
         requires { v < length self.now.vertices }
         ensures { slice_get (vertex_ids self.now.vertices) v ≡ Some result }
@@ -85,7 +85,7 @@ impl GuardedGame {
         self.vertices[v as usize].id
     }
 
-    /// The vertex of an identifier.
+    /// Returns the vertex of an identifier.
     pub fn find(&self, id: u32) -> Option<u32>
         ensures found { IfSome result (λ v. slice_get (vertex_ids self.now.vertices) v ≡ Some id) }
         ensures held { (v : ℕ) → slice_get (vertex_ids self.now.vertices) v ≡ Some id → result ≡ Some v }
@@ -105,7 +105,7 @@ impl GuardedGame {
         self.vertices[v as usize].owner
     }
 
-    /// The priority of a vertex, at most 65,536.
+    /// Returns the priority of a vertex, at most 65,536.
     pub fn priority(&self, v: u32) -> u32
         requires { v < length self.now.vertices }
         ensures value { result ≡ (slice_index_or self.now.vertices v no_vertex).priority }
@@ -114,7 +114,7 @@ impl GuardedGame {
         self.vertices[v as usize].priority
     }
 
-    /// The edges of a vertex, in the order of their first naming.
+    /// Returns the edges of a vertex, in the order of their first naming.
     pub fn edges(&self, v: u32) -> &[Edge]
         requires { v < length self.now.vertices }
         ensures value { result.now ≡ (slice_index_or self.now.vertices v no_vertex).edges }
@@ -137,7 +137,7 @@ impl GuardedGame {
         other.features == self.features && are_same(&self.vertices, &other.vertices)
     }
 
-    /// The numbers of the top measures of the game and of its dual, from 1 to 2^62.
+    /// Returns the numbers of the top measures of the game and of its dual, from 1 to 2^62.
     pub fn tops(&self) -> (u64, u64)
         ensures top { result.0 ≡ top_in (priorities_of self.now.vertices) }
         ensures dual { result.1 ≡ dual_top_in (priorities_of self.now.vertices) }
@@ -145,9 +145,9 @@ impl GuardedGame {
         self.tops
     }
 
-    /// The vertices that have an edge whose guard names the feature, in file order. A guard has the same value under
-    /// any two valuations that agree on the features that it names (`vpg_guards::laws`), so these are the vertices that
-    /// a change of what is known of the feature concerns.
+    /// Returns the vertices that have an edge whose guard names the feature, in file order. A guard has the same value
+    /// under any two valuations that agree on the features that it names (`vpg_guards::laws`), so these are the
+    /// vertices that a change of what is known of the feature concerns.
     pub fn naming(&self, feature: u16) -> &[usize]
         ensures { (v : ℕ) → Contains result.now v ↔
             Contains (features_named (vertex_in (graph_of self.now) v).edges) feature }
@@ -157,18 +157,18 @@ impl GuardedGame {
 }
 
 impl GuardedGame {
-    /// The game that a text spells, over the features of these names.
+    /// Returns the game that a text spells, over the features of these names.
     ///
     /// It has at most 65,536 entries and 1,048,576 successors as named, priorities up to 65,535 and identifiers up to
     /// 4,294,967,295. Refusals, in their order: of `Syntax`, `BadOwner`, `PriorityTooLarge`, `TooMany` and `Guard` the
     /// one that stands leftmost; `DoubleVertex`; `MissingVertex`; `TooWide`, where the number of the top measure of the
     /// game or of its dual exceeds 2^62. The second and third are told for the first place in the file.
     pub fn read(alloc: Global, text: &[u8], names: &Names) -> Result<GuardedGame, GameFault>
-        // What is read is spelled so.
+        // The text spells the result.
         ensures found { IfOk result (λ game. SpellsGame names.now text.now game) }
         // A refusal comes only where the text, or its entries, show it.
         ensures refused { IfErr result (IsRefused names.now text.now) }
-        // What is spelled so is read, unless memory runs out.
+        // All that the text spells is read, unless memory runs out.
         ensures only { (game : NamedGame) → SpellsGame names.now text.now game →
             MatchResult result (λ g. g ≡ game) (λ e. e ≡ GameFault.Memory) }
     {
@@ -178,7 +178,7 @@ impl GuardedGame {
         make(alloc, entries, features)
     }
 
-    /// Returns the game of these entries, over so many features: the one that `read` returns for a text that spells
+    /// Returns the game of these entries, over this many features: the one that `read` returns for a text that spells
     /// them.
     ///
     /// Refusals, in their order: `DoubleVertex`; `MissingVertex`; `TooWide`, where the number of the top measure of the

@@ -34,7 +34,7 @@ fn is_blank(b: u8) -> bool
     b == b' ' || b == b'\t' || b == b'\r' || b == b'\n'
 }
 
-/// How many blanks stand at the front.
+/// Returns how many blanks stand at the front.
 fn blanks_len(text: &[u8]) -> usize
     ensures { result ≡ prefix_len is_blank text.now }
 {
@@ -66,7 +66,7 @@ fn after_sign(text: &[u8], sign: u8) -> Option<&[u8]>
     }
 }
 
-/// The place of the next word.
+/// Returns the place of the next word.
 fn place(text: &[u8], whole: usize) -> usize
     requires { length text.now ≤ whole }
     ensures { result ≤ whole }
@@ -74,7 +74,7 @@ fn place(text: &[u8], whole: usize) -> usize
     whole - after_blanks(text).len()
 }
 
-/// How many digits stand at the front.
+/// Returns how many digits stand at the front.
 fn digits_len(text: &[u8]) -> usize
     ensures { result ≡ prefix_len is_ascii_digit text.now }
 {
@@ -86,7 +86,7 @@ fn digits_len(text: &[u8]) -> usize
     text.len()
 }
 
-/// The number that digits write, or the limit where it is larger.
+/// Returns the number that digits write, or the limit where it is larger.
 fn bounded_value(digits: &[u8], limit: u64) -> u64
     requires limit { limit ≤ 2 ^ 32 }
     requires digits { list_all is_ascii_digit digits.now ≡ true }
@@ -107,7 +107,7 @@ fn digit(b: u8) -> u64
     (b - b'0') as u64
 }
 
-/// The digits at the front, and what follows them.
+/// Returns the digits at the front, and what follows them.
 #[tactic(auto, using(crate::proofs::Fronts::front_within))]
 fn split_digits(text: &[u8]) -> (&[u8], &[u8])
     ensures word { result.0.now ≡ take (prefix_len is_ascii_digit text.now) text.now }
@@ -134,7 +134,7 @@ fn digits(text: &[u8], whole: usize) -> Result<(&[u8], &[u8]), GameFault>
     Ok((digits, rest))
 }
 
-/// A number below the limit, and what follows it. `wrong` is the fault of a larger one.
+/// Returns a number below the limit, and what follows it. `wrong` is the fault of a larger one.
 fn number(
     text: &[u8],
     whole: usize,
@@ -156,7 +156,7 @@ fn number(
     Ok((value, rest))
 }
 
-/// How many bytes stand before the sign.
+/// Returns how many bytes stand before the sign.
 fn len_before(text: &[u8], sign: u8) -> usize
     ensures { result ≡ len_before sign text.now }
 {
@@ -178,7 +178,7 @@ fn split_at_sign(text: &[u8], sign: u8) -> (&[u8], &[u8])
     text.split_at(len_before(text, sign))
 }
 
-/// The guard that a text spells. `at` is its place.
+/// Returns the guard that a text spells. `at` is its place.
 fn guard(alloc: Global, text: &[u8], names: &Names, at: usize) -> Result<Guard, GameFault>
     ensures { Gives (λ g. formula_of g) result (guard_at names.now text.now) }
 {
@@ -199,7 +199,7 @@ fn fault_of_guard(fault: GuardFault, at: usize) -> GameFault
     }
 }
 
-/// The guard in brackets, where they come next, and what follows.
+/// Returns the guard in brackets, where they come next, and what follows.
 #[tactic(auto, unfolding(crate::specs::Reading::bracket_at))]
 fn bracket<'t>(
     alloc: Global,
@@ -224,7 +224,7 @@ fn bracket<'t>(
     }
 }
 
-/// A successor, and what follows it, where `left` more may be named.
+/// Returns a successor, and what follows it, where `left` more may be named.
 fn successor<'t>(
     alloc: Global,
     names: &Names,
@@ -262,7 +262,7 @@ fn starts_with_digit(text: &[u8]) -> bool
     }
 }
 
-/// The successors, and what follows them, where `left` may be named.
+/// Returns the successors, and what follows them, where `left` may be named.
 fn successors<'t>(
     alloc: Global,
     names: &Names,
@@ -333,7 +333,7 @@ fn player(owner: u64) -> Player
     }
 }
 
-/// An entry, and what follows it, where `left` successors may be named and `room` entries may follow.
+/// Returns an entry, and what follows it, where `left` successors may be named and `room` entries may follow.
 fn entry<'t>(
     alloc: Global,
     names: &Names,
@@ -372,7 +372,7 @@ fn entry<'t>(
     ))
 }
 
-/// The entries up to the end of the text, one at least.
+/// Returns the entries up to the end of the text, one at least.
 fn entries(alloc: Global, names: &Names, text: &[u8], whole: usize) -> Result<Vec<Entry>, GameFault>
     requires { length text.now ≤ whole }
     ensures { Gives (λ v. v.items) result (all_entries names.now text.now) }
@@ -425,7 +425,7 @@ fn after_word<'t>(text: &'t [u8], word: &[u8], whole: usize) -> Result<&'t [u8],
     Ok(rest)
 }
 
-/// The text, where a blank comes next.
+/// Returns the text, where a blank comes next.
 fn if_spaced(text: &[u8], whole: usize) -> Result<&[u8], GameFault>
     requires { length text.now ≤ whole }
     ensures gives { Gives (λ r. r.now) result (if_spaced text.now) }
@@ -460,7 +460,7 @@ fn after_heading<'t>(
     after_end(behind_number, whole)
 }
 
-/// The entries that a whole text spells.
+/// Returns the entries that a whole text spells.
 #[tactic(auto, unfolding(crate::specs::Reading::entries_at))]
 pub(crate) fn read_entries(
     alloc: Global,

@@ -13,7 +13,7 @@ use vpg_guards::{Guard, Names};
 use vpg_players::Player;
 
 impl GuardedGame {
-    /// Writes the game behind what is there: `parity` and the greatest identifier, then a line for each vertex.
+    /// Writes the game after what is there: `parity` and the greatest identifier, then a line for each vertex.
     pub fn write(&self, alloc: Global, names: &Names, out: &mut Vec<u8>) -> Result<(), AllocError>
         requires { length names.now ≡ self.now.features }
         ensures ok { OnOk result (out.new.items ≡ out.old.items ++ game_text names.now self.now) }
@@ -33,7 +33,7 @@ impl GuardedGame {
     }
 }
 
-/// The greatest identifier.
+/// Returns the greatest identifier.
 fn greatest_id(vertices: &[Vertex]) -> u32
     ensures { result ≡ greatest (vertex_ids vertices.now) }
 {
@@ -51,7 +51,7 @@ fn put_number(n: u32, out: &mut Vec<u8>) -> Result<(), AllocError>
     out.extend_from_slice(buffer.format(n).as_bytes())
 }
 
-/// A line for each vertex.
+/// Returns a line for each vertex.
 fn put_vertices(
     alloc: Global,
     vertices: &[Vertex],
@@ -67,7 +67,7 @@ fn put_vertices(
     Ok(())
 }
 
-/// Edges joined by `,`, behind a first byte.
+/// Edges joined by `,`, after a first byte.
 fn put_edges(
     alloc: Global,
     edges: &[Edge],

@@ -8,7 +8,7 @@ use vpg_players::Player;
 use vpg_regions::{Arrivals, Draft, PerVertex, Predecessors};
 use vpg_values::{GuessGround, Scale, TableGround};
 
-/// Lists of an earlier page serve where at most one in so many of their edges and vertices is gone.
+/// Lists of an earlier page serve where at most one in this many of their edges and vertices is gone.
 const STALE: u64 = 8;
 
 /// What guesses make of a game, kept from one of its pages to the next: what lifts of either table go by, and the shape
@@ -19,7 +19,7 @@ pub struct Groundwork {
     pub(crate) dual_of_dual: Option<Shape>,
 }
 
-// Not derived, so that letting one go is one call: a derived way would be proved anew at each exit that owns one.
+// Not derived: a derived `drop` would be proved again at each exit that owns such a value.
 impl Drop for Groundwork {
     fn drop(self) {
         let Groundwork {
@@ -41,7 +41,7 @@ impl Groundwork {
     }
 }
 
-/// The shape of the dual's dual of a game, made first where it isn't kept.
+/// Returns the shape of the dual's dual of a game, made first where it isn't kept.
 pub(crate) fn shape_in<'a>(
     alloc: Global,
     game: &GuardedGame,
@@ -54,7 +54,7 @@ pub(crate) fn shape_in<'a>(
     Ok(kept.insert(shape))
 }
 
-/// The predecessors of each vertex of an arena.
+/// Returns the predecessors of each vertex of an arena.
 pub(crate) fn predecessors_of(alloc: Global, arena: &Arena) -> Result<Predecessors, AllocError> {
     let mut arrivals = Arrivals::none(alloc, arena.vertices())?;
     for v in 0..arena.vertices() {
@@ -83,7 +83,7 @@ fn raise_for(player: Player) -> u32 {
     }
 }
 
-/// The scale of an arena's shape for Even, of the shape of its dual for Odd.
+/// Returns the scale of an arena's shape for Even, of the shape of its dual for Odd.
 pub(crate) fn scale_of(
     alloc: Global,
     arena: &Arena,
@@ -101,8 +101,8 @@ pub(crate) fn scale_of(
     scale_with(alloc, shape, player, priorities, greatest)
 }
 
-/// The scale of the game that has these vertices of the arena, in this order: of its shape for Even, of the shape of
-/// its dual for Odd.
+/// Returns the scale of the game that has these vertices of the arena, in this order: of its shape for Even, of the
+/// shape of its dual for Odd.
 pub(crate) fn scale_of_part(
     alloc: Global,
     arena: &Arena,
@@ -157,14 +157,14 @@ pub(crate) fn renewed(
     Ok(TableGround { predecessors, even })
 }
 
-/// The graph and the scales that guesses of a table are made over.
+/// Returns the graph and the scales that guesses of a table are made over.
 pub(crate) fn ground_of(raising: &Raising<'_>) -> Result<GuessGround, AllocError> {
     let even = scale_of(raising.alloc, raising.arena, raising.shape, Player::Even)?;
     let predecessors = predecessors_of(raising.alloc, raising.arena)?;
     ground_over(raising, TableGround { predecessors, even })
 }
 
-/// The graph and the scales that guesses of a table are made over, from what its lifts go by.
+/// Returns the graph and the scales that guesses of a table are made over, from what its lifts go by.
 pub(crate) fn ground_over(
     raising: &Raising<'_>,
     lifts: TableGround,
@@ -187,7 +187,7 @@ fn size_of(arena: &Arena) -> u64 {
     size
 }
 
-/// A vertex's priority in an arena.
+/// Returns a vertex's priority in an arena.
 pub(crate) fn priority_in(arena: &Arena, v: u32) -> u32 {
     if v < arena.vertices() {
         arena.priority(v)
@@ -196,7 +196,7 @@ pub(crate) fn priority_in(arena: &Arena, v: u32) -> u32 {
     }
 }
 
-/// A vertex's owner in an arena.
+/// Returns a vertex's owner in an arena.
 pub(crate) fn owner_in(arena: &Arena, v: u32) -> Player {
     if v < arena.vertices() {
         arena.owner(v)

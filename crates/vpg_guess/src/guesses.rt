@@ -29,8 +29,8 @@ const LAST_TURNS: u32 = 12;
 /// How many turns guess the moving vertices alone.
 const PART_TURNS: u32 = 8;
 
-/// A turn of lifts ends if as many vertices wait as before, after looks at one in so many of all edges and vertices. A
-/// guess of the moving vertices alone costs less than one of all.
+/// A turn of lifts ends if as many vertices wait as before, after looks at one in this many of all edges and vertices.
+/// A guess of the moving vertices alone costs less than one of all.
 const PATIENCE: u64 = 2;
 
 const PART_PATIENCE: u64 = 8;

@@ -18,7 +18,7 @@ pub(crate) struct RaisedTable {
     pub(crate) settled: bool,
 }
 
-/// A copy of one of an order's tables, raised.
+/// Returns a copy of one of an order's tables, raised.
 pub(crate) fn raised(
     alloc: Global,
     order: &Order,
@@ -107,7 +107,7 @@ fn noted_where(harvest: Harvest, hopeful_settled: bool, dual_settled: bool) -> H
     harvest.noted()
 }
 
-/// The order with these tables, raised from its own.
+/// Returns the order with these tables, raised from its own.
 pub(crate) fn harvest_of(order: Order, hopeful: RaisedTable, dual: RaisedTable) -> Harvest
     requires hopeful { IsRaised Which.Hopeful order hopeful.table }
     requires dual { IsRaised Which.Dual order dual.table }
@@ -138,8 +138,8 @@ pub(crate) fn harvest_of(order: Order, hopeful: RaisedTable, dual: RaisedTable) 
     noted_where(harvest, hopeful_settled, dual_settled)
 }
 
-/// The order with both its tables raised as by `raise_by_bounds`, within one budget, and by what is kept of its game,
-/// which is kept on. The one error is out of memory, on which the order comes back.
+/// Returns the order with both its tables raised as by `raise_by_bounds`, within one budget, and by what is kept of its
+/// game, which is kept on. The one error is out of memory, on which the order comes back.
 pub fn harvest_by_bounds(
     alloc: Global,
     order: Order,

@@ -18,7 +18,7 @@ pub(crate) struct Part {
     moving: Vec<u32>,
 }
 
-// Not derived, so that letting one go is one call: a derived way would be proved anew at each exit that owns one.
+// Not derived: a derived `drop` would be proved again at each exit that owns such a value.
 impl Drop for Part {
     fn drop(self) {
         let Part {
@@ -37,7 +37,7 @@ struct Numbered {
     count: u32,
 }
 
-// Not derived, so that letting one go is one call: a derived way would be proved anew at each exit that owns one.
+// Not derived: a derived `drop` would be proved again at each exit that owns such a value.
 impl Drop for Numbered {
     fn drop(self) {
         let Numbered {
@@ -150,7 +150,7 @@ fn ground_of(
 }
 
 impl Part {
-    /// The part of these vertices, each of which stands there once.
+    /// Returns the part of these vertices, each of which stands there once.
     pub(crate) fn of(raising: &Raising<'_>, moving: &[u32]) -> Result<Part, AllocError> {
         let alloc = raising.alloc;
         let numbered = number(alloc, raising.arena, moving)?;

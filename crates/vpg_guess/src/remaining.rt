@@ -11,10 +11,10 @@ use vpg_measure::lifts::{Outcome, raise, settle_alone};
 use vpg_regions::{Budget, Found, PerVertex, VertexSet};
 use vpg_values::{LiftGround, Scale, value_in};
 
-/// Rounds go on while the number of waiting vertices falls by one in so many.
+/// Rounds go on while the number of waiting vertices falls by one in this many.
 const FALL: usize = 16;
 
-/// Where more than one in so many rose at once, all are looked at again.
+/// Where more than one in this many rose at once, all are looked at again.
 const MANY: usize = 4;
 
 /// How many rounds of lifts come first where all wait, and how many vertices are asked before each whether they would
@@ -23,18 +23,18 @@ const ROUNDS: u32 = 2;
 
 const ASKED: u32 = 256;
 
-/// Most would rise where all but one in so many of them would.
+/// Most would rise where all but one in this many of them would.
 const MOST: u32 = 8;
 
 /// How often a vertex rises in the first turn before it is taken to climb.
 const CLIMBS: u8 = 2;
 
-/// A hurried turn ends after so many looks for each vertex that waits, and for a few more.
+/// A hurried turn ends after this many looks for each vertex that waits, and for a few more.
 const LOOKS_EACH: u64 = 128;
 
 const FEW: u64 = 16;
 
-/// What goes round is guessed at alone where it is less than one in so many of what moves; and again where it is half
+/// What goes round is guessed at alone where it is less than one in this many of what moves; and again where it is half
 /// of what it was then.
 const LOCAL: usize = 16;
 
@@ -47,7 +47,7 @@ pub(crate) struct Patience {
 }
 
 impl Patience {
-    // How much it is while so many wait.
+    // How much it is while this many wait.
     fn at(self, count: usize) -> u64 {
         if !self.is_hurried {
             return self.most;
@@ -61,7 +61,7 @@ impl Patience {
 /// turn, and in which turn each was found to move last.
 pub(crate) struct Waiting {
     waits: VertexSet,
-    // so many rounds of lifts may come before the next turn; none where not all wait that are below the top
+    // this many rounds of lifts may come before the next turn; none where not all wait that are below the top
     rounds: u32,
     // whether most still rose after these
     is_climbing: bool,
@@ -78,7 +78,7 @@ pub(crate) struct Waiting {
     round: usize,
 }
 
-// Not derived, so that letting one go is one call: a derived way would be proved anew at each exit that owns one.
+// Not derived: a derived `drop` would be proved again at each exit that owns such a value.
 impl Drop for Waiting {
     fn drop(self) {
         let Waiting {
@@ -97,7 +97,7 @@ impl Drop for Waiting {
 }
 
 impl Waiting {
-    /// All wait that are below the top.
+    /// Returns all wait that are below the top.
     pub(crate) fn all(
         alloc: Global,
         ground: LiftGround<'_>,
@@ -181,7 +181,7 @@ impl Waiting {
         }
     }
 
-    /// All that are below the top are to be looked at again, by rounds of lifts first.
+    /// Returns all that are below the top are to be looked at again, by rounds of lifts first.
     pub(crate) fn wake_all(&mut self, ground: LiftGround<'_>, table: &[u64]) {
         self.add_all(ground, table);
         self.begin_rounds();
@@ -449,7 +449,7 @@ impl Raising<'_> {
         false
     }
 
-    /// Lifts until nothing waits, or so many edges and vertices were looked at, or the budget is spent; or until so
+    /// Lifts until nothing waits, or this many edges and vertices were looked at, or the budget is spent; or until this
     /// many were looked at as patience has, and as many wait as before.
     pub(crate) fn lift_remaining(
         &mut self,

@@ -39,7 +39,7 @@ pub struct Arena {
     own: Vec<u32>,
 }
 
-// Not derived, so that letting one go is one call: a derived way would be proved anew at each exit that owns one.
+// Not derived: a derived `drop` would be proved again at each exit that owns such a value.
 impl Drop for Arena {
     fn drop(self) {
         let Arena {
@@ -62,7 +62,7 @@ impl Model for Arena {
     ghost invariant = { λ a. AreRows a.rows.items (arc_slice_items a.shared) a.own.items };
 }
 
-/// A list of the same numbers, with room for this many.
+/// Returns a list of the same numbers, with room for this many.
 fn copy_with_room(alloc: Global, numbers: &[u32], room: usize) -> Result<Vec<u32>, AllocError>
     ensures { IfOk result (λ copy. copy.items ≡ numbers.now) }
 {
@@ -114,7 +114,7 @@ struct Draft {
 }
 
 impl Draft {
-    /// A copy of an arena's rows and of its own list, with room there for a sixteenth of what it shares.
+    /// Returns a copy of an arena's rows and of its own list, with room there for a sixteenth of what it shares.
     fn of(
         alloc: Global,
         rows: &[Row],
@@ -132,7 +132,7 @@ impl Draft {
         Ok(Draft { rows, shared, own })
     }
 
-    /// The arena that was made.
+    /// Returns the arena that was made.
     fn arena(self) -> Arena
         requires { AreRows self.rows.items (arc_slice_items self.shared) self.own.items }
         ensures { result ≡ row_vertices self.rows.items (arc_slice_items self.shared) self.own.items }
@@ -176,8 +176,9 @@ fn replace_marked(
 }
 
 impl Arena {
-    /// The hopeful game: Even's vertices keep the edges whose guard isn't known false, Odd's keep those whose guard is
-    /// known true. Each guard is looked at once. `specs/Hope` defines it, after FASE 2020 and strong Kleene logic.
+    /// Returns the hopeful game: Even's vertices keep the edges whose guard isn't known false, Odd's keep those whose
+    /// guard is known true. Each guard is looked at once. `specs/Hope` defines it, after FASE 2020 and strong Kleene
+    /// logic.
     pub fn hopeful(alloc: Global, game: &GuardedGame, known: &Partial) -> Result<Arena, AllocError>
         requires { length known.now ≡ game.now.features }
         ensures { IfOk result (λ arena. arena ≡ hopeful_game (kleene known.now) (graph_of game.now)) }
@@ -185,8 +186,8 @@ impl Arena {
         Arena::selected(alloc, game, Selection::Hopeful(known.values()))
     }
 
-    /// The hopeful game of the dual, in which owners are exchanged and priorities are one greater.
-    /// It is made from the game itself: no dual is built.
+    /// Returns the hopeful game of the dual, in which owners are exchanged and priorities are one greater. It is made
+    /// from the game itself: no dual is built.
     pub fn hopeful_of_dual(
         alloc: Global,
         game: &GuardedGame,
@@ -198,8 +199,9 @@ impl Arena {
         Arena::selected(alloc, game, Selection::HopefulOfDual(known.values()))
     }
 
-    /// The cautious game: Even's vertices keep the edges whose guard is known true, Odd's keep those whose guard isn't
-    /// known false. What Even wins there by some moves, these moves win in each product that agrees with what is known.
+    /// Returns the cautious game: Even's vertices keep the edges whose guard is known true, Odd's keep those whose
+    /// guard isn't known false. What Even wins there by some moves, these moves win in each product that agrees with
+    /// what is known.
     pub fn cautious(alloc: Global, game: &GuardedGame, known: &Partial) -> Result<Arena, AllocError>
         requires { length known.now ≡ game.now.features }
         ensures { IfOk result (λ arena. arena ≡ cautious_game (kleene known.now) (graph_of game.now)) }
@@ -207,7 +209,7 @@ impl Arena {
         Arena::selected(alloc, game, Selection::Cautious(known.values()))
     }
 
-    /// The cautious game of the dual, made from the game itself: no dual is built.
+    /// Returns the cautious game of the dual, made from the game itself: no dual is built.
     pub fn cautious_of_dual(
         alloc: Global,
         game: &GuardedGame,
@@ -244,7 +246,7 @@ impl Arena {
     }
 
     /// What is selected twice of a game, where only marked vertices are looked at, each once for both: the others keep
-    /// what they have in these. What marked vertices keep stands behind an arena's own list; once one of these is long,
+    /// what they have in these. What marked vertices keep stands after an arena's own list; once one of these is long,
     /// new lists are made.
     fn reselected(
         &self,
@@ -276,7 +278,7 @@ impl Arena {
         Ok((one.arena(), two.arena()))
     }
 
-    /// The same, with the successors of all vertices in one new list.
+    /// Returns the same, with the successors of all vertices in one new list.
     fn gathered(
         &self,
         alloc: Global,
@@ -308,7 +310,7 @@ impl Arena {
         Arena::over(alloc, rows, successors)
     }
 
-    /// An arena whose vertices have all their successors in one list.
+    /// Returns an arena whose vertices have all their successors in one list.
     fn over(alloc: Global, rows: Vec<Row>, successors: Vec<u32>) -> Result<Arena, AllocError>
         requires { AreRows rows.items successors.items [] }
         ensures { IfOk result (λ arena. arena ≡ row_vertices rows.items successors.items []) }
@@ -376,7 +378,7 @@ impl Arena {
         Arena::over(alloc, rows, successors)
     }
 
-    /// How many vertices it has.
+    /// Returns how many vertices it has.
     pub fn vertices(&self) -> u32
         ensures { result ≡ length self.now }
     {
@@ -391,7 +393,7 @@ impl Arena {
         self.rows[v as usize].owner
     }
 
-    /// The priority of a vertex.
+    /// Returns the priority of a vertex.
     pub fn priority(&self, v: u32) -> u32
         requires { v < length self.now }
         ensures { result ≡ (vertex_at self.now v).priority }
@@ -399,7 +401,7 @@ impl Arena {
         self.rows[v as usize].priority
     }
 
-    /// The kept successors of a vertex, in the order named. Each is a vertex of the arena.
+    /// Returns the kept successors of a vertex, in the order named. Each is a vertex of the arena.
     pub fn kept(&self, v: u32) -> &[u32]
         requires { v < length self.now }
         ensures kept { result.now ≡ (vertex_at self.now v).successors }

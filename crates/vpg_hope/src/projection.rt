@@ -20,8 +20,8 @@ pub enum ProjectFault {
     Memory,
 }
 
-/// The plain game of a product, given as one value for each feature: all vertices, and the edges whose guard the
-/// product satisfies (FASE 2020). A set that is no product of the diagram is refused.
+/// Returns the plain game of a product, given as one value for each feature: all vertices, and the edges whose guard
+/// the product satisfies (FASE 2020). A set that is no product of the diagram is refused.
 pub fn project(
     alloc: Global,
     game: &GuardedGame,

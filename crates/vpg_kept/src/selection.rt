@@ -36,7 +36,7 @@ fn keeps_in_hope(owner: Player, value: Tri) -> bool
     }
 }
 
-/// The value of a guard, by what is known: most edges have the guard that is always true.
+/// Returns the value of a guard, by what is known: most edges have the guard that is always true.
 fn value(guard: &Guard, known: &[Tri]) -> Tri
     requires { IsBelow (length known.now) (formula_of guard.now) }
     ensures { result ≡ kleene known.now (formula_of guard.now) }
@@ -58,7 +58,7 @@ impl Selection<'_> {
         }
     }
 
-    /// The priority in the plain game.
+    /// Returns the priority in the plain game.
     pub fn priority(self, priority: u32) -> u32
         requires { priority + 1 < 2 ^ 32 }
         ensures { result ≡ priority_under self.entry priority }

@@ -5,7 +5,7 @@ use Rattle.vpg_labels.specs.Labels.{label_of}
 use Rattle.vpg_labels.specs.declared.labels.Mode.{Mode}
 use Rattle.vpg_labels.specs.declared.labels.Mode.TheVariants.{Front, Header, Start, Between, Guard, Quoted}
 
--- where the text stands behind a byte
+-- where the text stands after a byte
 abbrev pub mode_behind : Mode → ℕ → Mode
 mode_behind Front b =
     if is_ascii_digit b then Between else (if b == 112 then Header else (if b == 115 then Start else Front))
@@ -15,7 +15,7 @@ mode_behind Between b = if b == 34 then Quoted else (if b == 91 then Guard else 
 mode_behind Guard b = if b == 93 then Between else Guard
 mode_behind Quoted b = if b == 34 then Between else Quoted
 
--- the vertex behind a byte
+-- the vertex after a byte
 abbrev pub vertex_behind : Mode → ℕ → ℕ → ℕ
 vertex_behind Front v b = v
 vertex_behind Header v b = v

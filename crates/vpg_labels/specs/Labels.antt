@@ -15,7 +15,7 @@ is_plain b = not (b == 34) && (not (b == 10) && not (b == 13))
 abbrev pub label_of : List (List ℕ) → ℕ → List ℕ
 label_of labels v = filter is_plain (slice_index_or labels v [])
 
--- the labels of so many vertices, from this one on
+-- the labels of this many vertices, from this one on
 abbrev pub labels_from : List (List ℕ) → ℕ → ℕ → List (List ℕ)
 labels_from labels v zero = []
 labels_from labels v (suc n) = label_of labels v ∷ labels_from labels (suc v) n
@@ -48,13 +48,13 @@ abbrev pub heading_blanks : Option Heading → List ℕ
 heading_blanks None = []
 heading_blanks (Some h) = h.before
 
--- `start 0;` behind these blanks, if there is to be a start
+-- `start 0;` after these blanks, if there is to be a start
 abbrev pub start_behind : Bool → List ℕ → Option Heading
 start_behind false blanks = None
 start_behind true blanks =
     Some (record { before = blanks; number = record { before = 32 ∷ []; digits = 48 ∷ [] }; before_end = [] })
 
--- the blanks in front of the first entry: a line feed behind a start
+-- the blanks in front of the first entry: a line feed after a start
 abbrev pub first_blanks : Bool → List ℕ → List ℕ
 first_blanks false blanks = blanks
 first_blanks true blanks = 10 ∷ []

@@ -68,7 +68,7 @@ fn put_plain(bytes: &[u8], out: &mut Vec<u8>) -> Result<(), AllocError>
     Ok(())
 }
 
-/// The bytes of a vertex's label.
+/// Returns the bytes of a vertex's label.
 fn label_at(labels: &[Label], v: usize) -> &[u8]
     ensures { result.now ≡ slice_index_or labels.now v [] }
 {
@@ -147,7 +147,7 @@ impl Place {
     }
 }
 
-/// Writes the next byte of a text, behind what comes in front of it.
+/// Writes the next byte of a text, after what comes in front of it.
 fn put_byte(
     labels: &[Label],
     is_started: bool,

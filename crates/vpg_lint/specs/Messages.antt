@@ -18,7 +18,7 @@ use Rattle.vpg_lint.specs.declared.message.Message.{Message}
 abbrev pub shown_byte : ℕ → ℕ
 shown_byte byte = if nat_lt byte 32 || (byte == 127) then 63 else byte
 
--- a file's name, a line and a column, each with a colon behind it
+-- a file's name, a line and a column, each with a colon after it
 abbrev pub place_text : List ℕ → ℕ → ℕ → List ℕ
 place_text name line column = map shown_byte name ++ 58 ∷ decimal line ++ 58 ∷ decimal column ++ codes ": "
 

@@ -115,7 +115,7 @@ fn put_form(alloc: Global, faulty: &Faulty<'_>, out: &mut Said) -> usize {
     }
 }
 
-/// The same, and what the whole text looks like where its first line is no line.
+/// Returns the same, and what the whole text looks like where its first line is no line.
 fn put_syntax(alloc: Global, faulty: &Faulty<'_>, out: &mut Said) -> usize {
     let at = put_form(alloc, faulty, out);
     if faulty.line.number == 1 || faulty.text.starts_with(&MARK) {
@@ -124,7 +124,7 @@ fn put_syntax(alloc: Global, faulty: &Faulty<'_>, out: &mut Said) -> usize {
     at
 }
 
-/// The place of the first word of a line that no earlier line names, of those that one has to name.
+/// Returns the place of the first word of a line that no earlier line names, of those that one has to name.
 fn unknown_place(faulty: &Faulty<'_>, form: &Form, known: &[&[u8]]) -> Option<usize> {
     for (place, part) in form.parts.iter().enumerate() {
         let place = place.saturating_add(1);
@@ -212,7 +212,7 @@ fn put_unknown(
     }
 }
 
-/// The first child of a line that has been a child before, and the line where.
+/// Returns the first child of a line that has been a child before, and the line where.
 fn second_parent<'t>(declared: &[Declared<'t>], line: usize) -> Option<(Declared<'t>, usize)> {
     for it in declared {
         if it.line == line {
@@ -264,7 +264,7 @@ fn put_of_names(
     }
 }
 
-/// The same, where memory for these features is not refused.
+/// Returns the same, where memory for these features is not refused.
 fn put_named(alloc: Global, faulty: &Faulty<'_>, fault: DiagramFault, out: &mut Said) -> usize {
     match declared_of(alloc, faulty.text) {
         Ok(declared) => put_of_names(alloc, faulty, &declared, fault, out),
@@ -281,7 +281,7 @@ fn put_too_many(faulty: &Faulty<'_>, out: &mut Said) -> usize {
     faulty.put_found(0, b"at most 512 features", out)
 }
 
-/// The digits of a number without zeros in front.
+/// Returns the digits of a number without zeros in front.
 fn significant(digits: &[u8]) -> &[u8] {
     let zeros = digits.iter().take_while(|b| **b == b'0').count();
     digits.get(zeros..).unwrap_or(digits)
@@ -342,7 +342,7 @@ fn put_line_fault(
     }
 }
 
-/// The number of the line that has a fault.
+/// Returns the number of the line that has a fault.
 fn line_of_fault(fault: DiagramFault) -> usize
     ensures { result ≡ line_of_fault fault }
 {

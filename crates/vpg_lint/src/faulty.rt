@@ -12,7 +12,7 @@ pub(crate) struct Faulty<'t> {
 }
 
 impl<'t> Faulty<'t> {
-    /// The word at a place, or an empty one at the line's end.
+    /// Returns the word at a place, or an empty one at the line's end.
     pub(crate) fn word(&self, place: usize) -> Word<'t> {
         match self.words.get(place) {
             Some(word) => *word,

@@ -13,12 +13,12 @@ use vpg_game::GameFault;
 use vpg_guards::{GuardFault, Names};
 use vpg_places::{Last, Number, Scan, numbers_of, place_of};
 
-/// A byte of a word. Those above 127 spell letters of other alphabets.
+/// Returns a byte of a word. Those above 127 spell letters of other alphabets.
 fn is_word_byte(b: u8) -> bool {
     b.is_ascii_alphanumeric() || b == b'_' || b >= 128
 }
 
-/// How many bytes of the word at the front of a text there are, one where it is none.
+/// Returns how many bytes of the word at the front of a text there are, one where it is none.
 fn word_len(text: &[u8]) -> usize
     ensures { result ≤ length text.now }
 {
@@ -30,12 +30,12 @@ fn word_len(text: &[u8]) -> usize
     text.len()
 }
 
-/// What stands behind an offset.
+/// What stands after an offset.
 pub(crate) fn behind(text: &[u8], at: usize) -> &[u8] {
     text.get(at..).unwrap_or(&[])
 }
 
-/// The word, or the one byte, at an offset.
+/// Returns the word, or the one byte, at an offset.
 pub(crate) fn word_at(text: &[u8], at: usize) -> &[u8] {
     let rest = behind(text, at);
     &rest[..word_len(rest)]
@@ -46,12 +46,12 @@ pub(crate) fn put_found_at(text: &[u8], at: usize, expected: &[u8], out: &mut Sa
     put_found(word_at(text, at), b"the text", expected, out)
 }
 
-/// The number of the line in which an offset stands.
+/// Returns the number of the line in which an offset stands.
 pub(crate) fn line_of(text: &[u8], at: usize) -> usize {
     place_of(text, at.min(text.len())).line
 }
 
-/// A hint of a byte that other formats have and this one has not.
+/// Returns a hint of a byte that other formats have and this one has not.
 fn hint_of_byte(found: &[u8]) -> Option<&'static [u8]> {
     match found {
         [b'#', ..] | [b'/', ..] | [b'%', ..] => {
@@ -66,7 +66,7 @@ fn hint_of_byte(found: &[u8]) -> Option<&'static [u8]> {
     }
 }
 
-/// A hint of a byte in an entry with so many numbers.
+/// Returns a hint of a byte in an entry with this many numbers.
 fn hint_in_entry(numbers: usize, last: Last, found: &[u8]) -> Option<&'static [u8]> {
     let form: &'static [u8] = b"an entry is IDENTIFIER PRIORITY OWNER SUCCESSORS \"NAME\";";
     match (found.first().copied(), last) {
@@ -126,7 +126,7 @@ fn put_nearest(alloc: Global, names: &Names, word: &[u8], out: &mut Said) {
     }
 }
 
-/// A hint of a byte that can't stand in a guard.
+/// Returns a hint of a byte that can't stand in a guard.
 fn hint_in_guard(found: &[u8]) -> Option<&'static [u8]> {
     match found {
         [b'&', ..] => Some(b"one `&` joins two parts"),
@@ -215,7 +215,7 @@ pub(crate) fn put_guard_fault(
     }
 }
 
-/// The first number of some that names a vertex so, behind another.
+/// Returns the first number of some that names a vertex so, after another.
 fn find(numbers: &[Number], id: u32, successors: bool, from: usize) -> Option<Number> {
     for number in numbers {
         let is_wanted = if successors {
@@ -230,7 +230,7 @@ fn find(numbers: &[Number], id: u32, successors: bool, from: usize) -> Option<Nu
     None
 }
 
-/// Where the first entry with an identifier begins, behind an offset.
+/// Where the first entry with an identifier begins, after an offset.
 fn entry_at(numbers: &[Number], id: u32, from: usize) -> usize {
     find(numbers, id, false, from).map_or(0, |number| number.at)
 }

@@ -20,7 +20,7 @@ fn is_letter(b: u8) -> bool {
     b.is_ascii_alphabetic()
 }
 
-/// The letters in front of a text, blanks left out.
+/// Returns the letters in front of a text, blanks left out.
 fn front(text: &[u8]) -> &[u8] {
     let text = text.strip_prefix(&MARK).unwrap_or(text).trim_ascii_start();
     let letters = text.iter().take_while(|b| is_letter(**b)).count();

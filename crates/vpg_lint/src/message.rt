@@ -14,7 +14,7 @@ pub struct Message {
     pub words: Vec<u8>,
 }
 
-/// Behind so many bytes a word is cut.
+/// After this many bytes a word is cut.
 const MOST_SHOWN: usize = 60;
 
 /// Appends a number.
@@ -25,7 +25,7 @@ pub fn put_number(n: usize, out: &mut Vec<u8>) -> Result<(), AllocError>
     out.extend_from_slice(buffer.format(n as u64).as_bytes())
 }
 
-/// A byte, `?` where it is a control character.
+/// Returns a byte, `?` where it is a control character.
 fn shown_byte(b: u8) -> u8
     ensures { result ≡ shown_byte b }
 {

@@ -17,7 +17,7 @@ fn too_many_edits(word: &str) -> usize {
     MOST_EDITS.min(word.len() / 2) + 1
 }
 
-/// The text of a word that may be a name with a few letters changed.
+/// Returns the text of a word that may be a name with a few letters changed.
 fn text_of(word: &[u8]) -> Option<&str> {
     if word.len() > LONGEST {
         return None;
@@ -25,7 +25,7 @@ fn text_of(word: &[u8]) -> Option<&str> {
     str::from_utf8(word).ok()
 }
 
-/// How many characters of a text begin with a byte that another text lacks.
+/// Returns how many characters of a text begin with a byte that another text lacks.
 fn lacking(text: &str, other: &str) -> usize {
     let mut count = 0usize;
     for b in text.as_bytes() {
@@ -36,7 +36,7 @@ fn lacking(text: &str, other: &str) -> usize {
     count
 }
 
-/// How many edits lead from a word to a text, where they are fewer than a limit, and else at least the limit.
+/// Returns how many edits lead from a word to a text, where they are fewer than a limit, and else at least the limit.
 fn edits_below(alloc: Global, limit: usize, word: &str, text: &str) -> Result<usize, AllocError> {
     // Each character that the other text lacks takes an edit of its own.
     if lacking(word, text) >= limit || lacking(text, word) >= limit {

@@ -17,7 +17,7 @@ use vpg_places::{Word, place_of};
 /// How an entry is written.
 const ENTRY: &[u8] = b"an entry is written `NAME = FORMULA;`";
 
-/// The word of a list at a place, empty where there is none.
+/// Returns the word of a list at a place, empty where there is none.
 fn word<'t>(words: &[Word<'t>], place: usize) -> &'t [u8] {
     match words.get(place) {
         Some(word) => word.bytes,
@@ -25,7 +25,7 @@ fn word<'t>(words: &[Word<'t>], place: usize) -> &'t [u8] {
     }
 }
 
-/// The last word but so many.
+/// Returns the last word but this many.
 fn last<'t>(words: &[Word<'t>], before: usize) -> &'t [u8] {
     match words.len().checked_sub(before.saturating_add(1)) {
         Some(place) => word(words, place),
@@ -51,7 +51,7 @@ fn is_one_of(word: &[u8], others: &[&str]) -> bool {
     others.iter().any(|it| it.as_bytes() == word)
 }
 
-/// What is expected behind a word between `<` and `>`, or `[` and `]`.
+/// What is expected after a word between `<` and `>`, or `[` and `]`.
 fn expected_in_path(before: &[u8]) -> &'static [u8] {
     match before {
         [b'<' | b'[' | b'(' | b'!' | b'.' | b'+' | b'&' | b'|'] => {
@@ -61,7 +61,7 @@ fn expected_in_path(before: &[u8]) -> &'static [u8] {
     }
 }
 
-/// Whether a word ends a formula, where it stands behind another.
+/// Whether a word ends a formula, where it stands after another.
 fn ends_formula(before: &[u8], word: &[u8]) -> bool {
     match word {
         [b')' | b'"', ..] => true,
@@ -76,7 +76,7 @@ fn ends_formula(before: &[u8], word: &[u8]) -> bool {
     }
 }
 
-/// What is expected behind the last word outside of paths, where it stands behind another.
+/// What is expected after the last word outside of paths, where it stands after another.
 fn expected_behind(before: &[u8], word: &[u8]) -> &'static [u8] {
     if word.is_empty() {
         return b"a formula, or entries `NAME = FORMULA;`";
@@ -96,7 +96,7 @@ fn expected_behind(before: &[u8], word: &[u8]) -> &'static [u8] {
     }
 }
 
-/// What is expected behind words.
+/// What is expected after words.
 fn expected(words: &[Word<'_>]) -> &'static [u8] {
     if ends_in_path(words) {
         expected_in_path(last(words, 0))
@@ -105,7 +105,7 @@ fn expected(words: &[Word<'_>]) -> &'static [u8] {
     }
 }
 
-/// A hint of a sign that other formats have and this one has not.
+/// Returns a hint of a sign that other formats have and this one has not.
 fn hint_of_sign(found: &[u8]) -> Option<&'static [u8]> {
     match found {
         [b'#', ..] | [b'/', ..] => Some(b"a comment begins with `%`"),
@@ -120,7 +120,7 @@ fn hint_of_sign(found: &[u8]) -> Option<&'static [u8]> {
     }
 }
 
-/// A hint of a word that other languages have and this one has not.
+/// Returns a hint of a word that other languages have and this one has not.
 fn hint_of_word(word: &[u8]) -> Option<&'static [u8]> {
     if is_one_of(word, &["and", "AND", "or", "OR", "not", "NOT", "implies"]) {
         Some(b"`&&`, `||`, `!` and `=>` stand for and, or, not and implies")
@@ -137,7 +137,7 @@ fn hint_of_word(word: &[u8]) -> Option<&'static [u8]> {
     }
 }
 
-/// A hint of a word that cannot stand behind a formula.
+/// Returns a hint of a word that cannot stand after a formula.
 fn hint_of_two(words: &[Word<'_>], found: &[u8]) -> Option<&'static [u8]> {
     let begins = found
         .first()
@@ -149,7 +149,7 @@ fn hint_of_two(words: &[Word<'_>], found: &[u8]) -> Option<&'static [u8]> {
     }
 }
 
-/// Appends a hint of what stands behind words at an offset.
+/// Appends a hint of what stands after words at an offset.
 fn put_syntax_hint(text: &[u8], at: usize, words: &[Word<'_>], out: &mut Said) {
     let found = behind(text, at);
     let hint = hint_of_word(word_at(text, at))
@@ -163,7 +163,7 @@ fn put_syntax_hint(text: &[u8], at: usize, words: &[Word<'_>], out: &mut Said) {
     }
 }
 
-/// The words before an offset.
+/// Returns the words before an offset.
 fn words_before<'a, 't>(words: &'a [Word<'t>], at: usize) -> &'a [Word<'t>] {
     let count = words.iter().take_while(|word| word.at < at).count();
     words.get(..count).unwrap_or(words)
@@ -210,7 +210,7 @@ fn declared(text: &[u8], words: &[Word<'_>], name: &[u8], entries: bool) -> Opti
     None
 }
 
-/// The names of entries and of variables before an offset.
+/// Returns the names of entries and of variables before an offset.
 fn known_before<'t>(
     alloc: Global,
     text: &[u8],
@@ -250,7 +250,7 @@ fn add_words(known: &mut Vec<&[u8]>) -> Result<(), AllocError> {
     Ok(())
 }
 
-/// The name, or the word, that another was perhaps meant to be.
+/// Returns the name, or the word, that another was perhaps meant to be.
 fn nearest_before<'t>(
     alloc: Global,
     text: &[u8],

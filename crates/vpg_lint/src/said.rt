@@ -11,7 +11,7 @@ pub(crate) struct Said {
     is_refused: bool,
 }
 
-// Not derived, so that letting one go is one call.
+// Not derived: a derived `drop` would be proved again at each exit that owns such a value.
 impl Drop for Said {
     fn drop(self) {
         let Said {
@@ -34,7 +34,7 @@ impl Said {
         self.is_refused = true;
     }
 
-    /// The same, in place of where something stands.
+    /// Returns the same, in place of where something stands.
     pub(crate) fn refused(&mut self) -> usize {
         self.is_refused = true;
         0
@@ -64,7 +64,7 @@ impl Said {
         self.note(put);
     }
 
-    /// The whole text.
+    /// Returns the whole text.
     pub(crate) fn into_text(self) -> Result<Vec<u8>, AllocError> {
         let Said { text, is_refused } = self;
         if is_refused {
@@ -74,7 +74,7 @@ impl Said {
         }
     }
 
-    /// The message that says it of a place.
+    /// Returns the message that says it of a place.
     pub(crate) fn into_message(self, place: Place) -> Result<Message, AllocError>
         ensures { IfOk result (λ message. message.place ≡ place) }
     {

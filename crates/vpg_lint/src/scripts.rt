@@ -75,7 +75,7 @@ fn put_argument_hint(departure: Departure, word: &[u8], out: &mut Said) {
     }
 }
 
-/// Appends where the arguments of a command depart from its form. Those behind a place are its arguments.
+/// Appends where the arguments of a command depart from its form. Those after a place are its arguments.
 fn put_departure(
     faulty: &Faulty<'_>,
     form: &Form,
@@ -94,7 +94,7 @@ fn put_departure(
     at
 }
 
-/// The greatest number that a command of this form takes, in digits, and what is expected of it.
+/// Returns the greatest number that a command of this form takes, in digits, and what is expected of it.
 fn limit_of(form: &Form) -> (&'static [u8], &'static [u8]) {
     if form.word == "settle" {
         (b"1000000000", b"at most 1,000,000,000 sweeps")
@@ -111,7 +111,7 @@ fn limit_of(form: &Form) -> (&'static [u8], &'static [u8]) {
     }
 }
 
-/// The place of the first word that is a number above a limit, from a place on.
+/// Returns the place of the first word that is a number above a limit, from a place on.
 fn great_place(faulty: &Faulty<'_>, first: usize, limit: &[u8]) -> usize {
     for (place, word) in faulty.words.iter().enumerate() {
         let is_number = word.bytes.iter().all(|b| b.is_ascii_digit());

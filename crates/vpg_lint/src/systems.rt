@@ -44,7 +44,7 @@ fn push_word<'t>(
     }
 }
 
-/// The words of a line: each sign is one, and so is what stands between signs and blanks.
+/// Returns the words of a line: each sign is one, and so is what stands between signs and blanks.
 fn words_of<'t>(alloc: Global, line: &'t [u8]) -> Result<Vec<Word<'t>>, AllocError> {
     let mut words = Vec::new(alloc);
     let mut begin = 0usize;
@@ -87,7 +87,7 @@ fn expected_in_header(place: usize) -> &'static [u8] {
     }
 }
 
-/// The place at which a line is no header.
+/// Returns the place at which a line is no header.
 fn header_departure(faulty: &Faulty<'_>) -> usize {
     for place in 0..8 {
         if !fits_header(place, faulty.word(place).bytes) {
@@ -117,7 +117,7 @@ fn put_too_many(faulty: &Faulty<'_>, out: &mut Said) -> usize {
     faulty.put_found(6, b"at most 65,536 states", out)
 }
 
-/// The place of the last `,` of a line, and how many there are.
+/// Returns the place of the last `,` of a line, and how many there are.
 fn last_comma(words: &[Word<'_>]) -> (usize, usize) {
     let mut last = 0;
     let mut count = 0usize;
@@ -130,7 +130,7 @@ fn last_comma(words: &[Word<'_>]) -> (usize, usize) {
     (last, count)
 }
 
-/// The place at which a line with two `,` is no transition, and what is expected there.
+/// Returns the place at which a line with two `,` is no transition, and what is expected there.
 fn departure_behind(faulty: &Faulty<'_>, last: usize) -> (usize, &'static [u8]) {
     let (target, close) = (last.saturating_add(1), last.saturating_add(2));
     let end = last.saturating_add(3);
@@ -145,7 +145,7 @@ fn departure_behind(faulty: &Faulty<'_>, last: usize) -> (usize, &'static [u8]) 
     }
 }
 
-/// The place at which a line is no transition, and what is expected there.
+/// Returns the place at which a line is no transition, and what is expected there.
 fn departure(faulty: &Faulty<'_>) -> (usize, &'static [u8]) {
     let (last, commas) = last_comma(&faulty.words);
     if faulty.word(0).bytes != b"(".as_slice() {
@@ -177,7 +177,7 @@ fn is_written(line: &Line<'_>) -> bool {
     line.bytes.iter().any(|b| !is_blank(*b))
 }
 
-/// The header, and how many lines that are not blank stand behind it.
+/// Returns the header, and how many lines that are not blank stand after it.
 fn header_in<'t>(lines: &[Line<'t>]) -> Option<(Line<'t>, usize)> {
     let mut header = None;
     let mut behind = 0usize;
@@ -192,13 +192,13 @@ fn header_in<'t>(lines: &[Line<'t>]) -> Option<(Line<'t>, usize)> {
     header.map(|it| (it, behind))
 }
 
-/// The header of a text, and how many lines that are not blank stand behind it.
+/// Returns the header of a text, and how many lines that are not blank stand after it.
 fn header_of<'t>(alloc: Global, text: &'t [u8]) -> Result<Option<(Line<'t>, usize)>, AllocError> {
     let lines = lines_of(alloc, text)?;
     Ok(header_in(&lines))
 }
 
-/// Appends that a header, behind which so many lines stand, counts others than there are.
+/// Appends that a header, after which this many lines stand, counts others than there are.
 fn put_count_of(faulty: &Faulty<'_>, header: Line<'_>, behind: usize, out: &mut Said) -> usize {
     if header.number == faulty.line.number {
         let at = faulty.put_found(4, b"the number of transitions below", out);
@@ -275,7 +275,7 @@ fn label_in<'t>(faulty: &Faulty<'t>) -> (usize, &'t [u8]) {
     (from.saturating_add(blanks), label.trim_ascii_end())
 }
 
-/// A label without quotes round it.
+/// Returns a label without quotes round it.
 fn unquoted(label: &[u8]) -> &[u8] {
     match label {
         [b'"', inside @ .., b'"'] => inside.trim_ascii(),
@@ -283,7 +283,7 @@ fn unquoted(label: &[u8]) -> &[u8] {
     }
 }
 
-/// A hint of a label that is no name with at most one guard.
+/// Returns a hint of a label that is no name with at most one guard.
 fn hint_of_label(label: &[u8]) -> Option<&'static [u8]> {
     match label {
         [b'[', ..] => Some(b"the name of the action is missing before the guard"),
@@ -343,7 +343,7 @@ fn put_line_fault(
     }
 }
 
-/// The number of the line that has a fault.
+/// Returns the number of the line that has a fault.
 fn line_of_fault(fault: SystemFault) -> usize
     ensures { result ≡ line_in_system fault }
 {

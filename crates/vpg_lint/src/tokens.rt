@@ -88,7 +88,7 @@ impl<'t> Tokens<'t> {
     }
 }
 
-/// The words of a text: names, what stands in quotes, and each other byte by itself. Comments are left out.
+/// Returns the words of a text: names, what stands in quotes, and each other byte by itself. Comments are left out.
 pub(crate) fn tokens_of<'t>(alloc: Global, text: &'t [u8]) -> Result<Vec<Word<'t>>, AllocError> {
     let mut tokens = Tokens {
         text,

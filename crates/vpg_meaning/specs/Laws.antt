@@ -48,7 +48,7 @@ pub record SubstitutionIsSound : Type 0 where
   pub alone : (system : PlainSystem) (sets : List StateSet) (sign : Bool) (f : Formula) → IsPositive [] sign f →
       (s : ℕ) → Means system sets f s ↔ Means system [] f s
 
--- Behind an entry its name stands for its formula.
+-- After an entry its name stands for its formula.
 abbrev pub EntriesStandForFormulas : Type 0
 EntriesStandForFormulas = (names : List (List ℕ)) (entries : List Entry) (e : Entry) →
     formula_of names (formulas_of names (entries ++ e ∷ [])) [] (named e.name)
@@ -60,7 +60,7 @@ WellNamedIsPositive = (names : List (List ℕ)) (entries : List Entry) (f : Writ
     IsWellNamed (names_behind [] entries) [] false f →
     IsPositive [] false (formula_of names (formulas_of names entries) [] f)
 
--- So the formula of what is written, behind entries, holds at a state just where what is written holds there.
+-- So the formula of what is written, after entries, holds at a state just where what is written holds there.
 abbrev pub FormulasMeanWhatIsWritten : Type 0
 FormulasMeanWhatIsWritten = (names : List (List ℕ)) (system : PlainSystem) (entries : List Entry) (f : Written) →
     IsClosedSystem system → HasNames names system → AreWellNamed [] entries →
@@ -77,7 +77,7 @@ abbrev pub RequirementsArePositive : Type 0
 RequirementsArePositive = (text : List ℕ) (entries : List Entry) → SpellsRequirements text entries →
     (names : List (List ℕ)) → All (IsPositive [] false) (formulas_in_order names [] entries)
 
--- And each requirement of a text holds at a state just where what is written there holds, behind the entries in front.
+-- And each requirement of a text holds at a state just where what is written there holds, after the entries in front.
 abbrev pub RequirementsMeanWhatIsWritten : Type 0
 RequirementsMeanWhatIsWritten = (text : List ℕ) (entries : List Entry) → SpellsRequirements text entries →
     (names : List (List ℕ)) (system : PlainSystem) → IsClosedSystem system → HasNames names system →

@@ -66,7 +66,7 @@ said_behind names system earlier (e ∷ entries) x s =
 abbrev pub no_entry : Earlier
 no_entry x s = ⊥
 
--- What is written behind these entries holds at a state.
+-- What is written after these entries holds at a state.
 abbrev pub Holds : List (List ℕ) → PlainSystem → List Entry → Written → ℕ → Type 0
 Holds names system entries f s = Says names system (said_behind names system no_entry entries) [] f s
 
@@ -84,7 +84,7 @@ is_known entries [] sign x = list_any (bytes_eq x) entries
 is_known entries (p ∷ scope) sign x =
     if bytes_eq x p.0 then is_same p.1 sign else is_known entries scope sign x
 
--- the sign of what stands behind it
+-- the sign of what stands after it
 abbrev pub sign_behind : Prefix → Bool → Bool
 sign_behind negated sign = not sign
 sign_behind (some_path x) sign = sign
@@ -113,13 +113,13 @@ IsWellNamed entries scope sign (implication f g) =
     IsWellNamed entries scope (not sign) f × IsWellNamed entries scope sign g
 IsWellNamed entries scope sign (binding kind x f) = IsWellNamed entries ((x, sign) ∷ scope) sign f
 
--- each entry is well named behind those before it, the first of them behind entries of these names
+-- each entry is well named after those before it, the first of them after entries of these names
 abbrev pub AreWellNamed : List (List ℕ) → List Entry → Type 0
 AreWellNamed earlier [] = Unit {0}
 AreWellNamed earlier (e ∷ entries) =
     IsWellNamed earlier [] false e.formula × AreWellNamed (e.name ∷ earlier) entries
 
--- the names of entries, the last one first, behind earlier ones
+-- the names of entries, the last one first, after earlier ones
 abbrev pub names_behind : List (List ℕ) → List Entry → List (List ℕ)
 names_behind earlier [] = earlier
 names_behind earlier (e ∷ entries) = names_behind (e.name ∷ earlier) entries

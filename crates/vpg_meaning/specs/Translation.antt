@@ -70,7 +70,7 @@ formula_behind names inevitably f = words.inevitably f
 formula_behind names again_and_again f = words.again_and_again f
 formula_behind names (after x) f = words.after (actions_of names x) f
 
--- The formula that is written, where actions have these names, inside fixpoints of these names, innermost first, behind
+-- The formula that is written, where actions have these names, inside fixpoints of these names, innermost first, after
 -- these entries.
 abbrev pub formula_of : List (List ℕ) → List (List ℕ × Formula) → List (List ℕ) → Written → Formula
 formula_of names entries scope (constant true) = everywhere
@@ -89,13 +89,13 @@ formula_of names entries scope (implication f g) =
 formula_of names entries scope (binding kind x f) =
     formulas.binding (kind_of kind) (formula_of names entries (x ∷ scope) f)
 
--- the formulas of entries by their names, the last one first, behind those of earlier ones
+-- the formulas of entries by their names, the last one first, after those of earlier ones
 abbrev pub formulas_behind : List (List ℕ) → List (List ℕ × Formula) → List Entry → List (List ℕ × Formula)
 formulas_behind names earlier [] = earlier
 formulas_behind names earlier (e ∷ entries) =
     formulas_behind names ((e.name, formula_of names earlier [] e.formula) ∷ earlier) entries
 
--- The formulas of entries in their order, behind those of earlier ones by their names.
+-- The formulas of entries in their order, after those of earlier ones by their names.
 abbrev pub formulas_in_order : List (List ℕ) → List (List ℕ × Formula) → List Entry → List Formula
 formulas_in_order names earlier [] = []
 formulas_in_order names earlier (e ∷ entries) =

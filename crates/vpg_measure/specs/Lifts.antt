@@ -71,7 +71,7 @@ raised_before ls arena (suc v) table = raised ls arena (raised_before ls arena v
 abbrev pub round_of : List Level → List Vertex → List ℕ → List ℕ
 round_of ls arena table = raised_before ls arena (length arena) table
 
--- the table after so many rounds
+-- the table after this many rounds
 abbrev pub after_rounds : List Level → List Vertex → ℕ → List ℕ → List ℕ
 after_rounds ls arena zero table = table
 after_rounds ls arena (suc k) table = round_of ls arena (after_rounds ls arena k table)

@@ -13,7 +13,7 @@ pub enum OrderFault {
     /// The decisions have a conflict, which the decision on this feature names. Where the diagram alone has one, its root does.
     #[error("Conflict {feature}")]
     Conflict { feature: u16 },
-    /// A growth was refused.
+    /// Memory ran out.
     #[error("Memory")]
     Memory,
 }

@@ -28,7 +28,7 @@ struct SideGame {
     arena: Arena,
 }
 
-// Not derived, so that letting one go is one call: a derived way would be proved anew at each exit that owns one.
+// Not derived: a derived `drop` would be proved again at each exit that owns such a value.
 impl Drop for SideGame {
     fn drop(self) {
         let SideGame { shape: _, arena: _ } = self;
@@ -101,7 +101,7 @@ pub struct PageGames {
     dual: SideGame,
 }
 
-// Not derived, so that letting one go is one call: a derived way would be proved anew at each exit that owns one.
+// Not derived: a derived `drop` would be proved again at each exit that owns such a value.
 impl Drop for PageGames {
     fn drop(self) {
         let PageGames {
@@ -198,7 +198,7 @@ impl PageGames {
         })
     }
 
-    /// The games, to be shared.
+    /// Returns the games, to be shared.
     pub fn share(self, alloc: Global) -> Result<Arc<PageGames>, AllocError>
         ensures { IfOk result (λ shared. arc_value shared ≡ self) }
     {
@@ -212,7 +212,7 @@ impl PageGames {
         &self.known
     }
 
-    /// The shape of the measures of either game.
+    /// Returns the shape of the measures of either game.
     pub fn shape(&self, which: Which) -> &Shape
         ensures { result.now ≡ games_levels which self.now }
     {
@@ -222,7 +222,7 @@ impl PageGames {
         }
     }
 
-    /// The kept edges of either game.
+    /// Returns the kept edges of either game.
     pub fn arena(&self, which: Which) -> &Arena
         ensures { result.now ≡ games_arena which self.now }
     {

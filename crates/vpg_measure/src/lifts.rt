@@ -30,7 +30,7 @@ pub enum StrategyFault {
     /// The table is no progress table.
     #[error("NotSettled")]
     NotSettled,
-    /// A growth was refused.
+    /// Memory ran out.
     #[error("Memory")]
     Memory,
 }
@@ -81,7 +81,7 @@ fn best_prog(shape: &Shape, arena: &Arena, table: &Table, v: u32) -> u64
     }
 }
 
-/// The least number that fits at a vertex, at most top.
+/// Returns the least number that fits at a vertex, at most top.
 pub fn lift(shape: &Shape, arena: &Arena, table: &Table, v: u32) -> u64
     requires vertex { v < length arena.now }
     requires table { IsTableOf shape.now arena.now table.now }

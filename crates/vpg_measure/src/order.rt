@@ -44,7 +44,7 @@ pub struct Order {
     is_noted: bool,
 }
 
-// Not derived, so that letting one go is one call: a derived way would be proved anew at each exit that owns one.
+// Not derived: a derived `drop` would be proved again at each exit that owns such a value.
 impl Drop for Order {
     fn drop(self) {
         let Order {
@@ -136,7 +136,7 @@ fn games_and_room(
 }
 
 impl Order {
-    /// The order of a page: each table has one value for each vertex, below every progress table of its game.
+    /// Returns the order of a page: each table has one value for each vertex, below every progress table of its game.
     ///
     /// Errors, in this order: `AtLimit` where a priority of the game is 65,536, so that it has no dual; `Conflict`
     /// where the decisions have one; `Memory`. All that was handed in comes back beside the fault.
@@ -197,8 +197,8 @@ impl Order {
         }
     }
 
-    /// The order of a page whose games are made already: they are those of these decisions. No edge is looked at. Each
-    /// table has one value for each vertex, below every progress table of its game.
+    /// Returns the order of a page whose games are made already: they are those of these decisions. No edge is looked
+    /// at. Each table has one value for each vertex, below every progress table of its game.
     pub fn over(
         alloc: Global,
         game: Arc<GuardedGame>,
@@ -235,7 +235,7 @@ impl Order {
         })
     }
 
-    /// The game.
+    /// Returns the game.
     pub fn game(&self) -> &Arc<GuardedGame>
         ensures game { arc_value result.now ≡ self.now.game }
         ensures order { IsOrder self.now }
@@ -243,7 +243,7 @@ impl Order {
         &self.game
     }
 
-    /// The diagram.
+    /// Returns the diagram.
     pub fn diagram(&self) -> &Arc<Diagram>
         ensures diagram { arc_value result.now ≡ self.now.diagram }
         ensures order { IsOrder self.now }
@@ -251,7 +251,7 @@ impl Order {
         &self.diagram
     }
 
-    /// The decisions, in the page's order.
+    /// Returns the decisions, in the page's order.
     pub fn decisions(&self) -> &[Decision]
         ensures decisions { result.now ≡ self.now.decisions }
         ensures order { IsOrder self.now }
@@ -267,14 +267,14 @@ impl Order {
         &self.games
     }
 
-    /// The table of the hopeful game.
+    /// Returns the table of the hopeful game.
     pub fn hopeful(&self) -> &Table
         ensures { result.now ≡ self.now.hopeful }
     {
         &self.hopeful
     }
 
-    /// The table of the hopeful game of the dual.
+    /// Returns the table of the hopeful game of the dual.
     pub fn dual(&self) -> &Table
         ensures { result.now ≡ self.now.dual }
     {
@@ -292,14 +292,14 @@ impl Order {
         }
     }
 
-    /// The shape of the measures of either game.
+    /// Returns the shape of the measures of either game.
     pub fn shape(&self, which: Which) -> &Shape
         ensures { result.now ≡ order_levels which self.now }
     {
         self.games.shape(which)
     }
 
-    /// The kept edges of either game.
+    /// Returns the kept edges of either game.
     pub fn arena(&self, which: Which) -> &Arena
         ensures { result.now ≡ order_arena which self.now }
     {
@@ -406,7 +406,7 @@ impl Order {
         self.dual_room = dual;
     }
 
-    /// The order with the tables in the room for its own, whose memory is the room then.
+    /// Returns the order with the tables in the room for its own, whose memory is the room then.
     pub(crate) fn exchange_room(&mut self)
         requires { (which : Which) →
             IsTableBelow (kleene self.old.known) which (graph_of self.old.game) (order_room which self.old) }

@@ -67,7 +67,7 @@ situation_in form scope pair = situation pair.0 (form pair.1) (scope pair.1)
 abbrev pub HasLabels : ℕ → List (List Departure) → Type 0
 HasLabels labels states = All (λ departures. All (λ t. t.action < labels) departures) states
 
--- Parts that stand behind those that they are parts of, `true` and `false` shared, stand for normal forms, each in its
+-- Parts that stand after those that they are parts of, `true` and `false` shared, stand for normal forms, each in its
 -- scope.
 abbrev pub ChainedPartsStand : Type 0
 ChainedPartsStand =

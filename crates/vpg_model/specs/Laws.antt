@@ -66,7 +66,8 @@ IsGameOfParts states sets parts first roots pairs vertices game =
     IsGameOf system first roots form scope pairs vertices game
 
 -- The root of this number is the formula's normal form. The chains say in which fixpoints each part stands; a root
--- stands in none. For each set of actions there is an action formula, which permits those of so many that the set has.
+-- stands in none. For each set of actions there is an action formula, which permits those of this many that the set
+-- has.
 pub record IsRootOf (labels : ℕ) (sets : List (List Bool)) (parts : List Part) (roots : List ℕ) (n : ℕ)
     (formula : Formula) : Type 0 where
   pub actions : List ActionFormula
@@ -81,7 +82,8 @@ pub record IsRootOf (labels : ℕ) (sets : List (List Bool)) (parts : List Part)
   -- each variable has a fixpoint, and stands under an even number of negations within it
   pub positive : IsPositive [] false formula
 
--- The lists are those of a system whose transitions lead to its states, by so many actions; this is one of its states.
+-- The lists are those of a system whose transitions lead to its states, by this many actions; this is one of its
+-- states.
 pub record AreOfSystem (labels : ℕ) (system : System Guard) (states : List (List Departure)) (first : ℕ) : Type 0 where
   pub departures : AreDepartures system states
   pub labelled : HasLabels labels states

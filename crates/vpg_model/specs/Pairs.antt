@@ -50,7 +50,7 @@ moves_along sets parts x a departures =
 abbrev pub departures_at : List (List Departure) → ℕ → List Departure
 departures_at states s = slice_index_or states s []
 
--- the guards of all transitions are over so many features, and can be written and read again
+-- the guards of all transitions are over this many features, and can be written and read again
 abbrev pub HaveGuards : ℕ → List (List Departure) → Type 0
 HaveGuards features states = All (λ departures. All (λ t. IsReadable features t.guard) departures) states
 

@@ -72,7 +72,7 @@ pub record IsNewEntry (states : List (List Departure)) (sets : List (List Bool))
   pub id : entry.id ≡ at
   pub is : IsPairEntry states sets parts new pair entry
 
--- why there is none, where so many moves had been counted
+-- why there is none, where this many moves had been counted
 abbrev pub IsEntryFault : List (List Departure) → List (List Bool) → List Part → List (ℕ × ℕ) → List (ℕ × ℕ) → ℕ × ℕ →
     ℕ → ModelFault → Type 0
 IsEntryFault states sets parts old new pair count faults.TooManyVertices =
@@ -102,7 +102,7 @@ pub record AreRoots (old new roots : List (ℕ × ℕ)) (vertices : List ℕ) : 
   pub room : length old ≤ 65536 → length new ≤ 65536
   pub each : ArePlaced new roots vertices
 
--- so many entries are there, of pairs that began with these; their moves are as many as were counted
+-- this many entries are there, of pairs that began with these; their moves are as many as were counted
 pub record IsSearched (states : List (List Departure)) (sets : List (List Bool)) (parts : List Part)
     (start pairs : List (ℕ × ℕ)) (entries : List SpelledEntry) (count : ℕ) : Type 0 where
   pub small : length pairs ≤ 65536

@@ -24,7 +24,7 @@ departure_of t = record { action = t.action; guard = t.guard; target = t.target 
 abbrev pub departures_from : ℕ → List NamedTransition → List Departure
 departures_from s ts = map departure_of (filter (λ t. t.source == s) ts)
 
--- the lists, one for each of so many states, have the transitions from it
+-- the lists, one for each of this many states, have the transitions from it
 pub record ArePlacedBySource (count : ℕ) (ts : List NamedTransition) (states : List (List Departure)) : Type 0 where
   pub count_is : length states ≡ count
   pub each : (s : ℕ) → s < count → departures_at states s ≡ departures_from s ts

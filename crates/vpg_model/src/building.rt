@@ -30,7 +30,7 @@ pub struct Built {
     pub game: GuardedGame,
 }
 
-/// The vertex of a pair: where it is new, the next one.
+/// Returns the vertex of a pair: where it is new, the next one.
 fn place(pairs: &mut IndexSet<(u32, u32)>, pair: (u32, u32)) -> Result<usize, ModelFault>
     ensures placed { IfOk result (λ at. IsPlaced pairs.old.keys pairs.new.keys pair at) }
     ensures refused { IfErr result (IsGrowthFault pairs.old.keys pairs.new.keys (pair ∷ [])) }
@@ -44,7 +44,7 @@ fn place(pairs: &mut IndexSet<(u32, u32)>, pair: (u32, u32)) -> Result<usize, Mo
     Ok(at)
 }
 
-/// The successors of a vertex that has these moves.
+/// Returns the successors of a vertex that has these moves.
 fn successors(
     alloc: Global,
     pairs: &mut IndexSet<(u32, u32)>,
@@ -66,7 +66,7 @@ fn successors(
     Ok(successors)
 }
 
-/// The vertices of the roots.
+/// Returns the vertices of the roots.
 fn place_roots(
     alloc: Global,
     source: &Source,
@@ -86,7 +86,7 @@ fn place_roots(
     Ok(places)
 }
 
-/// The pair of this number.
+/// Returns the pair of this number.
 fn pair_of(pairs: &IndexSet<(u32, u32)>, at: usize) -> Option<(u32, u32)>
     ensures found { IfSome result (λ pair. IsPairAt pairs.now.keys at pair) }
     ensures none { IfNone result (length pairs.now.keys ≤ at) }
@@ -101,8 +101,8 @@ fn pair_of(pairs: &IndexSet<(u32, u32)>, at: usize) -> Option<(u32, u32)>
     }
 }
 
-/// The entry of a pair, which has this number. What its moves lead to is added to the pairs, and how many they are to
-/// the count.
+/// Returns the entry of a pair, which has this number. What its moves lead to is added to the pairs, and how many they
+/// are to the count.
 fn entry(
     alloc: Global,
     source: &Source,
@@ -136,7 +136,7 @@ fn entry(
     })
 }
 
-/// The entries of the pairs and of those that their moves lead to, which are added to them.
+/// Returns the entries of the pairs and of those that their moves lead to, which are added to them.
 fn entries(
     alloc: Global,
     source: &Source,

@@ -7,7 +7,7 @@ pub fn pair_game_is_built()
     ensures { PairGameIsBuilt }
 {}
 
-/// Parts that stand behind those that they are parts of stand for normal forms, each in its scope.
+/// Parts that stand after those that they are parts of stand for normal forms, each in its scope.
 pub fn chained_parts_stand()
     ensures { ChainedPartsStand }
 {}

@@ -30,7 +30,7 @@ fn fault_of(fault: GameFault) -> ModelFault
     }
 }
 
-/// The game of entries whose identifiers are their numbers.
+/// Returns the game of entries whose identifiers are their numbers.
 pub(crate) fn game_of(
     alloc: Global,
     entries: Vec<Entry>,

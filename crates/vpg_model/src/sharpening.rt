@@ -10,7 +10,7 @@ use vpg_blake::sharp_form;
 use vpg_edges::Edge;
 use vpg_game::{Entry, GuardedGame, Successor};
 
-/// The successor that an edge is.
+/// Returns the successor that an edge is.
 fn sharp_successor(alloc: Global, edge: &Edge, features: usize) -> Result<Successor, AllocError>
     requires { IsReadable features edge.now.guard }
     ensures { IfOk result (IsSharpSuccessor features edge.now) }
@@ -20,7 +20,7 @@ fn sharp_successor(alloc: Global, edge: &Edge, features: usize) -> Result<Succes
     Ok(Successor { id: edge.to, guard })
 }
 
-/// The successors that edges are.
+/// Returns the successors that edges are.
 fn sharp_successors(
     alloc: Global,
     edges: &[Edge],
@@ -36,7 +36,7 @@ fn sharp_successors(
     Ok(successors)
 }
 
-/// The entry of a vertex.
+/// Returns the entry of a vertex.
 fn sharp_entry(alloc: Global, game: &GuardedGame, v: u32) -> Result<Entry, AllocError>
     requires { v < length game.now.vertices }
     ensures { IfOk result (λ entry.
@@ -53,7 +53,7 @@ fn sharp_entry(alloc: Global, game: &GuardedGame, v: u32) -> Result<Entry, Alloc
     })
 }
 
-/// The entries of all vertices. The game is let go.
+/// Returns the entries of all vertices. The game is let go.
 fn sharp_entries(alloc: Global, game: GuardedGame) -> Result<Vec<Entry>, AllocError>
     ensures { IfOk result (λ entries. AreSharpEntries game.features game.vertices entries.items) }
 {

@@ -58,7 +58,7 @@ pub struct Source {
 }
 
 impl Source {
-    /// The part at a place. Where there is none, it is `false`.
+    /// Returns the part at a place. Where there is none, it is `false`.
     pub fn part(&self, place: u32) -> Part
         ensures { result ≡ part_at self.now.parts.items place }
     {
@@ -81,7 +81,7 @@ impl Source {
         }
     }
 
-    /// The vertex of a part at a state.
+    /// Returns the vertex of a part at a state.
     pub fn pair_for(&self, state: u32, place: u32) -> (u32, u32)
         ensures { result ≡ pair_for self.now.parts.items state place }
     {
@@ -93,7 +93,7 @@ impl Source {
         }
     }
 
-    /// The part that decides at a place: for a variable it is the fixpoint.
+    /// Returns the part that decides at a place: for a variable it is the fixpoint.
     pub fn resolved_part(&self, place: u32) -> Part
         ensures { result ≡ resolved_part self.now.parts.items place }
     {
@@ -114,7 +114,7 @@ pub(crate) fn owner(part: Part) -> Player
     }
 }
 
-/// The priority of a part.
+/// Returns the priority of a part.
 pub(crate) fn priority(part: Part) -> u32
     ensures { result ≡ priority_of_part part }
 {

@@ -11,7 +11,7 @@ use std::alloc::{AllocError, Global};
 use vpg_parts::{Part, Permitted};
 use vpg_system::System;
 
-/// So many states without transitions.
+/// This many states without transitions.
 fn empty_states(alloc: Global, count: u32) -> Result<Vec<State>, AllocError>
     ensures { IfOk result (λ states. states.items ≡ replicate count []) }
 {
@@ -24,7 +24,7 @@ fn empty_states(alloc: Global, count: u32) -> Result<Vec<State>, AllocError>
     Ok(states)
 }
 
-/// The transition of a state that is known.
+/// Returns the transition of a state that is known.
 fn departure(alloc: Global, transition: &vpg_system::Transition) -> Result<Transition, AllocError>
     requires { transition.now.action < 4294967296 }
     ensures { IfOk result (λ departure. departure ≡ departure_of (transition_of transition.now)) }
@@ -47,7 +47,7 @@ fn add(states: &mut Vec<State>, source: u32, departure: Transition) -> Result<()
     Ok(())
 }
 
-/// The transitions from each state.
+/// Returns the transitions from each state.
 fn states_of(alloc: Global, system: &System) -> Result<Vec<State>, AllocError>
     ensures { IfOk result (λ states. ArePlacedBySource system.now.states system.now.transitions states.items) }
 {

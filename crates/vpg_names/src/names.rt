@@ -37,7 +37,7 @@ impl Model for VertexNames {
 }
 
 impl VertexNames {
-    /// No names and no start.
+    /// Returns no names and no start.
     pub fn none(alloc: Global) -> VertexNames
         ensures names { result.names ≡ [] }
         ensures start { result.start ≡ None }
@@ -48,7 +48,7 @@ impl VertexNames {
         }
     }
 
-    /// The name of a vertex, empty where it has none, or where there are fewer names.
+    /// Returns the name of a vertex, empty where it has none, or where there are fewer names.
     pub fn name(&self, v: u32) -> &[u8]
         ensures { result.now ≡ slice_index_or self.now.names v [] }
     {
@@ -58,8 +58,8 @@ impl VertexNames {
         }
     }
 
-    /// The identifier where the game starts, where its text tells one. 4,294,967,296 stands for all that are greater
-    /// than identifiers are.
+    /// Returns the identifier where the game starts, where its text tells one. 4,294,967,296 stands for all that are
+    /// greater than identifiers are.
     pub fn start(&self) -> Option<u64>
         ensures { result ≡ self.now.start }
     {

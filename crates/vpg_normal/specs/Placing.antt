@@ -7,7 +7,7 @@ use Rattle.vpg_parts.specs.declared.part.Part.{Part}
 use Rattle.vpg_parts.specs.declared.part.Part.TheVariants as part
 use Rattle.vpg_parts.specs.Parts.{part_at}
 
--- the symbols of all normal forms, behind `true` and `false`
+-- the symbols of all normal forms, after `true` and `false`
 abbrev pub all_symbols : List (List Symbol) → List Symbol
 all_symbols forms = True ∷ False ∷ flat_map (λ ss. ss) forms
 

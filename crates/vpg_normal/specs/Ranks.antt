@@ -6,7 +6,7 @@ use Rattle.vpg_parts.specs.declared.symbol.Symbol.{Symbol}
 use Rattle.vpg_parts.specs.declared.symbol.Symbol.TheVariants.{True, False, And, Or, SomeStep, EveryStep, Fixpoint, Variable}
 use Rattle.vpg_parts.specs.Parts.{kind_of}
 
--- the greatest priority of a fixpoint that stands behind a place, from one outwards, over so many at most
+-- the greatest priority of a fixpoint that stands after a place, from one outwards, over this many at most
 abbrev pub crossed : List (Option ℕ) → List ℕ → ℕ → ℕ → Option ℕ → ℕ
 crossed scopes priorities low zero from = 0
 crossed scopes priorities low (suc n) None = 0
@@ -23,7 +23,7 @@ abbrev pub share_of : List (Option ℕ) → List (Option ℕ) → List ℕ → �
 share_of scopes fixpoints priorities m k =
     if_names m (crossed scopes priorities m k (slice_index_or scopes k None)) (slice_index_or fixpoints k None)
 
--- the greatest of the shares of so many symbols, from a place on
+-- the greatest of the shares of this many symbols, from a place on
 abbrev pub greatest_share : List (Option ℕ) → List (Option ℕ) → List ℕ → ℕ → ℕ → ℕ → ℕ
 greatest_share scopes fixpoints priorities m from zero = 0
 greatest_share scopes fixpoints priorities m from (suc n) =
@@ -34,12 +34,12 @@ abbrev pub noted : Option ℕ → ℕ → List ℕ → List ℕ
 noted None k places = places
 noted (Some m) k places = k ∷ places
 
--- the places at which fixpoints are named, among so many from one on
+-- the places at which fixpoints are named, among this many from one on
 abbrev pub named_from : List (Option ℕ) → ℕ → ℕ → List ℕ
 named_from fixpoints from zero = []
 named_from fixpoints from (suc n) = noted (slice_index_or fixpoints from None) from (named_from fixpoints (suc from) n)
 
--- the priority of a fixpoint, from those behind it
+-- the priority of a fixpoint, from those after it
 abbrev pub priority_of : List ℕ → List (Option ℕ) → List (Option ℕ) → List ℕ → ℕ → Symbol → ℕ
 priority_of sizes scopes fixpoints priorities k True = 0
 priority_of sizes scopes fixpoints priorities k False = 0

@@ -31,7 +31,7 @@ struct Joined {
     roots: Vec<u32>,
 }
 
-/// Returns the symbols of all normal forms, behind `true` and `false`.
+/// Returns the symbols of all normal forms, after `true` and `false`.
 fn join(alloc: Global, forms: &[Spelling]) -> Result<Joined, AllocError>
     requires few { length forms.now ≤ 64 }
     requires short { All (λ ss. length ss ≤ 65536) forms.now }

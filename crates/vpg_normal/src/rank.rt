@@ -9,7 +9,7 @@ use crate::look::{link_at, number_at};
 use std::alloc::{AllocError, Global};
 use vpg_parts::{Kind, Symbol};
 
-/// Returns the greatest priority of a fixpoint that stands behind this place, from one outwards, over so many at most.
+/// Returns the greatest priority of a fixpoint that stands after this place, from one outwards, over this many at most.
 fn crossed(
     scopes: &[Option<u32>],
     priorities: &[u32],
@@ -55,7 +55,7 @@ fn share(
 
 /// Returns the greatest priority of a fixpoint inside this one in which its variable stands; 0 where there is none.
 ///
-/// Its operand has this size. `variables` has the places of all variables behind the fixpoint, the nearest one last.
+/// Its operand has this size. `variables` has the places of all variables after the fixpoint, the nearest one last.
 fn inner_priority(
     scopes: &[Option<u32>],
     fixpoints: &[Option<u32>],
@@ -98,7 +98,7 @@ fn next_priority(kind: Kind, least: u32) -> u32
     }
 }
 
-/// Returns the priority of the fixpoint at a place, from those behind it; 0 for other symbols.
+/// Returns the priority of the fixpoint at a place, from those after it; 0 for other symbols.
 fn priority(
     symbol: Symbol,
     place: u32,

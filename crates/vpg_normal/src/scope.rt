@@ -43,7 +43,7 @@ pub fn scopes(alloc: Global, symbols: &[Symbol]) -> Result<Vec<Option<u32>>, All
     Ok(scopes)
 }
 
-/// Returns the fixpoint that so many others stand between: from this one outwards.
+/// Returns the fixpoint that this many others stand between: from this one outwards.
 fn outer(scopes: &[Option<u32>], from: Option<u32>, between: u32) -> Option<u32>
     ensures { result ≡ walked scopes.now between from }
 {

@@ -10,7 +10,7 @@ use Rattle.vpg_part_texts.specs.declared.wording.Around.TheVariants as around
 
 -- ---- variables
 
--- so many fixpoints, and one more behind a fixpoint
+-- this many fixpoints, and one more after a fixpoint
 abbrev pub count_behind : ℕ → Part → ℕ
 count_behind n (Fixpoint kind p b) = suc n
 count_behind n _ = n
@@ -41,7 +41,7 @@ abbrev pub closed : Bool → List ℕ
 closed true = codes ")"
 closed false = []
 
--- `&&` needs parentheses behind a modality
+-- `&&` needs parentheses after a modality
 abbrev pub encloses_and : Around → Bool
 encloses_and around.Alone = false
 encloses_and around.Either = false
@@ -89,7 +89,7 @@ part_by sets name text within k (Variable m) = name m
 unfoldable pub most_levels : ℕ
 most_levels = 64
 
--- the text of the part at a place; `..` stands for parts that are so many levels inside
+-- the text of the part at a place; `..` stands for parts that are this many levels inside
 abbrev pub part_text : List Part → List (List ℕ) → (ℕ → List ℕ) → ℕ → Around → ℕ → List ℕ
 part_text parts sets name zero within k = codes ".."
 part_text parts sets name (suc n) within k =

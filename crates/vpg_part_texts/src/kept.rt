@@ -7,7 +7,7 @@ use std::alloc::AllocError;
 /// The number of bytes that are kept: one more than the longest text has.
 pub(crate) const KEPT: usize = 61;
 
-/// Writes bytes behind a text, as far as they are kept.
+/// Writes bytes after a text, as far as they are kept.
 pub(crate) fn put(bytes: &[u8], out: &mut Vec<u8>) -> Result<(), AllocError>
     requires { length out.old.items ≤ 61 }
     ensures put { OnOk result (out.new.items ≡ take 61 (out.old.items ++ bytes.now)) }

@@ -47,21 +47,21 @@ impl Around {
     }
 }
 
-/// A parenthesis that opens, if there is one.
+/// Returns a parenthesis that opens, if there is one.
 fn opening(is_enclosed: bool) -> &'static [u8]
     ensures { result.now ≡ opened is_enclosed }
 {
     if is_enclosed { b"(" } else { b"" }
 }
 
-/// A parenthesis that closes, if there is one.
+/// Returns a parenthesis that closes, if there is one.
 fn closing(is_enclosed: bool) -> &'static [u8]
     ensures { result.now ≡ closed is_enclosed }
 {
     if is_enclosed { b")" } else { b"" }
 }
 
-/// The word for a fixpoint.
+/// Returns the word for a fixpoint.
 fn word_of(kind: Kind) -> &'static [u8]
     ensures { result.now ≡ kind_text kind }
 {
@@ -71,7 +71,7 @@ fn word_of(kind: Kind) -> &'static [u8]
     }
 }
 
-/// Returns how many fixpoints stand in front of what is behind a part.
+/// Returns how many fixpoints stand in front of what is after a part.
 fn count_behind(count: usize, part: Part) -> usize
     requires { count < usize.MAX }
     ensures value { result ≡ count_behind count part }
@@ -130,7 +130,7 @@ pub struct Wording<'p> {
 }
 
 impl<'p> Wording<'p> {
-    /// The part at a place. Where there is none, it is `false`.
+    /// Returns the part at a place. Where there is none, it is `false`.
     fn part(&self, place: u32) -> Part
         ensures { result ≡ part_at self.now.parts.now place }
     {
@@ -140,7 +140,7 @@ impl<'p> Wording<'p> {
         }
     }
 
-    /// The text of a set.
+    /// Returns the text of a set.
     fn set(&self, set: u32) -> &[u8]
         ensures { result.now ≡ slice_index_or self.now.sets.now set [] }
     {
@@ -150,7 +150,7 @@ impl<'p> Wording<'p> {
         }
     }
 
-    /// How many fixpoints stand in front of a place.
+    /// Returns how many fixpoints stand in front of a place.
     fn number(&self, place: u32) -> usize
         ensures { result ≡ slice_index_or self.now.numbers.now place 0 }
     {
@@ -208,7 +208,7 @@ impl<'p> Wording<'p> {
         self.put_name(place, out)
     }
 
-    /// Writes the part at a place, of at most so many levels.
+    /// Writes the part at a place, of at most this many levels.
     fn put_part(
         &self,
         levels: u32,

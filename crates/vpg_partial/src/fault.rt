@@ -11,7 +11,7 @@ pub enum PartialFault {
     /// the diagram alone has one.
     #[error("Conflict {feature}")]
     Conflict { feature: u16 },
-    /// A growth was refused.
+    /// Memory ran out.
     #[error("Memory")]
     Memory,
 }

@@ -39,7 +39,7 @@ pub struct Partial {
     values: Vec<Tri>,
 }
 
-// Not derived, so that letting one go is one call: a derived way would be proved anew at each exit that owns one.
+// Not derived: a derived `drop` would be proved again at each exit that owns such a value.
 impl Drop for Partial {
     fn drop(self) {
         let Partial { values: _ } = self;

@@ -27,7 +27,7 @@ pub(crate) enum Stop {
 }
 
 impl Stop {
-    /// The fault, with the feature that names a contradiction.
+    /// Returns the fault, with the feature that names a contradiction.
     fn named(self, feature: u16) -> PartialFault
         ensures { result ≡ fault_named self feature }
     {

@@ -1,4 +1,4 @@
--- The normal form that each part of a list stands for, where parts stand behind those that they are parts of. This
+-- The normal form that each part of a list stands for, where parts stand after those that they are parts of. This
 -- project's own.
 use Rattle.std.specs.Prelude.{◌≡◌, ℕ, zero, suc, ◌<◌, ◌⊎◌, List, [], ◌∷◌, length, map, drop, ◌==◌, if◌then◌else◌}
 use Rattle.vpg_requirement.specs.Actions.{ActionFormula}
@@ -28,7 +28,7 @@ form_step actions chain f (EveryStep x a) = every_step (actions_at actions x) (f
 form_step actions chain f (Fixpoint kind p b) = fixpoint (kind_of kind) p (f b)
 form_step actions chain f (Variable m) = variable (place_in m chain)
 
--- the same with so many levels of parts, and `false` below
+-- the same with this many levels of parts, and `false` below
 abbrev pub form_with : List Part → List ActionFormula → (ℕ → List ℕ) → ℕ → ℕ → NormalForm
 form_with parts actions chain zero k = unmet
 form_with parts actions chain (suc n) k =
@@ -61,11 +61,11 @@ scope_of parts actions chain k = map (binder_at parts actions chain) (chain k)
 abbrev pub IsLeaf : List Part → ℕ → Type 0
 IsLeaf parts a = (part_at parts a ≡ True) ⊎ (part_at parts a ≡ False)
 
--- a part of the one at place k: it stands behind it, in these fixpoints; or it is `true` or `false`, which all share
+-- a part of the one at place k: it stands after it, in these fixpoints; or it is `true` or `false`, which all share
 abbrev pub IsPartOf : List Part → (ℕ → List ℕ) → ℕ → List ℕ → ℕ → Type 0
 IsPartOf parts chain k inner a = IsLeaf parts a ⊎ ((k < a) × (chain a ≡ inner))
 
--- The parts of this one stand behind it, in the same fixpoints, and the body of a fixpoint in this one too. A variable
+-- The parts of this one stand after it, in the same fixpoints, and the body of a fixpoint in this one too. A variable
 -- names a fixpoint that it stands in.
 abbrev pub IsChainedAt : List Part → (ℕ → List ℕ) → ℕ → Part → Type 0
 IsChainedAt parts chain k True = Unit {0}
@@ -78,7 +78,7 @@ IsChainedAt parts chain k (Fixpoint kind p b) = IsPartOf parts chain k (k ∷ ch
 IsChainedAt parts chain k (Variable m) = (drop (place_in m (chain k)) (chain k) ≡ m ∷ chain m) ×
     (kind : PartKind) × (p : ℕ) × (b : ℕ) × (part_at parts m ≡ Fixpoint kind p b)
 
--- The chains have the places of the fixpoints that each part stands in, and each part stands behind those that it is a
+-- The chains have the places of the fixpoints that each part stands in, and each part stands after those that it is a
 -- part of.
 abbrev pub IsChained : List Part → (ℕ → List ℕ) → Type 0
 IsChained parts chain = (k : ℕ) → IsChainedAt parts chain k (part_at parts k)

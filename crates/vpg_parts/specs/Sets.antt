@@ -10,7 +10,7 @@ set_at sets x = slice_index_or sets x []
 abbrev pub is_permitted : List (List Bool) → ℕ → ℕ → Bool
 is_permitted sets x a = slice_index_or (set_at sets x) a false
 
--- the set has those of so many actions that the action formula permits
+-- the set has those of this many actions that the action formula permits
 abbrev pub ArePermitted : ℕ → List (List Bool) → ℕ → ActionFormula → Type 0
 ArePermitted labels sets x actions = (label : ℕ) → label < labels → permits actions label ≡ is_permitted sets x label
 

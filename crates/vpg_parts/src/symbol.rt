@@ -2,7 +2,7 @@
 use crate::part::Kind;
 use std::marker::Model;
 
-/// A symbol of a normal form in Polish notation. Its operands stand behind it, the first one at once behind.
+/// A symbol of a normal form in Polish notation. Its operands stand after it, the first one at once after.
 #[derive(Clone, Copy, Debug, PartialEq, Eq)]
 pub enum Symbol {
     True,
@@ -15,7 +15,7 @@ pub enum Symbol {
     EveryStep(u32),
     /// A fixpoint, whose operand is its body.
     Fixpoint(Kind),
-    /// A variable: so many fixpoints stand between it and its own.
+    /// A variable: this many fixpoints stand between it and its own.
     Variable(u32),
 }
 

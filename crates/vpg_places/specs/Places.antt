@@ -23,12 +23,12 @@ line_of before = count_by is_line_feed before + 1
 abbrev pub column_of : List ℕ → ℕ
 column_of before = count_by begins_character (to_line_feed (reverse before)) + 1
 
--- the bytes behind the first line feed
+-- the bytes after the first line feed
 abbrev pub behind_feed : List ℕ → List ℕ
 behind_feed [] = []
 behind_feed (b ∷ bs) = if is_line_feed b then bs else behind_feed bs
 
--- the bytes behind so many line feeds
+-- the bytes after this many line feeds
 abbrev pub behind_feeds : ℕ → List ℕ → List ℕ
 behind_feeds zero bs = bs
 behind_feeds (suc n) bs = behind_feeds n (behind_feed bs)
@@ -45,7 +45,7 @@ line_text text number = to_line_feed (behind_feeds (number - 1) text)
 abbrev pub width_of : List ℕ → ℕ
 width_of line = count_by begins_character line
 
--- a column of a line: that of one of its characters, or the one behind them
+-- a column of a line: that of one of its characters, or the one after them
 pub record IsColumnOf (line : List ℕ) (column : ℕ) : Type 0 where
   pub first : 0 < column
   pub last : column ≤ width_of line + 1

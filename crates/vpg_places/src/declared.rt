@@ -13,7 +13,7 @@ pub struct Declared<'t> {
     pub line: usize,
 }
 
-/// Where in a line the children stand, behind its first word.
+/// Where in a line the children stand, after its first word.
 fn first_child(form: &Form) -> usize {
     let mut first = form.parts.len();
     for (place, part) in form.parts.iter().enumerate() {
@@ -49,7 +49,7 @@ fn declare<'t>(
     Ok(())
 }
 
-/// All features that lines name so, in their order, whatever else is wrong with the lines.
+/// Returns all features that lines name so, in their order, whatever else is wrong with the lines.
 pub fn declared_of<'t>(alloc: Global, text: &'t [u8]) -> Result<Vec<Declared<'t>>, AllocError> {
     let lines = lines_of(alloc, text)?;
     let mut declared = Vec::new(alloc);
@@ -60,7 +60,7 @@ pub fn declared_of<'t>(alloc: Global, text: &'t [u8]) -> Result<Vec<Declared<'t>
     Ok(declared)
 }
 
-/// The first of some that has this name.
+/// Returns the first of some that has this name.
 pub fn find<'t>(declared: &[Declared<'t>], name: &[u8]) -> Option<Declared<'t>> {
     for it in declared {
         if it.name == name {
@@ -70,7 +70,7 @@ pub fn find<'t>(declared: &[Declared<'t>], name: &[u8]) -> Option<Declared<'t>> 
     None
 }
 
-/// The names of those before a line.
+/// Returns the names of those before a line.
 pub fn names_before<'t>(
     alloc: Global,
     declared: &[Declared<'t>],

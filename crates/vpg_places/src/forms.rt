@@ -74,7 +74,7 @@ fn are_digits(word: &[u8]) -> bool {
     word.iter().all(|b| b.is_ascii_digit())
 }
 
-/// The bytes between two quotes.
+/// Returns the bytes between two quotes.
 fn quoted(word: &[u8]) -> Option<&[u8]> {
     match word {
         [b'"', name @ .., b'"'] => Some(name),
@@ -92,7 +92,7 @@ fn is_one_of(word: &[u8], others: &[&'static str]) -> bool {
     others.iter().any(|other| other.as_bytes() == word)
 }
 
-/// A word without the sign in front of it.
+/// Returns a word without the sign in front of it.
 fn without_sign(word: &[u8]) -> &[u8] {
     match word {
         [b'+' | b'-', rest @ ..] => rest,
@@ -100,7 +100,7 @@ fn without_sign(word: &[u8]) -> &[u8] {
     }
 }
 
-/// A kind of line: its first word, how it is written, and what stands behind the first word.
+/// A kind of line: its first word, how it is written, and what stands after the first word.
 #[derive(Clone, Copy)]
 pub struct Form {
     pub word: &'static str,
@@ -142,7 +142,7 @@ impl Form {
     }
 }
 
-/// The same of the words behind so many, each of which has to be this part, or there may be none.
+/// The same of the words after this many, each of which has to be this part, or there may be none.
 fn departure_behind(words: &[Word<'_>], parts: usize, rest: Option<Part>) -> Option<Departure> {
     for (place, word) in words.iter().enumerate() {
         let is_fit = place < parts || rest.is_some_and(|part| part.fits(word.bytes));
@@ -457,7 +457,7 @@ pub static COMMANDS: [Form; 31] = [
     },
 ];
 
-/// The form that a word begins.
+/// Returns the form that a word begins.
 pub fn form_of(forms: &[Form], word: &[u8]) -> Option<Form> {
     for form in forms {
         if form.word.as_bytes() == word {

@@ -5,13 +5,13 @@ use std::alloc::{AllocError, Global};
 #[derive(Clone, Copy, PartialEq, Eq)]
 enum Mode {
     Between,
-    /// Behind the first letter of `parity` or `start`.
+    /// After the first letter of `parity` or `start`.
     Heading,
     Guard,
     Quoted,
 }
 
-/// What an entry had last, of what it has behind its owner.
+/// What an entry had last, of what it has after its owner.
 #[derive(Clone, Copy, PartialEq, Eq)]
 pub enum Last {
     Number,
@@ -35,7 +35,7 @@ pub struct Number {
 pub struct Scan {
     mode: Mode,
     last: Last,
-    /// The present entry has so many numbers.
+    /// The present entry has this many numbers.
     numbers: usize,
     /// Whether an entry or a heading stands before.
     has_begun: bool,
@@ -57,7 +57,7 @@ impl Scan {
         }
     }
 
-    /// A `;` outside of guards and names.
+    /// Returns a `;` outside of guards and names.
     fn end(&mut self) {
         self.mode = Mode::Between;
         self.last = Last::Number;
@@ -70,7 +70,7 @@ impl Scan {
         self.opened = at;
     }
 
-    /// A byte outside of headings, guards and names. Whether a number begins with it.
+    /// Returns a byte outside of headings, guards and names. Whether a number begins with it.
     fn between(&mut self, at: usize, b: u8) -> bool {
         let is_first = b.is_ascii_digit() && !self.in_number;
         match b {
@@ -88,7 +88,7 @@ impl Scan {
         is_first
     }
 
-    /// The next byte, at an offset. Whether a number of an entry begins with it.
+    /// Returns the next byte, at an offset. Whether a number of an entry begins with it.
     fn step(&mut self, at: usize, b: u8) -> bool {
         let mut is_first = false;
         match self.mode {
@@ -115,7 +115,7 @@ impl Scan {
         is_first
     }
 
-    /// The bytes of a text up to an offset.
+    /// Returns the bytes of a text up to an offset.
     pub fn of(text: &[u8], at: usize) -> Scan {
         let mut scan = Scan::new();
         for (i, b) in text.iter().enumerate() {
@@ -135,7 +135,7 @@ impl Scan {
         }
     }
 
-    /// How many numbers the present entry has, and what it had last; `None` in headings, guards and names.
+    /// Returns how many numbers the present entry has, and what it had last; `None` in headings, guards and names.
     pub fn in_entry(&self) -> Option<(usize, Last)> {
         match self.mode {
             Mode::Between => Some((self.numbers, self.last)),
@@ -170,7 +170,7 @@ fn digit(b: u8) -> u64 {
     b.saturating_sub(b'0') as u64
 }
 
-/// The numbers of all entries in a text, or their identifiers alone.
+/// Returns the numbers of all entries in a text, or their identifiers alone.
 pub fn numbers_of(
     alloc: Global,
     text: &[u8],
@@ -197,7 +197,7 @@ pub fn numbers_of(
     Ok(numbers)
 }
 
-/// The offset of the number of the `start` heading, where there is one.
+/// Returns the offset of the number of the `start` heading, where there is one.
 pub fn start_at(text: &[u8]) -> usize {
     let mut scan = Scan::new();
     for (at, b) in text.iter().enumerate() {

@@ -11,7 +11,7 @@ impl Budget {
         Budget { left }
     }
 
-    /// How many are left.
+    /// Returns how many are left.
     pub fn left(&self) -> u64 {
         self.left
     }
@@ -20,7 +20,7 @@ impl Budget {
         self.left == 0
     }
 
-    /// Spends what looking at so many edges and vertices costs.
+    /// Spends what looking at this many edges and vertices costs.
     pub fn spend(&mut self, looked: usize) {
         self.left = self.left.saturating_sub(looked as u64);
     }

@@ -7,7 +7,7 @@ pub struct Found<T> {
     is_refused: bool,
 }
 
-// Not derived, so that letting one go is one call: a derived way would be proved anew at each exit that owns one.
+// Not derived: a derived `drop` would be proved again at each exit that owns such a value.
 impl<T: Drop> Drop for Found<T> {
     fn drop(self) {
         let Found {
@@ -48,12 +48,12 @@ impl<T: Copy> Found<T> {
         self.items.clear();
     }
 
-    /// How many there are.
+    /// Returns how many there are.
     pub fn len(&self) -> usize {
         self.items.len()
     }
 
-    /// The one at this place, from 0.
+    /// Returns the one at this place, from 0.
     pub fn get(&self, at: usize) -> Option<T> {
         self.items.get(at).copied()
     }
@@ -68,7 +68,7 @@ impl<T: Copy> Found<T> {
         self.is_refused
     }
 
-    /// The whole list, or that memory was refused.
+    /// Returns the whole list, or that memory was refused.
     pub fn list(self) -> Result<Vec<T>, AllocError> {
         let Found { items, is_refused } = self;
         if is_refused {

@@ -10,7 +10,7 @@ struct Lists {
     items: Vec<u32>,
 }
 
-// Not derived, so that letting one go is one call: a derived way would be proved anew at each exit that owns one.
+// Not derived: a derived `drop` would be proved again at each exit that owns such a value.
 impl Drop for Lists {
     fn drop(self) {
         let Lists { ends: _, items: _ } = self;
@@ -45,7 +45,7 @@ impl Lists {
     }
 }
 
-// For each vertex, how many places of lists lesser ones take, where each takes so many.
+// For each vertex, how many places of lists lesser ones take, where each takes this many.
 fn places_before(counts: &mut Vec<u32>) {
     let mut before = 0u32;
     for v in 0..counts.len() {
@@ -85,7 +85,7 @@ pub struct Predecessors {
     lists: Lists,
 }
 
-// Not derived, so that letting one go is one call: a derived way would be proved anew at each exit that owns one.
+// Not derived: a derived `drop` would be proved again at each exit that owns such a value.
 impl Drop for Predecessors {
     fn drop(self) {
         let Predecessors { count: _, lists: _ } = self;
@@ -98,7 +98,7 @@ pub struct Arrivals {
     edges: usize,
 }
 
-// Not derived, so that letting one go is one call: a derived way would be proved anew at each exit that owns one.
+// Not derived: a derived `drop` would be proved again at each exit that owns such a value.
 impl Drop for Arrivals {
     fn drop(self) {
         let Arrivals {
@@ -109,7 +109,7 @@ impl Drop for Arrivals {
 }
 
 impl Arrivals {
-    /// None of so many vertices.
+    /// None of this many vertices.
     pub fn none(alloc: Global, vertices: u32) -> Result<Arrivals, AllocError> {
         let counts = vec![in alloc; 0u32; vertices as usize]?;
         Ok(Arrivals { counts, edges: 0 })
@@ -142,7 +142,7 @@ pub struct Places {
     items: Vec<u32>,
 }
 
-// Not derived, so that letting one go is one call: a derived way would be proved anew at each exit that owns one.
+// Not derived: a derived `drop` would be proved again at each exit that owns such a value.
 impl Drop for Places {
     fn drop(self) {
         let Places { ends: _, items: _ } = self;
@@ -150,12 +150,12 @@ impl Drop for Places {
 }
 
 impl Places {
-    /// A vertex moves to these.
+    /// Returns a vertex moves to these.
     pub fn write(&mut self, v: u32, successors: &[u32]) {
         put_back(v, successors, &mut self.ends, &mut self.items);
     }
 
-    /// All are written.
+    /// Returns all are written.
     pub fn finish(self) -> Predecessors {
         let Places { ends, items } = self;
         let count = u32::try_from(ends.len()).unwrap_or(u32::MAX);
@@ -180,12 +180,12 @@ impl Predecessors {
         self.count
     }
 
-    /// How many edges and vertices there are.
+    /// Returns how many edges and vertices there are.
     pub fn size(&self) -> u64 {
         u64::from(self.count).saturating_add(self.lists.items.len() as u64)
     }
 
-    /// How many edges there are.
+    /// Returns how many edges there are.
     pub fn edges(&self) -> usize {
         self.lists.items.len()
     }
@@ -205,7 +205,7 @@ pub struct Draft {
     successors: Lists,
 }
 
-// Not derived, so that letting one go is one call: a derived way would be proved anew at each exit that owns one.
+// Not derived: a derived `drop` would be proved again at each exit that owns such a value.
 impl Drop for Draft {
     fn drop(self) {
         let Draft {
@@ -232,7 +232,7 @@ impl Draft {
         }
     }
 
-    /// With room for so many vertices and edges.
+    /// With room for this many vertices and edges.
     pub fn with_room(alloc: Global, vertices: usize, edges: usize) -> Result<Draft, AllocError> {
         Ok(Draft {
             count: 0,
@@ -253,7 +253,7 @@ impl Draft {
         }
     }
 
-    /// An edge of the vertex that comes next.
+    /// Returns an edge of the vertex that comes next.
     pub fn edge(&mut self, to: u32) {
         let grown = self.successors.items.push(to).is_ok();
         self.note(grown);
@@ -265,7 +265,7 @@ impl Draft {
         self.note(grown);
     }
 
-    /// A vertex with the edges since the last one.
+    /// Returns a vertex with the edges since the last one.
     pub fn vertex(&mut self, owner: Player, priority: u32) {
         let owned = self.owners.push(owner).is_ok();
         let counted = self.priorities.push(priority).is_ok();
@@ -274,13 +274,13 @@ impl Draft {
         self.count = self.count.saturating_add(1);
     }
 
-    /// The game, with as few priorities as have the same winners.
+    /// Returns the game, with as few priorities as have the same winners.
     pub fn finish(self, alloc: Global) -> Result<Graph, AllocError> {
         let predecessors = Predecessors::of_lists(alloc, &self.successors, self.count)?;
         self.finish_with(alloc, predecessors)
     }
 
-    /// The same, where it is known who moves to each vertex.
+    /// Returns the same, where it is known who moves to each vertex.
     pub fn finish_with(
         self,
         alloc: Global,
@@ -331,7 +331,7 @@ pub struct Graph {
     predecessors: Predecessors,
 }
 
-// Not derived, so that letting one go is one call: a derived way would be proved anew at each exit that owns one.
+// Not derived: a derived `drop` would be proved again at each exit that owns such a value.
 impl Drop for Graph {
     fn drop(self) {
         let Graph {
@@ -376,7 +376,7 @@ impl Graph {
         self.count
     }
 
-    /// How many edges and vertices there are.
+    /// Returns how many edges and vertices there are.
     pub fn size(&self) -> u64 {
         u64::from(self.count).saturating_add(self.successors.items.len() as u64)
     }
@@ -408,7 +408,7 @@ impl Graph {
         &self.predecessors
     }
 
-    /// The same, all else let go.
+    /// Returns the same, all else let go.
     pub fn into_predecessor_lists(self) -> Predecessors {
         let Graph {
             count: _,
@@ -420,7 +420,7 @@ impl Graph {
         predecessors
     }
 
-    /// The greatest priority of some vertices.
+    /// Returns the greatest priority of some vertices.
     pub fn greatest_priority(&self, vertices: &[u32]) -> u32 {
         let mut greatest = 0;
         for v in vertices {

@@ -18,7 +18,7 @@ struct OddCycles {
     found: Found<u32>,
 }
 
-// Not derived, so that letting one go is one call: a derived way would be proved anew at each exit that owns one.
+// Not derived: a derived `drop` would be proved again at each exit that owns such a value.
 impl Drop for OddCycles {
     fn drop(self) {
         let OddCycles {

@@ -12,7 +12,7 @@ struct Game {
     gone: Vec<u32>,
 }
 
-// Not derived, so that letting one go is one call: a derived way would be proved anew at each exit that owns one.
+// Not derived: a derived `drop` would be proved again at each exit that owns such a value.
 impl Drop for Game {
     fn drop(self) {
         let Game { all: _, gone: _ } = self;
@@ -26,7 +26,7 @@ struct Waiting {
     player: Player,
 }
 
-// Not derived, so that letting one go is one call: a derived way would be proved anew at each exit that owns one.
+// Not derived: a derived `drop` would be proved again at each exit that owns such a value.
 impl Drop for Waiting {
     fn drop(self) {
         let Waiting {

@@ -22,7 +22,7 @@ pub struct Regions {
     pub choice: Choices,
 }
 
-// Not derived, so that letting one go is one call: a derived way would be proved anew at each exit that owns one.
+// Not derived: a derived `drop` would be proved again at each exit that owns such a value.
 impl Drop for Regions {
     fn drop(self) {
         let Regions {
@@ -33,12 +33,12 @@ impl Drop for Regions {
 }
 
 impl Regions {
-    /// The winner, where the budget sufficed.
+    /// Returns the winner, where the budget sufficed.
     pub fn winner(&self, v: u32) -> Option<Player> {
         self.winner.get(v)
     }
 
-    /// The winner's choice at a vertex of its own.
+    /// Returns the winner's choice at a vertex of its own.
     pub fn choice(&self, v: u32) -> Option<u32> {
         self.choice.get(v)
     }
@@ -132,7 +132,7 @@ fn solve_apart(
     Ok(())
 }
 
-// The components of some vertices, each behind those that it leads to.
+// The components of some vertices, each after those that it leads to.
 fn components_of(
     alloc: Global,
     solution: &Solution<'_>,

@@ -22,7 +22,7 @@ pub struct Solution<'a> {
     stamp: u32,
 }
 
-// Not derived, so that letting one go is one call: a derived way would be proved anew at each exit that owns one.
+// Not derived: a derived `drop` would be proved again at each exit that owns such a value.
 impl<'a> Drop for Solution<'a> {
     fn drop(self) {
         let Solution {
@@ -57,7 +57,7 @@ impl<'a> Solution<'a> {
         self.alive.get(v)
     }
 
-    /// The first move that stays in the present game.
+    /// Returns the first move that stays in the present game.
     pub fn first_alive(&self, v: u32) -> Option<u32> {
         for w in self.graph.successors(v) {
             if self.alive.get(*w) {
@@ -210,7 +210,7 @@ impl<'a> Solution<'a> {
         living.list()
     }
 
-    /// The vertices of the present game.
+    /// Returns the vertices of the present game.
     pub fn all_living(&self, alloc: Global) -> Result<Vec<u32>, AllocError> {
         let mut living = Found::none(alloc);
         for v in 0..self.graph.vertices() {

@@ -29,7 +29,7 @@ struct PathWeights {
     is_refused: bool,
 }
 
-// Not derived, so that letting one go is one call: a derived way would be proved anew at each exit that owns one.
+// Not derived: a derived `drop` would be proved again at each exit that owns such a value.
 impl Drop for PathWeights {
     fn drop(self) {
         let PathWeights {

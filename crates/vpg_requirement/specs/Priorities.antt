@@ -5,7 +5,7 @@ use Rattle.vpg_requirement.specs.Fixpoints.{Kind, least, greatest}
 use Rattle.vpg_requirement.specs.Formulas.{Formula}
 use Rattle.vpg_requirement.specs.NormalForms.{NormalForm, met, unmet, both, either, some_step, every_step, fixpoint, variable, positive_form}
 
--- whether the variable of the fixpoint that so many others stand between stands in the normal form
+-- whether the variable of the fixpoint that this many others stand between stands in the normal form
 abbrev pub is_free : ℕ → NormalForm → Bool
 is_free i met = false
 is_free i unmet = false
@@ -49,7 +49,7 @@ with_priorities (variable j) = variable j
 abbrev pub normal_form : Formula → NormalForm
 normal_form formula = with_priorities (positive_form false formula)
 
--- each variable has a fixpoint, where so many stand around
+-- each variable has a fixpoint, where this many stand around
 abbrev pub IsClosedBelow : ℕ → NormalForm → Type 0
 IsClosedBelow n met = Unit {0}
 IsClosedBelow n unmet = Unit {0}

@@ -7,7 +7,7 @@ use Rattle.vpg_requirement.specs.Systems.{PlainSystem, IsClosedSystem, successor
 use Rattle.vpg_requirement.specs.Fixpoints.{least, greatest}
 use Rattle.vpg_requirement.specs.Formulas.{Formula, everywhere, nowhere, negation, conjunction, disjunction, implication, diamond, box, binding, bound, Means, IsPositive}
 
--- the number of a variable where one more fixpoint comes to stand outside so many others: those further out count one
+-- the number of a variable where one more fixpoint comes to stand outside this many others: those further out count one
 -- more
 abbrev pub shift_variable : ℕ → ℕ → ℕ
 shift_variable k i = if nat_lt i k then i else suc i

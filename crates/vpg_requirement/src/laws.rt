@@ -65,7 +65,7 @@ pub fn construction_is_built()
     ensures { ConstructionIsBuilt }
 {}
 
-/// Where the search constructs none, more than so many different situations can be reached.
+/// Where the search constructs none, more than this many different situations can be reached.
 pub fn refused_is_too_many()
     ensures { RefusedIsTooMany }
 {}

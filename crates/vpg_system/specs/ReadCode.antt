@@ -65,7 +65,7 @@ IsHeaderError found number e = (e ≡ faults.Memory) ⊎
     ((fault : Fault) × ((features : List (List ℕ)) (rest : List (List ℕ)) →
     after_header features number found rest ≡ Err fault) × IsFaultOf fault e)
 
--- the reading of a text whose header is this one at a line, and this behind it
+-- the reading of a text whose header is this one at a line, and this after it
 abbrev pub behind_header : List (List ℕ) → Header → ℕ → List ℕ → Result NamedSystem Fault
 behind_header features h number behind = read_lines features h number (number + 1) (lines behind) nothing
 

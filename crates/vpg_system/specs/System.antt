@@ -11,15 +11,16 @@ pub record IsActionName (name : List ℕ) : Type 0 where
   pub trim : trimmed name ≡ name
   pub one_line : IsTrue (lacks 10 name)
 
--- a transition between so many states, with one of so many actions, and with a guard that can be written and read again
+-- a transition between this many states, with one of this many actions, and with a guard that can be written and read
+-- again
 pub record IsTransition (features states actions : ℕ) (t : Transition) : Type 0 where
   pub source_below : t.source < states
   pub target_below : t.target < states
   pub action_below : t.action < actions
   pub guard_is : IsReadable features t.guard
 
--- Actions are numbered in the order of their first use. Before the transitions there are so many, behind them all: each
--- transition has one of those before it, or the next.
+-- Actions are numbered in the order of their first use. Before the transitions there are this many, after them all:
+-- each transition has one of those before it, or the next.
 abbrev pub AreInOrder : ℕ → List Transition → ℕ → Type 0
 AreInOrder seen [] all = seen ≡ all
 AreInOrder seen (t ∷ ts) all = (t.action ≤ seen) × AreInOrder (max seen (t.action + 1)) ts all

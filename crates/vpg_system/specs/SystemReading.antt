@@ -26,12 +26,12 @@ abbrev pub checked : {A E : Type 0} → Bool → E → Result A E → Result A E
 checked true fault r = r
 checked false fault r = Err fault
 
--- what stands before a byte and behind it, with a byte in front
+-- what stands before a byte and after it, with a byte in front
 abbrev pub before_cut : ℕ → Option (List ℕ × List ℕ) → Option (List ℕ × List ℕ)
 before_cut b None = None
 before_cut b (Some p) = Some (b ∷ p.0, p.1)
 
--- what stands before the first such byte, and behind it
+-- what stands before the first such byte, and after it
 abbrev pub cut : ℕ → List ℕ → Option (List ℕ × List ℕ)
 cut sign [] = None
 cut sign (b ∷ bs) = cond (b == sign) (Some ([], bs)) (before_cut b (cut sign bs))
@@ -41,7 +41,7 @@ abbrev pub last_or : ℕ → Bool → List ℕ → Option (List ℕ × List ℕ)
 last_or b here bs (Some p) = Some (b ∷ p.0, p.1)
 last_or b here bs None = cond here (Some ([], bs)) None
 
--- what stands before the last such byte, and behind it
+-- what stands before the last such byte, and after it
 abbrev pub cut_last : ℕ → List ℕ → Option (List ℕ × List ℕ)
 cut_last sign [] = None
 cut_last sign (b ∷ bs) = last_or b (b == sign) bs (cut_last sign bs)
@@ -76,7 +76,7 @@ abbrev pub two : List (List ℕ) → Option (List ℕ × List ℕ)
 two (a ∷ b ∷ []) = Some (a, b)
 two _ = None
 
--- the numeral behind `(`
+-- the numeral after `(`
 abbrev pub opened : Option (List ℕ × List ℕ) → Option (List ℕ)
 opened None = None
 opened (Some p) = numeral_if (bytes_eq p.0 (codes "(") && is_numeral p.1) p.1
@@ -154,7 +154,7 @@ abbrev pub behind_cut : Option (List ℕ × List ℕ) → ℕ
 behind_cut None = 0
 behind_cut (Some p) = length p.0 + 1
 
--- the place behind the last `[`
+-- the place after the last `[`
 abbrev pub guard_place : List ℕ → ℕ
 guard_place bytes = behind_cut (cut_last 91 bytes)
 

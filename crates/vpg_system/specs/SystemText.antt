@@ -16,7 +16,7 @@ pub record Transition : Type 0 where
   pub target : ℕ
 
 -- a featured transition system: its states are the numbers below a count, its actions are numbers that have names, and
--- its guards are over so many features
+-- its guards are over this many features
 pub record NamedSystem : Type 0 where
   pub features : ℕ
   pub first : ℕ
@@ -63,7 +63,7 @@ abbrev pub without_front : List ℕ → List ℕ
 without_front [] = []
 without_front (b ∷ bs) = cond (is_blank b) (without_front bs) (b ∷ bs)
 
--- the byte in front of what stands behind it without blanks at the end
+-- the byte in front of what stands after it without blanks at the end
 abbrev pub unless_last : ℕ → List ℕ → List ℕ
 unless_last b [] = cond (is_blank b) [] (b ∷ [])
 unless_last b (c ∷ cs) = b ∷ c ∷ cs
@@ -115,7 +115,7 @@ pub record Form : Type 0 where
   pub label : List ℕ
   pub target : ℕ
 
--- `(A, LABEL, B)`: A stands before the first comma of the line, B behind the last, and the label between, with blanks
+-- `(A, LABEL, B)`: A stands before the first comma of the line, B after the last, and the label between, with blanks
 -- free round it
 pub record SpellsForm (bytes : List ℕ) (form : Form) : Type 0 where
   pub front : List ℕ
@@ -178,8 +178,8 @@ with_name names name = if list_any (bytes_eq name) names then names else names +
 abbrev pub place_with : List (List ℕ) → List ℕ → ℕ
 place_with names name = position_or_len (bytes_eq name) names
 
--- Lines with a transition each, between so many states. The number of an action is the place of its name among the
--- names that stand up to there. Before the lines there are the one names, and behind them the other.
+-- Lines with a transition each, between this many states. The number of an action is the place of its name among the
+-- names that stand up to there. Before the lines there are the one names, and after them the other.
 abbrev pub AreTransitions :
     List (List ℕ) → ℕ → List (List ℕ) → List (List ℕ) → List Transition → List (List ℕ) → Type 0
 AreTransitions features states names [] [] all = names ≡ all

@@ -37,7 +37,7 @@ pub(crate) struct Reader {
     pub(crate) transitions: Vec<Transition>,
 }
 
-/// The guard of a text in a line, `true` where there is no text.
+/// Returns the guard of a text in a line, `true` where there is no text.
 fn guard_of(
     alloc: Global,
     features: &Names,
@@ -68,7 +68,7 @@ fn guard_error(at: usize, fault: GuardFault) -> LineError
     }
 }
 
-/// Reads a line that is not blank behind the others.
+/// Reads a line that is not blank after the others.
 fn add_line(
     alloc: Global,
     features: &Names,
@@ -111,7 +111,7 @@ fn add_line(
     Ok(())
 }
 
-/// The header that a line is, within the limits.
+/// Returns the header that a line is, within the limits.
 fn header_of(alloc: Global, line: &[u8], at: usize) -> Result<Header, SystemFault>
     ensures ok { IfOk result (λ h. header_at line.now ≡ Some (header_of h)) }
     ensures within { IfOk result (λ h. IsGoodHeader (header_of h)) }
@@ -136,7 +136,7 @@ fn header_of(alloc: Global, line: &[u8], at: usize) -> Result<Header, SystemFaul
     })
 }
 
-/// The header, what stands behind its line, and the line's number.
+/// The header, what stands after its line, and the line's number.
 #[derive(Clone, Copy)]
 pub(crate) struct Head<'a> {
     pub(crate) header: Header,
@@ -176,7 +176,7 @@ pub(crate) fn read_header<'a>(
     })
 }
 
-/// Reads the lines behind the header.
+/// Reads the lines after the header.
 pub(crate) fn read_lines(
     alloc: Global,
     features: &Names,

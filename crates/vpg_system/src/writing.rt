@@ -17,7 +17,7 @@ use vpg_features::Names;
 use vpg_guards::Guard;
 
 impl System {
-    /// Writes the system behind what is there, as mCRL2 writes transition systems: a header, then a line for each
+    /// Writes the system after what is there, as mCRL2 writes transition systems: a header, then a line for each
     /// transition, with the label in double quotes. A refusal writes nothing.
     pub fn write(
         &self,
@@ -72,7 +72,7 @@ fn put_header(
     Ok(())
 }
 
-/// A line for each transition.
+/// Returns a line for each transition.
 fn put_transitions(
     alloc: Global,
     transitions: &[Transition],
@@ -126,7 +126,7 @@ fn is_closed(text: &[u8]) -> bool
     }
 }
 
-/// A guard in brackets, unless it is `true` and the name in front of it has none at its end.
+/// Returns a guard in brackets, unless it is `true` and the name in front of it has none at its end.
 fn put_guard(
     alloc: Global,
     guard: &Guard,

@@ -82,7 +82,7 @@ neither_line identifier = codes "possible " ++ decimal identifier ++ codes " uns
 abbrev pub unsettled_line : List ℕ
 unsettled_line = codes "unsettled\n"
 
--- the walk along these moves of a player: Even for the first table, Odd for the second
+-- the walk along these moves of a player: Even for the hopeful table, Odd for the second
 abbrev pub walk_along : Page → List Tri → Which → ℕ → List (Option ℕ) → Walked
 walk_along page known mover vertex moves = walk_from (caution_for known mover (graph_of page.game)) moves vertex
 
@@ -93,7 +93,7 @@ walk_text page known behaviour mover vertex moves =
     ++ trace_text (family_on page known behaviour) (walk_along page known mover vertex moves).visits
     (is_left (walk_along page known mover vertex moves).waiting)
 
--- What is told behind what was there is the walk along these moves, under what the decisions make known.
+-- What is told after what was there is the walk along these moves, under what the decisions make known.
 pub record IsWalkTold (page : Page) (behaviour : Behaviour) (mover : Which) (vertex : ℕ) (moves : List (Option ℕ))
     (before after : List ℕ) : Type 0 where
   pub known : List Tri
@@ -127,6 +127,6 @@ TellsTrace page behaviour limits vertex text =
     ⊎ (¬ (HasVerdict page Hopeful vertex) × ¬ (HasVerdict page Dual vertex)
     × (text ≡ neither_line (identifier_of page vertex)))
 
--- such a text stands behind what was there
+-- such a text stands after what was there
 abbrev pub Appends : (List ℕ → Type 0) → List ℕ → List ℕ → Type 0
 Appends Tells before after = (text : List ℕ) × Tells text × (after ≡ before ++ text)

@@ -60,7 +60,7 @@ step_from known states sets parts pairs visits (Some p) w =
 
 -- ---- ends
 
--- whether the set has all of so many actions
+-- whether the set has all of this many actions
 abbrev pub all_permitted : List (List Bool) → ℕ → ℕ → Bool
 all_permitted sets x zero = true
 all_permitted sets x (suc n) = all_permitted sets x n && is_permitted sets x n
@@ -68,7 +68,7 @@ all_permitted sets x (suc n) = all_permitted sets x n && is_permitted sets x n
 abbrev pub action_if : List (List ℕ) → ℕ → Bool → List ℕ
 action_if actions n is_permitted = if is_permitted then 32 ∷ slice_index_or actions n [] else []
 
--- the names of those of so many actions that the set has
+-- the names of those of this many actions that the set has
 abbrev pub permitted_text : List (List ℕ) → List (List Bool) → ℕ → ℕ → List ℕ
 permitted_text actions sets x zero = []
 permitted_text actions sets x (suc n) =

@@ -35,7 +35,7 @@ visit_at visits k = slice_index_or visits k no_visit
 abbrev pub visit_before : List Visit → ℕ → Option ℕ
 visit_before visits k = (visit_at visits k).before
 
--- whether a visit is this one, or stands on the way to it; the way has at most so many visits
+-- whether a visit is this one, or stands on the way to it; the way has at most this many visits
 abbrev pub is_above : List Visit → ℕ → ℕ → Option ℕ → Bool
 is_above visits k zero at = false
 is_above visits k (suc n) None = false
@@ -49,17 +49,17 @@ first_visit visits v = position (λ visit. visit.vertex == v) visits
 abbrev pub fresh_end : ℕ → End
 fresh_end depth = if nat_lt depth 32 then GoesOn else Cut
 
--- what follows a visit behind this one, where the vertex was first visited there, if it was
+-- what follows a visit after this one, where the vertex was first visited there, if it was
 abbrev pub end_where : List Visit → Option ℕ → ℕ → Option ℕ → End
 end_where visits before depth None = fresh_end depth
 end_where visits before depth (Some k) = if is_above visits k (length visits) before then Loop k else Seen k
 
--- what follows the visit that waits, behind these, where these moves lead from its vertex
+-- what follows the visit that waits, after these, where these moves lead from its vertex
 abbrev pub end_of : List Visit → Waiting → List ℕ → End
 end_of visits next [] = Stands
 end_of visits next (w ∷ ws) = end_where visits next.before next.depth (first_visit visits next.vertex)
 
--- the visit that waits, behind these
+-- the visit that waits, after these
 abbrev pub visit_of : Game → List (Option ℕ) → List Visit → Waiting → Visit
 visit_of game moves visits next = record {
   vertex = next.vertex;
@@ -93,7 +93,7 @@ waiting_by (Seen k) next = []
 waiting_by Stands next = []
 waiting_by Cut next = []
 
--- what comes to wait by the visit that waits, behind these
+-- what comes to wait by the visit that waits, after these
 abbrev pub opened : Game → List (Option ℕ) → List Visit → Waiting → List Waiting
 opened game moves visits next = waiting_by (visit_of game moves visits next).end
     (waiting_from (length visits) next.depth (moves_from game moves next.vertex))
@@ -108,7 +108,7 @@ pub record Walked : Type 0 where
 abbrev pub walked : List Visit → List Waiting → Walked
 walked visits waiting = record { visits = visits; waiting = waiting }
 
--- so many visits at most, of those that wait and of those that come to wait
+-- this many visits at most, of those that wait and of those that come to wait
 abbrev pub walk : Game → List (Option ℕ) → ℕ → List Waiting → List Visit → Walked
 walk game moves zero waiting visits = walked visits waiting
 walk game moves (suc n) [] visits = walked visits []

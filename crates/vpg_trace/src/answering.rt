@@ -35,7 +35,7 @@ fn has_top(order: &Order, which: Which, vertex: u32) -> bool
     order.table(which).get(vertex) == order.shape(which).top()
 }
 
-/// The table whose top says that the player of this one wins.
+/// Returns the table whose top says that the player of this one wins.
 fn other_table(which: Which) -> Which
     ensures { result ≡ other_table which }
 {
@@ -45,7 +45,7 @@ fn other_table(which: Which) -> Which
     }
 }
 
-/// The cautious game of a player, who stands as Even there.
+/// Returns the cautious game of a player, who stands as Even there.
 fn caution(
     alloc: Global,
     game: &GuardedGame,
@@ -88,7 +88,7 @@ fn put_unsettled(out: &mut Vec<u8>) -> Result<(), AllocError>
     out.extend_from_slice(b"unsettled\n")
 }
 
-/// The identifier of a vertex.
+/// Returns the identifier of a vertex.
 fn identifier(order: &Order, vertex: u32) -> u32
     requires { vertex < length order.now.game.vertices }
     ensures { result ≡ slice_index (vertex_ids order.now.game.vertices) vertex }
@@ -167,7 +167,7 @@ fn put_won(
     )
 }
 
-/// Appends how a player wins, where the page says so: Even for the first table, Odd for the second.
+/// Appends how a player wins, where the page says so: Even for the hopeful table, Odd for the second.
 fn won(
     alloc: Global,
     order: &Order,
@@ -203,7 +203,7 @@ fn won(
 ///
 /// The game is that of the system and of the requirements that the source has; the pairs are its vertices. The first
 /// line is the verdict, `hopeless 0` or `sure 0`; the walk follows, as of `put_trace`, up to the line `steps 12`. Else
-/// there is one line: `possible 0 unsure`, or `unsettled`. The one error is want of memory.
+/// there is one line: `possible 0 unsure`, or `unsettled`. The one error is lack of memory.
 pub fn put_answer(
     alloc: Global,
     order: &Order,

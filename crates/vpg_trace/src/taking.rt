@@ -38,7 +38,7 @@ fn is_pair(one: (u32, u32), other: (u32, u32)) -> bool
     one.0 == other.0 && one.1 == other.1
 }
 
-/// The state and the place of the part of a vertex.
+/// Returns the state and the place of the part of a vertex.
 pub(crate) fn pair_of(pairs: &IndexSet<(u32, u32)>, v: u32) -> (u32, u32)
     ensures { result ≡ pair_at pairs.now.keys v }
 {
@@ -69,7 +69,7 @@ fn fits(source: &Source, known: &[Tri], wanted: Wanted, transition: &Transition)
         && is_value(transition.guard.kleene(known), wanted.value)
 }
 
-/// The place of the first of these transitions that is such.
+/// Returns the place of the first of these transitions that is such.
 fn first_of(
     source: &Source,
     known: &[Tri],
@@ -88,7 +88,7 @@ fn first_of(
     None
 }
 
-/// The place of the first such transition from a state.
+/// Returns the place of the first such transition from a state.
 fn first_fit(source: &Source, known: &[Tri], state: u32, wanted: Wanted) -> Option<usize>
     requires { HaveGuards (length known.now) source.now.states.items }
     ensures { result ≡ first_fit known.now source.now.states.items source.now.sets.items source.now.parts.items state
@@ -121,7 +121,7 @@ fn taken_by(state: u32, there: Option<usize>, other: Option<usize>) -> Option<Ta
     }
 }
 
-/// The transition from a state by which a move goes that a box or a diamond has.
+/// Returns the transition from a state by which a move goes that a box or a diamond has.
 fn taken_along(
     source: &Source,
     known: &[Tri],
@@ -153,7 +153,7 @@ fn taken_along(
     )
 }
 
-/// The transition by which a move between two pairs goes.
+/// Returns the transition by which a move between two pairs goes.
 fn step_from(source: &Source, known: &[Tri], from: (u32, u32), to: (u32, u32)) -> Option<Taken>
     requires { HaveGuards (length known.now) source.now.states.items }
     ensures { result ≡ taken_from known.now source.now.states.items source.now.sets.items source.now.parts.items from

@@ -40,7 +40,7 @@ pub struct Visit {
     pub end: End,
 }
 
-/// A walk: its visits, each behind the one that it comes from.
+/// A walk: its visits, each after the one that it comes from.
 #[derive(Drop)]
 pub struct Trace {
     pub visits: Vec<Visit>,
@@ -69,7 +69,7 @@ fn allows(owner: Player, choice: Option<u32>, w: u32) -> bool
     }
 }
 
-/// The move at a vertex, if there is one.
+/// Returns the move at a vertex, if there is one.
 fn choice_at(moves: &[Option<u32>], v: u32) -> Option<u32>
     ensures { result ≡ strategy_of moves.now v }
 {
@@ -103,7 +103,7 @@ fn moves_from(
     Ok(found)
 }
 
-/// The visit of this number. Past the last one there is none but of the first vertex, which stands.
+/// Returns the visit of this number. Past the last one there is none but of the first vertex, which stands.
 pub(crate) fn visit_at(visits: &[Visit], k: usize) -> Visit
     ensures { result ≡ visit_at visits.now k }
 {
@@ -135,7 +135,7 @@ fn is_above(visits: &[Visit], k: usize, from: Option<usize>) -> bool
     false
 }
 
-/// The first visit of a vertex.
+/// Returns the first visit of a vertex.
 fn first_visit(visits: &[Visit], v: u32) -> Option<usize>
     ensures { result ≡ first_visit visits.now v }
 {
@@ -184,7 +184,7 @@ fn end_of(visits: &[Visit], next: Waiting, moves: &[u32]) -> End
     }
 }
 
-/// The depth of a side branch.
+/// Returns the depth of a side branch.
 fn deeper(depth: u32) -> u32
     ensures { result ≡ deeper depth }
 {
@@ -210,7 +210,7 @@ fn wait(pending: &mut Vec<Waiting>, at: usize, depth: u32, moves: &[u32]) -> Res
     Ok(())
 }
 
-/// The same, where the walk goes on.
+/// Returns the same, where the walk goes on.
 fn wait_by(
     end: End,
     pending: &mut Vec<Waiting>,
@@ -253,7 +253,7 @@ fn make_visit(
     Ok(())
 }
 
-/// Makes the visits that wait, and those that come to wait then, so many at most.
+/// Makes the visits that wait, and those that come to wait then, this many at most.
 fn walk(
     alloc: Global,
     arena: &Arena,
@@ -278,7 +278,7 @@ fn walk(
 /// first, in the order of the game. A vertex that was visited is not gone on from again.
 ///
 /// Where more moves than one lead from a vertex, all but the last are side branches. There are at most 1,000 visits,
-/// and none is gone on from that stands in 32 side branches. The one error is want of memory.
+/// and none is gone on from that stands in 32 side branches. The one error is lack of memory.
 pub fn follow(
     alloc: Global,
     arena: &Arena,

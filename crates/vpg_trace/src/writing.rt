@@ -86,7 +86,7 @@ fn put_mark(depends: bool, out: &mut Vec<u8>) -> Result<(), AllocError>
     }
 }
 
-/// The transition that is taken.
+/// Returns the transition that is taken.
 fn transition_of(source: &Source, taken: Taken) -> &Transition
     requires { taken.index < length (departures_at source.now.states.items taken.state) }
     ensures { result.now ≡ departure_at source.now.states.items taken }
@@ -242,7 +242,7 @@ fn put_standing_line(
     out.extend_from_slice(b"\n")
 }
 
-/// The state of a visit.
+/// Returns the state of a visit.
 fn state_of(pairs: &IndexSet<(u32, u32)>, visits: &[Visit], k: usize) -> u32
     ensures { result ≡ state_of pairs.now.keys visits.now k }
 {
@@ -289,7 +289,7 @@ fn put_end(
     }
 }
 
-/// The transition by which a visit is come to, if it is by one.
+/// Returns the transition by which a visit is come to, if it is by one.
 fn step_to(
     source: &Source,
     pairs: &IndexSet<(u32, u32)>,
@@ -388,7 +388,7 @@ fn put_visits(
     Ok(())
 }
 
-/// How many visits are come to by a step of the system.
+/// Returns how many visits are come to by a step of the system.
 fn steps_in(source: &Source, pairs: &IndexSet<(u32, u32)>, known: &[Tri], visits: &[Visit]) -> usize
     requires { HaveGuards (length known.now) source.now.states.items }
     ensures { (features actions : List (List ℕ)) → result ≡ steps_in (family_of features actions known.now
@@ -448,7 +448,7 @@ fn put(
     put_cut(trace.is_cut, out)
 }
 
-/// Writes a walk behind what is there, over the features of these names. A refusal writes nothing.
+/// Writes a walk after what is there, over the features of these names. A refusal writes nothing.
 ///
 /// Each visit that is come to by a transition of the system has a line, as `0 -pay[paid]-> 1`: the state that it
 /// leaves, its action, its guard unless that is always true, the state where it leads, and ` depends` where the guard

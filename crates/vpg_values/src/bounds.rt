@@ -13,7 +13,7 @@ struct Raises {
     exceeding: Vec<u32>,
 }
 
-// Not derived, so that letting one go is one call: a derived way would be proved anew at each exit that owns one.
+// Not derived: a derived `drop` would be proved again at each exit that owns such a value.
 impl Drop for Raises {
     fn drop(self) {
         let Raises {
@@ -50,7 +50,7 @@ pub struct RankedBounds {
     pub ranks: PerVertex<u64>,
 }
 
-// Not derived, so that letting one go is one call: a derived way would be proved anew at each exit that owns one.
+// Not derived: a derived `drop` would be proved again at each exit that owns such a value.
 impl Drop for RankedBounds {
     fn drop(self) {
         let RankedBounds {

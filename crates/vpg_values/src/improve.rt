@@ -16,7 +16,7 @@ pub struct Guess {
     pub choice: Choices,
 }
 
-// Not derived, so that letting one go is one call: a derived way would be proved anew at each exit that owns one.
+// Not derived: a derived `drop` would be proved again at each exit that owns such a value.
 impl Drop for Guess {
     fn drop(self) {
         let Guess {
@@ -52,7 +52,7 @@ struct Improvement<'a> {
     evaluation: Evaluation,
 }
 
-// Not derived, so that letting one go is one call: a derived way would be proved anew at each exit that owns one.
+// Not derived: a derived `drop` would be proved again at each exit that owns such a value.
 impl<'a> Drop for Improvement<'a> {
     fn drop(self) {
         let Improvement {
@@ -150,7 +150,7 @@ impl<'a> Improvement<'a> {
         Ok(())
     }
 
-    // Even's vertices that changed: for better moves, and else round even cycles, in so many turns at most.
+    // Even's vertices that changed: for better moves, and else round even cycles, in this many turns at most.
     fn changes(
         &mut self,
         alloc: Global,

@@ -17,7 +17,7 @@ pub struct Scale {
     gaps: PerVertex<u64>,
 }
 
-// Not derived, so that letting one go is one call: a derived way would be proved anew at each exit that owns one.
+// Not derived: a derived `drop` would be proved again at each exit that owns such a value.
 impl Drop for Scale {
     fn drop(self) {
         let Scale {
@@ -32,8 +32,8 @@ impl Drop for Scale {
 }
 
 impl Scale {
-    /// The scale of a player with this top, of vertices with these priorities: what one more counts is given for each
-    /// priority up to the greatest.
+    /// Returns the scale of a player with this top, of vertices with these priorities: what one more counts is given
+    /// for each priority up to the greatest.
     pub fn with(
         alloc: Global,
         player: Player,
@@ -74,7 +74,7 @@ impl Scale {
         self.priorities.get(v) % 2 == 1
     }
 
-    /// The least number over an edge from this vertex to one of this value.
+    /// Returns the least number over an edge from this vertex to one of this value.
     pub fn prog(&self, v: u32, value: u64) -> u64 {
         if self.top <= value {
             return self.top;
@@ -90,8 +90,8 @@ impl Scale {
         bound <= value.saturating_add(self.step(v))
     }
 
-    /// The least value over an edge to which the number at this vertex exceeds its own, itself such a number; past all
-    /// values at the top.
+    /// Returns the least value over an edge to which the number at this vertex exceeds its own, itself such a number;
+    /// past all values at the top.
     #[inline(always)]
     pub fn limit(&self, v: u32, own: u64) -> u64 {
         self.limit_at(self.priorities.get(v), own)
@@ -107,7 +107,7 @@ impl Scale {
         }
     }
 
-    /// The value without what stands below a weight; the top stays.
+    /// Returns the value without what stands below a weight; the top stays.
     pub fn cut(&self, value: u64, weight: u64) -> u64 {
         if self.top <= value {
             self.top
@@ -117,7 +117,7 @@ impl Scale {
     }
 }
 
-/// The greatest multiple of a weight up to a value.
+/// Returns the greatest multiple of a weight up to a value.
 fn cut(value: u64, weight: u64) -> u64 {
     if weight <= 1 {
         value

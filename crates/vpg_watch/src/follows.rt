@@ -2,8 +2,8 @@
 ghost use Rattle.std.specs.Prelude.{◌≡◌, ◌≤◌, ℕ, Bool, List};
 ghost use Rattle.vpg_verdict.specs.declared.verdict.Verdict.{Verdict};
 
-/// A front: the first so many calls of some row of calls. A row only grows at its end, so of two fronts of one row one
-/// begins with the other.
+/// A front: the first this many calls of some row of calls. A row only grows at its end, so of two fronts of one row
+/// one begins with the other.
 ///
 /// An impl gives four definitions and one function, and proves five laws of them.
 pub trait Follows: Drop {
@@ -20,7 +20,7 @@ pub trait Follows: Drop {
     /// whether the page to which they lead is settled, and which verdicts that page has.
     ghost belongs: { Self → ℕ → Bool → List Verdict → Type 0 };
 
-    /// How many calls it has.
+    /// Returns how many calls it has.
     fn len(&self) -> usize
         ensures { result ≡ calls self.now };
 

@@ -68,8 +68,8 @@ fn show_last<F: Follows, R: Wait>(
 }
 
 impl<F: Follows> Press<F> {
-    /// A press that shows this sheet, which has to belong to its front. The one refusal is out of memory; then the
-    /// sheet comes back.
+    /// Returns a press that shows this sheet, which has to belong to its front. The one refusal is out of memory; then
+    /// the sheet comes back.
     pub fn open<R: Wait>(
         rt: &R,
         alloc: Global,
@@ -98,7 +98,7 @@ impl<F: Follows> Press<F> {
     }
 
     /// Shows a sheet, which has to belong to its front, and whose front has to begin with that of the sheet last
-    /// accepted. It waits for reads that have begun on the sheet shown before that one. The one refusal is want of
+    /// accepted. It waits for reads that have begun on the sheet shown before that one. The one refusal is lack of
     /// memory: then the sheet comes back, and watches read what they read before.
     pub fn publish<R: Wait>(&mut self, rt: &R, sheet: Arc<Sheet<F>>) -> Result<(), Arc<Sheet<F>>>
         requires belongs { Belongs F.belongs (arc_value sheet) }
@@ -119,8 +119,8 @@ impl<F: Follows> Press<F> {
         }
     }
 
-    /// A watch, whose first read gives the sheet last accepted or a later one. There may be 64 watches at once; the
-    /// place of one that is let go is free again.
+    /// Returns a watch, whose first read gives the sheet last accepted or a later one. There may be 64 watches at once;
+    /// the place of one that is let go is free again.
     pub fn watch(&mut self) -> Result<Watch<F>, NoPlace>
         ensures same { self.new ≡ self.old }
         ensures seen { IfOk result (λ watch. watch ≡ self.old.front) }

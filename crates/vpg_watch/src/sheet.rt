@@ -30,7 +30,7 @@ impl Verdicts {
         Verdicts { verdicts }
     }
 
-    /// The `Vec` itself, without memory.
+    /// Returns the `Vec` itself, without memory.
     pub fn into_vec(self) -> Vec<Verdict>
         ensures { result.items ≡ self }
     {
@@ -38,7 +38,7 @@ impl Verdicts {
         verdicts
     }
 
-    /// The verdicts; that of vertex `v` stands at `v`.
+    /// Returns the verdicts; that of vertex `v` stands at `v`.
     pub fn as_slice(&self) -> &[Verdict]
         ensures { result.now ≡ self.now }
     {
@@ -61,7 +61,7 @@ pub struct Sheet<F> {
 }
 
 impl<F: Follows> Sheet<F> {
-    /// A sheet of the front, whose `at` is the front's number of calls.
+    /// Returns a sheet of the front, whose `at` is the front's number of calls.
     pub fn of(front: F, settled: bool, verdicts: Arc<Verdicts>) -> Sheet<F>
         requires { F.calls front < 2 ^ 32 }
         ensures { result ≡ record { at = F.calls front; settled = settled; verdicts = verdicts; front = front } }

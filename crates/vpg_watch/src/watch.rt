@@ -50,9 +50,9 @@ fn read_shown<F: Follows>(
 }
 
 impl<F: Follows> Watch<F> {
-    /// The sheet that is shown. It belongs to its front, which begins with the front that this watch read before (at
-    /// its first read: with that of the sheet that the press had last accepted when it made the watch), so `at` never
-    /// falls.
+    /// Returns the sheet that is shown. It belongs to its front, which begins with the front that this watch read
+    /// before (at its first read: with that of the sheet that the press had last accepted when it made the watch), so
+    /// `at` never falls.
     ///
     /// The one refusal is `NoSheet`. It takes no memory.
     pub fn read(&mut self) -> Result<Arc<Sheet<F>>, WatchFault>

@@ -14,7 +14,7 @@ IsMonotone Suffices = (few many : List Literal) → AreAmong few many → Suffic
 abbrev pub AreNeeded : (List Literal → Type 0) → (pool listed : List Literal) → Type 0
 AreNeeded Suffices pool listed = (c : Literal) → Contains listed c → (fewer : List Literal) → AreAmong fewer pool → ¬ (Contains fewer c) → Suffices fewer → ⊥
 
--- the first decisions of a list, and others behind them
+-- the first decisions of a list, and others after them
 abbrev pub front_with : ℕ → List Decision → List Decision → List Decision
 front_with most decisions kept = take most decisions ++ kept
 
@@ -28,7 +28,8 @@ pub record IsLast (Suffices : List Literal → Type 0) (decisions kept : List De
   pub enough : Suffices (choices (front_with (place + 1) decisions kept))
   pub short : IsTrue exact → Suffices (choices (front_with place decisions kept)) → ⊥
 
--- Of the decisions `rest`, which stand behind those `before`, each that is listed is needed beside all that stand before it and those listed behind it: without it they do not suffice.
+-- Of the decisions `rest`, which stand after those `before`, each that is listed is needed beside all that stand before
+-- it and those listed after it: without it they do not suffice.
 pub data AreNeededInTurn (Suffices : List Literal → Type 0) : (before rest listed : List Decision) → Type 0 where
   done : {before : List Decision} → AreNeededInTurn Suffices before [] []
   skipped : {d : Decision} {before rest listed : List Decision} → AreNeededInTurn Suffices (before ++ d ∷ []) rest listed → AreNeededInTurn Suffices before (d ∷ rest) listed

@@ -53,7 +53,7 @@ IsOutlookExact (outlooks.Met product) = ⊤
 IsOutlookExact (outlooks.Open feature) = ⊤
 IsOutlookExact outlooks.Unsettled = ⊥
 
--- A search from the choices on that is so deep, with so many trials, comes to its end.
+-- A search from the choices on that is so deep, with this many trials, comes to its end.
 pub record HasRoom (diagram : NamedDiagram) (choices : List Literal) (depth trials : ℕ) : Type 0 where
   pub from : ℕ
   pub below : AreKnownBelow diagram choices from

@@ -72,7 +72,7 @@ AreFound game lines choices which vertex (Winning moves) = AreWinning game lines
 AreFound game lines choices which vertex Nothing = NoneWinsUnder game lines choices which vertex
 AreFound game lines choices which vertex Unsettled = ⊤
 
--- under what is known, so many rounds of lifts from zeros leave a progress table of the cautious game
+-- under what is known, this many rounds of lifts from zeros leave a progress table of the cautious game
 abbrev pub SettlesInCaution : ℕ → GuardedGame Formula → Which → List Tri → Type 0
 SettlesInCaution rounds game which known =
     IsProgressTable (levels_for which game) (caution_for known which game)

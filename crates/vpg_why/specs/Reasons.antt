@@ -38,7 +38,7 @@ IsReasoned game diagram aim choices (reasons.Product example) =
 IsReasoned game diagram aim choices (reasons.Nothing marks) = IsReason game diagram aim choices [] marks.items
 IsReasoned game diagram aim choices reasons.Unsettled = ⊤
 
--- a reason has so many marks
+-- a reason has this many marks
 abbrev pub HasMarks : Reasoned → ℕ → Type 0
 HasMarks (reasons.Product example) count = ⊤
 HasMarks (reasons.Nothing marks) count = length marks.items ≡ count

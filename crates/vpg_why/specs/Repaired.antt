@@ -11,7 +11,8 @@ use Rattle.vpg_why.specs.declared.repairing.Remedy.TheVariants as remedies
 use Rattle.vpg_why.specs.Explained.{choices}
 use Rattle.vpg_why.specs.Suffices.{Suffice}
 
--- Going through decisions from the first, behind those kept `before`: one is kept, or it is given up, since with it those kept before it suffice (where that is shown).
+-- Going through decisions from the first, after those kept `before`: one is kept, or it is given up, since with it
+-- those kept before it suffice (where that is shown).
 pub data KeepsOldest (Suffices : List Literal → Type 0) (exact : Bool) : (before rest kept given : List Decision) → Type 0 where
   ends : {before : List Decision} → KeepsOldest Suffices exact before [] [] []
   keeps : {d : Decision} {before rest kept given : List Decision} → KeepsOldest Suffices exact (before ++ d ∷ []) rest kept given → KeepsOldest Suffices exact before (d ∷ rest) (d ∷ kept) given

@@ -74,7 +74,7 @@ MayMeet game (aims.Won which vertex) known = IsLowUnder game which vertex known
 
 -- ---- limits
 
--- under what is known, so many rounds of lifts from zeros leave a progress table
+-- under what is known, this many rounds of lifts from zeros leave a progress table
 abbrev pub SettlesWithin : ℕ → NamedGame → Which → List Tri → Type 0
 SettlesWithin rounds game which known = IsProgressTable (levels_for which (graph_of game)) (arena_for (kleene known) which (graph_of game))
     (after_rounds (levels_for which (graph_of game)) (arena_for (kleene known) which (graph_of game)) rounds (replicate (length (arena_for (kleene known) which (graph_of game))) 0))
@@ -92,7 +92,7 @@ AimSettlesUnder rounds game (aims.Won which vertex) known = SettlesWithin rounds
 abbrev pub AimSettles : ℕ → NamedGame → NamedDiagram → Aim → Type 0
 AimSettles rounds game diagram aim = (choices : List Literal) (known : List Tri) → IsKnownTable diagram.lines choices known → AimSettlesUnder rounds game aim known
 
--- how many trials a search over so many features, less one, makes at most
+-- how many trials a search over this many features, less one, makes at most
 abbrev pub most_trials : ℕ → ℕ
 most_trials zero = 0
 most_trials (suc n) = suc (most_trials n + most_trials n)

@@ -37,7 +37,7 @@ fn raise(
     ensures table { IsTableOf shape.now arena.now table.new }
     ensures below { (other : List ℕ) → IsTableOf shape.now arena.now other → IsProgressTable shape.now arena.now other →
         IsBelowTable table.old other → IsBelowTable table.new other }
-    // It is one where so many rounds alone leave one.
+    // It is one where this many rounds alone leave one.
     ensures rounds { IfOk result (λ settled. IsProgressTable shape.now arena.now (after_rounds shape.now arena.now limits.rounds table.old) → IsTrue settled) }
 {
     let settled = raise_by_bounds(alloc, shape, dual_shape, arena, table, limits.budget)?;
@@ -181,7 +181,7 @@ pub(crate) fn known_shown(
     }
 }
 
-/// The decisions and one more.
+/// Returns the decisions and one more.
 pub fn with_one(
     alloc: Global,
     decisions: &[Decision],

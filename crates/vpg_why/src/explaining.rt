@@ -18,7 +18,7 @@ pub struct Explanation {
     pub exact: bool,
 }
 
-// The first decisions, and others behind them.
+// The first decisions, and others after them.
 fn joined(
     alloc: Global,
     decisions: &[Decision],
@@ -33,7 +33,7 @@ fn joined(
     Ok(joined)
 }
 
-// Whether the first decisions and others behind them suffice.
+// Whether the first decisions and others after them suffice.
 fn front_suffices(
     alloc: Global,
     order: &Order,
@@ -68,7 +68,7 @@ fn is_hinted(hint: &[Decision], decision: Decision) -> bool {
     hint.iter().any(|d| d.feature == decision.feature)
 }
 
-// A place between two others: behind the last decision hinted at, or before it, or in the middle.
+// A place between two others: after the last decision hinted at, or before it, or in the middle.
 fn between(decisions: &[Decision], hint: &[Decision], low: usize, high: usize) -> usize
     requires apart { low + 1 < high }
     requires within { high ≤ length decisions.now }
@@ -206,9 +206,9 @@ pub(crate) fn explain_by(
 /// Some of the decisions, which suffice, that suffice alone. None of them can be left out, where that is told: then no list of
 /// them that lacks one suffices.
 ///
-/// It is the explanation whose last decision comes earliest on the page, and before it the next, and so on, as far as no trial met
-/// a limit. It takes about the logarithm of the page's decisions in trials for each decision that it lists.
-/// The one error is want of memory.
+/// It is the explanation whose last decision comes earliest on the page, and before it the next, and so on, as far as
+/// no trial met a limit. It takes about the logarithm of the page's decisions in trials for each decision that it
+/// lists. The one error is lack of memory.
 pub fn explain(
     alloc: Global,
     order: &Order,

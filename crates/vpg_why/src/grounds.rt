@@ -20,7 +20,7 @@ use vpg_measure::{Order, PageGames};
 use vpg_partial::{Decision, Partial};
 use vpg_verdict::Which;
 
-/// The decisions that are marked.
+/// Returns the decisions that are marked.
 pub(crate) fn kept_by(
     alloc: Global,
     decisions: &[Decision],
@@ -166,7 +166,7 @@ enum Goal {
     Known { feature: usize, value: Tri },
 }
 
-// The decisions among the first so many, and those marked behind them.
+// The decisions among the first this many, and those marked after them.
 fn with_first(
     alloc: Global,
     decisions: &[Decision],
@@ -184,7 +184,7 @@ fn with_first(
     kept_by(alloc, decisions, &more)
 }
 
-// Whether the first decisions, and those marked behind them, show it. A conflict shows everything.
+// Whether the first decisions, and those marked after them, show it. A conflict shows everything.
 fn is_shown(
     alloc: Global,
     order: &Order,
@@ -305,7 +305,7 @@ fn decided(alloc: Global, decisions: &[Decision], used: &[bool]) -> Result<Vec<b
     Ok(marks)
 }
 
-/// A guess at which of the decisions alone leave nothing to be found: a mark for each.
+/// Returns a guess at which of the decisions alone leave nothing to be found: a mark for each.
 ///
 /// If they contradict the diagram, it is decisions that do so alone. Else it is those that make known what the winner's
 /// moves rest on: that these edges are there, and that the loser lacks others.

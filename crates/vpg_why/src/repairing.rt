@@ -24,7 +24,8 @@ pub struct Retraction {
 /// What to retract so that a verdict no longer holds.
 #[derive(Drop)]
 pub enum Remedy {
-    /// Once these are retracted, the vertex is not hopeless any more, for the first table; or not sure, for the second.
+    /// Once these are retracted, the vertex is not hopeless any more, for the hopeful table; or not sure, for the
+    /// second.
     Retract(Retraction),
     /// It is hopeless, or sure, whatever is retracted.
     Nothing,
@@ -89,9 +90,9 @@ fn give_up(
     })
 }
 
-/// Which decisions to retract so that the vertex is not hopeless any more, for the first table, or not sure, for the second: as few
-/// as can be where the oldest decisions are to stay. It goes through the page from its first decision, and keeps each that leaves the
-/// verdict open.
+/// Which decisions to retract so that the vertex is not hopeless any more, for the hopeful table, or not sure, for the
+/// second: as few as can be where the oldest decisions are to stay. It goes through the page from its first decision,
+/// and keeps each that leaves the verdict open.
 pub fn repair(
     alloc: Global,
     order: &Order,

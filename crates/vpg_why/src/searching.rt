@@ -127,7 +127,7 @@ fn look_at_features(
     }
 }
 
-/// What some decisions say of a product that is won, under their games: for the first table of one in which Even wins
+/// What some decisions say of a product that is won, under their games: for the hopeful table of one in which Even wins
 /// from the vertex, for the second of one in which Odd does.
 pub fn look_at_games(
     alloc: Global,
@@ -403,12 +403,13 @@ pub fn search_all(
     Ok(found)
 }
 
-/// A product that is left and meets the aim: for the first table one in which Even wins from the vertex, for the second
-/// one in which Odd does, or just any. Or nothing, where there is none, however cautious the page's verdict is.
+/// Returns a product that is left and meets the aim: for the hopeful table one in which Even wins from the vertex, for
+/// the second one in which Odd does, or just any. Or nothing, where there is none, however cautious the page's verdict
+/// is.
 ///
 /// It splits over one feature that is not known after another, and leaves out what the verdicts of the page and of each
 /// trial cut off. If the first half of a split is lost for a reason that does not name the feature, it leaves out the
-/// other half too. After so many trials it gives up.
+/// other half too. After this many trials it gives up.
 pub fn find(alloc: Global, order: &Order, aim: Aim, limits: Limits) -> Result<Found, AllocError>
     requires { IsAim order.now.game aim }
     ensures found { IfOk result (IsFound order.now.game order.now.diagram aim (choices order.now.decisions)) }

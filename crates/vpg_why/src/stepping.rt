@@ -112,7 +112,7 @@ fn search(
 /// where moves of a player are listed, from that player's vertices by these alone. A vertex past the end of the list
 /// has no move.
 ///
-/// With the moves of `winning_moves` these are the vertices that a play by them can come to. The one error is want of
+/// With the moves of `winning_moves` these are the vertices that a play by them can come to. The one error is lack of
 /// memory.
 pub fn reachable(
     alloc: Global,

@@ -18,8 +18,8 @@ use vpg_measure::Order;
 use vpg_partial::Decision;
 use vpg_verdict::Which;
 
-/// Which of the page's decisions make the vertex hopeless, by the first table, or sure, by the second: nothing where the page's
-/// table has it not so.
+/// Which of the page's decisions make the vertex hopeless, by the hopeful table, or sure, by the second: nothing where
+/// the page's table has it not so.
 pub fn why(
     alloc: Global,
     order: &Order,
@@ -73,8 +73,9 @@ fn hint_for(
     }
 }
 
-/// Which of the page's decisions leave no product that meets the aim, in which Even wins from the vertex, for the first table, or
-/// Odd, for the second: whatever the cautious verdict of the page is. With `Aim::Any`: which decisions leave no product at all.
+/// Which of the page's decisions leave no product that meets the aim, in which Even wins from the vertex, for the
+/// hopeful table, or Odd, for the second: whatever the cautious verdict of the page is. With `Aim::Any`: which
+/// decisions leave no product at all.
 pub fn why_lost(
     alloc: Global,
     order: &Order,

@@ -113,7 +113,7 @@ fn put_all(
     Ok(())
 }
 
-/// The parts of all, of those with a feature and those without it.
+/// Returns the parts of all, of those with a feature and those without it.
 pub(crate) fn halves(
     alloc: Global,
     feature: u16,

@@ -11,7 +11,7 @@ pub record IsTermOf (names : List (List ℕ)) (actions : List ActionFormula) (e 
   pub name : term.name.now ≡ e.name
   pub pieces : AreStacked names actions (parsed [] e.formula.marks.items) term.pieces.items
 
--- The terms of so many entries, with more sets than before.
+-- The terms of this many entries, with more sets than before.
 pub record AreMade (names : List (List ℕ)) (actions : List ActionFormula) (entries : List Entry) (count : ℕ)
     (sets : List (List Bool)) (terms : List Term) : Type 0 where
   pub more : List ActionFormula

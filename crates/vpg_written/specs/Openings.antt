@@ -74,7 +74,7 @@ IsFound g sign n bs (found.Parts it) f =
     (t : Tree) × ArePartsOf g.names g.actions t it × (is_opened it.piece.mark.now ≡ true) ×
     (f ≡ form_at g n sign (around_of bs) t)
 
--- the entry that is found is one of so many
+-- the entry that is found is one of this many
 abbrev pub IsEarlier : ℕ → Found → Type 0
 IsEarlier n (found.Entry m) = m < n
 IsEarlier n it = Unit {0}

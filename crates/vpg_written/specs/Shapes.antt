@@ -24,7 +24,7 @@ abbrev pub kind_for : Bool → Kind
 kind_for true = greatest
 kind_for false = least
 
--- the normal form where one more fixpoint comes to stand outside so many others (de Bruijn 1972)
+-- the normal form where one more fixpoint comes to stand outside this many others (de Bruijn 1972)
 abbrev pub shift_form : ℕ → NormalForm → NormalForm
 shift_form k met = met
 shift_form k unmet = unmet

@@ -46,14 +46,14 @@ form_at g n sign around t = tree_form g.names (before g.names g.entries n) sign 
 abbrev pub form_in : Basis → Place → Bool → Tree → NormalForm
 form_in g p sign t = form_at g p.earlier sign (around_of p.scope.items) t
 
--- The form of these pieces behind so many entries, inside these fixpoints.
+-- The form of these pieces after this many entries, inside these fixpoints.
 pub record IsAt (g : Basis) (ps : List Piece) (sign : Bool) (n : ℕ) (bs : List Binder) (f : NormalForm) : Type 0 where
   pub known : n ≤ length g.entries
   pub tree : Tree
   pub term : IsTree g tree ps
   pub form : f ≡ form_at g n sign (around_of bs) tree
 
--- a formula inside these fixpoints, behind so many entries
+-- a formula inside these fixpoints, after this many entries
 abbrev pub IsPlace : Basis → Place → NormalForm → Type 0
 IsPlace g p f = IsAt g p.term.now p.is_negated p.earlier p.scope.items f
 
@@ -114,7 +114,7 @@ Opens actions (symbols.EveryStep n) f hs =
 Opens actions (symbols.Fixpoint kind) f hs = (e : NormalForm) × (f ≡ fixpoint (kind_of kind) 0 e) × (hs ≡ e ∷ [])
 Opens actions (symbols.Variable i) f hs = (f ≡ variable i) × (hs ≡ [])
 
--- Forms one behind the other are written by symbols and tasks.
+-- Forms one after the other are written by symbols and tasks.
 abbrev pub Fill : Basis → List NormalForm → List Item → Type 0
 Fill g fs [] = fs ≡ []
 Fill g fs (items.Symbol s ∷ is) =

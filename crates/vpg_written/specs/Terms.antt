@@ -55,7 +55,7 @@ pub record AreSets (names : List (List ℕ)) (sets : List (List Bool)) (actions 
   pub constants : HasConstants actions
   pub permitted : (x : ℕ) → ArePermitted (length names) sets x (actions_at actions x)
 
--- the set has those of so many actions that the action formula permits
+-- the set has those of this many actions that the action formula permits
 abbrev pub IsSetOf : ℕ → List Bool → ActionFormula → Type 0
 IsSetOf count set x = (a : ℕ) → a < count → permits x a ≡ slice_index_or set a false
 

@@ -5,7 +5,7 @@
 //! are gone there: the layer above makes parts and games of the symbols.
 //!
 //! The code goes from the last mark of an entry on, and writes symbols at the end of one list alone. What is still to
-//! come stands on a stack of symbols and tasks, so that nothing nests. A task is a formula inside fixpoints, behind
+//! come stands on a stack of symbols and tasks, so that nothing nests. A task is a formula inside fixpoints, after
 //! modalities; a fixpoint that a word or a star stands for has no name. A normal form of more than 65,536 parts is
 //! refused as soon as that is known.
 //!

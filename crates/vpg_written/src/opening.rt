@@ -17,7 +17,7 @@ use crate::task::{Binder, Found, Goal, Opening, Place, Step, Task, Term, Way};
 use std::alloc::{AllocError, Global};
 use vpg_formula::Mark;
 
-/// A formula in place of another.
+/// Returns a formula in place of another.
 fn at<'p, 'm>(place: Place<'p, 'm>, term: &'p [Piece<'m>], is_negated: bool) -> Place<'p, 'm>
     ensures sign { result.is_negated ≡ is_negated }
     ensures place { (g : Basis) (t : Tree) → IsTree g t term.now → place.entry.earlier ≤ length g.entries →
@@ -37,7 +37,7 @@ fn at<'p, 'm>(place: Place<'p, 'm>, term: &'p [Piece<'m>], is_negated: bool) -> 
     }
 }
 
-/// A formula in place of another, inside one more fixpoint.
+/// Returns a formula in place of another, inside one more fixpoint.
 fn at_inside<'p, 'm>(
     place: Place<'p, 'm>,
     term: &'p [Piece<'m>],
@@ -98,7 +98,7 @@ fn copy_place<'p, 'm>(alloc: Global, place: &Place<'p, 'm>) -> Result<Place<'p, 
     })
 }
 
-/// A goal without a modality in front.
+/// Returns a goal without a modality in front.
 pub(crate) fn plain<'p, 'm>(alloc: Global, goal: Goal<'p, 'm>) -> Task<'p, 'm>
     ensures { (g : Basis) (f : NormalForm) → IsGoal g goal.entry f → IsTask g result f }
 {
@@ -108,7 +108,7 @@ pub(crate) fn plain<'p, 'm>(alloc: Global, goal: Goal<'p, 'm>) -> Task<'p, 'm>
     }
 }
 
-/// A formula in place of another, with no modality in front.
+/// Returns a formula in place of another, with no modality in front.
 fn formula<'p, 'm>(
     alloc: Global,
     place: Place<'p, 'm>,
@@ -132,7 +132,7 @@ pub(crate) fn by_action<'p, 'm>(is_every: bool, set: u32) -> Step<'p, 'm>
     }
 }
 
-/// The same task behind one more modality.
+/// The same task after one more modality.
 pub(crate) fn behind_step<'p, 'm>(
     task: Task<'p, 'm>,
     step: Step<'p, 'm>,
@@ -169,7 +169,7 @@ fn copy_task<'p, 'm>(alloc: Global, task: &Task<'p, 'm>) -> Result<Task<'p, 'm>,
     })
 }
 
-/// A modality over a regular formula.
+/// Returns a modality over a regular formula.
 fn once<'p, 'm>(is_every: bool, term: &'p [Piece<'m>]) -> Step<'p, 'm>
     ensures { (g : Basis) (t : Tree) (f : NormalForm) → IsTree g t term.now →
         IsStep g result f (spec.along g.names is_every t f) }
@@ -181,7 +181,7 @@ fn once<'p, 'm>(is_every: bool, term: &'p [Piece<'m>]) -> Step<'p, 'm>
     }
 }
 
-/// A modality over a regular formula, any number of times.
+/// Returns a modality over a regular formula, any number of times.
 fn many<'p, 'm>(is_every: bool, term: &'p [Piece<'m>]) -> Step<'p, 'm>
     ensures { (g : Basis) (t : Tree) (f : NormalForm) → IsTree g t term.now →
         IsStep g result f (star is_every (spec.along g.names is_every t (variable 0)) f) }
@@ -193,8 +193,8 @@ fn many<'p, 'm>(is_every: bool, term: &'p [Piece<'m>]) -> Step<'p, 'm>
     }
 }
 
-/// The first part of a regular formula that is a sequence, by where it begins and ends, and the modality over what is
-/// behind it.
+/// Returns the first part of a regular formula that is a sequence, by where it begins and ends, and the modality over
+/// what is after it.
 fn first_part<'p, 'm>(is_every: bool, term: &'p [Piece<'m>]) -> Option<(Step<'p, 'm>, usize, usize)>
     ensures none { IfNone result ((g : Basis) (t : Tree) → IsTree g t term.now → is_series t ≡ false) }
     ensures some { IfSome result (λ p. (g : Basis) (t : Tree) (f : NormalForm) → IsTree g t term.now →
@@ -216,7 +216,7 @@ fn first_part<'p, 'm>(is_every: bool, term: &'p [Piece<'m>]) -> Option<(Step<'p,
     }
 }
 
-/// What a task behind one of two regular formulas begins with.
+/// What a task after one of two regular formulas begins with.
 fn choice<'p, 'm>(
     alloc: Global,
     is_every: bool,
@@ -235,7 +235,7 @@ fn choice<'p, 'm>(
     Ok(Opening::Joined(is_every, first, second))
 }
 
-/// What a task behind a regular formula begins with that is no sequence.
+/// What a task after a regular formula begins with that is no sequence.
 fn along_one<'p, 'm>(
     alloc: Global,
     is_every: bool,
@@ -255,7 +255,7 @@ fn along_one<'p, 'm>(
     }
 }
 
-/// What a task behind a regular formula begins with.
+/// What a task after a regular formula begins with.
 fn along<'p, 'm>(
     alloc: Global,
     is_every: bool,
@@ -376,7 +376,7 @@ fn negation(term: &[Piece]) -> Option<(usize, usize)>
     }
 }
 
-/// A term but for negations in front, and whether their number is odd, where it was so.
+/// Returns a term but for negations in front, and whether their number is odd, where it was so.
 fn without_negations<'p, 'm>(formula: &'p [Piece<'m>], is_negated: bool) -> (&'p [Piece<'m>], bool)
     ensures { (g : Basis) (t : Tree) → IsTree g t formula.now → IsBare g t is_negated result.0.now result.1 }
 {
@@ -391,7 +391,7 @@ fn without_negations<'p, 'm>(formula: &'p [Piece<'m>], is_negated: bool) -> (&'p
     (part(formula, from, to), sign)
 }
 
-/// A variable.
+/// Returns a variable.
 fn numbered<'p, 'm>(number: usize) -> Result<Opening<'p, 'm>, AllocError>
     ensures { IfOk result (λ o. o ≡ Opening.Variable number) }
 {
@@ -498,7 +498,7 @@ fn open_formula<'p, 'm>(
     }
 }
 
-/// What a task behind a modality begins with.
+/// What a task after a modality begins with.
 fn open_step<'p, 'm>(
     alloc: Global,
     step: Step<'p, 'm>,

@@ -30,7 +30,7 @@ pub(crate) struct Parts<'p, 'm> {
     pub(crate) second: &'p [Piece<'m>],
 }
 
-/// The parts of a term, if it has a mark.
+/// Returns the parts of a term, if it has a mark.
 pub(crate) fn split<'p, 'm>(term: &'p [Piece<'m>]) -> Option<Parts<'p, 'm>>
     ensures none { IfNone result (term.now ≡ []) }
     ensures some { IfSome result (IsSplit term.now) }
@@ -50,7 +50,7 @@ pub(crate) fn split<'p, 'm>(term: &'p [Piece<'m>]) -> Option<Parts<'p, 'm>>
     }
 }
 
-/// The number of a term's set of actions.
+/// Returns the number of a term's set of actions.
 pub(crate) fn set_of(term: &[Piece]) -> u32
     ensures { result ≡ set_at_end term.now }
 {
@@ -60,7 +60,7 @@ pub(crate) fn set_of(term: &[Piece]) -> u32
     }
 }
 
-/// A part of a term.
+/// Returns a part of a term.
 pub(crate) fn part<'p, 'm>(term: &'p [Piece<'m>], from: usize, to: usize) -> &'p [Piece<'m>]
     requires start { from ≤ to }
     requires end { to ≤ length term.now }

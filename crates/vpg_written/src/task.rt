@@ -16,7 +16,7 @@ pub(crate) struct Term<'m> {
     pub(crate) pieces: Vec<Piece<'m>>,
 }
 
-/// A formula, or its negation, behind so many entries, inside these fixpoints, innermost last.
+/// A formula, or its negation, after this many entries, inside these fixpoints, innermost last.
 #[derive(Drop)]
 pub(crate) struct Place<'p, 'm> {
     pub(crate) term: &'p [Piece<'m>],
@@ -40,7 +40,7 @@ pub(crate) struct Step<'p, 'm> {
     pub(crate) way: Way<'p, 'm>,
 }
 
-/// What stands behind modalities.
+/// What stands after modalities.
 #[derive(Drop)]
 pub(crate) enum Goal<'p, 'm> {
     Variable(u32),
@@ -57,7 +57,7 @@ pub(crate) struct Task<'p, 'm> {
     pub(crate) goal: Goal<'p, 'm>,
 }
 
-/// How a normal form begins, with what is behind.
+/// How a normal form begins, with what is after.
 #[derive(Drop)]
 pub(crate) enum Opening<'p, 'm> {
     Constant(bool),

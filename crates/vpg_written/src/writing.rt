@@ -48,7 +48,7 @@ fn joint(is_both: bool) -> Symbol
     if is_both { Symbol::And } else { Symbol::Or }
 }
 
-/// Each step by an action of a set, or some step.
+/// Returns each step by an action of a set, or some step.
 fn step(is_every: bool, set: u32) -> Symbol
     ensures { (g : Basis) (f : NormalForm) →
         Opens g.actions result (step_form is_every (actions_at g.actions set) f) (f ∷ []) }
@@ -60,7 +60,7 @@ fn step(is_every: bool, set: u32) -> Symbol
     }
 }
 
-/// A greatest fixpoint, or a least one.
+/// Returns a greatest fixpoint, or a least one.
 fn fixpoint(is_greatest: bool) -> Symbol
     ensures { (g : Basis) (f : NormalForm) →
         Opens g.actions result (spec.fixpoint (kind_for is_greatest) 0 f) (f ∷ []) }
@@ -227,7 +227,7 @@ fn put_will<'p, 'm>(
     Ok(fixpoint(sign))
 }
 
-/// Returns the first symbol, and puts what is behind it in front of what is still to be written.
+/// Returns the first symbol, and puts what is after it in front of what is still to be written.
 fn put<'p, 'm>(
     alloc: Global,
     opening: Opening<'p, 'm>,
@@ -248,7 +248,7 @@ fn put<'p, 'm>(
     }
 }
 
-/// Returns the first symbol of what is next, and puts what is behind it in front of what is still to be written.
+/// Returns the first symbol of what is next, and puts what is after it in front of what is still to be written.
 fn next<'p, 'm>(
     alloc: Global,
     terms: &'p [Term<'m>],

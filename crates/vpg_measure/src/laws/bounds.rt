@@ -11,8 +11,8 @@ pub fn supported_bounds_hold()
     ensures { SupportedBoundsHold }
 {}
 
-/// A table raised from an order's, and still below every progress table that the order's is below, may stand in a
-/// harvest of it.
+/// A table raised from an order's, and still below every progress table that the order's is below, may stand in
+/// a harvest of it.
 pub fn raised_from_order()
     ensures { RaisedFromOrder }
 {}
