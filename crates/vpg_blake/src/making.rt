@@ -19,7 +19,7 @@ fn literal_guard(alloc: Global, literal: &Literal) -> Result<Guard, AllocError>
     }
 }
 
-/// Returns the `and` of guards: the guard itself where it is one, `true` where there is none.
+/// Returns the `and` of guards: the guard itself if it is one, `true` if there is none.
 fn all_of(mut parts: Vec<Guard>) -> Guard
     ensures { formula_of result ≡ and_of (formulas_of parts.items) }
 {
@@ -32,7 +32,7 @@ fn all_of(mut parts: Vec<Guard>) -> Guard
     }
 }
 
-/// Returns the `or` of guards: the guard itself where it is one, `false` where there is none.
+/// Returns the `or` of guards: the guard itself if it is one, `false` if there is none.
 fn any_of(mut parts: Vec<Guard>) -> Guard
     ensures { formula_of result ≡ or_of (formulas_of parts.items) }
 {

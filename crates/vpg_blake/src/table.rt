@@ -8,7 +8,7 @@ ghost use Rattle.vpg_blake.specs.Tables.{table_from};
 use std::alloc::{AllocError, Global};
 use vpg_guards::Guard;
 
-/// Returns the feature of this number, where it is one of these.
+/// Returns the feature of this number, if it is one of these.
 fn find_feature(named: &[u16], feature: usize) -> Option<u16>
     ensures { result ≡ find (λ h. h == feature) named.now }
 {
@@ -49,8 +49,8 @@ fn with_feature(alloc: Global, set: &[bool], feature: u16) -> Result<Vec<bool>, 
     Ok(with)
 }
 
-/// Adds the truth of the guard for each choice of the features, those with the first feature in before those with it
-/// out; the other features are as in the set, and so are these where a choice has them out.
+/// Adds the truth of the guard for each choice of the features; those with the first feature in come first. The other
+/// features are as in the set, and so are chosen features that the choice has out.
 pub(crate) fn push_rows(
     alloc: Global,
     guard: &Guard,

@@ -48,6 +48,6 @@ pub record AreProgress (order : OrderView) (words : List ℕ) : Type 0 where
   pub each : (which : Which) →
       IsProgressOf (kleene order.known) which (graph_of order.game) (table_in order which words)
 
--- each value is at most the other's, where nothing stands for zero
+-- each value is at most the other's, if nothing stands for zero
 abbrev pub Below : List ℕ → List ℕ → Type 0
 Below t u = (k : ℕ) → slice_index t k ≤ slice_index u k

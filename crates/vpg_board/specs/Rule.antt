@@ -34,7 +34,7 @@ pub record MeasuresKept (order : OrderView) (b : BoardState) : Type 0 where
   pub under : (t : List ℕ) → AreProgress order t → Below b.measures t
   pub seen : (i : ℕ) (v : Lifter) → get_elem? b.lifters i ≡ some v → 0 < v.stands → HasSeen order b.measures v
 
--- what holds of the claims after any steps: each number below the claim number is claimed once where it is a place, and
+-- what holds of the claims after any steps: each number below the claim number is claimed once if it is a place, and
 -- no other; the empty claims are what the claim number exceeds the places by
 pub record ClaimsCounted (order : OrderView) (b : BoardState) : Type 0 where
   pub each : (n : ℕ) →

@@ -98,7 +98,7 @@ fn from_last<J: Vertices>(crew: &[Hints<J>]) -> Option<Other<J>> {
     }
 }
 
-/// Hints for this many lifters, fewer where there is no memory: each takes from the one before it, and the first from
+/// Hints for this many lifters, fewer if there is no memory: each takes from the one before it, and the first from
 /// the last.
 pub(crate) fn hints_of<J: Vertices>(alloc: Global, lifters: u32) -> Vec<Hints<J>> {
     let mut crew = Vec::new(alloc);
@@ -117,7 +117,7 @@ pub(crate) fn hints_of<J: Vertices>(alloc: Global, lifters: u32) -> Vec<Hints<J>
     crew
 }
 
-/// Returns the next lifter's hints, or none where none are left.
+/// Returns the next lifter's hints, or none if none are left.
 pub(crate) fn next_hints<J: Vertices>(crew: &mut Vec<Hints<J>>) -> Hints<J> {
     match crew.pop() {
         Some(hints) => hints,

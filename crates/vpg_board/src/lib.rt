@@ -5,7 +5,7 @@
 //! seat splits into up to 64 seats, which are joined again; the last one closes the board for a harvest. Whatever seats
 //! do, and in whatever order, each word stays below every progress table of the order's games: so a harvest may be
 //! committed at any later moment. `sweep` does all of this with as many threads as it is asked for; one lifter alone
-//! needs no board for it, and sweeps where there is no memory for one.
+//! needs no board for it, and sweeps if there is no memory for one.
 //!
 //! `claim` and `lift` neither wait nor take memory. The layers above use `sweep`, whose harvest is of the order handed
 //! in, on or above its tables and the lift of them at every vertex.

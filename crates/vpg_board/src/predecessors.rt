@@ -171,7 +171,7 @@ impl Predecessors {
         }
     }
 
-    /// Those of an order's games, or none where there is no memory for them.
+    /// Those of an order's games, or none if there is no memory for them.
     pub fn of_or_none(alloc: Global, order: &Order) -> Predecessors
         ensures vertices { result.vertices ≡ vertices order.now }
         ensures edges { ((which : Which) → ArePredecessors (order_arena which order.now) (predecessors_in which result))

@@ -254,7 +254,7 @@ pub fn sweep<G: Gate + Sync, R: Threads + Wait + Sync>(
     ensures above { (which : Which) → IsBelowTable (order_table which order) (harvest_table which result) }
     ensures harvest { IsHarvest result }
 
-    // A harvest that does not check has risen, in sum: so where nothing rose the order was settled.
+    // A harvest that does not check has risen, in sum: so if nothing rose the order was settled.
     ensures moved { ¬ IsSettledHarvest result →
         sum order.hopeful + sum order.dual < sum result.hopeful + sum result.dual }
 {
@@ -284,7 +284,7 @@ pub fn sweep_along<G: Gate + Sync, R: Threads + Wait + Sync>(
     ensures above { (which : Which) → IsBelowTable (order_table which order) (harvest_table which result) }
     ensures harvest { IsHarvest result }
 
-    // A harvest that does not check has risen, in sum: so where nothing rose the order was settled.
+    // A harvest that does not check has risen, in sum: so if nothing rose the order was settled.
     ensures moved { ¬ IsSettledHarvest result →
         sum order.hopeful + sum order.dual < sum result.hopeful + sum result.dual }
 {

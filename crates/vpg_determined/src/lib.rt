@@ -1,7 +1,7 @@
 //! The determinacy of parity games.
 //!
 //! From each vertex of a closed game one of the two players wins, by a positional strategy; one strategy serves both
-//! players and every vertex. So where no strategy of Even wins, Odd does, and wins every play, whoever moves for Even.
+//! players and every vertex. So if no strategy of Even wins, Odd does, and wins every play, whoever moves for Even.
 //!
 //! For a product line it says that a verdict has moves. Where Even can't win the hopeful game, Odd wins it, and by the
 //! same moves the game of every product that agrees with what is known. So does Even at a sure vertex. No vertex is

@@ -37,7 +37,7 @@ impl Edge {
         other.to == self.to && self.guard.is_same(&other.guard)
     }
 
-    /// The same edge.
+    /// Returns a copy of the edge.
     pub fn copy(&self, alloc: Global) -> Result<Edge, AllocError>
         ensures { IfOk result (λ edge. edge ≡ self.now) }
     {

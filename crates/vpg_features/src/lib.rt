@@ -4,7 +4,7 @@
 //! `Index`: for each feature, the numbers noted of it, such as those of the vertices or rules that name it. The reader
 //! of guards uses `is_name_byte` and `constant_of`.
 //!
-//! Definitions stand in `specs/`: `Names` (feature names, and lists of them) and `Index` (what is noted).
+//! Definitions stand in `specs/`: `Names` (feature names, and lists of them) and `Index` (lists by feature).
 #![tactic(auto)]
 
 mod fault;

@@ -1,4 +1,4 @@
--- What the code keeps of places in a text: how many words are left, as the places of the specs.
+-- The code's places in a text, which count the words that are left, as the places of the specs.
 use Rattle.std.specs.Prelude.{◌≡◌, ℕ, suc, ◌+◌, ◌-◌, ◌<◌, ◌≤◌, List, [], ◌++◌, length, Bool, true, false, not, if◌then◌else◌, nat_lt, slice_index_or, Option, Some, None, is_some}
 use Rattle.vpg_formula.specs.Words.{words_of}
 use Rattle.vpg_formula.specs.Places.{place_of}
@@ -17,7 +17,7 @@ pub record ArePlaces (text : List ℕ) (places : List ℕ) : Type 0 where
   pub count : length places ≡ suc (length (words_of text))
   pub each : (k : ℕ) → k < length places → slice_index_or places k 0 ≡ place_of text k
 
--- the place at which this many words are left; where there are not this many words, that of the first
+-- the place at which this many words are left, or the first if there are fewer words
 abbrev pub place_left : List ℕ → ℕ → ℕ
 place_left places left =
     if nat_lt left (length places) then slice_index_or places (length places - 1 - left) 0
@@ -33,13 +33,13 @@ fault_at places (halts.TooMany left) = faults.TooMany (place_left places left)
 fault_at places (halts.Negated left) = faults.NegatedVariable (place_left places left)
 fault_at places halts.Memory = faults.Memory
 
--- this many words are left where this holds after the others
+-- this many words are left, and this holds after the others
 pub record IsLeft (ws : List (List ℕ)) (left : ℕ) (Is : ℕ → Type 0) : Type 0 where
   pub words : ℕ
   pub sum : words + left ≡ length ws
   pub is : Is words
 
--- Where words are no requirements.
+-- Where words stop being requirements.
 abbrev pub HaltsAt : List (List ℕ) → Halt → Type 0
 HaltsAt ws (halts.Twice left) = IsLeft ws left (IsTwiceAt ws)
 HaltsAt ws (halts.TooMany left) = IsLeft ws left (IsTooManyAt ws)
@@ -47,7 +47,7 @@ HaltsAt ws (halts.Unknown left) = IsLeft ws left (IsUnknownAt ws)
 HaltsAt ws (halts.Negated left) = IsLeft ws left (IsNegatedAt ws)
 HaltsAt ws h = Unit {0}
 
--- Where words begin no formula.
+-- Where words stop being a formula.
 abbrev pub BodyAt : List (List ℕ) → List (List ℕ) → Halt → Type 0
 BodyAt earlier ws halts.Memory = Unit {0}
 BodyAt earlier ws (halts.Syntax left) = Unit {0}
@@ -60,12 +60,12 @@ abbrev pub NegatedIn : List (List ℕ) → List (List ℕ) → Option ℕ → Ty
 NegatedIn earlier ws None = Unit {0}
 NegatedIn earlier ws (Some left) = IsLeft ws left (IsNegatedIn earlier ws)
 
--- Where the first of all is.
+-- Where the first negated name of all formulas is, if there is one.
 abbrev pub NegatedAt : List (List ℕ) → Option ℕ → Type 0
 NegatedAt ws None = Unit {0}
 NegatedAt ws (Some left) = IsLeft ws left (IsNegatedAt ws)
 
--- the first of two places, of which the first is that of earlier words
+-- the first of two places; the first one given is among earlier words
 abbrev pub first_of : Option ℕ → Option ℕ → Option ℕ
 first_of None b = b
 first_of (Some left) b = Some left
@@ -83,7 +83,7 @@ pub record IsBeyond (earlier : List (List ℕ)) (n : ℕ) (name : List ℕ) (ws 
   pub new : is_among earlier name ≡ false
   pub all_left : left ≡ suc (length ws)
 
--- Where words begin no entry after this many of these names, for what stands in front of its formula.
+-- Where words stop being an entry, in front of its formula, after this many entries of these names.
 abbrev pub HeadAt : List (List ℕ) → ℕ → List ℕ → List (List ℕ) → Halt → Type 0
 HeadAt earlier n name ws (halts.Twice left) = IsRepeated earlier name ws left
 HeadAt earlier n name ws (halts.TooMany left) = IsBeyond earlier n name ws left

@@ -15,14 +15,14 @@ use Rattle.vpg_formula.specs.declared.uses.Standing.TheVariants.{Negated}
 abbrev pub entry_names : List Entry → List (List ℕ)
 entry_names es = map (λ e. e.name) es
 
--- the words begin with these entries, this many words, and these stand after them
+-- the words begin with these entries, which have this many words, and these words come after them
 pub record AreBehind (ws : List (List ℕ)) (entries : List Entry) (k : ℕ) (rest : List (List ℕ)) : Type 0 where
   pub front : List (List ℕ)
   pub parts : ws ≡ front ++ rest
   pub count : k ≡ length front
   pub are : AreEntries 64 [] front entries
 
--- after this many words, which are entries, stands the name of another one, which one of them has too
+-- after this many words, which are entries, comes the name of another one, which one of them has too
 pub record IsTwiceAt (ws : List (List ℕ)) (k : ℕ) : Type 0 where
   pub name : List ℕ
   pub entries : List Entry
@@ -31,7 +31,7 @@ pub record IsTwiceAt (ws : List (List ℕ)) (k : ℕ) : Type 0 where
   pub variable : is_variable name ≡ true
   pub again : is_among (entry_names entries) name ≡ true
 
--- after this many words, which are 64 entries, stands the name of another one
+-- after this many words, which are 64 entries, comes the name of another one
 pub record IsTooManyAt (ws : List (List ℕ)) (k : ℕ) : Type 0 where
   pub name : List ℕ
   pub entries : List Entry
@@ -48,7 +48,7 @@ pub data FormulaAt (ws : List (List ℕ)) : List Entry → ℕ → List (List �
       AreBehind ws entries k (name ∷ codes "=" ∷ rest) → is_variable name ≡ true →
       is_among (entry_names entries) name ≡ false → length entries < 64 → FormulaAt ws entries (k + 2) rest
 
--- after this many words stands the first name of a formula that is neither bound nor an earlier entry's
+-- after this many words comes the first name of a formula that is neither bound nor an earlier entry's
 pub record IsUnknownAt (ws : List (List ℕ)) (k : ℕ) : Type 0 where
   pub entries : List Entry
   pub start : ℕ
@@ -58,8 +58,8 @@ pub record IsUnknownAt (ws : List (List ℕ)) (k : ℕ) : Type 0 where
   pub first : first_unknown (mentions (entry_names entries) rest) ≡ Some front
   pub place : k ≡ start + front
 
--- Words begin with a formula, and in it this many words stand in front of the first name under an odd number of
--- negations within its fixpoint.
+-- Words begin with a formula. In it this many words come before the first name under an odd number of negations within
+-- its fixpoint.
 pub record IsNegatedIn (earlier ws : List (List ℕ)) (k : ℕ) : Type 0 where
   pub front : List (List ℕ)
   pub behind : List (List ℕ)
@@ -72,7 +72,7 @@ pub record IsNegatedIn (earlier ws : List (List ℕ)) (k : ℕ) : Type 0 where
   pub known : Bool
   pub name : slice_get (mentions earlier ws) index ≡ Some (k, known)
 
--- after this many words stands the first name of all formulas that is negated so
+-- after this many words comes the first name of all formulas that is negated so
 pub record IsNegatedAt (ws : List (List ℕ)) (k : ℕ) : Type 0 where
   pub entries : List Entry
   pub start : ℕ
@@ -83,7 +83,7 @@ pub record IsNegatedAt (ws : List (List ℕ)) (k : ℕ) : Type 0 where
   pub is : IsNegatedIn (entry_names entries) rest front
   pub place : k ≡ start + front
 
--- the byte is the first of the word after this many others, which is as it should be
+-- the byte is the first of the word after this many others, and this holds of their number
 pub record IsPlace (text : List ℕ) (at : ℕ) (Is : ℕ → Type 0) : Type 0 where
   pub words : ℕ
   pub within : words ≤ length (words_of text)
@@ -94,8 +94,8 @@ pub record IsPlace (text : List ℕ) (at : ℕ) (Is : ℕ → Type 0) : Type 0 w
 abbrev pub IsWord : ℕ → Type 0
 IsWord k = Unit {0}
 
--- Where a fault is: at the name of an entry that is not new, or one too many, at the first name of its formula that is
--- not known, or at the first of all that is negated; else at a word, or at the text's end.
+-- Where a fault is. It may be at the name of an entry that is not new or is one too many. It may be at a formula's
+-- first unknown name, or at the first negated name of all. Otherwise it is at a word, or at the text's end.
 abbrev pub IsAt : List ℕ → RequirementFault → Type 0
 IsAt text (faults.Twice at) = IsPlace text at (IsTwiceAt (words_of text))
 IsAt text (faults.TooMany at) = IsPlace text at (IsTooManyAt (words_of text))

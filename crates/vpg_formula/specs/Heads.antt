@@ -1,4 +1,4 @@
--- What the code keeps of a formula's first word.
+-- The code's form of a formula's first word.
 use Rattle.std.specs.Prelude.{ℕ, List, codes, true, false, Option, Some}
 use Rattle.vpg_formula.specs.Reading.{after_word}
 use Rattle.vpg_formula.specs.Regular.{Regular}

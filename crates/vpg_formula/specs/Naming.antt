@@ -1,4 +1,4 @@
--- Which words of a formula are names, and which of these are known: told by the words alone, also where they are no
+-- Which words of a formula are names, and which of these are known. The words alone decide, even if they are no
 -- formula. A name is bound inside a fixpoint of it: up to the end of the innermost parenthesis around that. This
 -- project's own.
 use Rattle.std.specs.Prelude.{ℕ, zero, suc, List, [], ◌∷◌, Bool, true, false, ◌||◌, if◌then◌else◌, codes, bytes_eq, Option, Some, None}
@@ -19,7 +19,7 @@ pub data Region : Type 0 where
   -- an action formula, inside one more parenthesis than these
   in_action : ℕ → Region
 
--- what is open where a word stands
+-- what is open at a word
 pub data Open : Type 0 where
   a_parenthesis : Open
   -- the fixpoint of this variable
@@ -41,7 +41,7 @@ region_behind_head (modality m) = in_path m
 region_behind_head (binder kind) = at_variable
 region_behind_head head = in_formula
 
--- after a closing parenthesis, in which this many others are open
+-- after a closing parenthesis, inside this many other open ones
 abbrev pub closed_in : ℕ → Region
 closed_in zero = in_formula
 closed_in (suc n) = in_action n
@@ -56,7 +56,7 @@ region_behind at_action w =
 region_behind (in_action n) w =
     if bytes_eq w (codes "(") then in_action (suc n) else (if bytes_eq w (codes ")") then closed_in n else in_action n)
 
--- without the innermost parenthesis, and what is open in it
+-- the open parts without the innermost parenthesis, and without what is open in it
 abbrev pub closed : List Open → List Open
 closed [] = []
 closed (a_parenthesis ∷ around) = around
@@ -89,11 +89,11 @@ known_in earlier around in_formula w =
     if is_variable w then Some (is_among earlier w || is_bound around w) else None
 known_in earlier around region w = None
 
--- Whether the name that stands there is known: bound, or an earlier entry's. None where no name stands there.
+-- Whether the name here is known: bound, or an earlier entry's. None if there is no name here.
 abbrev pub known_at : List (List ℕ) → Spot → List ℕ → Option Bool
 known_at earlier spot w = known_in earlier spot.around spot.region w
 
--- a name: how many words stand in front of it, and whether it is known
+-- a name: the number of words before it, and whether it is known
 abbrev pub Mention : Type 0
 Mention = ℕ × Bool
 
@@ -111,7 +111,7 @@ mentions_from earlier spot k (w ∷ ws) =
 abbrev pub mentions : List (List ℕ) → List (List ℕ) → List Mention
 mentions earlier ws = mentions_from earlier at_first 0 ws
 
--- how many words stand in front of the first name that is not known
+-- the number of words before the first name that is not known
 abbrev pub first_unknown : List Mention → Option ℕ
 first_unknown [] = None
 first_unknown ((k, true) ∷ ms) = first_unknown ms

@@ -1,4 +1,4 @@
--- What the code keeps of names in a formula, as the words of the specs.
+-- The code's names in a formula, as the names of the specs.
 use Rattle.std.specs.Prelude.{◌≡◌, ℕ, suc, List, [], ◌∷◌, length, map, reverse, Bool, false, if◌then◌else◌, nat_le, slice_get, Option, Some, None, Result, Ok, Err}
 use Rattle.std.specs.Borrow.{Bor}
 use Rattle.vpg_formula.specs.Heads.{modality_of}
@@ -53,7 +53,7 @@ abbrev pub left_or : Option Mention → ℕ
 left_or None = 0
 left_or (Some m) = m.0
 
--- how many words are left at the n-th name
+-- the number of words left at the n-th name
 abbrev pub left_in : List Mention → ℕ → ℕ
 left_in ms n = left_or (slice_get ms n)
 
@@ -63,7 +63,7 @@ pub record IsFound (wanted : Standing) (ss : List Standing) (ms : List Mention) 
   pub first : first_like wanted ss ≡ Some index
   pub place : left ≡ left_in ms index
 
--- where the names of a formula stand that are not as they should be
+-- where the first faulty names of a formula are
 abbrev pub NamesAt : Result (Option ℕ) Halt → List Standing → List Mention → Type 0
 NamesAt (Ok None) ss ms = Unit {0}
 NamesAt (Ok (Some left)) ss ms = IsFound Negated ss ms left

@@ -2,7 +2,7 @@
 use Rattle.std.specs.Prelude.{ℕ, zero, suc, ◌-◌, List, length, drop}
 use Rattle.vpg_formula.specs.Words.{word_len, after_gap}
 
--- the text from the word on that stands after this many others
+-- the text from the word on that comes after this many others
 abbrev pub from_word : ℕ → List ℕ → List ℕ
 from_word zero text = after_gap text
 from_word (suc k) text = from_word k (drop (word_len (after_gap text)) (after_gap text))

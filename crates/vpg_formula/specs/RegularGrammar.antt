@@ -8,7 +8,7 @@ use Rattle.vpg_formula.specs.Words.{words_of}
 abbrev pub Form : Type 1
 Form = List (List ℕ) → Regular → Type 0
 
--- a word, `!` and an operand, or a formula in parentheses; what stands inside has forms of its own
+-- a word, `!` and an operand, or a formula in parentheses; the parts inside have forms of their own
 pub data Operand (Inverted Enclosed : List (List ℕ) → Regular → Type 0) : List (List ℕ) → Regular → Type 0 where
   word : {w : List ℕ} {x : Regular} → word_formula w ≡ Some x → Operand Inverted Enclosed (w ∷ []) x
   inverted : {ws : List (List ℕ)} {x y : Regular} → Inverted ws x → complement_of x ≡ Some y →
@@ -16,7 +16,7 @@ pub data Operand (Inverted Enclosed : List (List ℕ) → Regular → Type 0) : 
   enclosed : {ws : List (List ℕ)} {x : Regular} → Enclosed ws x →
       Operand Inverted Enclosed (codes "(" ∷ (ws ++ codes ")" ∷ [])) x
 
--- one item, or a series, the sign and an item, where the two can be joined
+-- one item, or a series, the sign and an item, if the two can be joined
 pub data Series {A : Type 0} (Item : List (List ℕ) → A → Type 0) (sign : List ℕ) (join : A → A → Option A) :
     List (List ℕ) → A → Type 0 where
   one : {ws : List (List ℕ)} {x : A} → Item ws x → Series Item sign join ws x
@@ -48,12 +48,12 @@ Choice Item ws x = Series (Sequence Item) (codes "+") choice_of ws x
 abbrev pub Nothing : Form
 Nothing ws x = ⊥
 
--- operands in which this many `(` and `!` may be open at one place
+-- operands with at most this many `(` and `!` open at one place
 unfoldable pub IsOperand : ℕ → List (List ℕ) → Regular → Type 0
 IsOperand zero ws x = Operand Nothing Nothing ws x
 IsOperand (suc d) ws x = Operand (IsOperand d) (Choice (IsOperand d)) ws x
 
--- regular formulas in which this many may be open
+-- regular formulas with at most this many open
 abbrev pub IsRegular : ℕ → List (List ℕ) → Regular → Type 0
 IsRegular d ws x = Choice (IsOperand d) ws x
 

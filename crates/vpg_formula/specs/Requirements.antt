@@ -15,8 +15,8 @@ pub record Entry : Type 0 where
   pub name : List ℕ
   pub formula : Written
 
--- Entries after earlier ones of these names, this many at most. Each has a new name, and each name in its formula is
--- bound there or an earlier entry's.
+-- At most this many entries, after earlier ones of these names. Each has a new name. Each name in its formula is bound
+-- there or is an earlier entry's.
 pub data AreEntries : ℕ → List (List ℕ) → List (List ℕ) → List Entry → Type 0 where
   no_entry : {n : ℕ} {earlier : List (List ℕ)} → AreEntries n earlier [] []
   entry : {n : ℕ} {earlier : List (List ℕ)} (name : List ℕ) (us ws : List (List ℕ)) (p : Phrase)
@@ -52,7 +52,7 @@ pub record SpellsRequirements (text : List ℕ) (entries : List Entry) : Type 0 
   pub spelled : SpellsEntries text entries
   pub positive : are_positive [] entries ≡ true
 
--- entries, in which a variable stands under an odd number of negations
+-- entries with a variable under an odd number of negations
 pub record AreNegated (text : List ℕ) : Type 0 where
   pub entries : List Entry
   pub spelled : SpellsEntries text entries

@@ -12,7 +12,7 @@ pub record Bound : Type 0 where
   pub name : List ℕ
   pub is_odd : Bool
 
--- What a part of a formula stands in: whether under an odd number of negations, and in which fixpoints, outermost
+-- The context of a part of a formula: whether it is under an odd number of negations, and in which fixpoints, outermost
 -- first.
 pub record Context : Type 0 where
   pub is_odd : Bool

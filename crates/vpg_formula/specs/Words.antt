@@ -36,8 +36,8 @@ starts_name (b ∷ text) = is_name_byte b
 abbrev pub deeper : ℕ → Option ℕ
 deeper depth = if nat_lt depth 64 then Some (suc depth) else None
 
--- How many parentheses are open after a byte of an action with its arguments, where this many are in front of it; none
--- where the action ends. After `|` comes another name, and arguments end with their line.
+-- The number of parentheses open after a byte of an action with its arguments, if this many are open before it; none if
+-- the action ends. After `|` comes another name, and arguments end with their line.
 abbrev pub open_behind : ℕ → ℕ → List ℕ → Option ℕ
 open_behind zero b text =
     if is_name_byte b || (b == 124 && starts_name text) then Some 0 else (if b == 40 then Some 1 else None)
@@ -45,12 +45,12 @@ open_behind (suc depth) b text =
     if b == 10 then None else
     (if b == 41 then Some depth else (if b == 40 then deeper (suc depth) else Some (suc depth)))
 
--- an action ends where no parenthesis is open
+-- an action ends if no parenthesis is open
 abbrev pub ended : ℕ → Option ℕ
 ended zero = Some 0
 ended (suc depth) = None
 
--- what the byte that opens arguments adds: nothing where they are not closed
+-- what the byte that opens arguments adds: nothing if they are not closed
 abbrev pub opening : Option ℕ → Option ℕ
 opening None = Some 0
 opening (Some n) = Some (suc n)
@@ -61,8 +61,8 @@ go_on zero (Some zero) later = one_more (later zero)
 go_on zero (Some (suc more)) later = opening (later (suc more))
 go_on (suc depth) (Some more) later = one_more (later more)
 
--- How many bytes at the front are an action with its arguments, where this many parentheses are open; none where those
--- are not closed. It ends in front of arguments that are not closed.
+-- The length in bytes of an action with its arguments at the front, with this many parentheses open; none if they are
+-- not closed. It ends in front of arguments that are not closed.
 unfoldable pub action_len : ℕ → List ℕ → Option ℕ
 action_len depth [] = ended depth
 action_len depth (b ∷ text) = go_on depth (open_behind depth b text) (λ more. action_len more text)
@@ -90,7 +90,7 @@ line_len text = prefix_len (λ b. not (b == 10)) text
 abbrev pub quote_len : List ℕ → ℕ
 quote_len text = unwrap_or (quoted_len false text) (line_len text)
 
--- a word of letters, digits and `_`: where it has no meaning of its own, with the arguments that follow at once
+-- a word of letters, digits and `_`: if it has no meaning of its own, with the arguments that follow at once
 abbrev pub name_len : List ℕ → ℕ
 name_len text =
     if is_keyword (take (prefix_len is_name_byte text) text) then prefix_len is_name_byte text
@@ -118,7 +118,7 @@ abbrev pub word_and : (List ℕ → List (List ℕ)) → List ℕ → List (List
 word_and later [] = []
 word_and later (b ∷ text) = take (word_len (b ∷ text)) (b ∷ text) ∷ later (drop (word_len (b ∷ text)) (b ∷ text))
 
--- the words of a text, of which this many bytes are looked at
+-- the words of a text, looking at this many of its bytes
 unfoldable pub words_with : ℕ → List ℕ → List (List ℕ)
 words_with zero text = []
 words_with (suc n) text = word_and (words_with n) (after_gap text)

@@ -1,10 +1,10 @@
 //! Why a text is no requirement.
 use thiserror::Error;
 
-/// The most parts that are open at one place.
+/// The greatest number of parts that are open at one place.
 pub const DEEPEST: usize = 64;
 
-/// The most entries of a text.
+/// The greatest number of entries in a text.
 pub const MOST_ENTRIES: usize = 64;
 
 /// Why a text is no formula. `at` counts bytes from 0.

@@ -42,7 +42,7 @@ impl Level {
         }
     }
 
-    /// Whether it stands with action formulas alone, and makes one of them.
+    /// Whether it joins action formulas only, and makes one of them.
     pub(crate) fn is_of_actions(self) -> bool
         ensures { result ≡ is_of_actions self }
     {
@@ -52,7 +52,7 @@ impl Level {
         }
     }
 
-    /// Whether it cannot stand with such a formula.
+    /// Whether it cannot join such a formula.
     pub(crate) fn refuses(self, is_action: bool) -> bool
         ensures { result ≡ refuses self is_action }
     {

@@ -2,18 +2,18 @@
 //!
 //! A requirement is a formula of the modal mu-calculus as mCRL2 writes it, without data, or in this project's words
 //! (`always`, `after pay will serve`). `Requirements::read` reads a whole text of them, `parse_formula` one formula
-//! alone, and `parse_regular` what stands between `<` and `>`. What is read lies in a list of `Mark`s, operands first,
-//! so that nothing nests.
+//! alone, and `parse_regular` the text between `<` and `>`. The result is a list of `Mark`s, operands first, so that
+//! nothing nests.
 //!
 //! In a whole text each name in a formula is bound there, under an even number of negations within its fixpoint, or it
 //! is an earlier entry's. `parse_formula` does not ask what names stand for.
 //!
 //! Definitions stand in `specs/`: `Words` (which words a text has), `Places` (where they begin), `Regular` and
-//! `RegularGrammar` (action and regular formulas), `Written` and `FormulaGrammar` (formulas), `Standings` (how the
-//! names of a formula stand), `Naming` (which words are names), `Requirements` (whole texts), `Faults` (where a text is
-//! faulty), `Marks` (a formula as a list). `Reading` and `EntryReading` are the reader as functions on lists,
-//! `ReadCode`, `EntryCode`, `NamingCode`, `FaultCode` and `ActionCode` what its code keeps; only private contracts name
-//! them.
+//! `RegularGrammar` (action and regular formulas), `Written` and `FormulaGrammar` (formulas). `Standings` says how the
+//! names of a formula stand, `Naming` which words are names, `Requirements` defines whole texts, `Faults` where a text
+//! is faulty, and `Marks` a formula as a list. `Reading` and `EntryReading` are the reader as functions on lists.
+//! `ReadCode`, `EntryCode`, `NamingCode`, `FaultCode` and `ActionCode` view the code's values in these terms. Only
+//! private contracts name them.
 #![tactic(auto)]
 
 mod fault;

@@ -89,7 +89,7 @@ fn whole_formula(alloc: Global, words: &[&[u8]]) -> Result<Vec<Mark>, Stop>
 /// true)`), or any bytes in quotes; `true` is each action, `false` none. Blanks and comments, from `%` to the end of
 /// the line, are free between words. At most 64 `(` and `!` are open at one place.
 ///
-/// A refusal other than `Memory` comes only where the text spells none.
+/// A refusal other than `Memory` comes only if the text spells none.
 pub fn parse_regular(alloc: Global, text: &[u8]) -> Result<Regular, FormulaFault>
     // The text spells the result.
     ensures found { IfOk result (λ r. AreMarksOf regular_marks (SpellsRegular text.now) r.marks.items) }
@@ -115,7 +115,7 @@ pub fn parse_regular(alloc: Global, text: &[u8]) -> Result<Regular, FormulaFault
 /// and the words, each until its part ends.
 ///
 /// Names of variables are read as they stand; that each is bound is not asked here. A refusal other than `Memory` comes
-/// only where the text spells no formula.
+/// only if the text spells no formula.
 pub fn parse_formula(alloc: Global, text: &[u8]) -> Result<Formula, FormulaFault>
     // The text spells the result.
     ensures found { IfOk result (λ f. AreMarksOf phrase_marks (SpellsFormula text.now) f.marks.items) }

@@ -1,4 +1,4 @@
-//! Where reading words stops.
+//! Where and why reading words stops.
 
 /// Why words are no formula. `left` counts the words from the faulty one on.
 #[derive(Clone, Copy, Debug, PartialEq, Eq)]

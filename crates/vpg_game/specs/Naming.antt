@@ -1,4 +1,4 @@
--- Which vertices have an edge whose guard names a feature. This project's own.
+-- The vertices with an edge that needs a feature: its guard names the feature. This project's own.
 use Rattle.std.specs.Prelude.{ℕ, ◌≡◌, ◌↔◌, List, [], ◌∷◌, ◌++◌, length, slice_index_or, Contains}
 use Rattle.vpg_guards.specs.Formula.{Formula, named}
 use Rattle.vpg_edges.specs.Edges.{GuardedEdge}

@@ -10,8 +10,8 @@ use indexmap::IndexSet;
 use std::alloc::{AllocError, Global};
 
 impl GuardedGame {
-    /// Returns the dual game: the players are exchanged, and each priority is more by one. `AtLimit` where a priority
-    /// is 65,536, which only a dual has.
+    /// Returns the dual game: the players are exchanged, and each priority is more by one. The error is `AtLimit` if a
+    /// priority is 65,536, which only a dual has.
     pub fn dual(&self, alloc: Global) -> Result<GuardedGame, DualFault>
         ensures dual { IfOk result (λ game. game ≡ dual_of self.now) }
         ensures at_limit { (result ≡ Err DualFault.AtLimit) ↔ IsAtLimit self.now }

@@ -40,7 +40,7 @@ pub fn odd_counts(alloc: Global, priorities: &[u32]) -> Result<Vec<u64>, AllocEr
     Ok(counts)
 }
 
-/// Returns the number of the top measure over these priorities, where it is within the limit.
+/// Returns the number of the top measure over these priorities, if it is within the limit.
 pub fn top_within_limit(alloc: Global, priorities: &[u32]) -> Result<Option<u64>, AllocError>
     ensures { IfOk result (λ top.
         SomeIff top (top_of (levels_of priorities.now) ≤ TOP_LIMIT) (top_of (levels_of priorities.now))) }

@@ -114,7 +114,7 @@ fn priorities(alloc: Global, entries: &[Entry]) -> Result<(Vec<u32>, Vec<u32>), 
     Ok((own, dual))
 }
 
-/// Returns the numbers of the top measures over these priorities and over those of the dual, where both are within the
+/// Returns the numbers of the top measures over these priorities and over those of the dual, if both are within the
 /// limit.
 fn tops_of(alloc: Global, own: &[u32], dual: &[u32]) -> Result<Option<(u64, u64)>, AllocError>
     ensures { IfOk result (λ tops.
@@ -130,7 +130,7 @@ fn tops_of(alloc: Global, own: &[u32], dual: &[u32]) -> Result<Option<(u64, u64)
     Ok(Some((top, dual_top)))
 }
 
-/// Returns the numbers of the top measures over the priorities of entries, where both are within the limit.
+/// Returns the numbers of the top measures over the priorities of entries, if both are within the limit.
 fn tops(alloc: Global, entries: &[Entry]) -> Result<Option<(u64, u64)>, AllocError>
     requires { (i : ℕ) → (e : SpelledEntry) → i < length entries.now → e ≡ slice_index_or entries.now i e →
         e.priority < 65536 }
@@ -142,7 +142,7 @@ fn tops(alloc: Global, entries: &[Entry]) -> Result<Option<(u64, u64)>, AllocErr
     tops_of(alloc, &own, &dual)
 }
 
-/// What a game keeps beside its identifiers.
+/// The vertices, tops and index that a game keeps with its identifiers.
 #[derive(Drop)]
 struct Parts {
     vertices: Vec<Vertex>,

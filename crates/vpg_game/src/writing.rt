@@ -22,7 +22,7 @@ impl GuardedGame {
         ensures again { OnOk result
             (¬ IsAtLimit self.now → SpellsGame names.now (game_text names.now self.now) self.now) }
     {
-        // `len` tells that the names are feature names, each once.
+        // The contract of `len` says that the names are feature names, each once.
         let _count = names.len();
         let mut text = Vec::from_slice(alloc, b"parity ")?;
         put_number(greatest_id(&self.vertices), &mut text)?;
@@ -51,7 +51,7 @@ fn put_number(n: u32, out: &mut Vec<u8>) -> Result<(), AllocError>
     out.extend_from_slice(buffer.format(n).as_bytes())
 }
 
-/// Returns a line for each vertex.
+/// Writes a line for each vertex.
 fn put_vertices(
     alloc: Global,
     vertices: &[Vertex],

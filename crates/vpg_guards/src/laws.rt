@@ -36,7 +36,7 @@ pub fn spelled_guards_are_readable()
     ensures { SpelledGuardsAreReadable }
 {}
 
-/// So can the `or` of two such guards.
+/// The `or` of two guards that can be written and read again can be, too.
 pub fn disjunctions_are_readable()
     ensures { DisjunctionsAreReadable }
 {}

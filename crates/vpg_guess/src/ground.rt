@@ -41,7 +41,7 @@ impl Groundwork {
     }
 }
 
-/// Returns the shape of the dual's dual of a game, made first where it isn't kept.
+/// Returns the shape of the dual's dual of a game, made first if it isn't kept.
 pub(crate) fn shape_in<'a>(
     alloc: Global,
     game: &GuardedGame,

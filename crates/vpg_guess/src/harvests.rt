@@ -93,7 +93,7 @@ fn both_raised(
     Ok((hopeful, dual))
 }
 
-// A harvest with a note where both tables are known to be progress tables.
+// A harvest with a note if both tables are known to be progress tables.
 fn noted_where(harvest: Harvest, hopeful_settled: bool, dual_settled: bool) -> Harvest
     requires { IsTrue hopeful_settled → IsTrue dual_settled → IsSettledHarvest harvest }
     ensures { result ≡ harvest }

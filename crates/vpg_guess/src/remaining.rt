@@ -34,7 +34,7 @@ const LOOKS_EACH: u64 = 128;
 
 const FEW: u64 = 16;
 
-/// What goes round is guessed at alone where it is less than one in this many of what moves; and again where it is half
+/// What goes round is guessed at alone if it is less than one in this many of what moves; and again if it is half
 /// of what it was then.
 const LOCAL: usize = 16;
 
@@ -205,7 +205,7 @@ impl Waiting {
         }
     }
 
-    // Whether a round of lifts comes next: where nothing seems to rise, since it may show that, and the first time most
+    // Whether a round of lifts comes next: if nothing seems to rise, since it may show that, and the first time most
     // do. Where most do again, they climb.
     fn asks_for_round(&mut self, arena: &Arena, ground: LiftGround<'_>, table: &[u64]) -> bool {
         if self.rounds == 0 {
@@ -230,7 +230,7 @@ impl Waiting {
     }
 
     /// Those that wait or climbed when this turn ended, and from where moves lead there over others that did so when an
-    /// earlier one ended; none where nothing waits.
+    /// earlier one ended; none if nothing waits.
     pub(crate) fn moving(
         &mut self,
         alloc: Global,

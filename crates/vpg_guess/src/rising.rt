@@ -12,7 +12,7 @@ pub(crate) fn would_rise(even: &Scale, arena: &Arena, table: &[u64], v: u32) -> 
     even.limit_at(priority_in(arena, v), value_in(table, v)) <= best
 }
 
-// The value that a vertex's owner moves to, where it has these successors.
+// The value that a vertex's owner moves to, if it has these successors.
 #[inline(always)]
 fn best_in(even: &Scale, table: &[u64], owner: Player, successors: &[u32]) -> u64 {
     match owner {

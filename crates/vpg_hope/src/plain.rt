@@ -12,7 +12,7 @@ use std::marker::Model;
 use vpg_game::{GuardedGame, Player};
 use vpg_kept::Selection;
 
-/// A plain game with the identifiers of its vertices: what is left of a guarded game in a product.
+/// A plain game with the identifiers of its vertices: the game of a product.
 ///
 /// Clauses see it as an `IdentifiedGame` of `specs/Plain`.
 pub struct PlainGame {
@@ -53,9 +53,10 @@ impl PlainGame {
         Ok(PlainGame { ids, arena })
     }
 
-    /// Writes the game after what is there, in PGSolver's format: `parity`, the greatest identifier and `;`, then a
-    /// line for each vertex in file order with its identifier, its priority, its owner (0 for Even, 1 for Odd), a blank
-    /// and its successors with commas between where it has any, and `;`. Where no memory is left, nothing is written.
+    /// Writes the game after what is there, in PGSolver's format. First come `parity`, the greatest identifier and `;`,
+    /// then a line for each vertex in file order. A line has the identifier, the priority, the owner (0 for Even, 1 for
+    /// Odd), a blank and the successors with commas between if there are any, and `;`. If memory runs out, nothing is
+    /// written.
     pub fn write(&self, alloc: Global, out: &mut Vec<u8>) -> Result<(), AllocError>
         ensures ok { OnOk result (out.new.items ≡ out.old.items ++ plain_text self.now) }
         ensures err { OnErr result (out.new.items ≡ out.old.items) }

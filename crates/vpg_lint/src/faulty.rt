@@ -23,7 +23,7 @@ impl<'t> Faulty<'t> {
         }
     }
 
-    /// Appends what was found at a place, and what was expected. Where it stands in the line.
+    /// Appends what was found at a place, and what was expected. Returns its place in the line.
     pub(crate) fn put_found(&self, place: usize, expected: &[u8], out: &mut Said) -> usize {
         let word = self.word(place);
         put_found(word.bytes, b"the line", expected, out);

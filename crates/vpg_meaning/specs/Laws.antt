@@ -26,7 +26,7 @@ abbrev pub ActionsAreAdmitted : Type 0
 ActionsAreAdmitted = (names : List (List ℕ)) (x : Regular) (a : ℕ) → a < length names →
     permits (actions_of names x) a ≡ admits x (name_at names a)
 
--- `<R>f` holds where some path in the language of R leads to f, also inside fixpoints.
+-- `<R>f` holds if some path in the language of R leads to f, also inside fixpoints.
 abbrev pub DiamondMeansSomePath : Type 0
 DiamondMeansSomePath = (names : List (List ℕ)) (system : PlainSystem) (sets : List StateSet) (signs : List Bool)
     (sign : Bool) (x : Regular) (f : Formula) → IsClosedSystem system → HasNames names system →

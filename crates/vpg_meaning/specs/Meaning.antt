@@ -78,7 +78,7 @@ is_same true b = b
 is_same false b = not b
 
 -- Whether the name may stand under this sign: where the innermost fixpoint of that name stands under the same one, or
--- else where there is such an entry. A sign is true under an odd number of negations.
+-- else if there is such an entry. A sign is true under an odd number of negations.
 abbrev pub is_known : List (List ℕ) → List (List ℕ × Bool) → Bool → List ℕ → Bool
 is_known entries [] sign x = list_any (bytes_eq x) entries
 is_known entries (p ∷ scope) sign x =

@@ -43,7 +43,7 @@ box_along names (repeated_once x) f =
     box_along names x
     (formulas.binding greatest (formulas.conjunction (shift 0 f) (box_along names x (bound 0))))
 
--- the formula of the entry of this name; where there is none, `false`
+-- the formula of the entry of this name; if there is none, `false`
 abbrev pub entry_formula : List (List ℕ × Formula) → List ℕ → Formula
 entry_formula [] x = nowhere
 entry_formula (e ∷ entries) x = if bytes_eq x e.0 then e.1 else entry_formula entries x

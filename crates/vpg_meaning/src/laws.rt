@@ -23,7 +23,7 @@ pub fn box_means_every_path()
     ensures { BoxMeansEveryPath }
 {}
 
-/// Formulas keep their meaning where they are put into others.
+/// Formulas keep their meaning if they are put into others.
 pub fn substitution_is_sound()
     ensures { SubstitutionIsSound }
 {}

@@ -1,4 +1,4 @@
--- Why there is no order, where there is no table of what is known.
+-- Why there is no order, if there is no table of what is known.
 use Rattle.vpg_partial.specs.declared.fault.PartialFault.{PartialFault}
 use Rattle.vpg_partial.specs.declared.fault.PartialFault.TheVariants.{Conflict as PartialConflict, Memory as PartialMemory}
 use Rattle.vpg_measure.specs.declared.fault.OrderFault.{OrderFault}

@@ -145,7 +145,7 @@ fn lift_all(shape: &Shape, arena: &Arena, table: &mut Table) -> bool
 }
 
 /// Lifts every vertex once a round, in file order, each seeing earlier raises, until a round raises nothing (`Settled`)
-/// or the rounds run out (`RanOut`, also where none are allowed). No value falls.
+/// or the rounds run out (`RanOut`, also if none are allowed). No value falls.
 pub fn settle_alone(shape: &Shape, arena: &Arena, table: &mut Table, rounds: u64) -> Outcome
     requires { IsTableOf shape.now arena.now table.old }
     ensures after { table.new ≡ after_rounds shape.now arena.now rounds table.old }

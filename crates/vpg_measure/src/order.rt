@@ -161,7 +161,7 @@ impl Order {
         ensures dual { IfOk result (λ order. order.dual ≡ dual) }
         ensures order { IfOk result IsOrder }
 
-        // The limit is told wherever a priority is at it, a conflict only where there is one.
+        // The limit is told wherever a priority is at it, a conflict only if there is one.
         ensures at_limit { IfErr result (λ refused. (refused.fault ≡ OrderFault.AtLimit) ↔ IsAtLimit (arc_value game)) }
         ensures conflict { IfErr result (λ refused. (f : ℕ) → refused.fault ≡ OrderFault.Conflict f →
             NamesConflict (clauses_of (arc_value diagram).lines) (counts_of (arc_value diagram).lines)

@@ -32,7 +32,7 @@ IsGrowthFault old new sources faults.TooManyEdges = ⊥
 IsGrowthFault old new sources faults.TooWide = ⊥
 IsGrowthFault old new sources faults.Memory = Unit {0}
 
--- the pair has this number, and is added at the end where it is new
+-- the pair has this number, and is added at the end if it is new
 pub record IsPlaced (old new : List (ℕ × ℕ)) (pair : ℕ × ℕ) (at : ℕ) : Type 0 where
   pub grown : (new ≡ old) ⊎ (new ≡ old ++ pair ∷ [])
   pub within : at < length new

@@ -30,7 +30,7 @@ pub struct Built {
     pub game: GuardedGame,
 }
 
-/// Returns the vertex of a pair: where it is new, the next one.
+/// Returns the vertex of a pair: if it is new, the next one.
 fn place(pairs: &mut IndexSet<(u32, u32)>, pair: (u32, u32)) -> Result<usize, ModelFault>
     ensures placed { IfOk result (λ at. IsPlaced pairs.old.keys pairs.new.keys pair at) }
     ensures refused { IfErr result (IsGrowthFault pairs.old.keys pairs.new.keys (pair ∷ [])) }

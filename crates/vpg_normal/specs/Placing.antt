@@ -16,7 +16,7 @@ abbrev pub starts_from : ℕ → List (List Symbol) → List ℕ
 starts_from k [] = []
 starts_from k (ss ∷ forms) = k ∷ starts_from (k + length ss) forms
 
--- the variable of a fixpoint; `false`, where there is none
+-- the variable of a fixpoint; `false`, if there is none
 abbrev pub variable_of : Option ℕ → Part
 variable_of None = part.False
 variable_of (Some m) = part.Variable m

@@ -3,7 +3,7 @@ use Rattle.std.specs.Prelude.{◌≡◌, ℕ, zero, suc, ◌<◌, Option, Some, 
 use Rattle.vpg_parts.specs.declared.symbol.Symbol.{Symbol}
 use Rattle.vpg_parts.specs.declared.symbol.Symbol.TheVariants.{True, False, And, Or, SomeStep, EveryStep, Fixpoint, Variable}
 
--- the scope of the operand that comes next: its innermost fixpoint; none, where no operand is awaited
+-- the scope of the operand that comes next: its innermost fixpoint; none, if no operand is awaited
 abbrev pub next_scope : List (Option ℕ) → Option ℕ
 next_scope [] = None
 next_scope (scope ∷ awaited) = scope

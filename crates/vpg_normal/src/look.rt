@@ -1,7 +1,7 @@
 //! Look-ups that have an answer past the end too.
 ghost use Rattle.std.specs.Prelude.{◌≡◌, slice_index, slice_index_or};
 
-/// Returns the number at a place; 0 where there is none.
+/// Returns the number at a place; 0 if there is none.
 pub fn number_at(numbers: &[u32], place: u32) -> u32
     ensures { result ≡ slice_index numbers.now place }
 {

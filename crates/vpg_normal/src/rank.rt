@@ -34,7 +34,7 @@ fn crossed(
     greatest
 }
 
-/// Returns what the symbol at a place adds to the priority of a fixpoint: where it is the fixpoint's variable, the
+/// Returns what the symbol at a place adds to the priority of a fixpoint: if it is the fixpoint's variable, the
 /// greatest priority of the fixpoints between the two.
 fn share(
     scopes: &[Option<u32>],
@@ -53,7 +53,7 @@ fn share(
     }
 }
 
-/// Returns the greatest priority of a fixpoint inside this one in which its variable stands; 0 where there is none.
+/// Returns the greatest priority of a fixpoint inside this one in which its variable stands; 0 if there is none.
 ///
 /// Its operand has this size. `variables` has the places of all variables after the fixpoint, the nearest one last.
 fn inner_priority(

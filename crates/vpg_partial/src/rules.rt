@@ -1,4 +1,4 @@
-//! What one rule adds to what is known.
+//! The literals that one rule adds to what is known.
 
 ghost use Rattle.std.specs.Prelude.{◌≡◌, ◌≢◌, ◌↔◌, ◌&&◌, not, length, IfSome, IfNone, IsTrue, All, Contains, find, count_by};
 ghost use Rattle.std.specs.List.{AllByRecursion};
@@ -62,7 +62,7 @@ fn missing_at_clause(clause: &Clause, known: &[Tri]) -> Option<Literal>
     }
 }
 
-/// Returns how many of the members are known to have this value.
+/// Returns the number of members that are known to have this value.
 fn known_members(members: &[u16], known: &[Tri], value: bool) -> usize
     ensures { result ≡ count_by (λ c. literals_in known.now (record { feature = c; value = value })) members.now }
 {
@@ -72,7 +72,7 @@ fn known_members(members: &[u16], known: &[Tri], value: bool) -> usize
         .count()
 }
 
-/// Returns the first member of which nothing is known.
+/// Returns the first unknown member.
 fn first_unknown(members: &[u16], known: &[Tri]) -> Option<u16>
     ensures { result ≡ find (λ c. not (literals_in known.now (feature_in c))
         && not (literals_in known.now (feature_out c))) members.now }

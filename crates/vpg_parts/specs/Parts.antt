@@ -8,7 +8,7 @@ use Rattle.vpg_parts.specs.declared.part.Kind.TheVariants.{Least, Greatest}
 use Rattle.vpg_parts.specs.declared.part.Part.{Part}
 use Rattle.vpg_parts.specs.declared.part.Part.TheVariants.{True, False, And, Or, SomeStep, EveryStep, Fixpoint, Variable}
 
--- the part at a place; where there is none, it is `false`
+-- the part at a place; if there is none, it is `false`
 abbrev pub part_at : List Part → ℕ → Part
 part_at parts k = slice_index_or parts k False
 

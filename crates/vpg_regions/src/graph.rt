@@ -246,7 +246,7 @@ impl Draft {
         })
     }
 
-    // Notes where there was no memory for something.
+    // Notes if there was no memory for something.
     fn note(&mut self, has_grown: bool) {
         if !has_grown {
             self.is_refused = true;
@@ -280,7 +280,7 @@ impl Draft {
         self.finish_with(alloc, predecessors)
     }
 
-    /// Returns the same, where it is known who moves to each vertex.
+    /// Returns the same, if it is known who moves to each vertex.
     pub fn finish_with(
         self,
         alloc: Global,
@@ -303,7 +303,7 @@ impl Draft {
         Ok(())
     }
 
-    // The game as it is written, where it is known who moves to each vertex.
+    // The game as it is written, if it is known who moves to each vertex.
     fn with(self, predecessors: Predecessors) -> Graph {
         let Draft {
             count,

@@ -145,7 +145,7 @@ impl VertexSet {
         }
     }
 
-    /// Adds a vertex, where it isn't there.
+    /// Adds a vertex, if it isn't there.
     pub fn add(&mut self, v: u32) {
         let at = (v / WORD) as usize;
         if at < self.words.len() && self.words[at] & bit_of(v) == 0 {
@@ -154,7 +154,7 @@ impl VertexSet {
         }
     }
 
-    /// Takes a vertex away, where it is there.
+    /// Takes a vertex away, if it is there.
     pub fn remove(&mut self, v: u32) {
         let at = (v / WORD) as usize;
         if at < self.words.len() && self.words[at] & bit_of(v) != 0 {

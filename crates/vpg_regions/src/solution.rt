@@ -237,7 +237,7 @@ impl<'a> Solution<'a> {
         won.list()
     }
 
-    /// Any move within the present game, where there is no choice.
+    /// Any move within the present game, if there is no choice.
     pub fn choose_any(&mut self, vertices: &[u32]) {
         for v in vertices {
             if self.choice.get(*v).is_none() {

@@ -13,7 +13,7 @@ use std::alloc::{AllocError, Global};
 use std::collections::VecDeque;
 use vpg_players::Player;
 
-/// The weight where no stop can be reached.
+/// The weight if no stop can be reached.
 const UNREACHED: i128 = i128::MAX;
 
 struct PathWeights {
@@ -207,7 +207,7 @@ impl PathWeights {
         chosen
     }
 
-    // Gives Even where no stop can be reached, and Odd the others.
+    // Gives Even if no stop can be reached, and Odd the others.
     fn tell(&self, solution: &mut Solution<'_>) {
         for v in &self.vertices {
             if self.least.get(*v) == UNREACHED {

@@ -16,7 +16,7 @@ use Rattle.vpg_requirement.specs.Construction.{construction}
 use Rattle.vpg_requirement.specs.Words.{possibly, can}
 use Rattle.vpg_requirement.specs.Laws.{IsDecided}
 
--- action 1 leads from state 0 to state 1 where there is feature 1, and action 2 back
+-- action 1 leads from state 0 to state 1 if there is feature 1, and action 2 back
 abbrev pub small_forth : Transition Guard
 small_forth = record { step = record { source = 0; label = 1; target = 1 }; guard = feature 1 }
 

@@ -23,7 +23,7 @@ pub data Formula : Type 0 where
   bound : ℕ → Formula
 
 -- The formula holds at a state of a plain system, where its free variables stand for these sets. `<A>f` holds where
--- some step by such an action leads to f, and `[A]f` where each does, so also where there is none. Negation is that of
+-- some step by such an action leads to f, and `[A]f` where each does, so also if there is none. Negation is that of
 -- the logic. A fixpoint has its meaning also where its body does not grow with its variable.
 abbrev pub Means : PlainSystem → List StateSet → Formula → ℕ → Type 0
 Means system sets everywhere s = Unit {0}

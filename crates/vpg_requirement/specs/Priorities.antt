@@ -16,7 +16,7 @@ is_free i (every_step x f) = is_free i f
 is_free i (fixpoint kind p f) = is_free (suc i) f
 is_free i (variable j) = j == i
 
--- the greatest priority of a fixpoint inside in which that variable stands; 0 where there is none
+-- the greatest priority of a fixpoint inside in which that variable stands; 0 if there is none
 abbrev pub inner_priority : ℕ → NormalForm → ℕ
 inner_priority i met = 0
 inner_priority i unmet = 0

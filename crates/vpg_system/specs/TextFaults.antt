@@ -11,7 +11,7 @@ use Rattle.vpg_system.specs.declared.fault.SystemFault.TheVariants as faults
 use Rattle.vpg_system.specs.declared.fault.LineFault.{LineFault}
 use Rattle.vpg_system.specs.declared.fault.LineFault.TheVariants as line_faults
 
--- the first line that is not blank is refused: each fault where none above it is
+-- the first line that is not blank is refused: each fault if none above it is
 abbrev pub IsHeaderFault : List ℕ → ℕ → SystemFault → Type 0
 IsHeaderFault bytes number (faults.NoHeader line) = (line ≡ number) × ((h : Header) → SpellsHeader bytes h → ⊥)
 IsHeaderFault bytes number (faults.TooMany line) =
@@ -39,7 +39,7 @@ pub record IsGuardFault (features : List (List ℕ)) (states : ℕ) (bytes : Lis
   pub no_guard : (g : Formula) → Spells features text g → ⊥
   pub not_memory : fault ≢ guard_faults.Memory
 
--- a form that is refused after this many transitions: each fault where none above it is
+-- a form that is refused after this many transitions: each fault if none above it is
 abbrev pub IsFormFault : List (List ℕ) → Header → ℕ → List ℕ → Form → LineFault → Type 0
 IsFormFault features h before bytes form line_faults.Syntax = ⊥
 IsFormFault features h before bytes form line_faults.WrongCount = h.count ≤ before

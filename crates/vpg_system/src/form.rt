@@ -1,4 +1,4 @@
-//! The forms of lines, and what a label says.
+//! The forms of lines, and the parts of a label.
 
 ghost use Rattle.std.specs.Prelude.{◌≡◌, ◌==◌, ◌&&◌, [], ◌∷◌, bytes_eq, length, option_map, IfOk};
 ghost use Rattle.vpg_system.specs.SystemText.{words, lacks, trimmed, is_nonempty, is_numeral};
@@ -56,7 +56,7 @@ pub(crate) struct LineForm<'a> {
     pub(crate) target: &'a [u8],
 }
 
-/// Returns the numeral after `(`, where nothing else stands.
+/// Returns the numeral after `(`, if there is nothing else.
 fn opening(text: &[u8]) -> Option<&[u8]>
     ensures { text_in result ≡ opening text.now }
 {
@@ -70,7 +70,7 @@ fn opening(text: &[u8]) -> Option<&[u8]>
     }
 }
 
-/// Returns the numeral before `)`, where nothing else stands.
+/// Returns the numeral before `)`, if there is nothing else.
 fn closing(text: &[u8]) -> Option<&[u8]>
     ensures { text_in result ≡ closing text.now }
 {
@@ -84,7 +84,7 @@ fn closing(text: &[u8]) -> Option<&[u8]>
     }
 }
 
-/// What stands in quotes.
+/// Returns the text in quotes.
 fn unquoted(text: &[u8]) -> Option<&[u8]>
     ensures { text_in result ≡ unquoted text.now }
 {
@@ -100,7 +100,7 @@ fn unquoted(text: &[u8]) -> Option<&[u8]>
     }
 }
 
-/// Returns the label that stands there, bare or in quotes.
+/// Returns the label in a text, bare or in quotes.
 fn label_in(text: &[u8]) -> Option<&[u8]>
     ensures { text_in result ≡ label_in text.now }
 {
@@ -110,7 +110,7 @@ fn label_in(text: &[u8]) -> Option<&[u8]>
     if lacks(text, b',') { Some(text) } else { None }
 }
 
-/// Returns the form of its parts.
+/// Returns the form made of its parts.
 fn make_form<'a>(
     source: Option<&'a [u8]>,
     label: Option<&'a [u8]>,
@@ -150,7 +150,7 @@ pub(crate) struct HeaderForm<'a> {
     pub(crate) states: &'a [u8],
 }
 
-/// Returns the header of its parts.
+/// Returns the header made of its parts.
 fn make_header<'a>(
     first: Option<&'a [u8]>,
     count: Option<&'a [u8]>,
@@ -169,7 +169,7 @@ fn make_header<'a>(
     }
 }
 
-/// Returns the header that words are.
+/// Returns the header that words spell.
 fn header_in<'a>(words: &[&'a [u8]]) -> Option<HeaderForm<'a>>
     ensures { option_map view_header result ≡ header_in (texts words.now) }
 {
@@ -202,7 +202,7 @@ fn header_in<'a>(words: &[&'a [u8]]) -> Option<HeaderForm<'a>>
     }
 }
 
-/// Returns the header that a line is, if it is one.
+/// Returns the header that a line spells, if it does.
 pub(crate) fn header_at(alloc: Global, line: &[u8]) -> Result<Option<HeaderForm>, AllocError>
     ensures { IfOk result (λ found. option_map view_header found ≡ header_at line.now) }
 {

@@ -69,7 +69,8 @@ impl System {
     ghost use Rattle.vpg_system.specs.System.{IsSystem};
 
     /// Returns the system that a text spells, with guards over these features, of at most 65,536 states and 1,048,576
-    /// transitions. A text that is refused has the first fault of its first faulty line, in the order of `SystemFault`.
+    /// transitions. If the text is refused, the fault is the first of its first faulty line, in the order of
+    /// `SystemFault`.
     pub fn read(alloc: Global, text: &[u8], features: &Names) -> Result<System, SystemFault>
         // The text spells the result.
         ensures found { IfOk result (IsTextOf features.now text.now) }
@@ -82,7 +83,7 @@ impl System {
         ensures only { (s : NamedSystem) → IsTextOf features.now text.now s →
             MatchResult result (λ read. read ≡ s) (λ fault. fault ≡ SystemFault.Memory) }
     {
-        // `len` tells that the names are feature names, each once.
+        // The contract of `len` says that the names are feature names, each once.
         let count = features.len();
         let head = match read_header(alloc, features, text) {
             Ok(head) => head,
@@ -104,7 +105,7 @@ impl System {
         }
     }
 
-    /// Over how many features its guards are, at most 512.
+    /// Returns the number of features that its guards are over, at most 512.
     pub fn features(&self) -> usize
         ensures { result ≡ self.now.features }
     {
@@ -118,7 +119,7 @@ impl System {
         self.first
     }
 
-    /// Returns how many states there are. They are the numbers below.
+    /// Returns the number of states. They are the numbers below it.
     pub fn states(&self) -> u32
         ensures { result ≡ self.now.states }
     {
@@ -134,7 +135,7 @@ impl System {
         &self.transitions
     }
 
-    /// Returns the transitions, in the order of the text. All else is let go.
+    /// Returns the transitions, in the order of the text, and discards the rest.
     pub fn into_transitions(self) -> Vec<Transition>
         ensures { transitions_of result.items ≡ self.transitions }
     {
@@ -148,7 +149,7 @@ impl System {
         transitions
     }
 
-    /// Returns how many actions there are, at most 1,048,576. They are the numbers below, in the order of their first
+    /// Returns the number of actions, at most 1,048,576. They are the numbers below it, in the order of their first
     /// use.
     pub fn actions(&self) -> usize
         ensures count { result ≡ length self.now.actions }

@@ -118,7 +118,7 @@ abbrev pub TellsWon : Page → Behaviour → Limits → (mover : Which) → (ver
 TellsWon page behaviour limits mover vertex text =
     TellsWalk page behaviour mover vertex text ⊎ (IsTooShort page limits mover × (text ≡ unsettled_line))
 
--- Where the page has the vertex hopeless the walk is along Odd's moves, where it has it sure along Even's.
+-- Where the page has the vertex hopeless the walk is along Odd's moves, if it has it sure along Even's.
 abbrev pub TellsTrace : Page → Behaviour → Limits → (vertex : ℕ) → (text : List ℕ) → Type 0
 TellsTrace page behaviour limits vertex text =
     (HasVerdict page Hopeful vertex × TellsWon page behaviour limits Dual vertex text)

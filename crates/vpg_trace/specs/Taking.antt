@@ -86,7 +86,7 @@ IsStep (EveryStep y b) x a = (y ≡ x) × (b ≡ a)
 IsStep (Fixpoint kind p b) x a = ⊥
 IsStep (Variable m) x a = ⊥
 
--- the value of its guard: true where it does not depend on open features, else open
+-- the value of its guard: true if it does not depend on open features, else open
 abbrev pub value_told : Bool → Tri
 value_told false = Yes
 value_told true = Unknown

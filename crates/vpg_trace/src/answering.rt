@@ -197,8 +197,8 @@ fn won(
     }
 }
 
-/// Appends how the verdict of a page at a vertex comes about: where it is hopeless a walk along moves of Odd that win
-/// in each product that is left, where it is sure one along moves of Even. Or that it is neither, or that the limits
+/// Appends how the verdict of a page at a vertex comes about: if it is hopeless a walk along moves of Odd that win
+/// in each product that is left, if it is sure one along moves of Even. Or that it is neither, or that the limits
 /// leave no room.
 ///
 /// The game is that of the system and of the requirements that the source has; the pairs are its vertices. The first

@@ -1,6 +1,6 @@
 //! Counterexamples and witnesses that an engineer reads: how the verdict of a page comes about, in words of the system.
 //!
-//! Where a page is hopeless at a requirement's vertex, Odd wins there in each product that is left; where it is sure,
+//! Where a page is hopeless at a requirement's vertex, Odd wins there in each product that is left; if it is sure,
 //! Even does. `vpg_why` finds moves that win in all of them at once. [`follow`] goes along the plays that these moves
 //! allow, whatever the other player does, in the cautious game of the page: a walk, depth first, that goes on from no
 //! vertex twice, and says where it closes a loop, stands, or was cut. [`step_between`] tells by which transition of the

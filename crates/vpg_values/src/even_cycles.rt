@@ -45,7 +45,7 @@ impl<'a> Level<'a> {
             && self.scale.cut(value_in(self.table, v), weight) < self.scale.cut(value, weight)
     }
 
-    // Those of the region up to this vertex's priority that exceed the table above it; none where nothing of that
+    // Those of the region up to this vertex's priority that exceed the table above it; none if nothing of that
     // priority does.
     fn falling(&self, alloc: Global, region: &[u32], even: u32) -> Result<Vec<u32>, AllocError> {
         let limit = self.graph.priority(even);

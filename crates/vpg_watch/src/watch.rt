@@ -62,7 +62,7 @@ impl<F: Follows> Watch<F> {
         ensures later { IfOk result (λ sheet. F.calls self.old ≤ (arc_value sheet).at) }
         ensures seen { IfOk result (λ sheet. self.new ≡ (arc_value sheet).front) }
 
-        // Also where there is no sheet, whatever begins with what is seen then begins with what was seen.
+        // Also if there is no sheet, whatever begins with what is seen then begins with what was seen.
         ensures kept { F.begins self.new self.old }
     {
         match replace_with(&mut self.reader, (), read_shown) {

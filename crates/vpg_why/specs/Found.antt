@@ -103,7 +103,7 @@ IsWhyLostExact (whys.Because found) = IsTrue found.exact
 IsWhyLostExact (whys.Unless example) = IsTrue example.first
 IsWhyLostExact whys.Unsettled = ⊥
 
--- what each product has that agrees with the choices and meets the aim, where there is one
+-- what each product has that agrees with the choices and meets the aim, if there is one
 abbrev pub AreFoundNeeds : NamedGame → NamedDiagram → Aim → List Literal → Demand → Type 0
 AreFoundNeeds game diagram aim choices (demands.These found) =
     ((set : List Bool) × IsRemaining diagram.lines choices set × Meets game aim set) × AreNeeds game diagram aim choices found.literals.items found.exact

@@ -20,7 +20,7 @@ pub record ArePlayed (game : Game) (moves : List (Option ℕ)) (first : ℕ) (ke
       (Reaches game Player.Even (strategy_of moves) first v × (owner_of game v ≡ Player.Even)
       × (strategy_of moves v ≡ Some w))
 
--- the move at a vertex, where it is Even's and a play can come to it
+-- the move at a vertex, if it is Even's and a play can come to it
 abbrev pub move_if : Player → (is_reached : Bool) → Option ℕ → Option ℕ
 move_if Even true choice = choice
 move_if Even false choice = None

@@ -166,7 +166,7 @@ fn last_needed(
     Ok(Some(last))
 }
 
-// As `explain`, where it is tried first whether the last of the decisions hinted at are the last that are needed.
+// As `explain`, if it is tried first whether the last of the decisions hinted at are the last that are needed.
 pub(crate) fn explain_by(
     alloc: Global,
     order: &Order,

@@ -249,7 +249,7 @@ fn differing(known: &Partial, now: &Partial, used: &[bool]) -> Option<Goal> {
     None
 }
 
-// What the marked decisions do not show yet: that marked features are known as they are, or, where there are none, a
+// What the marked decisions do not show yet: that marked features are known as they are, or, if there are none, a
 // conflict.
 fn unshown(
     alloc: Global,

@@ -102,7 +102,7 @@ pub(crate) fn reached(
     Ok(marks)
 }
 
-// The move at a vertex, where it is Even's and a play can come to it.
+// The move at a vertex, if it is Even's and a play can come to it.
 fn move_at(arena: &Arena, moves: &[Option<u32>], is_reached: bool, v: u32) -> Option<u32>
     requires vertex { v < length arena.now }
     requires moves { length moves.now ≡ length arena.now }

@@ -197,7 +197,7 @@ pub(crate) fn look(
     }
 }
 
-/// What a search found, with a reason where it is nothing.
+/// What a search found, with a reason if it is nothing.
 #[derive(Drop)]
 pub enum Reasoned {
     /// A product that is left and meets the aim.
@@ -404,7 +404,7 @@ pub fn search_all(
 }
 
 /// Returns a product that is left and meets the aim: for the hopeful table one in which Even wins from the vertex, for
-/// the second one in which Odd does, or just any. Or nothing, where there is none, however cautious the page's verdict
+/// the second one in which Odd does, or just any. Or nothing, if there is none, however cautious the page's verdict
 /// is.
 ///
 /// It splits over one feature that is not known after another, and leaves out what the verdicts of the page and of each

@@ -64,7 +64,7 @@ pub data ArePut : (parts added new : List PartView) → Type 0 where
   next : {parts middle new : List PartView} {part : PartView} {rest : List PartView} → IsPut parts part middle →
       ArePut middle rest new → ArePut parts (part ∷ rest) new
 
--- Of the parts with a feature and those without it: where there are none of the one kind, those of the other are all,
+-- Of the parts with a feature and those without it: if there are none of the one kind, those of the other are all,
 -- and need no literal of the feature; else each takes its literal, and those without are put to those with it.
 abbrev pub AreHalves : ℕ → (with_it without parts : List PartView) → Type 0
 AreHalves feature [] without parts = parts ≡ without

@@ -47,7 +47,7 @@ fn both(won: Found, lost: Found) -> Decided
 }
 
 /// Who wins at the vertex in the products that agree with the decisions. Where both players win some, it gives for each
-/// of them the first product, where no limit was met.
+/// of them the first product, if no limit was met.
 ///
 /// It looks for a product that Even wins, and for one that Odd wins, each within the limits. The one error is lack of
 /// memory.

@@ -32,7 +32,7 @@ size (every_step x f) = suc (size f)
 size (fixpoint kind p f) = suc (size f)
 size (variable i) = 1
 
--- the formula of an entry; `false`, where there is none
+-- the formula of an entry; `false`, if there is none
 abbrev pub formula_at : List (List ℕ) → List Entry → ℕ → Formula
 formula_at names entries n = slice_index_or (formulas_in_order names [] entries) n nowhere
 
