@@ -48,7 +48,7 @@ pub(crate) fn raised(
     Ok(RaisedTable { table, settled })
 }
 
-// The hopeful table has half of the budget, and the dual one what is left then.
+// The hopeful table has half of the budget, and the dual one the rest.
 fn both_raised(
     alloc: Global,
     order: &Order,
@@ -139,7 +139,7 @@ pub(crate) fn harvest_of(order: Order, hopeful: RaisedTable, dual: RaisedTable) 
 }
 
 /// Returns the order with both its tables raised as by `raise_by_bounds`, within one budget, and by what is kept of its
-/// game, which is kept on. The one error is out of memory, on which the order comes back.
+/// game, which is kept on. The only error is a lack of memory; then the order comes back.
 pub fn harvest_by_bounds(
     alloc: Global,
     order: Order,
@@ -149,7 +149,7 @@ pub fn harvest_by_bounds(
     ensures order { IfOk result (λ harvest. IsSameOrder harvest.order order) }
     // Its tables are on or above the order's, and below every progress table of the order's two games.
     ensures harvest { IfOk result IsHarvest }
-    // And on or above what a round of lifts makes of the order's.
+    // They are also on or above the order's tables after a round of lifts.
     ensures round { IfOk result
         (λ harvest. (which : Which) →
         IsBelowTable (after_rounds (order_levels which order) (order_arena which order) 1 (order_table which order))

@@ -50,7 +50,7 @@ impl Harvest {
         }
     }
 
-    /// Returns the order with one vertex of one table lifted once, where that is greater.
+    /// Returns the order with one vertex of one table lifted once, if that is greater.
     pub fn one(order: Order, which: Which, v: u32) -> Harvest
         requires { v < length order.game.vertices }
         ensures order { IsSameOrder result.order order }
@@ -100,7 +100,7 @@ impl Harvest {
         }
     }
 
-    /// Lifts one vertex of either table once, where that is greater, and says whether its value rose.
+    /// Lifts one vertex of either table once, if that is greater, and returns whether its value rose.
     pub fn raise(&mut self, which: Which, v: u32) -> bool
         requires { v < length self.old.order.game.vertices }
         ensures order { IsSameOrder self.new.order self.old.order }
@@ -116,7 +116,7 @@ impl Harvest {
         self.order.raise_room(which, v)
     }
 
-    /// Returns the order that it came of.
+    /// Returns the order that the harvest came from.
     pub fn order(&self) -> &Order
         ensures order { result.now ≡ self.now.order }
         ensures harvest { IsHarvest self.now }
@@ -124,7 +124,7 @@ impl Harvest {
         &self.order
     }
 
-    /// Either table.
+    /// Returns either table.
     pub fn table(&self, which: Which) -> &Table
         ensures table { result.now ≡ harvest_table which self.now }
         ensures harvest { IsHarvest self.now }
@@ -140,15 +140,15 @@ impl Harvest {
         self.table(which).get(v)
     }
 
-    /// Whether both tables are progress tables. Without a note of it this is a pass over the kept edges, which ends at
-    /// the first vertex that a lift raises.
+    /// Whether both tables are progress tables. Without a note of it, the call is a pass over the kept edges, which
+    /// ends at the first vertex that a lift raises.
     pub fn check(&self) -> bool
         ensures { IsTrue result ↔ IsSettledHarvest self.now }
     {
         self.is_noted || self.looks_settled()
     }
 
-    /// The same with a note that both tables are progress tables: whoever asks again looks at no edge.
+    /// Adds a note that both tables are progress tables: a later `check` looks at no edge.
     pub fn noted(self) -> Harvest
         requires { IsSettledHarvest self }
         ensures { result ≡ self }

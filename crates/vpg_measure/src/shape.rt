@@ -82,7 +82,7 @@ impl Shape {
         Shape::raised(alloc, game, 2)
     }
 
-    // The shape of a game whose priorities are each raised by the same number.
+    // The shape of a game with each priority raised by this number.
     fn raised(alloc: Global, game: &GuardedGame, raise: u32) -> Result<Shape, AllocError>
         requires { raise ≤ 2 }
         ensures { IfOk result
@@ -139,7 +139,7 @@ impl Shape {
         self.top
     }
 
-    /// Returns the product of the radices of the odd priorities below this one: what one more at it counts.
+    /// Returns the product of the radices of the odd priorities below this one: the value of one at this priority.
     pub fn weight(&self, priority: u64) -> u64
         ensures { result ≡ weight_of priority self.now }
     {
@@ -151,7 +151,7 @@ impl Shape {
         }
     }
 
-    // The formula in mixed radix: what stands below the priority is cut off, and an odd priority counts one more.
+    // The formula in mixed radix: the part below the priority is cut off, and an odd priority adds one at its place.
     fn cut(&self, priority: u64, value: u64) -> u64
         requires { value ≤ top_of self.now }
         ensures prog { result ≡ prog_of self.now priority value }
@@ -166,8 +166,8 @@ impl Shape {
     }
 }
 
-/// Returns the least number whose measure fits an edge from a vertex of this priority to one of this value, at most
-/// top.
+/// Returns the least number with a measure that fits an edge from a vertex of this priority to one of this value, at
+/// most top.
 pub fn prog(shape: &Shape, priority: u32, value: u64) -> u64
     requires { value ≤ top_of shape.now }
     ensures prog { result ≡ prog_of shape.now priority value }
@@ -179,7 +179,7 @@ pub fn prog(shape: &Shape, priority: u32, value: u64) -> u64
     shape.cut(priority as u64, value)
 }
 
-/// `prog` at the next priority, which is that of the same vertex in the dual.
+/// Returns `prog` at the next priority, that of the same vertex in the dual.
 pub fn next_prog(shape: &Shape, priority: u32, value: u64) -> u64
     requires { value ≤ top_of shape.now }
     ensures prog { result ≡ prog_of shape.now (suc priority) value }

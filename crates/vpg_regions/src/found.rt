@@ -1,7 +1,7 @@
 //! Lists that grow.
 use std::alloc::{AllocError, Global};
 
-/// A list that grows. What memory was refused for is left out; that is noted, and told at the end.
+/// A list that grows. An item without memory is left out; that is noted, and reported at the end.
 pub struct Found<T> {
     items: Vec<T>,
     is_refused: bool,
@@ -18,12 +18,12 @@ impl<T: Drop> Drop for Found<T> {
 }
 
 impl<T: Copy> Found<T> {
-    /// Nothing yet.
+    /// Returns the empty list.
     pub fn none(alloc: Global) -> Found<T> {
         Found::with(Vec::new(alloc))
     }
 
-    /// These first.
+    /// Returns the list that begins with these.
     pub fn with(items: Vec<T>) -> Found<T> {
         Found {
             items,
@@ -31,24 +31,24 @@ impl<T: Copy> Found<T> {
         }
     }
 
-    /// Adds one more. Where memory is refused it is left out, which is noted.
+    /// Adds one more. If memory is refused, it is left out, and this is noted.
     pub fn add(&mut self, item: T) {
         if self.items.push(item).is_err() {
             self.is_refused = true;
         }
     }
 
-    /// Takes the last one away.
+    /// Takes the last one off.
     pub fn pop(&mut self) -> Option<T> {
         self.items.pop()
     }
 
-    /// Takes all away. That something was left out stays noted.
+    /// Empties the list. A note that something was left out stays.
     pub fn clear(&mut self) {
         self.items.clear();
     }
 
-    /// Returns how many there are.
+    /// Returns the number of items.
     pub fn len(&self) -> usize {
         self.items.len()
     }
@@ -58,7 +58,7 @@ impl<T: Copy> Found<T> {
         self.items.get(at).copied()
     }
 
-    /// What was found until now.
+    /// Returns the items found so far.
     pub fn items(&self) -> &[T] {
         &self.items
     }

@@ -43,12 +43,12 @@ impl Subgame {
         self.places.get(v).is_some()
     }
 
-    /// Returns an edge of the vertex that comes next; to the dead end where w is not in the game.
+    /// Adds an edge of the vertex that comes next; it leads to the dead end if w is not in the game.
     pub fn edge(&mut self, w: u32) {
         self.draft.edge(self.places.get(w).unwrap_or(self.sink));
     }
 
-    /// Returns the next vertex, with the edges since the last one.
+    /// Adds the next vertex, with the edges since the last one.
     pub fn vertex(&mut self, graph: &Graph, v: u32) {
         self.draft.vertex(graph.owner(v), graph.priority(v));
     }
@@ -82,7 +82,7 @@ fn solve_with_sink(
     solve_regions(alloc, &graph, Vec::new(alloc), budget)
 }
 
-/// A game over some vertices and who wins where.
+/// A game over some vertices, and its winners.
 pub struct Solved {
     vertices: Vec<u32>,
     places: Choices,
@@ -112,7 +112,7 @@ impl Solved {
         }
     }
 
-    /// Returns the winner's choice, where it stays in the game.
+    /// Returns the winner's choice, if it stays in the game.
     pub fn choice(&self, v: u32) -> Option<u32> {
         let place = self.places.get(v)?;
         let chosen = self.regions.choice(place)?;
