@@ -1,4 +1,4 @@
--- How the symbols of normal forms stand in one list, and which part each gives. This project's own.
+-- The symbols of normal forms in one list, and the part of each. This project's own.
 use Rattle.std.specs.Prelude.{◌≡◌, ℕ, suc, ◌+◌, ◌<◌, Option, Some, None, List, [], ◌∷◌, length, slice_index, slice_index_or}
 use Rattle.std.specs.List.{flat_map}
 use Rattle.vpg_parts.specs.declared.symbol.Symbol.{Symbol}
@@ -21,7 +21,7 @@ abbrev pub variable_of : Option ℕ → Part
 variable_of None = part.False
 variable_of (Some m) = part.Variable m
 
--- the part that stands where a symbol does
+-- the part at the place of a symbol
 abbrev pub part_of : List ℕ → List (Option ℕ) → List ℕ → ℕ → Symbol → Part
 part_of sizes fixpoints priorities k True = part.True
 part_of sizes fixpoints priorities k False = part.False

@@ -25,7 +25,7 @@ scopes_from [] k awaited = []
 scopes_from (s ∷ ss) k awaited =
     next_scope awaited ∷ scopes_from ss (suc k) (operands_of s k (next_scope awaited) (drop 1 awaited))
 
--- the fixpoint that this many others stand between, from one outwards
+-- the fixpoint that is this many others further out, from one outwards
 abbrev pub walked : List (Option ℕ) → ℕ → Option ℕ → Option ℕ
 walked scopes zero from = from
 walked scopes (suc n) None = None

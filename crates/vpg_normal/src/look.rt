@@ -8,7 +8,7 @@ pub fn number_at(numbers: &[u32], place: u32) -> u32
     numbers.get(place as usize).copied().unwrap_or(0)
 }
 
-/// Returns the place that is named at a place.
+/// Returns the place that the entry at a place names.
 pub fn link_at(links: &[Option<u32>], place: u32) -> Option<u32>
     ensures { result ≡ slice_index_or links.now place None }
 {

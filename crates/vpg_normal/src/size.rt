@@ -1,4 +1,4 @@
-//! How many symbols each operand has.
+//! The number of symbols of each operand.
 ghost use Rattle.std.specs.Prelude.{◌≡◌, ℕ, ◌-◌, ◌<◌, ◌≤◌, length, slice_index, IfOk};
 ghost use Rattle.vpg_normal.specs.Sizes.{size_of, sizes_of};
 

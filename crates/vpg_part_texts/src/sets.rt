@@ -31,7 +31,7 @@ fn has(set: &Permitted, action: usize) -> bool
     }
 }
 
-/// What stands in front of an action of a set, or of one that it lacks.
+/// Returns the sign in front of an action of a set, or of one that it lacks.
 fn sign(is_in: bool) -> &'static [u8]
     ensures { result.now ≡ sign_text is_in }
 {
@@ -72,7 +72,7 @@ fn listed(
     Ok(text)
 }
 
-/// Returns a text after its first four bytes.
+/// Returns a text without its first four bytes.
 fn behind_sign(text: &[u8]) -> &[u8]
     ensures { result.now ≡ drop 4 text.now }
 {

@@ -1,4 +1,4 @@
--- Lists of parts, and what a look-up gives. This project's own.
+-- Lists of parts, and look-ups in them. This project's own.
 use Rattle.std.specs.Prelude.{◌≡◌, ℕ, List, slice_index_or}
 use Rattle.vpg_requirement.specs.Fixpoints.{Kind, least, greatest}
 use Rattle.vpg_requirement.specs.NormalForms.{NormalForm}

@@ -1,4 +1,4 @@
--- Sets of actions, by which lists of parts name them. This project's own.
+-- Sets of actions, as lists of parts name them. This project's own.
 use Rattle.std.specs.Prelude.{◌≡◌, ℕ, ◌<◌, List, [], Bool, false, slice_index_or}
 use Rattle.vpg_requirement.specs.Actions.{ActionFormula, every_action, other_than, permits}
 

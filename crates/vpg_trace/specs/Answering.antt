@@ -1,4 +1,4 @@
--- What is answered of a vertex: a trace of how the verdict comes about. This project's own.
+-- The answer for a vertex: a trace of how the verdict comes about. This project's own.
 use Rattle.std.specs.Prelude.{◌≡◌, ℕ, ◌⊎◌, Bool, Option, List, ◌++◌, codes, decimal, slice_index}
 use Rattle.vpg_guards.specs.declared.tri.Tri.{Tri}
 use Rattle.vpg_diagram.specs.FeatureDiagram.{Line}
@@ -17,7 +17,7 @@ use Rattle.vpg_why.specs.declared.question.Limits.{Limits}
 use Rattle.vpg_trace.specs.Texts.{Family, family_of, trace_text}
 use Rattle.vpg_trace.specs.Walks.{Walked, walk_from, is_left}
 
--- What a page says: its game, the names of its features, the lines of its diagram, its decisions, and both tables.
+-- The content of a page: its game, the names of its features, the lines of its diagram, its decisions, and both tables.
 pub record Page : Type 0 where
   pub game : NamedGame
   pub features : List (List ℕ)
@@ -37,8 +37,8 @@ page_of order = record {
   dual = order.dual;
 }
 
--- What the game was made of: the names of the actions, the transitions from each state, the sets of actions and the
--- parts of the requirements, and the state and the part of each vertex.
+-- The source of a game: the names of the actions, the transitions from each state, the sets of actions and the parts of
+-- the requirements, and the state and the part of each vertex.
 pub record Behaviour : Type 0 where
   pub actions : List (List ℕ)
   pub states : List (List Departure)
@@ -46,13 +46,13 @@ pub record Behaviour : Type 0 where
   pub parts : List Part
   pub pairs : List (ℕ × ℕ)
 
--- what these are together
+-- these as one value
 abbrev pub behaviour_of : (actions : List (List ℕ)) → List (List Departure) → List (List Bool) → List Part →
     List (ℕ × ℕ) → Behaviour
 behaviour_of actions states sets parts pairs =
     record { actions = actions; states = states; sets = sets; parts = parts; pairs = pairs }
 
--- the words of a walk on the page, where so much is known
+-- the words of a walk on the page, under what is known
 abbrev pub family_on : Page → List Tri → Behaviour → Family
 family_on page known behaviour = family_of page.features behaviour.actions known behaviour.states behaviour.sets
     behaviour.parts behaviour.pairs
@@ -82,7 +82,7 @@ neither_line identifier = codes "possible " ++ decimal identifier ++ codes " uns
 abbrev pub unsettled_line : List ℕ
 unsettled_line = codes "unsettled\n"
 
--- the walk along these moves of a player: Even for the hopeful table, Odd for the second
+-- the walk along these moves of a player: Even for the hopeful table, Odd for the dual one
 abbrev pub walk_along : Page → List Tri → Which → ℕ → List (Option ℕ) → Walked
 walk_along page known mover vertex moves = walk_from (caution_for known mover (graph_of page.game)) moves vertex
 
@@ -93,7 +93,7 @@ walk_text page known behaviour mover vertex moves =
     ++ trace_text (family_on page known behaviour) (walk_along page known mover vertex moves).visits
     (is_left (walk_along page known mover vertex moves).waiting)
 
--- What is told after what was there is the walk along these moves, under what the decisions make known.
+-- The text added is the walk along these moves, under what the decisions make known.
 pub record IsWalkTold (page : Page) (behaviour : Behaviour) (mover : Which) (vertex : ℕ) (moves : List (Option ℕ))
     (before after : List ℕ) : Type 0 where
   pub known : List Tri
@@ -118,7 +118,7 @@ abbrev pub TellsWon : Page → Behaviour → Limits → (mover : Which) → (ver
 TellsWon page behaviour limits mover vertex text =
     TellsWalk page behaviour mover vertex text ⊎ (IsTooShort page limits mover × (text ≡ unsettled_line))
 
--- Where the page has the vertex hopeless the walk is along Odd's moves, if it has it sure along Even's.
+-- If the page has the vertex hopeless, the walk is along Odd's moves; if it has it sure, along Even's.
 abbrev pub TellsTrace : Page → Behaviour → Limits → (vertex : ℕ) → (text : List ℕ) → Type 0
 TellsTrace page behaviour limits vertex text =
     (HasVerdict page Hopeful vertex × TellsWon page behaviour limits Dual vertex text)
@@ -127,6 +127,6 @@ TellsTrace page behaviour limits vertex text =
     ⊎ (¬ (HasVerdict page Hopeful vertex) × ¬ (HasVerdict page Dual vertex)
     × (text ≡ neither_line (identifier_of page vertex)))
 
--- such a text stands after what was there
+-- such a text is added after what was there
 abbrev pub Appends : (List ℕ → Type 0) → List ℕ → List ℕ → Type 0
 Appends Tells before after = (text : List ℕ) × Tells text × (after ≡ before ++ text)

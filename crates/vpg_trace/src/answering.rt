@@ -35,7 +35,7 @@ fn has_top(order: &Order, which: Which, vertex: u32) -> bool
     order.table(which).get(vertex) == order.shape(which).top()
 }
 
-/// Returns the table whose top says that the player of this one wins.
+/// Returns the table with the top where the player of this one wins.
 fn other_table(which: Which) -> Which
     ensures { result ≡ other_table which }
 {
@@ -167,7 +167,7 @@ fn put_won(
     )
 }
 
-/// Appends how a player wins, where the page says so: Even for the hopeful table, Odd for the second.
+/// Appends how a player wins, if the page says so: Even for the hopeful table, Odd for the dual one.
 fn won(
     alloc: Global,
     order: &Order,
@@ -197,13 +197,13 @@ fn won(
     }
 }
 
-/// Appends how the verdict of a page at a vertex comes about: if it is hopeless a walk along moves of Odd that win
-/// in each product that is left, if it is sure one along moves of Even. Or that it is neither, or that the limits
-/// leave no room.
+/// Appends how the verdict of a page at a vertex comes about. If it is hopeless, that is a walk along moves of Odd that
+/// win in each product that is left; if it is sure, one along moves of Even. Or it is that the vertex is neither, or
+/// that the limits leave no room.
 ///
-/// The game is that of the system and of the requirements that the source has; the pairs are its vertices. The first
-/// line is the verdict, `hopeless 0` or `sure 0`; the walk follows, as of `put_trace`, up to the line `steps 12`. Else
-/// there is one line: `possible 0 unsure`, or `unsettled`. The one error is lack of memory.
+/// The game is that of the system and of the requirements in the source; the pairs are its vertices. The first line is
+/// the verdict, `hopeless 0` or `sure 0`; the walk follows, as of `put_trace`, up to the line `steps 12`. Otherwise
+/// there is one line: `possible 0 unsure`, or `unsettled`. The only error is a lack of memory.
 pub fn put_answer(
     alloc: Global,
     order: &Order,
