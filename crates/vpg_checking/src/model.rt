@@ -31,8 +31,8 @@ use vpg_written::{Translation, translate};
 
 /// The model-checking game of a family and its requirements.
 ///
-/// In each product Even wins at the vertex of a requirement exactly where the requirement holds at the first state of
-/// the product's system.
+/// In each product Even wins at the vertex of a requirement exactly if the requirement holds at the first state of the
+/// product's system.
 #[derive(Drop)]
 pub struct Model {
     /// The game. The identifier of each vertex is its number.
@@ -95,7 +95,7 @@ impl Model {
         let texts = set_texts(alloc, &system, sets.as_slice())?;
         let source = Source::of(alloc, &system, sets, parts)?;
         let first = system.first();
-        // The source has all of the system that the game is made of.
+        // The source has all of the system that the game needs.
         mem::drop(system);
         let Built { pairs, roots, game } = build(alloc, &source, first, &places)?;
         let game = sharpened(alloc, game)?;

@@ -16,11 +16,11 @@ transition_in t =
 abbrev pub system_of : NamedSystem → System Guard
 system_of s = record { states = s.states; transitions = map transition_in s.transitions }
 
--- a transition from a state that is known
+-- a transition from a known state
 abbrev pub departure_of : NamedTransition → Departure
 departure_of t = record { action = t.action; guard = t.guard; target = t.target }
 
--- those from a state, in order
+-- the transitions from a state, in order
 abbrev pub departures_from : ℕ → List NamedTransition → List Departure
 departures_from s ts = map departure_of (filter (λ t. t.source == s) ts)
 

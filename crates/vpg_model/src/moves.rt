@@ -48,7 +48,7 @@ fn guarded(alloc: Global, guard: &Guard, to: (u32, u32)) -> Result<Move, AllocEr
 }
 
 impl Source {
-    /// Returns the moves to a part by the transitions from a state whose action the set has.
+    /// Returns the moves to a part by the transitions from a state with an action of the set.
     fn leaving(
         &self,
         alloc: Global,

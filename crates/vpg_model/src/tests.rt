@@ -1,4 +1,4 @@
-//! Two small systems; what is expected is what `reference.py` makes of them.
+//! Two small systems; the expected games are those of `reference.py`.
 use crate::building::{Built, build};
 use crate::source::Source;
 use std::alloc::{AllocError, Global};

@@ -1,4 +1,4 @@
--- The entries as the code keeps them. This project's own.
+-- The code's entries, as entries of the definitions. This project's own.
 use Rattle.std.specs.Prelude.{◌≡◌, ℕ, ◌<◌, List, [], ◌++◌, length, Bool, slice_index_or}
 use Rattle.vpg_requirement.specs.Actions.{ActionFormula}
 use Rattle.vpg_formula.specs.declared.requirement.Entry.{Entry}

@@ -8,7 +8,7 @@ use Rattle.vpg_written.specs.Trees.{Tree, nothing, node}
 use Rattle.vpg_written.specs.Terms.{IsTerm, AreSets}
 use Rattle.vpg_written.specs.declared.piece.Piece.{Piece}
 
--- how many operands a mark has
+-- the number of operands of a mark
 abbrev pub arity : Mark → ℕ
 arity marks.OtherThan = 1
 arity marks.Repeated = 1
@@ -44,7 +44,7 @@ abbrev pub below_top : List Tree → List Tree
 below_top [] = []
 below_top (t ∷ ts) = ts
 
--- what a mark with this many operands takes: its first operand, its last one, and the trees below
+-- the operands of a mark with this many, and the rest: its first operand, its last one, and the trees below
 abbrev pub first_of : ℕ → List Tree → Tree
 first_of zero ts = nothing
 first_of (suc zero) ts = nothing
@@ -80,14 +80,14 @@ AreStacked names actions (t ∷ ts) ps =
     (us : List Piece) × (vs : List Piece) × (ps ≡ us ++ vs) × IsNode t × AreStacked names actions ts us ×
     IsTerm names actions t vs
 
--- the last term of these pieces, and what stands in front of it
+-- the last term of these pieces, and the pieces in front of it
 pub record IsLastTerm (names : List (List ℕ)) (actions : List ActionFormula) (ts : List Tree)
     (ps front last : List Piece) : Type 0 where
   pub whole : ps ≡ front ++ last
   pub below : AreStacked names actions (below_top ts) front
   pub top : IsTerm names actions (top_of ts) last
 
--- what stands in front of a mark with this many operands
+-- the pieces in front of a mark with this many operands
 pub record AreOperands (names : List (List ℕ)) (actions : List ActionFormula) (n : ℕ) (ts : List Tree)
     (ps first last : List Piece) : Type 0 where
   pub front : List Piece

@@ -51,7 +51,7 @@ fn has_name(terms: &[Term], number: usize, name: &[u8]) -> bool
     }
 }
 
-/// Returns the number of the latest entry of this name in front of one.
+/// Returns the number of the latest entry of this name before one.
 pub(crate) fn latest(terms: &[Term], entry: usize, name: &[u8]) -> Option<usize>
     ensures earlier { IfSome result (λ n. n < entry) }
     ensures below { IfSome result (λ n. n < length terms.now) }
@@ -67,7 +67,7 @@ pub(crate) fn latest(terms: &[Term], entry: usize, name: &[u8]) -> Option<usize>
     None
 }
 
-/// The same fixpoints.
+/// Returns a copy of the fixpoints.
 pub(crate) fn copied<'m>(alloc: Global, scope: &[Binder<'m>]) -> Result<Vec<Binder<'m>>, AllocError>
     ensures { IfOk result (λ s. s.items ≡ scope.now) }
 {

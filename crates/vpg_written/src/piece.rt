@@ -1,4 +1,4 @@
-//! Marks with what is known of the terms that they end.
+//! Marks with facts on the terms that they end.
 ghost use Rattle.std.specs.Prelude.{◌≡◌, ◌<◌, ◌≤◌, ◌-◌, ◌+◌, [], length, take, drop, IfSome, IfNone};
 ghost use Rattle.vpg_written.specs.Terms.{IsSplit, set_at_end};
 
@@ -10,19 +10,19 @@ pub(crate) const EVERY_ACTION: u32 = 0;
 /// The set of no action.
 pub(crate) const NO_ACTION: u32 = 1;
 
-/// A mark of a formula, with what is known of the term that it ends.
+/// A mark of a formula, with facts on the term that it ends.
 #[derive(Clone, Copy)]
 pub(crate) struct Piece<'m> {
     pub(crate) mark: &'m Mark,
-    /// How many marks the term has.
+    /// The number of marks of the term.
     pub(crate) length: usize,
-    /// How many marks the last operand has.
+    /// The number of marks of the last operand.
     pub(crate) last: usize,
     /// The number of the set of actions.
     pub(crate) set: u32,
 }
 
-/// A term: the piece at its end, and its operands. The first of two stands in front of the second, which may be alone.
+/// A term: the piece at its end, and its operands. The first of two is in front of the second, which may be alone.
 #[derive(Clone, Copy)]
 pub(crate) struct Parts<'p, 'm> {
     pub(crate) piece: Piece<'m>,

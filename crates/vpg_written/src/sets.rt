@@ -15,7 +15,7 @@ use vpg_formula::{Label, Mark};
 use vpg_parts::Permitted;
 use vpg_system::System;
 
-/// Returns a text but for its blanks.
+/// Returns a text without its blanks.
 fn without_blanks(alloc: Global, text: &[u8]) -> Result<Vec<u8>, AllocError>
     ensures { IfOk result (λ v. v.items ≡ labels.without_blanks text.now) }
 {
@@ -25,7 +25,7 @@ fn without_blanks(alloc: Global, text: &[u8]) -> Result<Vec<u8>, AllocError>
         .collect(alloc)
 }
 
-/// Returns a space, a tab, a carriage return or a line feed.
+/// Whether the byte is a space, a tab, a carriage return or a line feed.
 fn is_blank(byte: u8) -> bool
     ensures { result ≡ words.is_blank byte }
 {
@@ -69,7 +69,7 @@ fn has(sets: &[Permitted], set: u32, action: usize) -> bool
     }
 }
 
-/// Returns all other actions than those of a set.
+/// Returns the actions that a set does not have.
 fn complement(
     alloc: Global,
     count: usize,
@@ -152,7 +152,7 @@ pub(crate) fn constants(alloc: Global, system: &System) -> Result<Vec<Permitted>
     Ok(sets)
 }
 
-/// A set of actions: one that is there, by its number, or another.
+/// A set of actions: an existing one, by its number, or another.
 #[derive(Drop)]
 enum Actions {
     Known(u32),

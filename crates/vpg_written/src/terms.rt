@@ -14,7 +14,7 @@ use vpg_formula::{Entry, Mark};
 use vpg_parts::Permitted;
 use vpg_system::System;
 
-/// Returns how many operands stand in front of a mark.
+/// Returns the number of operands in front of a mark.
 fn operand_count(mark: &Mark) -> usize
     ensures { result ≡ arity mark.now }
 {
@@ -46,7 +46,7 @@ fn operand_count(mark: &Mark) -> usize
     }
 }
 
-/// Returns how many pieces the last term has.
+/// Returns the number of pieces of the last term.
 fn last_length(pieces: &[Piece]) -> usize
     ensures { result ≡ length_at_end pieces.now }
 {
@@ -56,7 +56,7 @@ fn last_length(pieces: &[Piece]) -> usize
     }
 }
 
-/// What stands in front of the last term, and the last term.
+/// Splits the pieces before the last term.
 fn last_term<'p, 'm>(pieces: &'p [Piece<'m>]) -> (&'p [Piece<'m>], &'p [Piece<'m>])
     ensures count { length result.0.now + length result.1.now ≡ length pieces.now }
     ensures last { (names : List (List ℕ)) (actions : List ActionFormula) (ts : List Tree) →
