@@ -10,11 +10,11 @@
 //! `claim` and `lift` neither wait nor take memory. The layers above use `sweep`. Its harvest is of the given order, on
 //! or above its tables and the lift of them at every vertex.
 //!
-//! Definitions: `specs/Places` (both tables as one list of words, lifts on them), `specs/Lifters` and `specs/Run` (the
-//! knowledge of a lifter, the steps, runs), `specs/Rule` (the invariant of every run, in two halves), `specs/Taken`
-//! (which steps a lifter took), `specs/Seats` (boards and seats as callers see them), `specs/Steps` (what each atomic
-//! step leaves and shows), `specs/Worked` (the work of lifters in a sweep), `specs/Alone` (the work of one alone),
-//! `specs/Predecessors` (which vertices keep an edge to which), `specs/Chains` (how these are kept), `specs/Hints` (the
+//! Definitions: `specs/Places` (both tables as one list of words, lifts on them); `specs/Lifters` and `specs/Run` (the
+//! knowledge of a lifter, the steps, runs); `specs/Rule` (the invariant of every run, in two halves); `specs/Taken`
+//! (which steps a lifter took); `specs/Seats` (boards and seats as callers see them); `specs/Steps` (what each atomic
+//! step leaves and shows); `specs/Worked` (the work of lifters in a sweep); `specs/Alone` (the work of one alone);
+//! `specs/Predecessors` (which vertices keep an edge to which); `specs/Chains` (how these are kept); `specs/Hints` (the
 //! vertices that hints name). `laws` states the invariants of every run, and that the atomic steps are those of runs.
 #![tactic(auto)]
 

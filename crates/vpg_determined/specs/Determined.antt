@@ -35,7 +35,7 @@ LeastTellsWinner =
     IsLeastProgress shape game table → (v : ℕ) → v < length game →
     ((table v ≡ Top) ↔ HasWin game Odd v) × ((table v ≢ Top) ↔ HasWin game Even v)
 
--- If one game favours Even at least as much as another, then a table below all progress tables of the first and one
+-- Let one game favour Even at least as much as another. Then a table below all progress tables of the first and one
 -- below those of the other's dual are not both at the top. Even wins the first game, or Odd the other.
 abbrev pub NotBothTop : Type 0
 NotBothTop =

@@ -158,7 +158,7 @@ pub(crate) fn is_variable(word: &[u8]) -> bool
     !is_keyword(word)
 }
 
-/// Returns what a formula with this first word begins with.
+/// Returns the kind of formula that begins with this word.
 pub(crate) fn read_head(word: &[u8]) -> Head
     ensures { view_head word.now result ≡ head_of word.now }
 {

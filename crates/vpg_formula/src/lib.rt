@@ -10,8 +10,8 @@
 //!
 //! Definitions stand in `specs/`: `Words` (which words a text has), `Places` (where they begin), `Regular` and
 //! `RegularGrammar` (action and regular formulas), `Written` and `FormulaGrammar` (formulas). `Standings` says how the
-//! names of a formula stand, `Naming` which words are names, `Requirements` defines whole texts, `Faults` where a text
-//! is faulty, and `Marks` a formula as a list. `Reading` and `EntryReading` are the reader as functions on lists.
+//! names of a formula stand, and `Naming` which words are names. `Requirements` defines whole texts, `Faults` where a
+//! text is faulty, and `Marks` a formula as a list. `Reading` and `EntryReading` are the reader as functions on lists.
 //! `ReadCode`, `EntryCode`, `NamingCode`, `FaultCode` and `ActionCode` view the code's values in these terms. Only
 //! private contracts name them.
 #![tactic(auto)]

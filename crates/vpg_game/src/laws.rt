@@ -12,7 +12,7 @@ pub fn writings_spell_the_game()
 {}
 
 /// A vertex has an edge in the game of a product exactly if its entry names a successor with a guard that the product
-/// satisfies, however often the successor is named.
+/// satisfies. It does not matter how often the successor is named.
 pub fn edges_hold_as_named()
     ensures { EdgesHoldAsNamed }
 {}

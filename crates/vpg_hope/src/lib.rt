@@ -10,9 +10,9 @@
 //! a page in one pass over the edges, and [`Arena::kept`] is the look-up of each lift. [`project`] and
 //! [`PlainGame::write`] give a user the plain game of one product.
 //!
-//! Definitions: `specs/Games` (plain games), `specs/Strategies` (positional strategies and winning, after Jurdzinski
-//! 2000), `specs/Hope` (the game of a product after FASE 2020, the hopeful and the cautious game), `specs/Comparison`
-//! (games that favour Even more, the dual), `specs/Plain` (identifiers and the text, in PGSolver's format). [`laws`]
+//! Definitions: `specs/Games` (plain games); `specs/Strategies` (positional strategies and winning, after Jurdzinski
+//! 2000); `specs/Hope` (the game of a product after FASE 2020, the hopeful and the cautious game); `specs/Comparison`
+//! (games that favour Even more, the dual); `specs/Plain` (identifiers and the text, in PGSolver's format). [`laws`]
 //! states the theorems about them. `specs/Arena`, `specs/Drafts`, `specs/Selection` and `specs/PlainParts` serve
 //! private contracts alone.
 #![tactic(auto)]

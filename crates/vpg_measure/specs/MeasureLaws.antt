@@ -159,13 +159,13 @@ HarderProgressIsEasier =
     (easy hard : Game) → IsEasier easy hard → (shape : Shape) (table : Table) → IsProgressMeasure shape hard table →
     IsProgressMeasure shape easy table
 
--- A table below every progress table is so in every harder game.
+-- A table below every progress table is below every one in each harder game.
 abbrev pub BelowStaysInHarder : Type 0
 BelowStaysInHarder =
     (easy hard : Game) → IsEasier easy hard → (shape : Shape) (table : Table) → IsBelowAllProgress shape easy table →
     IsBelowAllProgress shape hard table
 
--- A value below that of every progress table at a vertex is so in every harder game.
+-- A value below that of every progress table at a vertex is so in each harder game.
 abbrev pub ValueStaysInHarder : Type 0
 ValueStaysInHarder =
     (easy hard : Game) → IsEasier easy hard → (shape : Shape) (v : ℕ) (m : Measure) → IsBelowAllAt shape easy v m →

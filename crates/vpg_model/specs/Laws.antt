@@ -45,7 +45,7 @@ abbrev pub HasOneVertex : NormalForm → List Situation → Type 0
 HasOneVertex form places = (u v : ℕ) → u < v → v < length places → (situation_at places u).part ≡ form →
     (situation_at places v).part ≡ form → ⊥
 
--- The game has a row for the situation of each pair, the roots have the vertices that are named, and each situation is
+-- The game has a row for the situation of each pair, and the roots have the vertices that are named. Each situation is
 -- that of a root or can be reached.
 pub record IsGameOf (system : System Guard) (first : ℕ) (roots : List ℕ) (form : ℕ → NormalForm)
     (scope : ℕ → List Binder) (pairs : List (ℕ × ℕ)) (vertices : List ℕ) (game : GuardedGame Guard) : Type 0 where

@@ -2,9 +2,9 @@
 //!
 //! [`Source::of`] takes a system that was read. [`build`] takes a [`Source`]: the states with their transitions, the
 //! sets of actions that requirements name, and the parts of the requirements. It returns the guarded game of what can
-//! be reached from the roots at the first state, in the order of a breadth-first search, or the limit of games that is
-//! passed. A vertex is a pair of two numbers: a state, and the place of a part. [`sharpened`] then writes guards so
-//! that their three-valued values are known as early as they can be.
+//! be reached from the roots at the first state, in the order of a breadth-first search. If the game passes a limit,
+//! the error names it. A vertex is a pair of two numbers: a state, and the place of a part. [`sharpened`] then writes
+//! guards so that their three-valued values are known as early as they can be.
 //!
 //! The definitions stand in `specs/`: `Pairs`, the game in words of pairs alone, and when it is refused; `Forms`, the
 //! system and the normal forms that the lists stand for. `Laws` states that the game is theirs, is a model of formulas,

@@ -333,8 +333,8 @@ impl<'a> Solution<'a> {
         self.win_by_exits(Player::Odd, vertices, odd, &[], budget)
     }
 
-    // Gives a player the vertices from which it can force play to its exits without the barred vertices, and those from
-    // which the opponent has to move to where it wins.
+    // Gives a player the vertices from which it can force play to its exits without the barred vertices. It also gets
+    // those from which the opponent has to move to where it wins.
     fn win_by_exits(
         &mut self,
         player: Player,

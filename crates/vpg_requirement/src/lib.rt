@@ -8,9 +8,9 @@
 //! The layers above read systems and formulas, build such games, and state what a desk's verdicts mean for them. They
 //! use the definitions, and the laws in [`laws`]. This crate knows no texts.
 //!
-//! Definitions: `specs/Systems` and `specs/Actions` (featured transition systems, after Classen et al. 2010),
+//! Definitions: `specs/Systems` and `specs/Actions` (featured transition systems, after Classen et al. 2010);
 //! `specs/Formulas` (formulas and their meaning, `Means`) over `specs/Fixpoints` (by the theorem of Knaster and Tarski,
-//! after Kozen 1983), `specs/Words` (words for common formulas, and their meaning on the graph). Games are made from
+//! after Kozen 1983); `specs/Words` (words for common formulas, and their meaning on the graph). Games are made from
 //! `specs/NormalForms` and `specs/Priorities`; `specs/Situations` has the game of a plain system, `specs/Building` that
 //! of a family, and `specs/Construction` the proof that there is one. `specs/Laws` has the theorem, and `specs/Example`
 //! an example.

@@ -7,11 +7,11 @@
 //! The crates above use `System`: `read` and `write`, its first state and its number of states, its transitions in the
 //! order of the text, and the names of its actions. Actions are numbered in the order of their first use.
 //!
-//! Definitions stand in `specs/`: `SystemText` (which text spells a system), `TextFaults` (which fault a text has),
-//! `System` (properties of every system that is read), `Writing` (the one writing of a system). `SystemView` has the
-//! code's transitions as those of the definitions, `Coding` systems as lists of numbers, for models that hold them, and
-//! `Laws` the statements of the laws of the module `laws`. `SystemReading` and `ReadCode` are the reader as a function
-//! on lists; only private contracts name them.
+//! Definitions stand in `specs/`: `SystemText` (which text spells a system); `TextFaults` (which fault a text has);
+//! `System` (properties of every system that is read); `Writing` (the one writing of a system); `SystemView` (the
+//! code's transitions as those of the definitions); `Coding` (systems as lists of numbers, for models that hold them);
+//! `Laws` (statements of the laws of the module `laws`). `SystemReading` and `ReadCode` are the reader as a function on
+//! lists; only private contracts name them.
 #![tactic(auto)]
 
 mod actions;

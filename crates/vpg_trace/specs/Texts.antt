@@ -123,8 +123,8 @@ end_text actions sets parts pairs visits depth v Cut = indent depth ++ codes "cu
 
 -- ---- the walk
 
--- The words of a walk: the names of features and of actions, what is known of the features, the transitions from each
--- state, the sets of actions and the parts of requirements, and the state and the part of each vertex.
+-- The words of a walk: the names of features and of actions, what is known of the features, and the transitions from
+-- each state. Then come the sets of actions and the parts of requirements, and the state and the part of each vertex.
 pub record Family : Type 0 where
   pub features : List (List ℕ)
   pub actions : List (List ℕ)

@@ -451,12 +451,12 @@ fn put(
 /// Writes a walk after what is there, over the features of these names. A refusal writes nothing.
 ///
 /// Each visit that is reached by a transition of the system has a line, as `0 -pay[paid]-> 1`. It has the state that
-/// the transition leaves, its action, its guard unless that is always true, the state that it leads to, and ` depends`
-/// if the guard is open under what is known. Moves within the requirement have no line. If a visit doesn't go on, there
-/// is a line with its end. `loop to 1` and `seen 1` name the state of the visit that the walk is back at or that was
-/// seen. `no tea from 1` names the wanted step that is not there, `true` and `false` the part that is reached, and
-/// `cut` says that the walk doesn't go on. Side branches are indented by two more blanks. The last line has the number
-/// of steps.
+/// the transition leaves, its action, its guard unless that is always true, and the state that it leads to. It ends in
+/// ` depends` if the guard is open under what is known. Moves within the requirement have no line. If a visit doesn't
+/// go on, there is a line with its end. `loop to 1` and `seen 1` name the state of the visit that the walk is back at
+/// or that was seen. `no tea from 1` names the wanted step that is not there, `true` and `false` the part that is
+/// reached, and `cut` says that the walk doesn't go on. Side branches are indented by two more blanks. The last line
+/// has the number of steps.
 pub fn put_trace(
     alloc: Global,
     names: &Names,

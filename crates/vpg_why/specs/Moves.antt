@@ -48,7 +48,8 @@ NoneWins game which known vertex =
     (strategy : Strategy) → Wins (caution_for known which game) Player.Even strategy vertex → ⊥
 
 -- The moves win in each product that agrees with the choices. They are the moves of the least table of the cautious
--- game under what is known, at the vertices that a play from this one can come to there, and no others.
+-- game under what is known. They are given at the vertices that a play from this one can come to there, and at no
+-- others.
 pub record AreWinning (game : GuardedGame Formula) (lines : List Line) (choices : List Literal) (which : Which)
     (vertex : ℕ) (moves : List (Option ℕ)) : Type 0 where
   pub wins : WinsInEach game lines choices (loser which) (strategy_of moves) vertex

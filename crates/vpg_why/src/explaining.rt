@@ -208,8 +208,8 @@ pub(crate) fn explain_by(
 /// so: then no list of them that lacks one suffices.
 ///
 /// It is the explanation with the earliest last decision on the page, and before that the earliest next to last, and so
-/// on, as far as no trial met a limit. It takes about the logarithm of the page's decisions in trials for each decision
-/// that it lists. The only error is a lack of memory.
+/// on. This holds as far as no trial met a limit. It takes about the logarithm of the page's decisions in trials for
+/// each decision that it lists. The only error is a lack of memory.
 pub fn explain(
     alloc: Global,
     order: &Order,

@@ -22,10 +22,10 @@
 //! `winning_moves`. `Which::Hopeful` asks for Even, `Which::Dual` for Odd. Every answer has `Limits` of work, and says
 //! if it met one: it is then unsettled, never wrong.
 //!
-//! Definitions: `specs/Suffices` (what decisions alone make so), `specs/Explained` (explanations), `specs/Products`
-//! (the products that decisions leave), `specs/Found`, `specs/Offered`, `specs/Repaired` (the meaning of the answers),
-//! `specs/Moves`, `specs/Played` and `specs/Reachable` (moves that win, and the vertices that they come to),
-//! `specs/Searched` for the search of vertices, `specs/Reasons` (why a search finds nothing). Their laws stand in
+//! Definitions: `specs/Suffices` (what decisions alone make so); `specs/Explained` (explanations); `specs/Products`
+//! (the products that decisions leave); `specs/Found`, `specs/Offered`, `specs/Repaired` (the meaning of the answers);
+//! `specs/Moves`, `specs/Played` and `specs/Reachable` (moves that win, and the vertices that they come to);
+//! `specs/Searched` for the search of vertices; `specs/Reasons` (why a search finds nothing). Their laws stand in
 //! `laws`.
 #![tactic(auto)]
 

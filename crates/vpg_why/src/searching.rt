@@ -404,10 +404,8 @@ pub fn search_all(
 
 /// Returns a product that is left and meets the aim. For the hopeful table Even wins from the vertex in it, for the
 /// dual one Odd does; or it is just any. Returns nothing if there is none, however cautious the page's verdict is.
+///
 /// The search splits over one unknown feature after another, and leaves out what the verdicts of the page and of each
-/// trial cut off. If the first half of a split is lost for a reason that does not name the feature, it leaves out the
-/// other half too. After this many trials it gives up.
-/// It splits over one feature that is not known after another, and leaves out what the verdicts of the page and of each
 /// trial cut off. If the first half of a split is lost for a reason that does not name the feature, it leaves out the
 /// other half too. After this many trials it gives up.
 pub fn find(alloc: Global, order: &Order, aim: Aim, limits: Limits) -> Result<Found, AllocError>
