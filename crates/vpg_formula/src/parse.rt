@@ -43,7 +43,7 @@ pub(crate) fn place(places: &[usize], left: usize) -> usize
     }
 }
 
-/// Where reading stopped, in the text.
+/// Returns the place in the text at which reading stopped, as a fault.
 fn fault(words: &Words, stop: Stop) -> FormulaFault
     ensures { is_out_of_memory result ≡ is_memory stop }
 {

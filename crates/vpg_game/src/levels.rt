@@ -14,7 +14,7 @@ pub struct Level {
 /// The greatest number of a top measure.
 pub const TOP_LIMIT: u64 = 4_611_686_018_427_387_904;
 
-/// One more than the greatest.
+/// Returns one more than the greatest priority.
 pub fn bound(priorities: &[u32]) -> usize
     ensures bound { result ≡ bound_of priorities.now }
     ensures limit { result ≤ 2 ^ 32 }

@@ -67,7 +67,7 @@ fn put_vertices(
     Ok(())
 }
 
-/// Edges joined by `,`, after a first byte.
+/// Writes edges joined by `,`, after a first byte.
 fn put_edges(
     alloc: Global,
     edges: &[Edge],
