@@ -94,8 +94,8 @@ fn copy_tables(
 }
 
 impl Board {
-    /// Returns a board of the order, and its opening seat, which has seen the order's tables. If memory runs out, the
-    /// order comes back.
+    /// Returns a board of the order, and its opening seat, which has seen the order's tables. The only error is a lack
+    /// of memory; then the order comes back.
     pub fn open(alloc: Global, order: Order) -> Result<(Board, Seat), Order>
         ensures order { IfOk result (λ opened. opened.0.order ≡ order) }
         ensures is_order { IfOk result (λ opened. IsOrder opened.0.order) }
@@ -237,7 +237,7 @@ impl Board {
     }
 
     /// Ends the board, and returns the harvest of its order, on or above all that the seat and those merged into it
-    /// have seen. If memory runs out, the order comes back.
+    /// have seen. The only error is a lack of memory; then the order comes back.
     pub fn close(self, alloc: Global, seat: Seat) -> Result<Harvest, Order>
         requires { seat.board ≡ self }
         ensures order { IfOk result (λ harvest. IsSameOrder harvest.order self.order) }
