@@ -18,7 +18,7 @@ sources last edges v = chain_from (reverse edges) (slice_index last v)
 abbrev pub lists_of : List ℕ → List (ℕ × ℕ) → List (List ℕ)
 lists_of last edges = map (chain_from (reverse edges)) last
 
--- each edge comes from a vertex of a game of this many
+-- each edge comes from a vertex of a game with this many
 abbrev pub LeadFrom : ℕ → List (ℕ × ℕ) → Type 0
 LeadFrom n edges = All (λ edge. edge.0 < n) edges
 

@@ -6,20 +6,20 @@ use Rattle.std.specs.List.{list_any}
 use Rattle.vpg_formula.specs.Written.{Modality, closing, is_variable, Head, of_action, modality, after_action, binder, head_of}
 use Rattle.vpg_formula.specs.Standings.{is_among}
 
--- what a word belongs to
+-- the part of a formula that a word belongs to
 pub data Region : Type 0 where
   -- a formula
   in_formula : Region
   -- `mu` or `nu`: it is the variable
   at_variable : Region
-  -- what stands between brackets
+  -- a regular formula between brackets
   in_path : Modality → Region
   -- `can`, `will` or `after`: an action formula begins with it
   at_action : Region
   -- an action formula, inside one more parenthesis than these
   in_action : ℕ → Region
 
--- what is open at a word
+-- a parenthesis or fixpoint that is open at a word
 pub data Open : Type 0 where
   a_parenthesis : Open
   -- the fixpoint of this variable
@@ -46,7 +46,7 @@ abbrev pub closed_in : ℕ → Region
 closed_in zero = in_formula
 closed_in (suc n) = in_action n
 
--- what the next word belongs to
+-- the region after a word
 abbrev pub region_behind : Region → List ℕ → Region
 region_behind in_formula w = region_behind_head (head_of w)
 region_behind at_variable w = in_formula
@@ -62,7 +62,7 @@ closed [] = []
 closed (a_parenthesis ∷ around) = around
 closed (a_fixpoint x ∷ around) = closed around
 
--- what is open after a word
+-- the open parts after a word
 abbrev pub around_behind : Region → List ℕ → List Open → List Open
 around_behind in_formula w around =
     if bytes_eq w (codes "(") then a_parenthesis ∷ around

@@ -9,7 +9,7 @@ use Rattle.vpg_formula.specs.declared.mark.Mark.TheVariants as marks
 use Rattle.vpg_formula.specs.declared.joint.Joint.{Joint}
 use Rattle.vpg_formula.specs.declared.joint.Joint.TheVariants as joints
 
--- what comes after the first word, if no part may be open, and if this many may
+-- the reading after the first word, if no part may be open, and if this many may
 abbrev pub leaf_behind : Head → Read Phrase
 leaf_behind head ws = part_behind nothing_read nothing_read no_phrase no_phrase head ws
 

@@ -18,7 +18,7 @@ abbrev pub after_word : List ℕ → List (List ℕ) → Option (List (List ℕ)
 after_word sign [] = None
 after_word sign (w ∷ ws) = if bytes_eq w sign then Some ws else None
 
--- what comes after a sign, if the sign is there
+-- the reading after a sign, if the sign is there
 abbrev pub choice : {B : Type 0} → Option (List (List ℕ)) → (List (List ℕ) → Option B) → Option B → Option B
 choice None behind otherwise = otherwise
 choice (Some ws) behind otherwise = behind ws
@@ -133,7 +133,7 @@ binding_with formula kind [] = None
 binding_with formula kind (x ∷ ws) =
     if is_variable x then (after_word (codes ".") ws >>= λ rest. bound_with formula kind x rest) else None
 
--- what comes after the first word
+-- the reading after the first word
 abbrev pub part_behind : Read Regular → Read Regular → Read Phrase → Read Phrase → Head → Read Phrase
 part_behind path act inner formula (leaf f) ws = Some (whole f, ws)
 part_behind path act inner formula deadlock ws =

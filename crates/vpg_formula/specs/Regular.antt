@@ -55,7 +55,7 @@ abbrev pub labelled : Option Label → Option Regular
 labelled None = None
 labelled (Some label) = Some (action label)
 
--- the action formula that a word is
+-- the action formula of a word
 abbrev pub word_formula : List ℕ → Option Regular
 word_formula word =
     if bytes_eq word (codes "true") then Some every_action

@@ -8,8 +8,8 @@ use Rattle.vpg_features.specs.Names.{is_name_byte}
 abbrev pub is_blank : ℕ → Bool
 is_blank b = b == 32 || b == 9 || b == 13 || b == 10
 
--- How many bytes at the front are blanks and comments. A comment goes from `%` to the end of its line; the flag says
--- whether one is open.
+-- The number of bytes at the front that are blanks and comments. A comment goes from `%` to the end of its line; the
+-- flag says whether one is open.
 abbrev pub gap_len : Bool → List ℕ → ℕ
 gap_len comment [] = 0
 gap_len true (b ∷ text) = suc (gap_len (not (b == 10)) text)
@@ -50,7 +50,7 @@ abbrev pub ended : ℕ → Option ℕ
 ended zero = Some 0
 ended (suc depth) = None
 
--- what the byte that opens arguments adds: nothing if they are not closed
+-- the length from an opening byte on, given the length after it: zero if the arguments are not closed
 abbrev pub opening : Option ℕ → Option ℕ
 opening None = Some 0
 opening (Some n) = Some (suc n)
@@ -67,14 +67,14 @@ unfoldable pub action_len : ℕ → List ℕ → Option ℕ
 action_len depth [] = ended depth
 action_len depth (b ∷ text) = go_on depth (open_behind depth b text) (λ more. action_len more text)
 
--- How many bytes there are up to the closing quote, with it; none where the line ends before. A quote after `\` closes
--- nothing; the flag says whether `\` stands in front.
+-- The number of bytes up to the closing quote, which counts too; none if the line ends before. A quote after `\` closes
+-- nothing; the flag says whether `\` comes before.
 abbrev pub quoted_len : Bool → List ℕ → Option ℕ
 quoted_len escaped [] = None
 quoted_len escaped (b ∷ text) =
     if b == 10 then None else (if b == 34 && not escaped then Some 1 else one_more (quoted_len (b == 92) text))
 
--- whether a quote closes just at the end of the bytes after the first
+-- whether a quote closes exactly at the end of the bytes after the first
 abbrev pub closes_at : Option ℕ → ℕ → Bool
 closes_at None n = false
 closes_at (Some k) n = k == n
@@ -90,7 +90,7 @@ line_len text = prefix_len (λ b. not (b == 10)) text
 abbrev pub quote_len : List ℕ → ℕ
 quote_len text = unwrap_or (quoted_len false text) (line_len text)
 
--- a word of letters, digits and `_`: if it has no meaning of its own, with the arguments that follow at once
+-- a word of letters, digits and `_`; if it has no meaning of its own, arguments that follow directly belong to it
 abbrev pub name_len : List ℕ → ℕ
 name_len text =
     if is_keyword (take (prefix_len is_name_byte text) text) then prefix_len is_name_byte text
@@ -101,15 +101,15 @@ abbrev pub is_pair : ℕ → List ℕ → Bool
 is_pair b [] = false
 is_pair b (c ∷ text) = (b == 61 && c == 62) || (b == 38 && c == 38) || (b == 124 && c == 124)
 
--- The length of the word at the front, which begins with no blank. It is as long as it can be. A byte that begins
--- nothing else is a word alone.
+-- The length of the word at the front, which does not begin with a blank. It is as long as it can be. A byte that
+-- begins nothing else is a word alone.
 abbrev pub word_len : List ℕ → ℕ
 word_len [] = 0
 word_len (b ∷ text) =
     if is_name_byte b then name_len (b ∷ text)
     else (if b == 34 then suc (quote_len text) else (if is_pair b text then 2 else 1))
 
--- what stands after blanks and comments
+-- the text after blanks and comments
 abbrev pub after_gap : List ℕ → List ℕ
 after_gap text = drop (gap_len false text) text
 

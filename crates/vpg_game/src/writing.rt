@@ -18,7 +18,8 @@ impl GuardedGame {
         requires { length names.now ≡ self.now.features }
         ensures ok { OnOk result (out.new.items ≡ out.old.items ++ game_text names.now self.now) }
         ensures err { OnErr result (out.new.items ≡ out.old.items) }
-        // What is written spells the game, so `read` gives it again, but for a dual with a priority at the limit.
+        // The text that is written spells the game, so `read` returns it again, except for a dual with a priority at
+        // the limit.
         ensures again { OnOk result
             (¬ IsAtLimit self.now → SpellsGame names.now (game_text names.now self.now) self.now) }
     {

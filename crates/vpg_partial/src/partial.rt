@@ -1,4 +1,4 @@
-//! What is known of each feature.
+//! The known value of each feature.
 
 ghost use Rattle.std.specs.Prelude.{◌≡◌, ◌↔◌, ◌<◌, Bool, List, length, map, true, IsTrue, IsSome, IfOk, IfErr, IfSome, OnErr, slice_index_or};
 ghost use Rattle.vpg_guards.specs.Known.{AreAllKnown, IsCompletion};

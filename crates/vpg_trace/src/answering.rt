@@ -35,7 +35,7 @@ fn has_top(order: &Order, which: Which, vertex: u32) -> bool
     order.table(which).get(vertex) == order.shape(which).top()
 }
 
-/// Returns the table with the top where the player of this one wins.
+/// Returns the table that has the top where the player of this one wins.
 fn other_table(which: Which) -> Which
     ensures { result ≡ other_table which }
 {

@@ -2,8 +2,8 @@
 ghost use Rattle.std.specs.Prelude.{◌≡◌, ◌≤◌, ℕ, Bool, List};
 ghost use Rattle.vpg_verdict.specs.declared.verdict.Verdict.{Verdict};
 
-/// A front: the first this many calls of some row of calls. A row only grows at its end, so of two fronts of one row
-/// one begins with the other.
+/// A front: a number of first calls of some row of calls. A row only grows at its end, so of two fronts of one row one
+/// begins with the other.
 ///
 /// An impl gives four definitions and one function, and proves five laws of them.
 pub trait Follows: Drop {

@@ -166,7 +166,7 @@ enum Goal {
     Known { feature: usize, value: Tri },
 }
 
-// The decisions among the first this many, and those marked after them.
+// A number of first decisions, and the marked ones after them.
 fn with_first(
     alloc: Global,
     decisions: &[Decision],
